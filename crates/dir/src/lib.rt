@@ -1,0 +1,2 @@
+//! Directories: the one layout of their file identifiers in blocks.
+#![tactic(auto)]

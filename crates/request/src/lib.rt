@@ -1,0 +1,2 @@
+//! Requests, queries and answers, and the frames that carry them.
+#![tactic(auto)]
