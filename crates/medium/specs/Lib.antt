@@ -1,6 +1,7 @@
 pub mod Formats
 pub mod Volume
 pub mod Commit
+pub mod Plan
 pub mod Step
 pub mod Runs
 pub mod Example
