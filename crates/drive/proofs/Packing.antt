@@ -1,52 +1,30 @@
 -- Blocks that go out in packets.
 use Rattle.std.proofs.Common.{◌≡◌, ℕ, zero, suc, ◌+◌, ◌-◌, ◌≤◌, ◌<◌, List, [], ◌∷◌, ◌++◌, length, take, drop, get_or, refl, sym, ◌∙◌, ap, subst, arith, append_assoc, append-nil, length-append}
+use Rattle.std.proofs.lemmas.List.{length-take-le, take-append-drop}
+use Rattle.std.proofs.Math.Seq.{take-add}
 use Rattle.drive.specs.Journal.{Event, written, next_of, AddsFront}
 use Rattle.drive.specs.Waiting.{Waiting, end_of, Takes, Stops}
 use Rattle.drive.proofs.Fronts.{front_longer, front_after, written_after, begins_after}
 
-length_take : (n : ℕ) (bs : List (List ℕ)) → n ≤ length bs → length (take n bs) ≡ n
-length_take zero bs h = refl
-length_take (suc n) [] h = absurd (omega arith)
-length_take (suc n) (b ∷ bs) h = ap suc (length_take n bs (omega arith))
-
 -- the first d, and e - d of those behind them
 take_on : (d e : ℕ) (bs : List (List ℕ)) → d ≤ e → take d bs ++ take (e - d) (drop d bs) ≡ take e bs
-take_on zero e bs h = ap (λ n. take n bs) (let same : e - 0 ≡ e = omega arith in same)
-take_on (suc d) zero bs h = absurd (omega arith)
-take_on (suc d) (suc e) [] h = none (suc e - suc d)
-  where
-    none : (m : ℕ) → take m (let nil : List (List ℕ) = [] in nil) ≡ []
-    none zero = refl
-    none (suc m) = refl
-take_on (suc d) (suc e) (b ∷ bs) h =
-    ap (λ n. b ∷ (take d bs ++ take n (drop d bs))) (let same : suc e - suc d ≡ e - d = omega arith in same) ∙ ap (λ (cs : List (List ℕ)). b ∷ cs) (take_on d e bs (omega arith))
-
-take_all : (bs : List (List ℕ)) (e : ℕ) → length bs ≤ e → take e bs ≡ bs
-take_all [] zero h = refl
-take_all [] (suc e) h = refl
-take_all (b ∷ bs) zero h = absurd (omega arith)
-take_all (b ∷ bs) (suc e) h = ap (λ (cs : List (List ℕ)). b ∷ cs) (take_all bs e (omega arith))
-
-take_drop : (e : ℕ) (bs : List (List ℕ)) → take e bs ++ drop e bs ≡ bs
-take_drop zero bs = refl
-take_drop (suc e) [] = refl
-take_drop (suc e) (b ∷ bs) = ap (λ (cs : List (List ℕ)). b ∷ cs) (take_drop e bs)
+take_on d e bs h = sym (take-add d (e - d) bs) ∙ ap (λ n. take n bs) (let same : d + (e - d) ≡ e = omega arith in same)
 
 -- a packet that is cut leaves a front of all
 pub packet_front : (J K K' : List Event) (at d e : ℕ) (bs : List (List ℕ)) → d ≤ e → e ≤ length bs → K ≡ J ++ written at (take d bs) → AddsFront K (at + d) (take (e - d) (drop d bs)) K' → AddsFront J at bs K'
 packet_front J K K' at d e bs de h k front =
-    let upto : AddsFront J at (take d bs ++ take (e - d) (drop d bs)) K' = front_after J K K' at (at + d) (take d bs) (take (e - d) (drop d bs)) k (omega (arith, length_take d bs (omega arith))) front in
-    subst (λ (cs : List (List ℕ)). AddsFront J at cs K') (take_drop e bs) (front_longer J K' at (take e bs) (drop e bs) (subst (λ (cs : List (List ℕ)). AddsFront J at cs K') (take_on d e bs de) upto))
+    let upto : AddsFront J at (take d bs ++ take (e - d) (drop d bs)) K' = front_after J K K' at (at + d) (take d bs) (take (e - d) (drop d bs)) k (omega (arith, length-take-le d bs (omega arith))) front in
+    subst (λ (cs : List (List ℕ)). AddsFront J at cs K') (take-append-drop e bs) (front_longer J K' at (take e bs) (drop e bs) (subst (λ (cs : List (List ℕ)). AddsFront J at cs K') (take_on d e bs de) upto))
 
 -- a packet that is whole makes a longer front
 pub packet_written : (J K K' : List Event) (at d e : ℕ) (bs : List (List ℕ)) → d ≤ e → e ≤ length bs → K ≡ J ++ written at (take d bs) → K' ≡ K ++ written (at + d) (take (e - d) (drop d bs)) → K' ≡ J ++ written at (take e bs)
 packet_written J K K' at d e bs de h k k' =
-    written_after J K K' at (at + d) (take d bs) (take (e - d) (drop d bs)) k (omega (arith, length_take d bs (omega arith))) k'
+    written_after J K K' at (at + d) (take d bs) (take (e - d) (drop d bs)) k (omega (arith, length-take-le d bs (omega arith))) k'
     ∙ ap (λ (cs : List (List ℕ)). J ++ written at cs) (take_on d e bs de)
 
 -- the next packet may begin behind what was written
 pub packet_begins : (J K : List Event) (at d : ℕ) (bs : List (List ℕ)) → at ≤ next_of J → d ≤ length bs → K ≡ J ++ written at (take d bs) → at + d ≤ next_of K
-packet_begins J K at d bs begins h k = omega (arith, ap next_of k, begins_after J at (take d bs) begins, length_take d bs h)
+packet_begins J K at d bs begins h k = omega (arith, ap next_of k, begins_after J at (take d bs) begins, length-take-le d bs h)
 
 -- no block: nothing happens
 pub takes-nil : (J : List Event) (w : Waiting) → Takes J w [] J w
@@ -126,4 +104,4 @@ takes_next J J1 J2 w w1 w2 i bs d h t u = subst (λ (cs : List (List ℕ)). Take
 pub stops_next : (J J1 J2 : List Event) (w w1 : Waiting) (i : ℕ) (bs : List (List ℕ)) (d : List ℕ) → i < length bs → Takes J w (take i bs) J1 w1 → Stops J1 w1 (get_or bs i d ∷ []) J2 → Stops J w bs J2
 stops_next J J1 J2 w w1 i bs d h t s =
     let upto : Stops J w (take (i + 1) bs) J2 = subst (λ (cs : List (List ℕ)). Stops J w cs J2) (take_more i bs d h) (stops_after J J1 J2 w w1 (take i bs) (get_or bs i d ∷ []) t s) in
-    subst (λ (cs : List (List ℕ)). Stops J w cs J2) (take_drop (i + 1) bs) (stops_longer J J2 w (take (i + 1) bs) (drop (i + 1) bs) upto)
+    subst (λ (cs : List (List ℕ)). Stops J w cs J2) (take-append-drop (i + 1) bs) (stops_longer J J2 w (take (i + 1) bs) (drop (i + 1) bs) upto)
