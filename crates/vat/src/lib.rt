@@ -1,2 +1,6 @@
-//! The virtual allocation table, the sessions it keeps, and places where data imitates no table entry.
+//! The virtual allocation table.
 #![tactic(auto)]
+
+mod record;
+
+pub use record::{KEPT_REPLIES, Record, Replies, Reply};
