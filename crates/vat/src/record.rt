@@ -79,6 +79,43 @@ impl Replies {
         &self.kept[..self.count]
     }
 
+    /// The replies in four places, with zeros where none is kept.
+    pub(crate) fn places(&self) -> [Reply; KEPT_REPLIES]
+        ensures { result ≡ spec.filled 4 self.now }
+    {
+        self.kept
+    }
+
+    /// The replies before the first of the places that has no commit, if there are any.
+    pub(crate) fn read(places: [Reply; KEPT_REPLIES]) -> Option<Replies>
+        ensures some { IfSome result (λ replies. replies ≡ spec.replies_in places) }
+        ensures none { IfNone result (spec.replies_in places ≡ []) }
+    {
+        let [first, second, third, fourth] = places;
+        if first.commit == 0 {
+            return None;
+        }
+        if second.commit == 0 {
+            return Some(Replies::one(first));
+        }
+        if third.commit == 0 {
+            return Some(Replies {
+                kept: [first, second, NOTHING, NOTHING],
+                count: 2,
+            });
+        }
+        if fourth.commit == 0 {
+            return Some(Replies {
+                kept: [first, second, third, NOTHING],
+                count: 3,
+            });
+        }
+        Some(Replies {
+            kept: [first, second, third, fourth],
+            count: KEPT_REPLIES,
+        })
+    }
+
     /// The reply that so many newer ones follow, if it is kept.
     pub fn get(&self, newer: usize) -> Option<Reply>
         ensures { result ≡ slice_get self.now newer }
