@@ -1,0 +1,4 @@
+pub mod Records
+pub mod Head
+pub mod Words
+pub mod Places

@@ -1,0 +1,37 @@
+-- Numbers of four bytes each, one behind the other.
+use Rattle.std.proofs.Common.{◌≡◌, ◌≢◌, ℕ, zero, suc, ◌+◌, ◌*◌, ◌/◌, ◌^◌, ◌<◌, ◌≤◌, List, [], ◌∷◌, length, drop, get_or, refl, sym, ap, ◌∙◌, inl, inr, arith}
+use Rattle.std.specs.Prelude.{◌⊎◌, ◌==◌, not}
+use Rattle.std.proofs.lemmas.List.{get_or-drop}
+use Rattle.ecma.specs.Numbers.{u16_at, u32_at, u64_at}
+use Rattle.vat.specs.Entry.{words, unused}
+
+pub length-words : (xs : List ℕ) → length (words xs) ≡ length xs / 4
+length-words [] = refl
+length-words (a ∷ []) = refl
+length-words (a ∷ b ∷ []) = refl
+length-words (a ∷ b ∷ c ∷ []) = refl
+length-words (a ∷ b ∷ c ∷ d ∷ rest) = omega (arith, length-words rest)
+
+-- a byte behind a place
+pub cell : (k i j : ℕ) (xs : List ℕ) → j ≡ k + i → get_or (drop k xs) i 0 ≡ get_or xs j 0
+cell k i j xs e = get_or-drop k xs i 0 ∙ ap (λ (n : ℕ). get_or xs n 0) (sym e)
+
+-- a number behind a place
+pub u32_at-drop : (k n : ℕ) (xs : List ℕ) → u32_at n (drop k xs) ≡ u32_at (k + n) xs
+u32_at-drop k n xs = omega (
+  arith,
+  cell k n (k + n) xs refl,
+  cell k (n + 1) (k + n + 1) xs (omega arith),
+  cell k (n + 2) (k + n + 2) xs (omega arith),
+  cell k (n + 2 + 1) (k + n + 2 + 1) xs (omega arith),
+)
+
+pub get_or-words : (xs : List ℕ) (i : ℕ) → i < length (words xs) → get_or (words xs) i 0 ≡ u32_at (4 * i) xs
+get_or-words [] i lt = absurd (omega arith)
+get_or-words (a ∷ []) i lt = absurd (omega arith)
+get_or-words (a ∷ b ∷ []) i lt = absurd (omega arith)
+get_or-words (a ∷ b ∷ c ∷ []) i lt = absurd (omega arith)
+get_or-words (a ∷ b ∷ c ∷ d ∷ rest) zero lt = refl
+get_or-words (a ∷ b ∷ c ∷ d ∷ rest) (suc i) lt =
+    let place : 4 + 4 * i ≡ 4 * suc i = omega arith in
+    get_or-words rest i (omega arith) ∙ u32_at-drop 4 (4 * i) (a ∷ b ∷ c ∷ d ∷ rest) ∙ ap (λ (n : ℕ). u32_at n (a ∷ b ∷ c ∷ d ∷ rest)) place

@@ -1,0 +1,27 @@
+-- Up to four replies in four places.
+use Rattle.std.specs.Prelude.{◌≡◌, ℕ, ◌-◌, ◌<◌, ◌≤◌, List, length, take, drop, replicate}
+use Rattle.std.proofs.Common.{sym, ap, ◌∙◌, arith, length-take}
+use Rattle.vat.specs.declared.record.Reply.{Reply}
+use Rattle.vat.specs.declared.record.Replies.TheInside.{Inside}
+use Rattle.vat.specs.Reply.{nothing, filled}
+
+abbrev pub shown : Inside → List Reply
+shown r = take r.count r.kept
+
+-- one to four, and nothing behind them
+pub record IsFilled (r : Inside) : Type 0 where
+  pub some : 0 < r.count
+  pub bound : r.count ≤ 4
+  pub whole : r.kept ≡ filled 4 (take r.count r.kept)
+  pub places : length r.kept ≡ 4
+
+abbrev pub filled_again : List Reply → Inside
+filled_again replies = record { kept = filled 4 replies; count = length replies }
+
+pub inverse_again : (r : Inside) → IsFilled r → filled_again (shown r) ≡ r
+inverse_again r h =
+    let count : length (take r.count r.kept) ≡ r.count = omega (arith, length-take r.count r.kept, h.bound, h.places) in
+    ap (λ (kept : List Reply). same kept (length (shown r))) (sym h.whole) ∙ ap (same r.kept) count
+  where
+    same : List Reply → ℕ → Inside
+    same kept count = record { kept = kept; count = count }

@@ -1,0 +1,41 @@
+/// Why bytes are no virtual allocation table, in the order in which the faults are told.
+#[derive(Clone, Copy, Debug, PartialEq, Eq)]
+pub enum VatFault {
+    /// A length, the reserved field, or the number of the entry before.
+    Header,
+    /// The label is no dstring of a label.
+    Label,
+    /// A revision of UDF is not 2.01.
+    Version,
+    /// The sessions' identifier or version, their count, or a record of a client.
+    Record,
+    /// A client has two records.
+    ClientTwice,
+    /// An entry is neither unused nor below the table's own entry, or that of the file set or the root is unused.
+    Entry,
+    /// The count of entries or of used ones, or the next unique ID.
+    Count,
+    /// There was no memory for the table. The bytes are one.
+    Memory,
+}
+
+impl VatFault {
+    ghost use Rattle.std.specs.Prelude.{◌≡◌};
+    ghost use Rattle.vat.specs.Rules.{number_of_fault};
+
+    /// The number that a listing of damages shows, from 41 to 47; 65 for want of memory.
+    pub fn number(self) -> u8
+        ensures { result ≡ number_of_fault self }
+    {
+        match self {
+            VatFault::Header => 41,
+            VatFault::Label => 42,
+            VatFault::Version => 43,
+            VatFault::Record => 44,
+            VatFault::ClientTwice => 45,
+            VatFault::Entry => 46,
+            VatFault::Count => 47,
+            VatFault::Memory => 65,
+        }
+    }
+}

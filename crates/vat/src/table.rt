@@ -1,0 +1,84 @@
+//! What a table says.
+
+ghost use Rattle.std.specs.Prelude.{◌≡◌};
+ghost use Rattle.vat.specs.Version as spec;
+
+use crate::record::Record;
+
+/// The version of the sessions, which gives the room for replies in a record.
+#[derive(Clone, Copy, Debug, PartialEq, Eq)]
+pub enum Version {
+    /// A record keeps one reply.
+    One,
+    /// A record keeps up to four.
+    Two,
+}
+
+impl Version {
+    pub(crate) fn number(self) -> u16
+        ensures { result ≡ spec.version_number self }
+    {
+        match self {
+            Version::One => 1,
+            Version::Two => 2,
+        }
+    }
+
+    pub(crate) fn read(number: u16) -> Option<Version>
+        ensures { result ≡ spec.version_of number }
+    {
+        match number {
+            1 => Some(Version::One),
+            2 => Some(Version::Two),
+            _ => None,
+        }
+    }
+
+    /// How many replies a record has room for.
+    pub fn places(self) -> usize
+        ensures { result ≡ spec.places self }
+    {
+        match self {
+            Version::One => 1,
+            Version::Two => 4,
+        }
+    }
+
+    /// How many bytes a record takes.
+    pub fn record_size(self) -> usize
+        ensures { result ≡ spec.record_size self }
+    {
+        match self {
+            Version::One => 24,
+            Version::Two => 48,
+        }
+    }
+}
+
+/// The clients' sessions, as the table keeps them in its implementation use.
+#[derive(Debug, Drop)]
+pub struct Sessions {
+    /// `One` only where every record has one reply.
+    pub version: Version,
+    /// The unique ID that the next node gets, from 16 on.
+    pub next_unique: u32,
+    /// How many commits there were.
+    pub commits: u32,
+    /// In order of the clients' first commits, at most 64, each client once.
+    pub records: Vec<Record>,
+}
+
+/// A virtual allocation table, without its own entry (UDF 2.01 2.2.10).
+#[derive(Debug, Drop)]
+pub struct Vat {
+    /// The dstring of 128 bytes of the volume's label.
+    pub label: [u8; 128],
+    /// The block number of the entry of the table before; `None` in the first, whose commit count is 0.
+    pub previous: Option<u32>,
+    pub files: u32,
+    /// The root counted.
+    pub directories: u32,
+    pub sessions: Sessions,
+    /// For each virtual address the block number that it stands for, `None` where it is unused: 2 to 4,097.
+    pub entries: Vec<Option<u32>>,
+}
