@@ -12,6 +12,7 @@ use Rattle.model.specs.Tree.Content.{File, Directory}
 use Rattle.model.specs.Operation.{Operation, code_of, done, tree_after, files_made, directories_made, files_gone, directories_gone}
 use Rattle.model.specs.Operation.Operation.{Create, Replace, MakeDir, Rename, Remove}
 use Rattle.model.specs.Session.{State, Request, after_one}
+use Rattle.model.specs.Addresses.{free_address}
 use Rattle.model.specs.Graph.{Graph, Stored, Entry, Body, IsFunctional, Names, Leads, Reach, entries_of, content_in, whole, links_in, is_directory}
 use Rattle.model.specs.Graph.Body.{Bytes, Entries}
 use Rattle.model.specs.Change.{Changes, IsReached, Keeps, Found, Added, Replaced, Removed, Renamed, Moved, with_entries, with_parent, renamed, without}
@@ -28,7 +29,7 @@ use Rattle.medium.specs.Step.{Follows, CarriesOut}
 use Rattle.std.proofs.lemmas.Grind.{div_ceil_times}
 use Rattle.medium.specs.Volume.{Medium, partition_start, IsWithin, extent, bytes_in, HasTable, NoneImitates, IsStoredAt, graph_of, Stands}
 use Rattle.medium.proofs.Packed.{length-packed, bytes-packed}
-use Rattle.medium.specs.Plan.{zeros, packed, Writing, Written, WritesNodes, with_entry, with_written, without_all, entries_after, IsPlanned, Plans, turned, least_unused, PlansAddition, PlansReplacement, PlansRemoval, PlansRenaming, PlansMove}
+use Rattle.medium.specs.Plan.{zeros, packed, Writing, Written, WritesNodes, with_entry, with_written, without_all, entries_after, IsPlanned, Plans, turned, PlansAddition, PlansReplacement, PlansRemoval, PlansRenaming, PlansMove}
 use Rattle.medium.proofs.Commits.{keeps, reached_used}
 use Rattle.medium.proofs.Mediums.{within, none-append}
 use Rattle.medium.proofs.Stored.{stored_one}
@@ -251,8 +252,8 @@ module _ (formats : Formats) (capacity volume : ℕ) (exact : AreExact formats) 
   inside : (a : ℕ) → IsReached graph a → a < length V
   inside a reached = let u = used a reached in slice_get_within V a (Some u.0) u.1
 
-  fresh : IsReached graph (least_unused V) → ⊥
-  fresh reached = let u = used (least_unused V) reached in unused_least V u.0 u.1
+  fresh : IsReached graph (free_address V) → ⊥
+  fresh reached = let u = used (free_address V) reached in unused_least V u.0 u.1
 
   -- what a path reaches is stored
   stored_at_reach : (path : Path) (a : ℕ) → Reach graph path a → (s : Stored) × graph a s
@@ -306,10 +307,10 @@ module _ (formats : Formats) (capacity volume : ℕ) (exact : AreExact formats) 
   reached_size [] reached = refl
   reached_size (node ∷ nodes) reached = ap (λ n. size_after n nodes) (longer_other node.address (length V) (inside node.address reached.0)) ∙ reached_size nodes reached.1
 
-  addition_apart : (path : Path) (content : Content) (moment identity : ℕ) (nodes : List Writing) → PlansAddition graph (least_unused V) path content moment identity nodes → NodesApart (length V) nodes
+  addition_apart : (path : Path) (content : Content) (moment identity : ℕ) (nodes : List Writing) → PlansAddition graph (free_address V) path content moment identity nodes → NodesApart (length V) nodes
   addition_apart path content moment identity nodes p =
       let above : IsReached graph p.above.address = (parent_of path, p.above.reach) in
-      let new_apart : least_unused V ≡ p.above.address → ⊥ = λ e. fresh (subst (IsReached graph) (sym e) above) in
+      let new_apart : free_address V ≡ p.above.address → ⊥ = λ e. fresh (subst (IsReached graph) (sym e) above) in
       subst (λ ns. NodesApart (length V) ns) (sym p.nodes_are)
       (omega arith, least_within V two_entries, (new_apart, tt), (above_zero p.above.address above, omega (arith, inside p.above.address above), tt, tt))
 
@@ -389,25 +390,25 @@ module _ (formats : Formats) (capacity volume : ℕ) (exact : AreExact formats) 
     not_longer op e none reached = omega (arith, reached_size p.nodes reached, nodes_counted op r.moment S.next_identity S.tree stands.tells.tree e, count_used, count_by-le-length is_some V)
 
     longer : (op : Operation) (path : Path) (content : Content) → code_of op S.tree ≡ 0 → files_made op + directories_made op ≡ 1 → files_gone op S.tree + directories_gone op S.tree ≡ 0
-        → PlansAddition graph (least_unused V) path content r.moment S.next_identity p.nodes → size_after (length V) p.nodes ≡ max (length V) (1 + len (done op r.moment S.next_identity S.tree))
-    longer op path content e made gone plan = go (lower_or (least_unused V) (length V) (least_within V two_entries))
+        → PlansAddition graph (free_address V) path content r.moment S.next_identity p.nodes → size_after (length V) p.nodes ≡ max (length V) (1 + len (done op r.moment S.next_identity S.tree))
+    longer op path content e made gone plan = go (lower_or (free_address V) (length V) (least_within V two_entries))
       where
         above : IsReached graph plan.above.address
         above = (parent_of path, plan.above.reach)
 
-        sizes : size_after (length V) p.nodes ≡ longer_by plan.above.address (longer_by (least_unused V) (length V))
+        sizes : size_after (length V) p.nodes ≡ longer_by plan.above.address (longer_by (free_address V) (length V))
         sizes = ap (λ ns. size_after (length V) ns) plan.nodes_are
 
         more : len (done op r.moment S.next_identity S.tree) ≡ len S.tree + 1
         more = omega (arith, nodes_counted op r.moment S.next_identity S.tree stands.tells.tree e)
 
-        go : (least_unused V < length V) ⊎ (least_unused V ≡ length V) → size_after (length V) p.nodes ≡ max (length V) (1 + len (done op r.moment S.next_identity S.tree))
+        go : (free_address V < length V) ⊎ (free_address V ≡ length V) → size_after (length V) p.nodes ≡ max (length V) (1 + len (done op r.moment S.next_identity S.tree))
         go (inl room) =
-            let same : longer_by (least_unused V) (length V) ≡ length V = longer_other (least_unused V) (length V) room in
+            let same : longer_by (free_address V) (length V) ≡ length V = longer_other (free_address V) (length V) room in
             let all : size_after (length V) p.nodes ≡ length V = sizes ∙ ap (λ n. longer_by plan.above.address n) same ∙ longer_other plan.above.address (length V) (inside plan.above.address above) in
             omega (arith, all, more, count_used, open_table V room)
         go (inr full) =
-            let one_more : longer_by (least_unused V) (length V) ≡ length V + 1 = longer_same (least_unused V) (length V) full in
+            let one_more : longer_by (free_address V) (length V) ≡ length V + 1 = longer_same (free_address V) (length V) full in
             let root = used 1 ([], refl) in
             let all : size_after (length V) p.nodes ≡ length V + 1 = sizes ∙ ap (λ n. longer_by plan.above.address n) one_more ∙ longer_other plan.above.address (length V + 1) (omega (arith, inside plan.above.address above)) in
             omega (arith, all, more, count_used, full_table V stands.tells.set_number root.0 stands.tells.set_used root.1 full)
@@ -440,14 +441,14 @@ module _ (formats : Formats) (capacity volume : ℕ) (exact : AreExact formats) 
           changes = inr (moved_from graph graph' one source target r.moment p.nodes plan (stored_links source target r.moment p.nodes plan may) (loses source target r.moment p.nodes plan may) (gets source target r.moment p.nodes plan may) (laid [] none apart));
         }
 
-    carried : (op : Operation) → code_of op S.tree ≡ 0 → Plans graph (least_unused V) op r.moment S.next_identity p.nodes p.gone → Carried op
+    carried : (op : Operation) → code_of op S.tree ≡ 0 → Plans graph (free_address V) op r.moment S.next_identity p.nodes p.gone → Carried op
     carried (Create path bytes) e (plan, none) =
         let apart = addition_apart path (File bytes) r.moment S.next_identity p.nodes plan in
         record {
           apart = apart;
           gone = subst (λ gs. GoneWithin (length V) gs) (sym none) tt;
           size = longer (Create path bytes) path (File bytes) e refl refl plan;
-          changes = added graph graph' (least_unused V) path (File bytes) r.moment S.next_identity p.nodes fresh plan (laid [] none apart);
+          changes = added graph graph' (free_address V) path (File bytes) r.moment S.next_identity p.nodes fresh plan (laid [] none apart);
         }
     carried (MakeDir path) e (plan, none) =
         let apart = addition_apart path (Directory []) r.moment S.next_identity p.nodes plan in
@@ -455,7 +456,7 @@ module _ (formats : Formats) (capacity volume : ℕ) (exact : AreExact formats) 
           apart = apart;
           gone = subst (λ gs. GoneWithin (length V) gs) (sym none) tt;
           size = longer (MakeDir path) path (Directory []) e refl refl plan;
-          changes = added graph graph' (least_unused V) path (Directory []) r.moment S.next_identity p.nodes fresh plan (laid [] none apart);
+          changes = added graph graph' (free_address V) path (Directory []) r.moment S.next_identity p.nodes fresh plan (laid [] none apart);
         }
     carried (Replace path bytes) e (plan, none) =
         let reached = one_reached p.nodes _ plan.nodes_are (let file : IsReached graph plan.file.address = (path, plan.file.reach) in file) in

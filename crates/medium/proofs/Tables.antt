@@ -4,7 +4,8 @@ use Rattle.std.proofs.lemmas.Bool.{ne_eqb}
 use Rattle.std.proofs.lemmas.Option.{none-some, same_Some}
 use Rattle.std.proofs.lemmas.List.Sums.{count_by-le-length, sum_by-cons}
 use Rattle.std.specs.Prelude.{count_by, is_some}
-use Rattle.medium.specs.Plan.{Written, with_entry, with_written, without_all, entries_after, first_unused, least_unused}
+use Rattle.model.specs.Addresses.{used_first, free_address}
+use Rattle.medium.specs.Plan.{Written, with_entry, with_written, without_all, entries_after}
 use Rattle.medium.proofs.Lists.{side, get-append, get_past, get-drop}
 use Rattle.medium.proofs.Written.{Lead}
 
@@ -135,37 +136,37 @@ pub same_behind : (V : List Entry) (written : List Written) (gone : List ℕ) (a
 same_behind V written gone address unwritten kept = written_elsewhere written (without_all V gone) address unwritten ∙ gone_elsewhere gone V address kept
 
 -- the least unused address has no used entry, and lies at the table's end at most
-unused_first : (V : List Entry) (number : ℕ) → slice_get V (first_unused V) ≡ Some (Some number) → ⊥
+unused_first : (V : List Entry) (number : ℕ) → slice_get V (used_first V) ≡ Some (Some number) → ⊥
 unused_first [] number e = none-some (Some number) e
 unused_first (None ∷ V) number e = none-some number (same_Some None (Some number) e)
 unused_first (Some n ∷ V) number e = unused_first V number e
 
-first_within : (V : List Entry) → first_unused V ≤ length V
+first_within : (V : List Entry) → used_first V ≤ length V
 first_within [] = omega arith
 first_within (None ∷ V) = omega arith
 first_within (Some n ∷ V) = omega (arith, first_within V)
 
-pub unused_least : (V : List Entry) (number : ℕ) → slice_get V (least_unused V) ≡ Some (Some number) → ⊥
-unused_least V number e = unused_first (drop 2 V) number (get-drop 2 V (first_unused (drop 2 V)) ∙ e)
+pub unused_least : (V : List Entry) (number : ℕ) → slice_get V (free_address V) ≡ Some (Some number) → ⊥
+unused_least V number e = unused_first (drop 2 V) number (get-drop 2 V (used_first (drop 2 V)) ∙ ap (λ i. slice_get V i) (let two : 2 + used_first (drop 2 V) ≡ free_address V = omega arith in two) ∙ e)
 
-pub least_within : (V : List Entry) → 2 ≤ length V → least_unused V ≤ length V
+pub least_within : (V : List Entry) → 2 ≤ length V → free_address V ≤ length V
 least_within V h = omega (arith, first_within (drop 2 V), length-drop 2 V)
 
 used-cons : (e : Entry) (V : List Entry) → count_by is_some (e ∷ V) ≡ cond (is_some e) 1 0 + count_by is_some V
 used-cons e V = sum_by-cons (λ x. cond (is_some x) 1 0) e V
 
-all_used : (V : List Entry) → first_unused V ≡ length V → count_by is_some V ≡ length V
+all_used : (V : List Entry) → used_first V ≡ length V → count_by is_some V ≡ length V
 all_used [] e = refl
 all_used (None ∷ V) e = absurd (omega arith)
 all_used (Some n ∷ V) e = omega (arith, used-cons (Some n) V, all_used V (omega arith))
 
-one_unused : (V : List Entry) → first_unused V < length V → count_by is_some V < length V
+one_unused : (V : List Entry) → used_first V < length V → count_by is_some V < length V
 one_unused [] e = absurd (omega arith)
 one_unused (None ∷ V) e = omega (arith, used-cons None V, count_by-le-length is_some V)
 one_unused (Some n ∷ V) e = omega (arith, used-cons (Some n) V, one_unused V (omega arith))
 
 -- a table without unused entries grows by a new node, another one does not
-pub full_table : (V : List Entry) (a b : ℕ) → slice_get V 0 ≡ Some (Some a) → slice_get V 1 ≡ Some (Some b) → least_unused V ≡ length V → count_by is_some V ≡ length V
+pub full_table : (V : List Entry) (a b : ℕ) → slice_get V 0 ≡ Some (Some a) → slice_get V 1 ≡ Some (Some b) → free_address V ≡ length V → count_by is_some V ≡ length V
 full_table [] a b e f g = absurd (none-some (Some a) e)
 full_table (x ∷ []) a b e f g = absurd (none-some (Some b) f)
 full_table (x ∷ y ∷ V) a b e f g =
@@ -175,7 +176,7 @@ full_table (x ∷ y ∷ V) a b e f g =
     let two : count_by is_some (y ∷ V) ≡ 1 + count_by is_some V = used-cons y V ∙ ap (λ (z : Entry). cond (is_some z) 1 0 + count_by is_some V) second in
     omega (arith, one, two, all_used V (omega arith))
 
-pub open_table : (V : List Entry) → least_unused V < length V → count_by is_some V < length V
+pub open_table : (V : List Entry) → free_address V < length V → count_by is_some V < length V
 open_table [] h = absurd (omega arith)
 open_table (x ∷ []) h = absurd (omega arith)
 open_table (x ∷ y ∷ V) h = omega (arith, at_most x (y ∷ V), at_most y V, one_unused V (omega arith))

@@ -5,6 +5,7 @@ use Rattle.model.specs.Tree.Content.{File, Directory}
 use Rattle.model.specs.Operation.{Operation, code_of}
 use Rattle.model.specs.Operation.Operation.{Create, Replace, MakeDir, Rename, Remove}
 use Rattle.model.specs.Session.{State, Request, after_one}
+use Rattle.model.specs.Addresses.{free_address}
 use Rattle.model.specs.Graph.{Graph, Stored, Entry, Body, whole, entries_of, is_directory}
 use Rattle.model.specs.Graph.Body.{Bytes, Entries}
 use Rattle.model.specs.Change.{Found, with_entries, with_parent, new_body, without, renamed}
@@ -55,16 +56,6 @@ without_all table (address ∷ gone) = without_all (with_entry table address Non
 -- the table behind a commit: the entries of what was removed are unused, those of what was written lead there
 abbrev pub entries_after : List (Option ℕ) → List Written → List ℕ → List (Option ℕ)
 entries_after table written gone = with_written (without_all table gone) written
-
--- the place of the first unused entry, or behind the last
-abbrev pub first_unused : List (Option ℕ) → ℕ
-first_unused [] = 0
-first_unused (None ∷ table) = 0
-first_unused (Some number ∷ table) = suc (first_unused table)
-
--- the least unused virtual address from 2 on, or else the next past the table's end
-abbrev pub least_unused : List (Option ℕ) → ℕ
-least_unused table = 2 + first_unused (drop 2 table)
 
 -- a new node and its entry in the directory above it
 pub record PlansAddition (graph : Graph) (free : ℕ) (path : Path) (content : Content) (moment identity : ℕ) (nodes : List Writing) : Type 0 where
@@ -185,7 +176,7 @@ module _ (formats : Formats) where
   pub record IsPlanned (capacity volume : ℕ) (medium : Medium) (S : State) (stands : Stands formats capacity volume medium S) (request : Request) (blocks : List Block) (mark : Block) : Type 0 where
     pub nodes : List Writing
     pub gone : List ℕ
-    pub done : code_of request.operation S.tree ≡ 0 → Plans (graph_of formats (take stands.at medium) stands.tells.table.entries) (least_unused stands.tells.table.entries) request.operation request.moment S.next_identity nodes gone
+    pub done : code_of request.operation S.tree ≡ 0 → Plans (graph_of formats (take stands.at medium) stands.tells.table.entries) (free_address stands.tells.table.entries) request.operation request.moment S.next_identity nodes gone
     pub refused : (code_of request.operation S.tree ≡ 0 → ⊥) → (nodes ≡ []) × (gone ≡ [])
     pub node_blocks : List Block
     pub written : List Written
