@@ -1,5 +1,6 @@
 //! Which calls of a drive in memory fail.
-ghost use Rattle.std.specs.Prelude.{◌≡◌, ◌≤◌, ℕ, IfSome};
+ghost use Rattle.std.specs.Prelude.{◌≡◌, ◌≤◌, ◌==◌, ℕ, IfSome, find};
+ghost use Rattle.std.specs.Option.{option_map};
 ghost use Rattle.drive.specs.Faults.{cut_by, after_adding, next_fails, after_next, read_fails, after_read};
 
 /// The call of this number fails, counted from 1 over all calls of `next`, `read` and `write`. A write
@@ -23,7 +24,9 @@ pub enum Fault {
 }
 
 /// How many blocks a call of this number adds at most, where it is to fail.
-pub(crate) fn keep_at(schedule: &[Scheduled], call: u64) -> Option<usize> {
+pub(crate) fn keep_at(schedule: &[Scheduled], call: u64) -> Option<usize>
+    ensures { result ≡ option_map (λ s. s.keep) (find (λ s. s.call == call) schedule.now) }
+{
     schedule
         .iter()
         .find(|item| item.call == call)

@@ -93,6 +93,22 @@ impl PacketWriter {
         Ok(())
     }
 
+    /// Takes the blocks one after another.
+    pub fn put_all<D: Drive>(&mut self, drive: &mut D, blocks: &[Block]) -> Result<(), DriveFault>
+        requires begins { self.old.at ≤ next_of (D.journal drive.old) }
+        requires fits { end_of self.old + length blocks.now ≤ D.capacity drive.old }
+        ensures ok { OnOk result (Takes (D.journal drive.old) self.old blocks.now (D.journal drive.new) self.new) }
+        ensures err { OnErr result (Stops (D.journal drive.old) self.old blocks.now (D.journal drive.new)) }
+        ensures capacity { D.capacity drive.new ≡ D.capacity drive.old }
+        ensures failures { D.failures drive.new ≡ counted (is_err result) (D.failures drive.old) }
+        ensures honest { IsTrue (D.honest drive.new) → IsTrue (D.honest drive.old) }
+    {
+        for block in blocks {
+            self.put(drive, block)?;
+        }
+        Ok(())
+    }
+
     /// Writes the blocks that wait.
     pub fn finish<D: Drive>(&mut self, drive: &mut D) -> Result<(), DriveFault>
         requires begins { self.old.at ≤ next_of (D.journal drive.old) }
