@@ -4,4 +4,5 @@ pub mod Commit
 pub mod Plan
 pub mod Step
 pub mod Runs
+pub mod Journal
 pub mod Example
