@@ -1,14 +1,19 @@
 -- When bytes pass as a name.
-use Rattle.std.proofs.Common.{◌≡◌, ℕ, ◌&&◌, Bool, true, false, List, Option, Some, None, Result, Ok, Err, refl, sym, ap, subst, ◌∙◌, arith}
+use Rattle.std.proofs.Common.{◌≡◌, ℕ, ◌≤◌, ◌&&◌, ◌||◌, not, lit<, [], ◌∷◌, get_or, Bool, true, false, cond, eqb, leb, length, List, Option, Some, None, Result, Ok, Err, refl, sym, ap, subst, ◌∙◌, arith}
 use Rattle.std.specs.Prelude.{is_none}
 use Rattle.std.specs.Str.{IsUtf8, is_utf8}
-use Rattle.std.proofs.lemmas.Bool.{false≢true}
-use Rattle.std.proofs.lemmas.Str.{IsUtf8-from_is_utf8, is_utf8-from_IsUtf8}
+use Rattle.std.specs.Prelude.{All}
+use Rattle.std.specs.List.{list_any}
+use Rattle.std.specs.Str.{chars, NonePass, NoCharPasses}
+use Rattle.std.proofs.lemmas.Bool.{leb-true, not-true, ne_eqb}
+use Rattle.std.proofs.lemmas.List.Elements.{All-from_get_or}
+use Rattle.std.proofs.lemmas.Str.Pattern.{NoCharPasses-char}
+use Rattle.std.proofs.lemmas.Str.{IsUtf8-from_is_utf8, is_utf8-from_IsUtf8, encodes-chars}
 use Rattle.osta.specs.declared.fault.NameFault.{NameFault}
 use Rattle.osta.specs.declared.fault.NameFault.TheVariants as name
 use Rattle.osta.specs.Fault.{text_fault}
 use Rattle.osta.specs.FirstFault.{first_fault}
-use Rattle.osta.specs.Name.{name_faults, IsName}
+use Rattle.osta.specs.Name.{name_faults, IsName, is_dots, has_character}
 use Rattle.request.specs.declared.message.Cause.{Cause}
 use Rattle.request.specs.declared.message.Cause.TheVariants as cause
 use Rattle.request.specs.declared.payload.ReadError.{ReadError}
@@ -67,3 +72,44 @@ refused bytes fault e =
 pub refusal : (bytes text : List ℕ) (fault : NameFault) → text ≡ bytes → text_fault fault ≡ first_fault (name_faults text) → text_fault fault ≡ Some fault → tested_name bytes ≡ Err cause.Path
 refusal bytes text fault e told some =
     refused bytes fault (sym some ∙ told ∙ ap (λ (t : List ℕ). first_fault (name_faults t)) e)
+
+-- a row of a list of faults that shows none
+passed_row : {F : Type 0} (holds : Bool) (fault : F) (rows : Option F) → cond holds rows (Some fault) ≡ None → (holds ≡ true) × (rows ≡ None)
+passed_row true fault rows e = (refl, e)
+passed_row false fault rows e = absurd cc
+
+-- what the rows say of a name that has no fault
+record Faultless (text : List ℕ) : Type 0 where
+  no_slash : has_character 47 text ≡ false
+  few : length text ≤ 1020
+
+-- STUB
+is_faultless : (text : List ℕ) → IsName text → Faultless text
+is_faultless text good =
+    let long : Option NameFault = cond (leb (length text) 1020) None (Some name.Long) in
+    let nul : Option NameFault = cond (not (has_character 0 text)) long (Some name.Nul) in
+    let slash : Option NameFault = cond (not (has_character 47 text)) nul (Some name.Slash) in
+    let dot : Option NameFault = cond (not (is_dots text)) slash (Some name.Dot) in
+    let a = passed_row (not (eqb (length text) 0)) name.Empty dot good.faultless in
+    let b = passed_row (not (is_dots text)) name.Dot slash a.1 in
+    let c = passed_row (not (has_character 47 text)) name.Slash nul b.1 in
+    let d = passed_row (not (has_character 0 text)) name.Nul long c.1 in
+    let e = passed_row (leb (length text) 1020) name.Long None d.1 in
+    record { no_slash = not-true _ c.0; few = leb-true _ _ e.0 }
+
+pub short_name : (text : List ℕ) → IsName text → length text ≤ 1020
+short_name text good = (is_faultless text good).few
+
+or_false : (a b : Bool) → (a || b) ≡ false → (a ≡ false) × (b ≡ false)
+or_false true b e = absurd cc
+or_false false b e = (refl, e)
+
+none_pass : (p : ℕ → Bool) (cs : List ℕ) → list_any p cs ≡ false → NonePass p cs
+none_pass p [] e = tt
+none_pass p (c ∷ cs) e = let o = or_false (p c) (list_any p cs) e in (o.0, none_pass p cs o.1)
+
+-- no byte of a name is a slash
+pub no_slash : (text : List ℕ) → IsName text → All (λ b. eqb b 47 ≡ false) text
+no_slash text good =
+    let apart : NoCharPasses (λ d. eqb d 47) text = (chars text, encodes-chars text good.utf8, none_pass (λ d. eqb d 47) (chars text) (is_faultless text good).no_slash) in
+    All-from_get_or (λ b. eqb b 47 ≡ false) text 0 (λ i lt. ne_eqb (get_or text i 0) 47 (NoCharPasses-char 47 text i apart (lit< tt) lt))

@@ -1,0 +1,9 @@
+-- Listings that grow.
+use Rattle.std.proofs.Common.{ℕ, ◌<◌, List, [], ◌∷◌, ◌++◌, length, arith, length-append}
+use Rattle.std.proofs.lemmas.List.Elements.{All-push}
+use Rattle.request.specs.declared.answer.Listed.{Listed}
+use Rattle.request.specs.Listing.{IsNamed, IsListing}
+
+pub listing_push : (names : List Listed) (listed : Listed) → IsListing names → length names < 512 → IsNamed listed → IsListing (names ++ listed ∷ [])
+listing_push names listed good lt named =
+    record { few = omega (arith, length-append names (listed ∷ [])); named = All-push IsNamed names listed good.named named }
