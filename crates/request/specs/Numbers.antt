@@ -6,6 +6,8 @@ use Rattle.request.specs.declared.answer.Code.{Code}
 use Rattle.request.specs.declared.answer.Code.TheVariants as code
 use Rattle.request.specs.declared.answer.NodeKind.{NodeKind}
 use Rattle.request.specs.declared.answer.NodeKind.TheVariants as kind
+use Rattle.request.specs.declared.path.PathFault.{PathFault}
+use Rattle.request.specs.declared.path.PathFault.TheVariants as path
 
 abbrev pub code_number : Code → ℕ
 code_number code.Done = 0
@@ -33,3 +35,7 @@ cause_number cause.NumberZero = 58
 abbrev pub kind_number : NodeKind → ℕ
 kind_number kind.File = 0
 kind_number kind.Directory = 1
+
+abbrev pub path_fault_number : PathFault → ℕ
+path_fault_number path.Path = 55
+path_fault_number path.Memory = 65

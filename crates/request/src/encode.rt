@@ -8,6 +8,7 @@ ghost use Rattle.request.specs.Answers.{answer_code, answer_body, answer_frame, 
 ghost use Rattle.request.specs.Appending.{KeepsFront};
 
 use crate::answer::{Answer, Listed, Listing, NodeKind, NodeStatus};
+use osta::Name;
 use std::alloc::AllocError;
 
 /// Appends the answer's frame, or leaves the vector as it was where there is no memory.
@@ -82,7 +83,7 @@ fn names_len(listing: &Listing) -> usize
 {
     let mut total = 0;
     for listed in listing.names() {
-        total += 3 + listed.name.as_str().len();
+        total += 3 + name_bytes(&listed.name).len();
     }
     total
 }
@@ -130,10 +131,18 @@ fn put_listed(listed: &Listed, out: &mut Vec<u8>) -> Result<(), AllocError>
     ensures ok { OnOk result (out.new.items ≡ out.old.items ++ listed_field listed.now) }
     ensures err { OnErr result (KeepsFront out.old.items out.new.items) }
 {
-    let text = listed.name.as_str().as_bytes();
+    let text = name_bytes(&listed.name);
     out.push(listed.kind.number())?;
     out.extend_from_slice(&(text.len() as u16).to_le_bytes())?;
     out.extend_from_slice(text)
+}
+
+/// A name in UTF-8. Its length fits two bytes.
+fn name_bytes(name: &Name) -> &[u8]
+    ensures value { result.now ≡ name.now }
+    ensures short { length result.now ≤ 1020 }
+{
+    name.as_str().as_bytes()
 }
 
 fn put_status(status: &NodeStatus, out: &mut Vec<u8>) -> Result<(), AllocError>

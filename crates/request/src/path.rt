@@ -40,8 +40,12 @@ pub enum PathFault {
 }
 
 impl PathFault {
+    ghost use Rattle.request.specs.Numbers.{path_fault_number};
+
     /// The number under which the fault is shown.
-    pub fn number(self) -> u16 {
+    pub fn number(self) -> u16
+        ensures { result ≡ path_fault_number self }
+    {
         match self {
             PathFault::Path => 55,
             PathFault::Memory => 65,

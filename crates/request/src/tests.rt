@@ -1,6 +1,7 @@
 use super::*;
 use osta::Name;
 use std::alloc::{AllocError, Global};
+use std::process::Abort;
 use std::test::*;
 
 /// Client 7 number 1 creates `/a` with `hello`.
@@ -286,7 +287,11 @@ fn path_texts(rt: HostRuntime) -> Result<(), Fail> {
     Ok(())
 }
 
-fn check_answer(rt: &HostRuntime, answer: &Answer, wanted: &[u8]) -> Result<(), Fail> {
+fn check_answer(
+    rt: &(impl Abort + AllocGlobal),
+    answer: &Answer,
+    wanted: &[u8],
+) -> Result<(), Fail> {
     let mut out = Vec::new(rt.alloc());
     out.push(9)?;
     encode_answer(answer, &mut out)?;
