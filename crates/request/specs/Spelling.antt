@@ -1,8 +1,8 @@
 -- What a payload can say, and the bytes that say it.
 use Rattle.std.specs.Prelude.{ℕ, ◌<◌, ◌≤◌, ◌^◌, List, [], ◌∷◌, ◌++◌, length}
-use Rattle.std.specs.List.{flat_map, AllByRecursion}
+use Rattle.std.specs.List.{flat_map}
 use Rattle.std.specs.Int.{w16, w32, w64, to_le_bytes}
-use Rattle.osta.specs.Name.{IsName}
+use Rattle.request.specs.Path.{IsPath}
 use Rattle.request.specs.declared.message.Op.{Op}
 use Rattle.request.specs.declared.message.Op.TheVariants.{Create, Replace, MakeDir, Rename, Remove}
 use Rattle.request.specs.declared.message.Query.{Query}
@@ -54,11 +54,6 @@ abbrev pub payload_of : Said → List ℕ
 payload_of (Changes client number moment op) =
     op_kind op ∷ (to_le_bytes w64 client ++ (to_le_bytes w64 number ++ (to_le_bytes w64 moment ++ op_fields op)))
 payload_of (Asks query) = query_kind query ∷ path_field (query_path query)
-
--- at most 255 names, of which each may stand in a directory
-pub record IsPath (path : List (List ℕ)) : Type 0 where
-  pub few : length path ≤ 255
-  pub names : AllByRecursion IsName path
 
 abbrev pub IsOp : Op → Type 0
 IsOp (Create path bytes) = IsPath path × (length bytes ≤ 1048576)

@@ -35,9 +35,12 @@ pub enum Code {
 }
 
 impl Code {
+    ghost use Rattle.std.specs.Prelude.{MatchOption};
+    ghost use Rattle.request.specs.Numbers.{code_number};
+
     /// The number under which the code is answered and kept, from 0 to 10.
     pub fn number(self) -> u16
-        ensures { result ≤ 10 }
+        ensures { result ≡ code_number self }
     {
         match self {
             Code::Done => 0,
@@ -55,7 +58,9 @@ impl Code {
     }
 
     /// The code with this number, for a number from 0 to 10.
-    pub fn of(number: u16) -> Option<Code> {
+    pub fn of(number: u16) -> Option<Code>
+        ensures { MatchOption result (10 < number) (λ code. number ≡ code_number code) }
+    {
         match number {
             0 => Some(Code::Done),
             1 => Some(Code::NoParent),
@@ -88,8 +93,12 @@ pub enum NodeKind {
 }
 
 impl NodeKind {
+    ghost use Rattle.request.specs.Numbers.{kind_number};
+
     /// The number under which the kind is answered.
-    pub fn number(self) -> u8 {
+    pub fn number(self) -> u8
+        ensures { result ≡ kind_number self }
+    {
         match self {
             NodeKind::File => 0,
             NodeKind::Directory => 1,
@@ -111,17 +120,20 @@ pub struct Listing {
 }
 
 impl Model for Listing {
-    ghost use Rattle.std.specs.Prelude.{List, ◌≤◌, vec_len};
+    ghost use Rattle.std.specs.Prelude.{List};
     ghost use Rattle.request.specs.declared.answer.Listed.{Listed};
+    ghost use Rattle.request.specs.Listing.{IsListing};
 
     ghost Value = { List Listed };
 
     ghost view = { λ l. l.names.items };
 
-    ghost invariant = { λ l. vec_len l.names ≤ 512 };
+    ghost invariant = { λ l. IsListing l.names.items };
 }
 
 impl Listing {
+    ghost use Rattle.request.specs.Listing.{IsListing};
+
     /// The listing of an empty directory.
     pub fn new(alloc: Global) -> Listing
         ensures { result ≡ [] }
@@ -134,7 +146,7 @@ impl Listing {
     /// The names in their stored order.
     pub fn names(&self) -> &[Listed]
         ensures names { result.now ≡ self.now }
-        ensures few { length result.now ≤ 512 }
+        ensures listing { IsListing self.now }
     {
         self.names.as_slice()
     }
@@ -145,6 +157,8 @@ impl Listing {
         ensures ok { OnOk result (self.new ≡ self.old ++ listed ∷ []) }
         ensures err { OnErr result (self.new ≡ self.old) }
     {
+        // By its type it is a name.
+        let _text = listed.name.as_str();
         self.names.push(listed)?;
         Ok(())
     }

@@ -105,8 +105,12 @@ pub enum Cause {
 }
 
 impl Cause {
+    ghost use Rattle.request.specs.Numbers.{cause_number};
+
     /// The number under which the cause is answered.
-    pub fn number(self) -> u16 {
+    pub fn number(self) -> u16
+        ensures { result ≡ cause_number self }
+    {
         match self {
             Cause::TooLong => 51,
             Cause::Kind => 52,

@@ -1,6 +1,10 @@
 //! Paths of a tree, from the root on.
 
-ghost use Rattle.std.specs.Prelude.{◌≡◌, ◌≤◌, ◌<◌, ◌+◌, ◌++◌, ◌∷◌, [], List, ℕ, map, length, vec_len, OnOk, OnErr};
+ghost use Rattle.std.specs.Prelude.{◌≡◌, ◌≤◌, ◌<◌, ◌+◌, ◌++◌, ◌∷◌, [], List, ℕ, map, length, OnOk, OnErr};
+ghost use Rattle.std.specs.Prelude.{◌==◌, IfOk, IsErrOf};
+ghost use Rattle.std.specs.List.{slice_split};
+ghost use Rattle.request.specs.Path.{IsPath, path_text};
+ghost use Rattle.request.specs.PathFault.{path_fault_of};
 
 use osta::{Name, NameFault};
 use std::alloc::{AllocError, Global};
@@ -16,11 +20,14 @@ pub struct Path {
 }
 
 impl Model for Path {
+    ghost use Rattle.std.specs.Prelude.{List, ℕ};
+    ghost use Rattle.request.specs.Path.{IsPath};
+
     ghost Value = { List (List ℕ) };
 
     ghost view = { λ p. p.names.items };
 
-    ghost invariant = { λ p. vec_len p.names ≤ 255 };
+    ghost invariant = { λ p. IsPath p.names.items };
 }
 
 /// Why a text is no path.
@@ -33,8 +40,12 @@ pub enum PathFault {
 }
 
 impl PathFault {
+    ghost use Rattle.request.specs.Numbers.{path_fault_number};
+
     /// The number under which the fault is shown.
-    pub fn number(self) -> u16 {
+    pub fn number(self) -> u16
+        ensures { result ≡ path_fault_number self }
+    {
         match self {
             PathFault::Path => 55,
             PathFault::Memory => 65,
@@ -55,42 +66,65 @@ impl Path {
     /// The names from the root on.
     pub fn names(&self) -> &[Name]
         ensures names { result.now ≡ self.now }
-        ensures few { length result.now ≤ 255 }
+        ensures path { IsPath self.now }
     {
         self.names.as_slice()
     }
 
     /// Adds a name at the end, and leaves the path as it was where there is no memory.
-    pub fn push(&mut self, name: Name) -> Result<(), AllocError>
+    pub(crate) fn push(&mut self, name: Name) -> Result<(), AllocError>
         requires { length self.old < 255 }
         ensures ok { OnOk result (self.new ≡ self.old ++ name ∷ []) }
         ensures err { OnErr result (self.new ≡ self.old) }
     {
+        // By its type it is a name.
+        let _text = name.as_str();
         self.names.push(name)?;
         Ok(())
     }
 
     /// Reads `/`, the root, or names that each stand behind a `/`.
-    pub fn parse(alloc: Global, text: &str) -> Result<Path, PathFault> {
-        let mut path = Path::root(alloc);
+    pub fn parse(alloc: Global, text: &str) -> Result<Path, PathFault>
+        // What is read is a path, and the text is its text.
+        ensures found { IfOk result (λ path. IsPath path × (text.now ≡ path_text path)) }
+        // What is refused is the text of no path.
+        ensures only { IsErrOf result PathFault.Path → (path : List (List ℕ)) → IsPath path → text.now ≡ path_text path → ⊥ }
+    {
         let Some(names) = text.strip_prefix('/') else {
             return Err(PathFault::Path);
         };
         if names.is_empty() {
-            return Ok(path);
+            return Ok(Path::root(alloc));
         }
+        Path::of_names(alloc, names)
+    }
+
+    /// Reads names with a `/` between them.
+    fn of_names(alloc: Global, names: &str) -> Result<Path, PathFault>
+        ensures found { IfOk result (λ path. IsPath path × (path ≡ slice_split (λ b. b == 47) names.now)) }
+        ensures only { IsErrOf result PathFault.Path → IsPath (slice_split (λ b. b == 47) names.now) → ⊥ }
+    {
+        let mut path = Path::root(alloc);
         for part in names.split('/') {
             if path.names().len() == PATH_NAMES {
                 return Err(PathFault::Path);
             }
-            let name = Name::read(alloc, part).map_err(path_fault)?;
-            path.push(name).map_err(|_| PathFault::Memory)?;
+            let name = match Name::read(alloc, part) {
+                Ok(name) => name,
+                Err(fault) => return Err(path_fault(fault)),
+            };
+            if path.push(name).is_err() {
+                return Err(PathFault::Memory);
+            }
         }
+        let _names = path.names();
         Ok(path)
     }
 }
 
-fn path_fault(fault: NameFault) -> PathFault {
+fn path_fault(fault: NameFault) -> PathFault
+    ensures { result ≡ path_fault_of fault }
+{
     match fault {
         NameFault::Memory => PathFault::Memory,
         _ => PathFault::Path,

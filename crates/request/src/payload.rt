@@ -1,11 +1,11 @@
 //! Reading the payload of a frame: its fields from left to right, and the first fault in them.
 
-ghost use Rattle.std.specs.Prelude.{◌≡◌, ◌≤◌, ◌<◌, List, ℕ, length, Ok, IfOk, IfErr};
+ghost use Rattle.std.specs.Prelude.{◌≡◌, ◌≤◌, ◌<◌, List, ℕ, length, Ok, IfOk, IfErr, IfSome};
 ghost use Rattle.std.specs.Int.{w16, w32, w64};
 ghost use Rattle.request.specs.Spelling.{Said, IsSaid, payload_of};
 ghost use Rattle.request.specs.Spelling.Said.{Asks};
 ghost use Rattle.request.specs.Reading.{Gives, Fails, number_at, client_at, number_above_zero_at, moment_at, tested_name, name_at, names_at, path_at, data_at, op_at, ended, change_at, question_at, kind_at, fields_at, said_at};
-ghost use Rattle.request.specs.Payload.{Tells, Spells, Says, said_by};
+ghost use Rattle.request.specs.Payload.{Tells, IsSpelled, told_by, said_by};
 ghost use Rattle.request.specs.declared.payload.ReadError.TheVariants.{Memory};
 
 use crate::message::{Cause, FILE_BYTES, FileData, MOMENT_LIMIT, Message, Op, Query, Request};
@@ -62,7 +62,12 @@ enum Kind {
 
 /// What the payload of a frame says.
 pub fn read_payload(alloc: Global, payload: &[u8]) -> Message
+    // It is the one thing that the payload says, or its first fault from left to right, unless there was no memory.
     ensures exact { Tells result payload.now }
+    // What is said may be said, and the payload is its spelling.
+    ensures found { IfSome (told_by result) (IsSpelled payload.now) }
+    // What may be said is read from its spelling, unless there was no memory.
+    ensures only { (said : Said) → IsSaid said → payload.now ≡ payload_of said → IfSome (told_by result) (λ told. told ≡ Ok said) }
 {
     match message_of(alloc, payload) {
         Ok(message) => message,
