@@ -46,14 +46,14 @@ abbrev pub IsNotNode : ℕ → List Writing → Type 0
 IsNotNode address [] = Unit {0}
 IsNotNode address (node ∷ nodes) = (address ≡ node.address → ⊥) × IsNotNode address nodes
 
-zero_or : (n : ℕ) → (n ≡ 0) ⊎ (n ≡ 0 → ⊥)
+pub zero_or : (n : ℕ) → (n ≡ 0) ⊎ (n ≡ 0 → ⊥)
 zero_or zero = inl refl
 zero_or (suc n) = inr (λ e. omega (arith, e))
 
-tree_done : (op : Operation) (moment identity : ℕ) (tree : Tree) → code_of op tree ≡ 0 → tree_after op moment identity tree ≡ done op moment identity tree
+pub tree_done : (op : Operation) (moment identity : ℕ) (tree : Tree) → code_of op tree ≡ 0 → tree_after op moment identity tree ≡ done op moment identity tree
 tree_done op moment identity tree e = ap (λ b. if b then done op moment identity tree else tree) (eq-eqb (code_of op tree) 0 e)
 
-tree_refused : (op : Operation) (moment identity : ℕ) (tree : Tree) → (code_of op tree ≡ 0 → ⊥) → tree_after op moment identity tree ≡ tree
+pub tree_refused : (op : Operation) (moment identity : ℕ) (tree : Tree) → (code_of op tree ≡ 0 → ⊥) → tree_after op moment identity tree ≡ tree
 tree_refused op moment identity tree other = ap (λ b. if b then done op moment identity tree else tree) (ne_eqb (code_of op tree) 0 other)
 
 lower_or : (a b : ℕ) → a ≤ b → (a < b) ⊎ (a ≡ b)
@@ -318,7 +318,7 @@ module _ (formats : Formats) (capacity volume : ℕ) (exact : AreExact formats) 
   one_reached nodes node e reached = (subst AllReached (sym e) (reached, tt), subst AreDifferent (sym e) (tt, tt))
 
   module _ (from to : Path) (moment : ℕ) (nodes : List Writing) (p : PlansMove graph from to moment nodes) (may : MayRename from to S.tree) where
-    moved_reach : Reach graph from p.moved.address
+    pub moved_reach : Reach graph from p.moved.address
     moved_reach = entry_reach from p.above p.moved p.from_last p.contains
 
     -- what is moved is neither of the two directories
@@ -525,6 +525,9 @@ module _ (formats : Formats) (capacity volume : ℕ) (exact : AreExact formats) 
         length-written formats p.nodes start p.node_blocks p.written (without_all V p.gone) p.writes
         ∙ ap (λ n. size_after n p.nodes) (length-without p.gone V settled.gone) ∙ settled.size
 
+    pub table_length_is : length p.table.entries ≡ (after_one S r).table_length
+    table_length_is = ap (λ (V' : List (Option ℕ)). length V') table_entries ∙ size_W
+
     set_kept : slice_get W 0 ≡ slice_get V 0
     set_kept = same_behind V p.written p.gone 0
         (unwritten formats p.nodes start p.node_blocks p.written p.writes 0 (not_node_zero p.nodes (length V) settled.apart)) (not_gone_zero p.gone (length V) settled.gone)
@@ -578,7 +581,7 @@ module _ (formats : Formats) (capacity volume : ℕ) (exact : AreExact formats) 
       commits = ap (λ (t : Table_). t.commits) p.table_is;
       next_identity = ap (λ (t : Table_). t.next_identity) p.table_is;
       records = ap (λ (t : Table_). t.records) p.table_is;
-      table_length = ap (λ (V' : List (Option ℕ)). length V') table_entries ∙ size_W;
+      table_length = table_length_is;
       files = ap (λ (t : Table_). t.files) p.table_is;
       directories = ap (λ (t : Table_). t.directories) p.table_is;
       set = ap (λ (V' : List (Option ℕ)). slice_get V' 0) table_entries ∙ set_kept;

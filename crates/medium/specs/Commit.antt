@@ -1,5 +1,5 @@
 -- How many blocks a commit may take, from sizes alone.
-use Rattle.std.specs.Prelude.{ℕ, ◌+◌, ◌*◌, ◌/◌, if◌then◌else◌, ◌==◌, nat_le, List, [], length}
+use Rattle.std.specs.Prelude.{ℕ, ◌+◌, ◌*◌, ◌/◌, if◌then◌else◌, ◌==◌, nat_lt, List, [], length}
 use Rattle.model.specs.Tree.{Name, Tree, names_at, parent_of, is_directory_at, paths_eq}
 use Rattle.model.specs.Operation.{Operation, code_of}
 use Rattle.model.specs.Operation.Operation.{Create, Replace, MakeDir, Rename, Remove}
@@ -13,7 +13,7 @@ most_inside = 1872
 
 -- the blocks of a file's bytes outside its entry
 abbrev pub file_blocks : ℕ → ℕ
-file_blocks size = if nat_le size most_inside then 0 else blocks_for size
+file_blocks size = if nat_lt most_inside size then blocks_for size else 0
 
 -- the most blocks that a file's data and its entry take: before the data there may be as many blocks of zeros
 abbrev pub most_for_file : List ℕ → ℕ
