@@ -291,16 +291,25 @@ fn sixteen_names_are_the_most(rt: HostRuntime) -> Result<(), Fail> {
     operations.push(make(alloc, "d")?)?;
     operations.push(make(alloc, "e")?)?;
     operations.push(create(alloc, "e/x")?)?;
-    at.push_str("/b")?;
-    operations.push(rename(alloc, "e", &at)?)?;
-    operations.push(rename(alloc, "d", &at)?)?;
-    at.push_str("/c")?;
-    operations.push(make(alloc, &at)?)?;
+    let deepest = format!(in alloc; "{at}/b")?;
+    operations.push(rename(alloc, "e", &deepest)?)?;
+    operations.push(rename(alloc, "d", &deepest)?)?;
+    operations.push(make(alloc, &format!(in alloc; "{deepest}/c")?)?)?;
+    operations.push(rename(alloc, "e", &deepest)?)?;
+    for i in 0..511u16 {
+        operations.push(create(alloc, &format!(in alloc; "{at}/{i}")?)?)?;
+    }
+    operations.push(rename(alloc, "e", &format!(in alloc; "{at}/x")?)?)?;
+    operations.push(rename(alloc, "e/x", &format!(in alloc; "{at}/x")?)?)?;
     let (_state, codes) = after(alloc, operations)?;
-    assert_eq!(rt; codes.len(), 21);
+    assert_eq!(rt; codes.len(), 535);
     assert_eq!(rt; codes.get(18).copied(), Some(Code::TooDeep));
     assert_eq!(rt; codes.get(19).copied(), Some(Code::Done));
     assert_eq!(rt; codes.get(20).copied(), Some(Code::TooDeep));
+    assert_eq!(rt; codes.get(21).copied(), Some(Code::Exists));
+    assert_eq!(rt; codes.get(532).copied(), Some(Code::Done));
+    assert_eq!(rt; codes.get(533).copied(), Some(Code::TooDeep));
+    assert_eq!(rt; codes.get(534).copied(), Some(Code::DirectoryFull));
     Ok(())
 }
 
@@ -360,6 +369,28 @@ fn four_replies_are_kept(rt: HostRuntime) -> Result<(), Fail> {
     assert_eq!(rt; state.due(8, 1), Due::New);
     assert_eq!(rt; state.due(9, 2), Due::Gap(0));
     assert_eq!(rt; state.due(9, u64::MAX), Due::Gap(0));
+    Ok(())
+}
+
+#[test]
+fn a_record_may_keep_one_reply(rt: HostRuntime) -> Result<(), Fail> {
+    let alloc = rt.alloc();
+    let reply = Reply {
+        code: Code::Done,
+        commit: 9,
+    };
+    for latest in [6, u64::MAX] {
+        let mut state = State::formatted(alloc, 0)?;
+        state.records.push(ClientRecord {
+            client: 7,
+            latest,
+            replies: vec![in alloc; reply]?,
+        })?;
+        assert_eq!(rt; state.due(7, latest), Due::Repeat(reply));
+        for number in [0, 1, 5, latest.saturating_sub(1)] {
+            assert_eq!(rt; state.due(7, number), Due::Stale(latest));
+        }
+    }
     Ok(())
 }
 
