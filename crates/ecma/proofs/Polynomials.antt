@@ -1,5 +1,5 @@
 -- Sums and products of polynomials over two elements.
-use Rattle.std.proofs.Common.{◌≡◌, ℕ, zero, suc, ◌+◌, ◌*◌, ◌/◌, ◌^◌, ◌<◌, refl, sym, ap, ◌∙◌, arith}
+use Rattle.std.proofs.Common.{◌≡◌, ℕ, zero, suc, ◌+◌, ◌*◌, ◌/◌, ◌^◌, ◌<◌, sym, ap, ◌∙◌, arith}
 use Rattle.std.proofs.Math.Nat.{mul_assoc, mul_comm, pow-suc}
 use Rattle.std.specs.Int.Bits.{bit_xor, xor_block, xor_assoc, xor_comm, xor_self, xor_shr, xor_lt, xor_zero_r}
 use Rattle.std.proofs.lemmas.Nat.{pow_pos}
