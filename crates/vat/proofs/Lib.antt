@@ -1,4 +1,6 @@
-pub mod Records
-pub mod Head
 pub mod Words
+pub mod Areas
+pub mod Records
+pub mod Entries
+pub mod Head
 pub mod Places

@@ -1,6 +1,7 @@
 -- Numbers of four bytes each, one behind the other.
-use Rattle.std.proofs.Common.{◌≡◌, ◌≢◌, ℕ, zero, suc, ◌+◌, ◌*◌, ◌/◌, ◌^◌, ◌<◌, ◌≤◌, List, [], ◌∷◌, length, drop, get_or, refl, sym, ap, ◌∙◌, inl, inr, arith}
+use Rattle.std.proofs.Common.{◌≡◌, ◌≢◌, ℕ, zero, suc, ◌+◌, ◌*◌, ◌/◌, ◌^◌, ◌<◌, ◌≤◌, true, false, List, [], ◌∷◌, length, drop, get_or, refl, sym, ap, ◌∙◌, inl, inr, arith}
 use Rattle.std.specs.Prelude.{◌⊎◌, ◌==◌, not}
+use Rattle.std.proofs.lemmas.Bool.{ne_eqb, eq-eqb}
 use Rattle.std.proofs.lemmas.List.{get_or-drop}
 use Rattle.ecma.specs.Numbers.{u16_at, u32_at, u64_at}
 use Rattle.vat.specs.Entry.{words, unused}
@@ -35,3 +36,10 @@ get_or-words (a ∷ b ∷ c ∷ d ∷ rest) zero lt = refl
 get_or-words (a ∷ b ∷ c ∷ d ∷ rest) (suc i) lt =
     let place : 4 + 4 * i ≡ 4 * suc i = omega arith in
     get_or-words rest i (omega arith) ∙ u32_at-drop 4 (4 * i) (a ∷ b ∷ c ∷ d ∷ rest) ∙ ap (λ (n : ℕ). u32_at n (a ∷ b ∷ c ∷ d ∷ rest)) place
+
+-- whether a number counts as used
+pub counts : (n : ℕ) → n ≢ unused → not (n == unused) ≡ true
+counts n other = ap not (ne_eqb n unused other)
+
+pub counts_not : (n : ℕ) → n ≡ unused → not (n == unused) ≡ false
+counts_not n same = ap not (eq-eqb n unused same)

@@ -1,7 +1,7 @@
 -- What makes bytes a table, in the order in which the faults are told.
-use Rattle.std.specs.Prelude.{◌≡◌, ◌≢◌, ℕ, ◌+◌, ◌-◌, ◌*◌, ◌%◌, ◌<◌, ◌≤◌, ◌==◌, ◌⊎◌, not, if◌then◌else◌, List, [], ◌∷◌, length, take, drop, map, codes, replicate, slice_index, IsSome, unwrap_or, All, count_by}
+use Rattle.std.specs.Prelude.{◌≡◌, ◌≢◌, ℕ, ◌+◌, ◌-◌, ◌*◌, ◌%◌, ◌<◌, ◌≤◌, ◌==◌, ◌⊎◌, not, if◌then◌else◌, List, [], ◌∷◌, length, take, drop, map, codes, replicate, slice_index, IsSome, unwrap_or, count_by}
 use Rattle.std.specs.Int.{w16, to_le_bytes}
-use Rattle.std.specs.List.{concat, flat_map}
+use Rattle.std.specs.List.{concat, flat_map, AllByRecursion}
 use Rattle.ecma.specs.Field.{IsAt}
 use Rattle.ecma.specs.Numbers.{u16_at, u32_at, u64_at}
 use Rattle.vat.specs.declared.fault.VatFault.{VatFault}
@@ -9,6 +9,7 @@ use Rattle.vat.specs.declared.fault.VatFault.TheVariants as faults
 use Rattle.vat.specs.declared.table.Version.{Version}
 use Rattle.vat.specs.declared.table.Version.TheVariants.{One, Two}
 use Rattle.vat.specs.declared.record.Reply.{Reply}
+use Rattle.vat.specs.declared.record.Record.{Record}
 use Rattle.vat.specs.Reply.{nothing}
 use Rattle.vat.specs.Version.{version_of, record_size}
 use Rattle.vat.specs.Record.{SpellsRecord, IsKept, record_bytes}
@@ -110,6 +111,12 @@ table_rules icb bytes =
     ∷ (faults.Count, HasCounts bytes)
     ∷ []
 
+-- the records that the bytes have
+pub record SaysRecords (records : List Record) (bytes : List ℕ) : Type 0 where
+  pub count : length records ≡ count_at bytes
+  pub kept : AllByRecursion (IsKept (version_at bytes) (commits_at bytes)) records
+  pub whole : flat_map (record_bytes (version_at bytes)) records ≡ take (record_size_at bytes * count_at bytes) (drop 196 bytes)
+
 -- what the bytes say
 pub record Says (t : Table) (bytes : List ℕ) : Type 0 where
   pub label : t.label ≡ take 128 (drop 4 bytes)
@@ -119,7 +126,5 @@ pub record Says (t : Table) (bytes : List ℕ) : Type 0 where
   pub version : t.version ≡ version_at bytes
   pub next_unique : t.next_unique ≡ u32_at 188 bytes
   pub commits : t.commits ≡ commits_at bytes
-  pub count : length t.records ≡ count_at bytes
-  pub kept : All (IsKept (version_at bytes) (commits_at bytes)) t.records
-  pub records : flat_map (record_bytes (version_at bytes)) t.records ≡ take (record_size_at bytes * count_at bytes) (drop 196 bytes)
+  pub records : SaysRecords t.records bytes
   pub entries : t.entries ≡ map entry_of (numbers_at bytes)

@@ -38,12 +38,10 @@ view vat = record {
 abbrev pub use_size : Version → ℕ → ℕ
 use_size version count = 44 + record_size version * count
 
--- what stands before the records, piece by piece
-abbrev pub head_parts : ℕ → List ℕ → ℕ → ℕ → ℕ → ℕ → ℕ → ℕ → ℕ → List (List ℕ)
-head_parts size label previous files directories version count next_unique commits =
-    to_le_bytes w16 (152 + size) ∷ to_le_bytes w16 size  -- 0 length of the header, 2 length of the implementation use
-    ∷ label  -- 4
-    ∷ to_le_bytes w32 previous  -- 132
+-- what stands between the label and the records, piece by piece
+abbrev pub middle_parts : ℕ → ℕ → ℕ → ℕ → ℕ → ℕ → ℕ → List (List ℕ)
+middle_parts previous files directories version count next_unique commits =
+    to_le_bytes w32 previous  -- 132
     ∷ to_le_bytes w32 files ∷ to_le_bytes w32 directories  -- 136, 140
     ∷ to_le_bytes w16 0x0201 ∷ to_le_bytes w16 0x0201 ∷ to_le_bytes w16 0x0201  -- 144 minimum read, minimum write and maximum write revision
     ∷ to_le_bytes w16 0  -- 150 reserved
@@ -52,9 +50,18 @@ head_parts size label previous files directories version count next_unique commi
     ∷ to_le_bytes w32 next_unique ∷ to_le_bytes w32 commits  -- 188, 192
     ∷ []
 
+-- what stands before the records
+abbrev pub head_parts : ℕ → List ℕ → List (List ℕ) → List (List ℕ)
+head_parts size label middle =
+    to_le_bytes w16 (152 + size) ∷ to_le_bytes w16 size  -- 0 length of the header, 2 length of the implementation use
+    ∷ label  -- 4
+    ∷ middle
+
+abbrev pub middle_of : Table → List (List ℕ)
+middle_of t = middle_parts (entry_number t.previous) t.files t.directories (version_number t.version) (length t.records) t.next_unique t.commits
+
 abbrev pub head_bytes : Table → List ℕ
-head_bytes t = concat (head_parts (use_size t.version (length t.records)) t.label (entry_number t.previous) t.files t.directories
-    (version_number t.version) (length t.records) t.next_unique t.commits)
+head_bytes t = concat (head_parts (use_size t.version (length t.records)) t.label (middle_of t))
 
 abbrev pub table_bytes : Table → List ℕ
 table_bytes t = head_bytes t ++ (flat_map (record_bytes t.version) t.records ++ flat_map entry_bytes t.entries)

@@ -6,7 +6,7 @@ ghost use Rattle.vat.specs.declared.record.Record.{Record};
 ghost use Rattle.vat.specs.Version as versions;
 ghost use Rattle.vat.specs.Reply as replies;
 ghost use Rattle.vat.specs.Reply.{AreReplies};
-ghost use Rattle.vat.specs.Record.{IsKept, SpellsRecord};
+ghost use Rattle.vat.specs.Record.{HasRoom, IsKept, SpellsRecord};
 ghost use Rattle.vat.specs.Record as spec;
 ghost use Rattle.vat.specs.Entry.{words};
 ghost use Rattle.vat.specs.Rules as rule;
@@ -197,8 +197,7 @@ fn are_replies(commits: u32, replies: &[Reply]) -> bool
 
 /// Whether the bytes are those of the record.
 fn spells(version: Version, kept: &Record, text: &[u8]) -> bool
-    requires room { length kept.now.replies ≤ versions.places version }
-    requires some { 0 < length kept.now.replies }
+    requires { HasRoom version kept.now }
     ensures { IsTrue result ↔ (text.now ≡ spec.record_bytes version kept.now) }
 {
     let bytes = record_bytes(kept);
@@ -210,7 +209,7 @@ pub(crate) fn has_records(bytes: &[u8]) -> bool
     requires whole { 196 + rule.record_size_at bytes.now * rule.count_at bytes.now ≤ length bytes.now }
     ensures { IsTrue result ↔ HasRecords bytes.now }
 {
-    if !stands_at(&[Field::EntityId(SESSIONS)], bytes, 152) {
+    if !stands_at(&[Field::Bytes(SESSIONS), Field::Zeros(14)], bytes, 152) {
         return false;
     }
     let Some(version) = Version::read(u16_at(bytes, 184)) else {
