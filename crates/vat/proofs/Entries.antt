@@ -1,12 +1,18 @@
 -- What a table has for each virtual address, as numbers and as bytes.
 use Rattle.std.proofs.Common.{◌≡◌, ◌≢◌, ℕ, zero, suc, ◌+◌, ◌*◌, ◌/◌, ◌%◌, ◌^◌, ◌<◌, ◌≤◌, Bool, true, false, cond, eqb, List, [], ◌∷◌, ◌++◌, length, take, drop, get_or, map, Option, Some, None, refl, sym, ap, subst, ◌∙◌, inl, inr, arith}
 use Rattle.std.specs.Prelude.{IfSome, IsNone, is_some, not, ◌==◌, ◌⊎◌, count_by, slice_get}
+use Rattle.std.specs.Option.{option_map}
+use Rattle.std.proofs.lemmas.Option.{slice_get-map, slice_get-get_or}
 use Rattle.std.specs.Int.{w32, to_le_bytes}
 use Rattle.std.specs.List.{flat_map, AllByRecursion}
 use Rattle.std.proofs.lemmas.Bool.{eqb-true, eqb-false, eq-eqb, ne_eqb}
+use Rattle.std.proofs.lemmas.List.Sums.{sum_by-cons}
 use Rattle.std.proofs.lemmas.Nat.{le_bytes_4}
 use Rattle.ecma.proofs.Pieces.{IsBytes}
 use Rattle.vat.specs.Entry.{unused, entry_number, entry_of, entry_bytes, words}
+
+abbrev whole : Option ℕ → Option (Option ℕ)
+whole e = Some e
 
 -- ---- one entry
 
@@ -89,13 +95,36 @@ words_fit (a ∷ b ∷ c ∷ d ∷ rest) fits zero = omega (arith, fits 0, fits 
 words_fit (a ∷ b ∷ c ∷ d ∷ rest) fits (suc i) = words_fit rest (λ k. fits (suc (suc (suc (suc k))))) i
 
 -- as many are used
-is_used : (b : Bool) (n : ℕ) → is_some (cond b {X = Option ℕ} None (Some n)) ≡ not b
+abbrev none : Option ℕ
+none = None
+
+is_used : (b : Bool) (n : ℕ) → is_some (cond b none (Some n)) ≡ not b
 is_used true n = refl
 is_used false n = refl
 
 pub used_again : (ns : List ℕ) → count_by is_some (map entry_of ns) ≡ count_by (λ n. not (n == unused)) ns
 used_again [] = refl
-used_again (n ∷ ns) = rw (is_used (eqb n unused) n) (omega (arith, used_again ns))
+used_again (n ∷ ns) =
+    let f : Option ℕ → ℕ = λ e. cond (is_some e) 1 0 in
+    let g : ℕ → ℕ = λ k. cond (not (k == unused)) 1 0 in
+    sum_by-cons f (entry_of n) (map entry_of ns)
+    ∙ ap (λ (b : Bool). cond b 1 0 + count_by is_some (map entry_of ns)) (is_used (eqb n unused) n)
+    ∙ ap (λ (k : ℕ). g n + k) (used_again ns)
+    ∙ sym (sum_by-cons g n ns)
 
 pub used_numbers : (es : List (Option ℕ)) → AllByRecursion (λ e. IfSome e (λ n. n < unused)) es → count_by (λ n. not (n == unused)) (map entry_number es) ≡ count_by is_some es
 used_numbers es all = sym (used_again (map entry_number es)) ∙ ap (count_by is_some) (entries_again es all)
+
+-- ---- the file set and the root
+
+-- an entry that is there is used where its number is
+pub entry_there : (ns : List ℕ) (i : ℕ) → i < length ns → get_or ns i 0 ≢ unused → slice_get (map entry_of ns) i ≡ Some (Some (get_or ns i 0))
+entry_there ns i lt other = slice_get-map entry_of ns i ∙ ap (option_map entry_of) (slice_get-get_or ns i 0 lt) ∙ ap whole (entry_of-used (get_or ns i 0) other)
+
+pub number_there : (es : List (Option ℕ)) (i number : ℕ) → slice_get es i ≡ Some (Some number) → get_or (map entry_number es) i 0 ≡ number
+number_there [] i number e = absurd cc
+number_there (x ∷ es) zero number e = ap entry_number (inner x number e)
+  where
+    inner : (x : Option ℕ) (number : ℕ) → whole x ≡ whole (Some number) → x ≡ Some number
+    inner x number e = cc
+number_there (x ∷ es) (suc i) number e = number_there es i number e

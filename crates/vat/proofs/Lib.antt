@@ -4,3 +4,5 @@ pub mod Records
 pub mod Entries
 pub mod Head
 pub mod Places
+pub mod TableLaws
+pub mod TableReads

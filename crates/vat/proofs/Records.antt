@@ -1,11 +1,11 @@
 -- The bytes of a record, and the record that bytes have.
-use Rattle.std.proofs.Common.{◌≡◌, ℕ, zero, suc, ◌+◌, ◌-◌, ◌*◌, ◌/◌, ◌%◌, ◌^◌, ◌<◌, ◌≤◌, Bool, false, eqb, List, [], ◌∷◌, ◌++◌, length, take, drop, get_or, replicate, sym, ap, ◌∙◌, refl, arith}
-use Rattle.std.specs.Prelude.{IsTrue, ◌↔◌}
+use Rattle.std.proofs.Common.{◌≡◌, ℕ, zero, suc, ◌+◌, ◌-◌, ◌*◌, ◌/◌, ◌%◌, ◌^◌, ◌<◌, ◌≤◌, Bool, false, eqb, List, [], ◌∷◌, ◌++◌, length, take, drop, get_or, replicate, sym, ap, subst, ◌∙◌, refl, arith}
+use Rattle.std.specs.Prelude.{IsTrue, ◌↔◌, Option, Some, None, IsSome, IfSome, IfNone, unwrap_or}
 use Rattle.std.specs.Str.{bytes_eq}
 use Rattle.std.specs.Int.{w16, w32, w64, to_le_bytes}
-use Rattle.std.specs.List.{concat, flat_map}
+use Rattle.std.specs.List.{concat, flat_map, AllByRecursion}
 use Rattle.std.proofs.lemmas.Bool.{ne_eqb}
-use Rattle.std.proofs.lemmas.List.{length-append, length-replicate, take_all}
+use Rattle.std.proofs.lemmas.List.{length-append, length-replicate, take_all, take_at, drop_at}
 use Rattle.std.proofs.lemmas.Slice.Eq.{bytes_eq-Decides}
 use Rattle.ecma.specs.Numbers.{u16_at, u32_at, u64_at}
 use Rattle.vat.specs.declared.record.Reply.{Reply}
@@ -19,6 +19,9 @@ use Rattle.vat.specs.Rules.{places_in}
 
 abbrev made : ℕ → ℕ → Reply
 made code commit = record { code = code; commit = commit }
+
+abbrev pub made_record : ℕ → ℕ → List Reply → Record
+made_record client latest replies = record { client = client; latest = latest; replies = replies }
 
 -- the first four
 abbrev pub four : List Reply → List Reply
@@ -99,10 +102,19 @@ reply_again reply fits =
     let commit : reply.commit % 256 + reply.commit / 256 % 256 * 2 ^ 8 + (reply.commit / 65536 % 256 + reply.commit / 16777216 % 256 * 2 ^ 8) * 2 ^ 16 ≡ reply.commit = omega (arith, fits.1) in
     rw (code, commit) refl
 
+abbrev again : Reply → Reply
+again reply = made (reply.code % 256 + reply.code / 256 % 256 * 2 ^ 8) (reply.commit % 256 + reply.commit / 256 % 256 * 2 ^ 8 + (reply.commit / 65536 % 256 + reply.commit / 16777216 % 256 * 2 ^ 8) * 2 ^ 16)
+
+abbrev listed : Reply → Reply → Reply → Reply → List Reply
+listed a b c d = a ∷ b ∷ c ∷ d ∷ []
+
 four_again : (client latest : ℕ) (a b c d : Reply) → Fits a → Fits b → Fits c → Fits d
     → places_in Two (concat (to_le_bytes w64 client ∷ to_le_bytes w64 latest ∷ flat_map reply_bytes (a ∷ b ∷ c ∷ d ∷ []) ∷ [])) ≡ a ∷ b ∷ c ∷ d ∷ []
 four_again client latest a b c d fa fb fc fd =
-    ap (λ (x : Reply). x ∷ _) (reply_again a fa) ∙ ap (λ (x : Reply). a ∷ x ∷ _) (reply_again b fb) ∙ ap (λ (x : Reply). a ∷ b ∷ x ∷ _) (reply_again c fc) ∙ ap (λ (x : Reply). a ∷ b ∷ c ∷ x ∷ []) (reply_again d fd)
+    ap (λ (x : Reply). listed x (again b) (again c) (again d)) (reply_again a fa)
+    ∙ ap (λ (x : Reply). listed a x (again c) (again d)) (reply_again b fb)
+    ∙ ap (λ (x : Reply). listed a b x (again d)) (reply_again c fc)
+    ∙ ap (λ (x : Reply). listed a b c x) (reply_again d fd)
 
 -- replies with commits above 0 are found again in their places
 found_again : (limit k : ℕ) (replies : List Reply) → AreReplies limit replies → replies_in (replies ++ replicate k nothing) ≡ replies
@@ -151,6 +163,57 @@ parsed_again version commits kept small is =
     let replies = replies_again version kept.client kept.latest commits kept.replies small is.room.some is.room.room is.replies in
     rw (client, latest, replies) refl
 
+-- ---- what a reader answered
+
+pub spelled_at : (v w : Version) (m n : ℕ) (s t : List ℕ) → v ≡ w → m ≡ n → s ≡ t → SpellsRecord v m s → SpellsRecord w n t
+spelled_at v w m n s t e f g is =
+    subst (λ (x : Version). SpellsRecord x n t) e (subst (λ (x : ℕ). SpellsRecord v x t) f (subst (λ (x : List ℕ). SpellsRecord v m x) g is))
+
+pub some_is : (o : Option Record) (P : Type 0) → IfNone o (P → ⊥) → P → IsSome o
+some_is None P none p = absurd (none p)
+some_is (Some kept) P none p = refl
+
+pub some_spells : (o : Option Record) (version : Version) (commits : ℕ) (text : List ℕ) → IfSome o (λ kept. IsKept version commits kept × (text ≡ record_bytes version kept)) → IsSome o → SpellsRecord version commits text
+some_spells None version commits text some e = absurd cc
+some_spells (Some kept) version commits text some e = record { kept = kept; is_kept = some.0; whole = some.1 }
+
+pub known_version : (o p : Option Version) (version : Version) → Some version ≡ o → o ≡ p → version ≡ unwrap_or p One
+known_version o p version e f = ap (λ (x : Option Version). unwrap_or x One) (e ∙ f)
+
+-- the record of what was read
+pub read_record_is : (version : Version) (text : List ℕ) (client latest : ℕ) (replies places : List Reply) → client ≡ u64_at 0 text → latest ≡ u64_at 8 text → replies ≡ replies_in places → places ≡ places_in version text
+    → made_record client latest replies ≡ parsed version text
+read_record_is version text client latest replies places c l r p =
+    ap (λ (x : ℕ). made_record x latest replies) c ∙ ap (λ (x : ℕ). made_record (u64_at 0 text) x replies) l ∙ ap (made_record (u64_at 0 text) (u64_at 8 text)) (r ∙ ap replies_in p)
+
 -- what a text spells is what is read there
 pub read_is : (version : Version) (commits : ℕ) (text : List ℕ) (s : SpellsRecord version commits text) → commits < 2 ^ 32 → parsed version text ≡ s.kept
 read_is version commits text s small = ap (parsed version) s.whole ∙ parsed_again version commits s.kept small s.is_kept
+
+-- ---- records one behind the other
+
+-- records with the same bytes are the same
+pub same_records : (version : Version) (commits : ℕ) (rs ss : List Record) → commits < 2 ^ 32 → AllByRecursion (IsKept version commits) rs → AllByRecursion (IsKept version commits) ss
+    → length rs ≡ length ss → flat_map (record_bytes version) rs ≡ flat_map (record_bytes version) ss → rs ≡ ss
+same_records version commits [] [] small all others len e = refl
+same_records version commits [] (s ∷ ss) small all others len e = absurd (omega arith)
+same_records version commits (r ∷ rs) [] small all others len e = absurd (omega arith)
+same_records version commits (r ∷ rs) (s ∷ ss) small all others len e =
+    let n = record_size version in
+    let left = length-record version r all.0.room in
+    let right = length-record version s others.0.room in
+    let front : record_bytes version r ≡ record_bytes version s =
+    sym (take_at (record_bytes version r) (flat_map (record_bytes version) rs) n left) ∙ ap (take n) e ∙ take_at (record_bytes version s) (flat_map (record_bytes version) ss) n right in
+    let back : flat_map (record_bytes version) rs ≡ flat_map (record_bytes version) ss =
+    sym (drop_at (record_bytes version r) (flat_map (record_bytes version) rs) n left) ∙ ap (drop n) e ∙ drop_at (record_bytes version s) (flat_map (record_bytes version) ss) n right in
+    let one : r ≡ s = sym (parsed_again version commits r small all.0) ∙ ap (parsed version) front ∙ parsed_again version commits s small others.0 in
+    ap (λ (x : Record). x ∷ rs) one ∙ ap (λ (x : List Record). s ∷ x) (same_records version commits rs ss small all.1 others.1 (omega arith) back)
+
+pub kept_push : (version : Version) (commits : ℕ) (rs : List Record) (r : Record) → AllByRecursion (IsKept version commits) rs → IsKept version commits r → AllByRecursion (IsKept version commits) (rs ++ r ∷ [])
+kept_push version commits [] r all one = (one, tt)
+kept_push version commits (x ∷ rs) r all one = (all.0, kept_push version commits rs r all.1 one)
+
+-- each has its size
+pub records_sized : (version : Version) (commits : ℕ) (rs : List Record) → AllByRecursion (IsKept version commits) rs → AllByRecursion (λ r. length (record_bytes version r) ≡ record_size version) rs
+records_sized version commits [] all = tt
+records_sized version commits (r ∷ rs) all = (length-record version r all.0.room, records_sized version commits rs all.1)
