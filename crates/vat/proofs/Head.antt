@@ -17,17 +17,17 @@ length-head size previous files directories version count next commits label len
     omega (arith, len, length-append label (concat (middle_parts previous files directories version count next commits)))
 
 -- what is written over zeros field by field, from numbers that calls gave
-pub head_written : (version : Version) (room number count clients previous entry files directories next commits : ℕ) (label written : List ℕ) → length label ≡ 128
+pub head_written : (version : Version) (room number count clients previous entry files directories next commits : ℕ) (label field written : List ℕ) → length label ≡ 128 → label ≡ field
     → count ≡ clients → room ≡ record_size version → previous ≡ entry → number ≡ version_number version
     → written ≡ concat (head_parts (44 + room * count) label (middle_parts previous files directories number count next commits))
         ++ drop (length (concat (head_parts (44 + room * count) label (middle_parts previous files directories number count next commits)))) (replicate 196 0)
-    → written ≡ concat (head_parts (use_size version clients) label (middle_parts entry files directories (version_number version) clients next commits))
-head_written version room number count clients previous entry files directories next commits label written len count-is room-is previous-is number-is put =
+    → written ≡ concat (head_parts (use_size version clients) field (middle_parts entry files directories (version_number version) clients next commits))
+head_written version room number count clients previous entry files directories next commits label field written len label-is count-is room-is previous-is number-is put =
     let whole = concat (head_parts (44 + room * count) label (middle_parts previous files directories number count next commits)) in
     let size : length whole ≡ 196 = length-head (44 + room * count) previous files directories number count next commits label len in
     let nothing : drop (length whole) (replicate 196 0) ≡ [] = drop_all (length whole) (replicate 196 0) (omega (arith, size)) in
     let all : written ≡ whole = put ∙ ap (λ (x : List ℕ). whole ++ x) nothing ∙ append-nil whole in
-    rw (← count-is, ← room-is, ← previous-is, ← number-is) all
+    rw (← label-is, ← count-is, ← room-is, ← previous-is, ← number-is) all
 
 -- ---- reading
 

@@ -1,4 +1,5 @@
 pub mod Words
+pub mod Labels
 pub mod Areas
 pub mod Records
 pub mod Entries

@@ -8,6 +8,7 @@ use Rattle.std.proofs.lemmas.List.Elements.{All-from_recursion}
 use Rattle.ecma.specs.FirstFault.{AllHold}
 use Rattle.ecma.specs.Numbers.{u16_at, u32_at, u64_at}
 use Rattle.ecma.proofs.Pieces.{onto, concat_onto, IsBytes}
+use Rattle.osta.specs.Dstring.{dstring}
 use Rattle.vat.specs.declared.record.Record.{Record}
 use Rattle.vat.specs.declared.table.Version.{Version}
 use Rattle.vat.specs.declared.table.Version.TheVariants.{One, Two}
@@ -15,7 +16,8 @@ use Rattle.vat.specs.Version.{version_number, version_of, record_size}
 use Rattle.vat.specs.Record.{record_bytes, IsKept}
 use Rattle.vat.specs.Entry.{unused, entry_number, entry_of, entry_bytes, words}
 use Rattle.vat.specs.Table.{Table, Fits, IsTable, IsTableAt, table_bytes, head_parts, middle_parts, use_size}
-use Rattle.vat.specs.Rules.{table_rules, version_at, count_at, commits_at, record_size_at, numbers_at, record_place, record_text, HasHeader, HasRevisions, HasRecords, HasClients, AreEntries, HasCounts, Says}
+use Rattle.vat.specs.Rules.{table_rules, version_at, count_at, commits_at, record_size_at, numbers_at, label_field, record_place, record_text, HasHeader, HasRevisions, HasRecords, HasClients, AreEntries, HasCounts, Says}
+use Rattle.vat.proofs.Labels.{length-label, field_is}
 use Rattle.vat.proofs.Areas.{piece_at, piece_within}
 use Rattle.vat.proofs.Words.{u64_at-drop, u64_at-take, u32_at-fits}
 use Rattle.vat.proofs.Records.{records_sized, length-record, client_again}
@@ -37,7 +39,7 @@ version_known n known = numbered n (eqb n 1) (eqb n 2) (eqb-true n 1) (eqb-true 
 
 -- the bytes from numbers that are the table's
 assembled : (t : Table) (size previous version count : ℕ) (bytes : List ℕ) → size ≡ use_size t.version (length t.records) → previous ≡ entry_number t.previous → version ≡ version_number t.version → count ≡ length t.records
-    → bytes ≡ concat (head_parts size t.label (middle_parts previous t.files t.directories version count t.next_unique t.commits)) ++ (flat_map (record_bytes t.version) t.records ++ flat_map entry_bytes t.entries)
+    → bytes ≡ concat (head_parts size (dstring 128 t.label) (middle_parts previous t.files t.directories version count t.next_unique t.commits)) ++ (flat_map (record_bytes t.version) t.records ++ flat_map entry_bytes t.entries)
     → bytes ≡ table_bytes t
 assembled t size previous version count bytes size-is previous-is version-is count-is all = rw (← size-is, ← previous-is, ← version-is, ← count-is) all
 
@@ -88,18 +90,21 @@ module _ (icb : ℕ) (t : Table) (bytes : List ℕ) (small : icb < 2 ^ 32) (fits
   records_are : flat_map (record_bytes t.version) t.records ≡ take (record_size_at bytes * count_at bytes) (drop 196 bytes)
   records_are = ap (λ (v : Version). flat_map (record_bytes v) t.records) says.version ∙ says.records.whole
 
-  label_long : length t.label ≡ 128
-  label_long = omega (arith, ap length says.label, length-take 128 (drop 4 bytes), length-drop 4 bytes, header.long)
+  label_long : length (dstring 128 t.label) ≡ 128
+  label_long = length-label t.label says.label.label
+
+  label_is : label_field bytes ≡ dstring 128 t.label
+  label_is = field_is t.label (label_field bytes) (omega (arith, length-take 128 (drop 4 bytes), length-drop 4 bytes, header.long)) says.label
 
   rest : drop 196 bytes ≡ flat_map (record_bytes t.version) t.records ++ flat_map entry_bytes t.entries
   rest = rest_is t bytes (record_size_at bytes * count_at bytes) fits (omega (arith, header.header, header.records)) header.whole header.entries records_are says.entries
 
   whole : bytes ≡ table_bytes t
   whole =
-      let head : ReadsHead (u16_at 2 bytes) t.label (u32_at 132 bytes) t.files t.directories (u16_at 184 bytes) (count_at bytes) t.next_unique t.commits (drop 196 bytes) bytes = record {
+      let head : ReadsHead (u16_at 2 bytes) (dstring 128 t.label) (u32_at 132 bytes) t.files t.directories (u16_at 184 bytes) (count_at bytes) t.next_unique t.commits (drop 196 bytes) bytes = record {
         header = header.header;
         implementation_use = refl;
-        label_is = sym says.label;
+        label_is = label_is;
         previous_is = refl;
         files_are = sym says.files;
         directories_are = sym says.directories;
@@ -113,10 +118,10 @@ module _ (icb : ℕ) (t : Table) (bytes : List ℕ) (small : icb < 2 ^ 32) (fits
         behind = refl;
         long = omega (arith, length-drop 196 bytes, header.long);
       } in
-      let laid = head_again (u16_at 2 bytes) t.label (u32_at 132 bytes) t.files t.directories (u16_at 184 bytes) (count_at bytes) t.next_unique t.commits (drop 196 bytes) bytes fits label_long head in
-      let all = laid ∙ sym (concat_onto (head_parts (u16_at 2 bytes) t.label (middle_parts (u32_at 132 bytes) t.files t.directories (u16_at 184 bytes) (count_at bytes) t.next_unique t.commits)) (drop 196 bytes)) in
+      let laid = head_again (u16_at 2 bytes) (dstring 128 t.label) (u32_at 132 bytes) t.files t.directories (u16_at 184 bytes) (count_at bytes) t.next_unique t.commits (drop 196 bytes) bytes fits label_long head in
+      let all = laid ∙ sym (concat_onto (head_parts (u16_at 2 bytes) (dstring 128 t.label) (middle_parts (u32_at 132 bytes) t.files t.directories (u16_at 184 bytes) (count_at bytes) t.next_unique t.commits)) (drop 196 bytes)) in
       assembled t (u16_at 2 bytes) (u32_at 132 bytes) (u16_at 184 bytes) (count_at bytes) bytes size_is previous_is version_is (sym says.records.count)
-      (all ∙ ap (λ (x : List ℕ). concat (head_parts (u16_at 2 bytes) t.label (middle_parts (u32_at 132 bytes) t.files t.directories (u16_at 184 bytes) (count_at bytes) t.next_unique t.commits)) ++ x) rest)
+      (all ∙ ap (λ (x : List ℕ). concat (head_parts (u16_at 2 bytes) (dstring 128 t.label) (middle_parts (u32_at 132 bytes) t.files t.directories (u16_at 184 bytes) (count_at bytes) t.next_unique t.commits)) ++ x) rest)
 
   kept_here : AllByRecursion (IsKept t.version t.commits) t.records
   kept_here =
@@ -171,7 +176,7 @@ module _ (icb : ℕ) (t : Table) (bytes : List ℕ) (small : icb < 2 ^ 32) (fits
 
   pub fits_are : Fits t
   fits_are = record {
-    label = label_long;
+    label = says.label.label;
     first = first_alone;
     previous = previous_below unused (λ other. omega (arith, other, u32_at-fits 132 bytes fits));
     commits = omega (arith, says.commits, u32_at-fits 192 bytes fits);

@@ -8,6 +8,7 @@ use Rattle.std.proofs.lemmas.List.Sums.{count_by-le-length}
 use Rattle.ecma.specs.FirstFault.{AllHold}
 use Rattle.ecma.specs.Numbers.{u16_at, u32_at, u64_at}
 use Rattle.ecma.proofs.Pieces.{onto, concat_onto}
+use Rattle.osta.specs.Dstring.{dstring}
 use Rattle.vat.specs.declared.record.Record.{Record}
 use Rattle.vat.specs.declared.table.Version.{Version}
 use Rattle.vat.specs.declared.table.Version.TheVariants.{One, Two}
@@ -15,7 +16,8 @@ use Rattle.vat.specs.Version.{version_number, version_of, record_size}
 use Rattle.vat.specs.Record.{record_bytes, IsKept, SpellsRecord}
 use Rattle.vat.specs.Entry.{unused, entry_number, entry_of, entry_bytes, words}
 use Rattle.vat.specs.Table.{Table, Fits, IsTable, IsTableAt, table_bytes, head_parts, middle_parts, middle_of, use_size}
-use Rattle.vat.specs.Rules.{table_rules, version_at, count_at, commits_at, record_size_at, numbers_at, record_place, record_text, used_of, HasHeader, HasRevisions, HasRecords, HasClients, AreEntries, HasEntries, HasCounts, Says, SaysRecords}
+use Rattle.vat.specs.Rules.{table_rules, version_at, count_at, commits_at, record_size_at, numbers_at, label_field, record_place, record_text, used_of, HasHeader, HasRevisions, HasRecords, HasClients, AreEntries, HasEntries, HasCounts, Says, SaysRecords}
+use Rattle.vat.proofs.Labels.{length-label, field_told, one_label}
 use Rattle.vat.proofs.Areas.{length-pieces}
 use Rattle.vat.proofs.Records.{records_sized, same_records}
 use Rattle.vat.proofs.Entries.{entry_of-entry_number, entry_number-fits, entry_number-below, entries_again, words_again, number_there, used_numbers}
@@ -83,11 +85,11 @@ module _ (icb : ℕ) (t : Table) (bytes : List ℕ) (stands : IsTableAt icb t by
   few_nodes : 1 + (t.files + t.directories) ≤ 4097
   few_nodes = omega (arith, fits.used, fits.many, count_by-le-length is_some t.entries)
 
-  pub head : ReadsHead (use_size t.version (length t.records)) t.label (entry_number t.previous) t.files t.directories (version_number t.version) (length t.records) t.next_unique t.commits (records ++ entries) bytes
+  pub head : ReadsHead (use_size t.version (length t.records)) (dstring 128 t.label) (entry_number t.previous) t.files t.directories (version_number t.version) (length t.records) t.next_unique t.commits (records ++ entries) bytes
   head =
-      reads_head (use_size t.version (length t.records)) t.label (entry_number t.previous) t.files t.directories (version_number t.version) (length t.records) t.next_unique t.commits (records ++ entries) bytes
-      fits.label (use_small t.version (length t.records) fits.clients) (entry_number-fits t.previous fits.previous) (omega (arith, few_nodes)) (omega (arith, few_nodes)) (number_small t.version) (omega (arith, fits.clients)) fits.next_unique_fits fits.commits
-      (stands.table.whole ∙ concat_onto (head_parts (use_size t.version (length t.records)) t.label (middle_of t)) (records ++ entries))
+      reads_head (use_size t.version (length t.records)) (dstring 128 t.label) (entry_number t.previous) t.files t.directories (version_number t.version) (length t.records) t.next_unique t.commits (records ++ entries) bytes
+      (length-label t.label fits.label) (use_small t.version (length t.records) fits.clients) (entry_number-fits t.previous fits.previous) (omega (arith, few_nodes)) (omega (arith, few_nodes)) (number_small t.version) (omega (arith, fits.clients)) fits.next_unique_fits fits.commits
+      (stands.table.whole ∙ concat_onto (head_parts (use_size t.version (length t.records)) (dstring 128 t.label) (middle_of t)) (records ++ entries))
 
   version : version_at bytes ≡ t.version
   version = ap (λ (n : ℕ). unwrap_or (version_of n) One) head.version_is ∙ version_again t.version
@@ -127,7 +129,7 @@ module _ (icb : ℕ) (t : Table) (bytes : List ℕ) (stands : IsTableAt icb t by
 
   pub says : Says t bytes
   says = record {
-    label = sym head.label_is;
+    label = field_told t.label (label_field bytes) fits.label head.label_is;
     previous = sym (entry_of-entry_number t.previous fits.previous) ∙ ap entry_of (sym head.previous_is);
     files = sym head.files_are;
     directories = sym head.directories_are;
@@ -219,7 +221,7 @@ module _ (icb : ℕ) (t : Table) (bytes : List ℕ) (stands : IsTableAt icb t by
   }
 
   pub rules_hold : AllHold (table_rules icb bytes)
-  rules_hold = (has_header, (omega (arith, head.long), (head.revisions, (has_records, (has_clients, (has_entries, (has_counts, tt)))))))
+  rules_hold = (has_header, (record { label = t.label; spelled = says.label }, (head.revisions, (has_records, (has_clients, (has_entries, (has_counts, tt)))))))
 
 -- ---- one table
 
@@ -230,7 +232,7 @@ tabled label previous files directories version next commits records entries =
 pub one_said : (t u : Table) (bytes : List ℕ) → commits_at bytes < 2 ^ 32 → Says t bytes → Says u bytes → t ≡ u
 one_said t u bytes small a b =
     let same = same_records (version_at bytes) (commits_at bytes) t.records u.records small a.records.kept b.records.kept (a.records.count ∙ sym b.records.count) (a.records.whole ∙ sym b.records.whole) in
-    ap (λ (x : List ℕ). tabled x t.previous t.files t.directories t.version t.next_unique t.commits t.records t.entries) (a.label ∙ sym b.label)
+    ap (λ (x : List ℕ). tabled x t.previous t.files t.directories t.version t.next_unique t.commits t.records t.entries) (one_label t.label u.label (label_field bytes) a.label b.label)
     ∙ ap (λ (x : Option ℕ). tabled u.label x t.files t.directories t.version t.next_unique t.commits t.records t.entries) (a.previous ∙ sym b.previous)
     ∙ ap (λ (x : ℕ). tabled u.label u.previous x t.directories t.version t.next_unique t.commits t.records t.entries) (a.files ∙ sym b.files)
     ∙ ap (λ (x : ℕ). tabled u.label u.previous u.files x t.version t.next_unique t.commits t.records t.entries) (a.directories ∙ sym b.directories)

@@ -4,6 +4,7 @@ use Rattle.std.specs.Int.{w16, to_le_bytes}
 use Rattle.std.specs.List.{concat, flat_map, AllByRecursion}
 use Rattle.ecma.specs.Field.{IsAt}
 use Rattle.ecma.specs.Numbers.{u16_at, u32_at, u64_at}
+use Rattle.osta.specs.Label.{IsLabelDstring}
 use Rattle.vat.specs.declared.fault.VatFault.{VatFault}
 use Rattle.vat.specs.declared.fault.VatFault.TheVariants as faults
 use Rattle.vat.specs.declared.table.Version.{Version}
@@ -54,8 +55,12 @@ pub record HasHeader (icb : ℕ) (bytes : List ℕ) : Type 0 where
   pub first : commits_at bytes ≡ 0 → u32_at 132 bytes ≡ unused
   pub previous : commits_at bytes ≢ 0 → u32_at 132 bytes < icb
 
-abbrev pub HasLabel : List ℕ → Type 0
-HasLabel bytes = 196 ≤ length bytes
+abbrev pub label_field : List ℕ → List ℕ
+label_field bytes = take 128 (drop 4 bytes)
+
+pub record HasLabel (bytes : List ℕ) : Type 0 where
+  pub label : List ℕ
+  pub spelled : IsLabelDstring label (label_field bytes)
 
 abbrev pub HasRevisions : List ℕ → Type 0
 HasRevisions bytes = IsAt 144 (concat (to_le_bytes w16 0x0201 ∷ to_le_bytes w16 0x0201 ∷ to_le_bytes w16 0x0201 ∷ [])) bytes
@@ -119,7 +124,7 @@ pub record SaysRecords (records : List Record) (bytes : List ℕ) : Type 0 where
 
 -- what the bytes say
 pub record Says (t : Table) (bytes : List ℕ) : Type 0 where
-  pub label : t.label ≡ take 128 (drop 4 bytes)
+  pub label : IsLabelDstring t.label (label_field bytes)
   pub previous : t.previous ≡ entry_of (u32_at 132 bytes)
   pub files : t.files ≡ u32_at 136 bytes
   pub directories : t.directories ≡ u32_at 140 bytes

@@ -2,6 +2,8 @@
 use Rattle.std.specs.Prelude.{◌≡◌, ℕ, ◌+◌, ◌*◌, ◌^◌, ◌<◌, ◌≤◌, ◌≢◌, ◌↔◌, List, [], ◌∷◌, ◌++◌, length, codes, replicate, slice_get, Option, Some, is_some, IfSome, IsNone, All, AllPairs, count_by}
 use Rattle.std.specs.Int.{w16, w32, to_le_bytes}
 use Rattle.std.specs.List.{concat, flat_map}
+use Rattle.osta.specs.Dstring.{dstring}
+use Rattle.osta.specs.Label.{IsLabel}
 use Rattle.vat.specs.declared.record.Record.{Record}
 use Rattle.vat.specs.declared.table.Version.{Version}
 use Rattle.vat.specs.declared.table.Vat.{Vat}
@@ -11,7 +13,7 @@ use Rattle.vat.specs.Entry.{unused, entry_number, entry_bytes}
 
 -- what a table says, apart from where it lies in memory
 pub record Table : Type 0 where
-  pub label : List ℕ
+  pub label : List ℕ  -- the text, in UTF-8
   pub previous : Option ℕ  -- the block number of the entry of the table before
   pub files : ℕ
   pub directories : ℕ  -- the root counted
@@ -61,14 +63,14 @@ abbrev pub middle_of : Table → List (List ℕ)
 middle_of t = middle_parts (entry_number t.previous) t.files t.directories (version_number t.version) (length t.records) t.next_unique t.commits
 
 abbrev pub head_bytes : Table → List ℕ
-head_bytes t = concat (head_parts (use_size t.version (length t.records)) t.label (middle_of t))
+head_bytes t = concat (head_parts (use_size t.version (length t.records)) (dstring 128 t.label) (middle_of t))
 
 abbrev pub table_bytes : Table → List ℕ
 table_bytes t = head_bytes t ++ (flat_map (record_bytes t.version) t.records ++ flat_map entry_bytes t.entries)
 
 -- what has a spelling
 pub record Fits (t : Table) : Type 0 where
-  pub label : length t.label ≡ 128
+  pub label : IsLabel t.label
   -- the first table alone has none before it
   pub first : IsNone t.previous ↔ (t.commits ≡ 0)
   pub previous : IfSome t.previous (λ p. p < unused)

@@ -4,17 +4,18 @@ ghost use Rattle.ecma.specs.Numbers as numbers;
 ghost use Rattle.vat.specs.Entry.{entry_of, words};
 ghost use Rattle.vat.specs.Table.{Table, IsTableAt, view};
 ghost use Rattle.vat.specs.Rules as rule;
-ghost use Rattle.vat.specs.Rules.{table_rules, HasRecords, Says, SaysRecords};
+ghost use Rattle.vat.specs.Rules.{table_rules, HasLabel, HasRecords, Says, SaysRecords};
 
 use crate::encode::UNUSED;
 use crate::fault::VatFault;
 use crate::record::Record;
 use crate::rules::{
     entry_text, has_clients, has_counts, has_entries, has_header, has_label, has_records,
-    has_revisions, read_record, record_count, record_text, version,
+    has_revisions, label_field, read_record, record_count, record_text, version,
 };
 use crate::table::{Sessions, Vat};
 use ecma::u32_at;
+use osta::Label;
 use std::alloc::{AllocError, Global};
 
 /// The table that the bytes spell, whose entry stands at block number `icb`.
@@ -64,11 +65,11 @@ fn read(alloc: Global, bytes: &[u8]) -> Result<Vat, AllocError>
     requires long { 196 ≤ length bytes.now }
     requires header { numbers.u16_at 0 bytes.now ≤ length bytes.now }
     requires whole { 196 + rule.record_size_at bytes.now * rule.count_at bytes.now ≤ length bytes.now }
+    requires label { HasLabel bytes.now }
     requires kept { HasRecords bytes.now }
     ensures { IfOk result (λ vat. Says (view vat) bytes.now) }
 {
-    let mut label = [0; 128];
-    label.copy_from_slice(&bytes[4..132]);
+    let label = Label::of(label_field(bytes)).unwrap();
     let records = read_records(alloc, bytes)?;
     let entries = read_entries(alloc, entry_text(bytes))?;
     Ok(Vat {

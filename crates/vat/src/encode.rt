@@ -80,12 +80,13 @@ fn head(vat: &Vat) -> [u8; RECORDS_AT]
     let count = sessions.records.len() as u16;
     let record_size = sessions.version.record_size() as u16;
     let implementation_use = 44 + record_size * count;
+    let label = vat.label.dstring_128();
     let mut head = [0; RECORDS_AT];
     write_fields(
         &[
             Field::U16(152 + implementation_use),
             Field::U16(implementation_use),
-            Field::Bytes(&vat.label),
+            Field::Bytes(&label),
             Field::U32(number_of(vat.previous)),
             Field::U32(vat.files),
             Field::U32(vat.directories),

@@ -16,6 +16,7 @@ use crate::encode::{RECORDS_AT, REVISION, SESSIONS, UNUSED, record_bytes};
 use crate::record::{Record, Replies, Reply};
 use crate::table::Version;
 use ecma::{Field, stands_at, u16_at, u32_at, u64_at};
+use osta::Label;
 
 /// How many clients are kept at most.
 const CLIENTS: u16 = 64;
@@ -72,10 +73,21 @@ pub(crate) fn has_header(bytes: &[u8], icb: u32) -> bool
     previous < icb
 }
 
+/// The bytes of the label.
+pub(crate) fn label_field(bytes: &[u8]) -> &[u8]
+    requires { 196 ≤ length bytes.now }
+    ensures { result.now ≡ rule.label_field bytes.now }
+{
+    let (_, rest) = bytes.split_at(4);
+    let (field, _) = rest.split_at(128);
+    field
+}
+
 pub(crate) fn has_label(bytes: &[u8]) -> bool
+    requires { 196 ≤ length bytes.now }
     ensures { IsTrue result ↔ HasLabel bytes.now }
 {
-    bytes.len() >= RECORDS_AT
+    Label::of(label_field(bytes)).is_some()
 }
 
 pub(crate) fn has_revisions(bytes: &[u8]) -> bool

@@ -1,4 +1,5 @@
-use Rattle.std.proofs.Common.{ℕ, ◌<◌, get_or, arith}
+use Rattle.std.proofs.Common.{ℕ, ◌<◌, get_or, inl, arith}
+use Rattle.std.proofs.lemmas.Result.{err_from_is_err_and}
 use Rattle.ecma.proofs.Faults.{no_fault}
 use Rattle.vat.specs.Table.{view}
 use Rattle.vat.specs.Rules.{table_rules}
@@ -24,3 +25,8 @@ returns-clause-only c = λ t stands.
 
 pub returns-in_err-examine-clause-only : goal.returns-in_err-examine-clause-only
 returns-in_err-examine-clause-only c = λ t stands. absurd (no_fault (table_rules c.args.icb c.args.bytes.now) c.in_err-examine.field-0.0 c.in_err-examine.ensures.fault (rules_hold c.args.icb t c.args.bytes.now stands))
+
+pub returns-in_err-examine-clause-fault : goal.returns-in_err-examine-clause-fault
+returns-in_err-examine-clause-fault c =
+    let p = err_from_is_err_and c.from_residual.result c.from_residual.ensures.1 in
+    rw (p.1, p.2) (inl c.in_err-examine.ensures.fault)
