@@ -38,5 +38,5 @@ piece_at f n (x ∷ xs) rest (suc i) d all lt =
     let split : n * suc i ≡ n + n * i = omega arith in
     ap (λ (k : ℕ). take n (drop k ((f x ++ flat_map f xs) ++ rest))) split
     ∙ ap (take n) (sym (drop-drop (n * i) n ((f x ++ flat_map f xs) ++ rest))
-        ∙ ap (drop (n * i)) (ap (drop n) (append_assoc (f x) (flat_map f xs) rest) ∙ drop_at (f x) (flat_map f xs ++ rest) n all.0))
+    ∙ ap (drop (n * i)) (ap (drop n) (append_assoc (f x) (flat_map f xs) rest) ∙ drop_at (f x) (flat_map f xs ++ rest) n all.0))
     ∙ piece_at f n xs rest i d all.1 (omega arith)

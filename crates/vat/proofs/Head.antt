@@ -11,7 +11,7 @@ use Rattle.vat.specs.Version.{version_number, record_size}
 use Rattle.vat.specs.Table.{middle_parts, head_parts, use_size}
 use Rattle.vat.proofs.Words.{cell}
 
-length-head : (size previous files directories version count next commits : ℕ) (label : List ℕ) → length label ≡ 128
+pub length-head : (size previous files directories version count next commits : ℕ) (label : List ℕ) → length label ≡ 128
     → length (concat (head_parts size label (middle_parts previous files directories version count next commits))) ≡ 196
 length-head size previous files directories version count next commits label len =
     omega (arith, len, length-append label (concat (middle_parts previous files directories version count next commits)))
@@ -20,7 +20,7 @@ length-head size previous files directories version count next commits label len
 pub head_written : (version : Version) (room number count clients previous entry files directories next commits : ℕ) (label field written : List ℕ) → length label ≡ 128 → label ≡ field
     → count ≡ clients → room ≡ record_size version → previous ≡ entry → number ≡ version_number version
     → written ≡ concat (head_parts (44 + room * count) label (middle_parts previous files directories number count next commits))
-        ++ drop (length (concat (head_parts (44 + room * count) label (middle_parts previous files directories number count next commits)))) (replicate 196 0)
+    ++ drop (length (concat (head_parts (44 + room * count) label (middle_parts previous files directories number count next commits)))) (replicate 196 0)
     → written ≡ concat (head_parts (use_size version clients) field (middle_parts entry files directories (version_number version) clients next commits))
 head_written version room number count clients previous entry files directories next commits label field written len label-is count-is room-is previous-is number-is put =
     let whole = concat (head_parts (44 + room * count) label (middle_parts previous files directories number count next commits)) in

@@ -40,15 +40,15 @@ pigeonhole (suc n) At has one =
     let Now : ℕ → ℕ → Type 0 = λ k i. ((i ≡ m) × At k n) ⊎ ((i ≢ m) × At k i) in
     pigeonhole n Now
     (λ k le.
-        let h = has k (omega arith) in
-        let i = h.0 in
-        let other : i ≢ m = λ e. let same = one k (suc n) m (subst (At k) e h.2) last.2 in absurd (omega (arith, same, le)) in
-        elim (cases_eq i n) [
-          | inl e ↦ (m, (omega (arith, last.1, other, e)), inl (refl, subst (At k) e h.2))
-          | inr ne ↦ (i, (omega (arith, h.1, ne)), inr (other, h.2))
-        ])
+    let h = has k (omega arith) in
+    let i = h.0 in
+    let other : i ≢ m = λ e. let same = one k (suc n) m (subst (At k) e h.2) last.2 in absurd (omega (arith, same, le)) in
+    elim (cases_eq i n) [
+      | inl e ↦ (m, (omega (arith, last.1, other, e)), inl (refl, subst (At k) e h.2))
+      | inr ne ↦ (i, (omega (arith, h.1, ne)), inr (other, h.2))
+    ])
     (λ j k i.
-        now_one n m At one j k i)
+    now_one n m At one j k i)
   where
     now_one : (n m : ℕ) (At : ℕ → ℕ → Type 0) → ((j k i : ℕ) → At j i → At k i → j ≡ k) → (j k i : ℕ)
         → ((i ≡ m) × At j n) ⊎ ((i ≢ m) × At j i) → ((i ≡ m) × At k n) ⊎ ((i ≢ m) × At k i) → j ≡ k
@@ -63,16 +63,16 @@ pub one_free : (bytes : List ℕ) (from : ℕ) → ((start : ℕ) → from ≤ s
 one_free bytes from all here =
     let n = blocks_of (length bytes) in
     let every : (k : ℕ) → k ≤ n → Imitates bytes (from + k) =
-        λ k le. elim (cases_lt k n) [
-          | inl lt ↦ all (from + k) (omega arith) (omega arith)
-          | inr ge ↦ let e : n ≡ k = omega arith in subst (λ (x : ℕ). Imitates bytes (from + x)) e here
-        ] in
+    λ k le. elim (cases_lt k n) [
+      | inl lt ↦ all (from + k) (omega arith) (omega arith)
+      | inr ge ↦ let e : n ≡ k = omega arith in subst (λ (x : ℕ). Imitates bytes (from + x)) e here
+    ] in
     pigeonhole n (λ k i. IsVatIcb (data_block bytes i) (from + k + i))
     (λ k le. let is = every k le in (is.index, is.there, is.entry))
     (λ j k i a b.
-        let x = icb_located (data_block bytes i) (from + j + i) a in
-        let y = icb_located (data_block bytes i) (from + k + i) b in
-        omega (arith, x, y))
+    let x = icb_located (data_block bytes i) (from + j + i) a in
+    let y = icb_located (data_block bytes i) (from + k + i) b in
+    omega (arith, x, y))
 
 -- as many as there are, and no more than so many
 pub take_front : (n : ℕ) (xs : List ℕ) (m : ℕ) → m ≡ min (length xs) n → take m xs ≡ take n xs

@@ -65,7 +65,7 @@ length-record version kept h =
 -- the front of a record of four places is the record
 front_of : (version : Version) (client latest : ℕ) (replies : List Reply) → 0 < length replies → length replies ≤ places version
     → take (record_size version) (concat (to_le_bytes w64 client ∷ to_le_bytes w64 latest ∷ flat_map reply_bytes (filled 4 replies) ∷ []))
-        ≡ concat (to_le_bytes w64 client ∷ to_le_bytes w64 latest ∷ flat_map reply_bytes (filled (places version) replies) ∷ [])
+    ≡ concat (to_le_bytes w64 client ∷ to_le_bytes w64 latest ∷ flat_map reply_bytes (filled (places version) replies) ∷ [])
 front_of One client latest [] some room = absurd (omega arith)
 front_of One client latest (a ∷ []) some room = refl
 front_of One client latest (a ∷ b ∷ replies) some room = absurd (omega arith)

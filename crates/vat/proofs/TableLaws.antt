@@ -167,9 +167,9 @@ module _ (icb : ℕ) (t : Table) (bytes : List ℕ) (small : icb < 2 ^ 32) (fits
     λ none. elim (cases_eq (commits_at bytes) 0) [
       | inl none_yet ↦ says.commits ∙ none_yet
       | inr other ↦
-        let below = header.previous other in
-        let some : t.previous ≡ Some (u32_at 132 bytes) = says.previous ∙ entry_of-used (u32_at 132 bytes) (λ e. omega (arith, below, e)) in
-        absurd (let yes = ap is_some some in cc)
+          let below = header.previous other in
+          let some : t.previous ≡ Some (u32_at 132 bytes) = says.previous ∙ entry_of-used (u32_at 132 bytes) (λ e. omega (arith, below, e)) in
+          absurd (let yes = ap is_some some in cc)
     ],
     λ none_yet. ap is_some (says.previous ∙ ap entry_of (header.first (sym says.commits ∙ none_yet))),
   )

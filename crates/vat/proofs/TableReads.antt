@@ -15,13 +15,13 @@ use Rattle.vat.specs.declared.table.Version.TheVariants.{One, Two}
 use Rattle.vat.specs.Version.{version_number, version_of, record_size}
 use Rattle.vat.specs.Record.{record_bytes, IsKept, SpellsRecord}
 use Rattle.vat.specs.Entry.{unused, entry_number, entry_of, entry_bytes, words}
-use Rattle.vat.specs.Table.{Table, Fits, IsTable, IsTableAt, table_bytes, head_parts, middle_parts, middle_of, use_size}
+use Rattle.vat.specs.Table.{Table, Fits, IsTable, IsTableAt, table_bytes, head_bytes, head_parts, middle_parts, middle_of, use_size}
 use Rattle.vat.specs.Rules.{table_rules, version_at, count_at, commits_at, record_size_at, numbers_at, label_field, record_place, record_text, used_of, HasHeader, HasRevisions, HasRecords, HasClients, AreEntries, HasEntries, HasCounts, Says, SaysRecords}
 use Rattle.vat.proofs.Labels.{length-label, field_told, one_label}
 use Rattle.vat.proofs.Areas.{length-pieces}
 use Rattle.vat.proofs.Records.{records_sized, same_records}
 use Rattle.vat.proofs.Entries.{entry_of-entry_number, entry_number-fits, entry_number-below, entries_again, words_again, number_there, used_numbers}
-use Rattle.vat.proofs.Head.{ReadsHead, reads_head}
+use Rattle.vat.proofs.Head.{ReadsHead, reads_head, length-head}
 use Rattle.vat.proofs.TableLaws.{text_is, client_is}
 
 use_small : (version : Version) (n : ℕ) → n ≤ 64 → 152 + use_size version n < 2 ^ 16
@@ -203,8 +203,8 @@ module _ (icb : ℕ) (t : Table) (bytes : List ℕ) (stands : IsTableAt icb t by
       elim (entry_number-below (get_or t.entries i None) icb (stands.entries i None low)) [
         | inl below ↦ inl (omega (arith, below, number_at i low))
         | inr none ↦
-          let is : get_or (numbers_at bytes) i 0 ≡ unused = number_at i low ∙ none in
-          inr (is, at_least_two i low is)
+            let is : get_or (numbers_at bytes) i 0 ≡ unused = number_at i low ∙ none in
+            inr (is, at_least_two i low is)
       ]
     where
       at_least_two : (i : ℕ) → i < length t.entries → get_or (numbers_at bytes) i 0 ≡ unused → 2 ≤ i
@@ -245,3 +245,31 @@ one_said t u bytes small a b =
 pub one_table : (icb here : ℕ) (t u : Table) (bytes : List ℕ) → IsTableAt icb t bytes → IsTableAt here u bytes → t ≡ u
 one_table icb here t u bytes a b =
     one_said t u bytes (omega (arith, (head icb t bytes a).commits_are, a.table.fits.commits)) (says icb t bytes a) (says here u bytes b)
+
+-- ---- bounds
+
+pub nodes_have_entries : (t : Table) → Fits t → (1 + (t.files + t.directories) ≤ length t.entries) × (length t.entries ≤ 4097)
+nodes_have_entries t fits = (omega (arith, fits.used, count_by-le-length is_some t.entries), fits.many)
+
+pub takes_so_many : (t : Table) (bytes : List ℕ) → IsTable t bytes → length bytes ≡ 196 + (record_size t.version * length t.records + 4 * length t.entries)
+takes_so_many t bytes is =
+    let rs = flat_map (record_bytes t.version) t.records in
+    let es = flat_map entry_bytes t.entries in
+    let front : length (head_bytes t) ≡ 196 =
+    length-head (use_size t.version (length t.records)) (entry_number t.previous) t.files t.directories (version_number t.version) (length t.records) t.next_unique t.commits (dstring 128 t.label) (length-label t.label is.fits.label) in
+    let kept = recursion_from_All (IsKept t.version t.commits) t.records is.fits.records in
+    let records : length rs ≡ record_size t.version * length t.records = length-pieces (record_bytes t.version) (record_size t.version) t.records (records_sized t.version t.commits t.records kept) in
+    let entries : length es ≡ 4 * length t.entries = length-pieces entry_bytes 4 t.entries (entries_sized t.entries) in
+    ap length is.whole ∙ length-append (head_bytes t) (rs ++ es) ∙ omega (arith, front, length-append rs es, records, entries)
+
+-- what is below an entry is below a later one
+below_later : (e : Option ℕ) (icb later : ℕ) → icb ≤ later → IfSome e (λ n. n < icb) → IfSome e (λ n. n < later)
+below_later None icb later le h = tt
+below_later (Some n) icb later le h = omega arith
+
+pub stands_later : (icb later : ℕ) (t : Table) (bytes : List ℕ) → icb ≤ later → IsTableAt icb t bytes → IsTableAt later t bytes
+stands_later icb later t bytes le is = record {
+  table = is.table;
+  previous = below_later t.previous icb later le is.previous;
+  entries = λ k d lt. below_later (get_or t.entries k d) icb later le (is.entries k d lt);
+}

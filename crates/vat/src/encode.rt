@@ -5,7 +5,6 @@ ghost use Rattle.vat.specs.Record as spec;
 ghost use Rattle.vat.specs.Record.{HasRoom};
 ghost use Rattle.vat.specs.Entry.{entry_number, entry_bytes};
 
-
 use crate::record::Record;
 use crate::table::{Vat, Version};
 use ecma::{Field, write_fields};

@@ -20,7 +20,7 @@ returns-clause-only c = λ t stands.
     let rules = c.in_ok-examine.ensures.rules in
     one_table c.args.icb c.args.icb (view c.in_ok-read.field-0) t c.args.bytes.now
     (is_table_at c.args.icb (view c.in_ok-read.field-0) c.args.bytes.now (omega arith) (λ i. omega (arith, c.type_inv.bytes i))
-        rules.0 rules.1.1.0 rules.1.1.1.0 rules.1.1.1.1.0 rules.1.1.1.1.1.0 rules.1.1.1.1.1.1.0 c.in_ok-read.ensures)
+    rules.0 rules.1.1.0 rules.1.1.1.0 rules.1.1.1.1.0 rules.1.1.1.1.1.0 rules.1.1.1.1.1.1.0 c.in_ok-read.ensures)
     stands
 
 pub returns-in_err-examine-clause-only : goal.returns-in_err-examine-clause-only

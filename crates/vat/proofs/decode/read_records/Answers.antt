@@ -27,7 +27,7 @@ unwrap-record-requires c =
     let there : c.loop-i.i < count_at bytes = omega (arith, c.loop-i-test.true, c.record_count-count.ensures) in
     some_is c.read_record.result (SpellsRecord c.version-version.result c.u32_at-commits.result c.record_text.result.now) c.read_record.ensures.none
     (spelled_at (version_at bytes) c.version-version.result (commits_at bytes) c.u32_at-commits.result (record_text bytes c.loop-i.i) c.record_text.result.now
-        (sym c.version-version.ensures) (sym c.u32_at-commits.ensures) (sym c.record_text.ensures.value) (c.requires.kept.each c.loop-i.i there))
+    (sym c.version-version.ensures) (sym c.u32_at-commits.ensures) (sym c.record_text.ensures.value) (c.requires.kept.each c.loop-i.i there))
 
 pub loop-i-preserved : goal.loop-i-preserved
 loop-i-preserved c =

@@ -15,21 +15,25 @@ pub returns-then-number : goal.returns-then-number
 returns-then-number c =
     let ws = words c.args.text.now in
     let lt : c.loop-i.i < length ws = omega (arith, length-words c.args.text.now, c.loop-i-test.true) in
-    let at : get_or ws c.loop-i.i 0 ≡ c.u32_at-number.result = get_or-words c.args.text.now c.loop-i.i lt ∙ sym c.u32_at-number.ensures in
-    (λ no. absurd cc, λ all. elim (all c.loop-i.i lt) [
-      | inl below ↦ absurd (omega (arith, at, below, c.if-number-icb.false))
-      | inr none ↦ absurd (omega (arith, at, none, c.if-number.true))
-    ])
+    let at : get_or ws c.loop-i.i 0 ≡ c.u32_at-number.result = get_or-words c.args.text.now c.loop-i.i lt ∙ sym c.u32_at-number.ensures in (
+      λ no. absurd cc,
+      λ all. elim (all c.loop-i.i lt) [
+        | inl below ↦ absurd (omega (arith, at, below, c.if-number-icb.false))
+        | inr none ↦ absurd (omega (arith, at, none, c.if-number.true))
+      ],
+    )
 
 pub returns-then-i-lt2 : goal.returns-then-i-lt2
 returns-then-i-lt2 c =
     let ws = words c.args.text.now in
     let lt : c.loop-i.i < length ws = omega (arith, length-words c.args.text.now, c.loop-i-test.true) in
-    let at : get_or ws c.loop-i.i 0 ≡ c.u32_at-number.result = get_or-words c.args.text.now c.loop-i.i lt ∙ sym c.u32_at-number.ensures in
-    (λ no. absurd cc, λ all. elim (all c.loop-i.i lt) [
-      | inl below ↦ absurd (omega (arith, at, below, c.if-number-icb.false))
-      | inr none ↦ absurd (omega (arith, none, c.if-i-lt2.true))
-    ])
+    let at : get_or ws c.loop-i.i 0 ≡ c.u32_at-number.result = get_or-words c.args.text.now c.loop-i.i lt ∙ sym c.u32_at-number.ensures in (
+      λ no. absurd cc,
+      λ all. elim (all c.loop-i.i lt) [
+        | inl below ↦ absurd (omega (arith, at, below, c.if-number-icb.false))
+        | inr none ↦ absurd (omega (arith, none, c.if-i-lt2.true))
+      ],
+    )
 
 pub loop-i-preserved : goal.loop-i-preserved
 loop-i-preserved c =

@@ -13,8 +13,7 @@ returns-then-entries-gt-ENTRIES c =
 pub returns : goal.returns
 returns c =
     let same : length (numbers_at c.args.bytes.now) ≡ length c.entry_text-entries.result.now / 4 = ap (λ x. length (words x)) (sym c.entry_text-entries.ensures) ∙ length-words c.entry_text-entries.result.now in
-    let used : c.used.result ≡ used_of (numbers_at c.args.bytes.now) = c.used.ensures.count ∙ ap (λ x. used_of (words x)) c.entry_text-entries.ensures in
-    (
+    let used : c.used.result ≡ used_of (numbers_at c.args.bytes.now) = c.used.ensures.count ∙ ap (λ x. used_of (words x)) c.entry_text-entries.ensures in (
       λ yes. record {
         few = omega (arith, same, c.if-entries-lt2.false);
         many = omega (arith, same, c.if-entries-gt-ENTRIES.false);

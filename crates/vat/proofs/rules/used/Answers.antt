@@ -15,11 +15,11 @@ loop-i-preserved c =
     let at : get_or ws c.loop-i.i 0 ≡ c.u32_at.result = get_or-words c.args.text.now c.loop-i.i lt ∙ sym c.u32_at.ensures in
     elim c.if-u32_at.branch [
       | then-u32_at w ↦
-        let more = count_by_more_yes (λ (n : ℕ). not (n == unused)) ws c.loop-i.i 0 lt (counts (get_or ws c.loop-i.i 0) (omega (arith, at, w.if-u32_at.true))) in
-        record { count = omega (arith, w.used-is, more, c.loop-i.invariant.count); bound = omega (arith, w.used-is, c.loop-i.invariant.bound) }
+          let more = count_by_more_yes (λ (n : ℕ). not (n == unused)) ws c.loop-i.i 0 lt (counts (get_or ws c.loop-i.i 0) (omega (arith, at, w.if-u32_at.true))) in
+          record { count = omega (arith, w.used-is, more, c.loop-i.invariant.count); bound = omega (arith, w.used-is, c.loop-i.invariant.bound) }
       | else-u32_at w ↦
-        let more = count_by_more_no (λ (n : ℕ). not (n == unused)) ws c.loop-i.i 0 lt (counts_not (get_or ws c.loop-i.i 0) (omega (arith, at, w.if-u32_at.false))) in
-        record { count = omega (arith, w.used-is, more, c.loop-i.invariant.count); bound = omega (arith, w.used-is, c.loop-i.invariant.bound) }
+          let more = count_by_more_no (λ (n : ℕ). not (n == unused)) ws c.loop-i.i 0 lt (counts_not (get_or ws c.loop-i.i 0) (omega (arith, at, w.if-u32_at.false))) in
+          record { count = omega (arith, w.used-is, more, c.loop-i.invariant.count); bound = omega (arith, w.used-is, c.loop-i.invariant.bound) }
     ]
 
 pub returns : goal.returns
