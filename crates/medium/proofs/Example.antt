@@ -1,5 +1,6 @@
 -- The small formats meet what the laws ask.
-use Rattle.std.proofs.Common.{◌≡◌, ◌⊎◌, inl, inr, ℕ, zero, suc, ◌+◌, ◌-◌, ◌≤◌, Bool, true, false, List, [], ◌∷◌, length, get_or, replicate, slice_get, Some, refl, sym, ◌∙◌, ap, arith}
+use Rattle.std.proofs.Common.{◌≡◌, ◌⊎◌, inl, inr, ℕ, zero, suc, ◌+◌, ◌-◌, ◌≤◌, Bool, true, false, List, [], ◌∷◌, length, get_or, replicate, slice_get, count_by, Some, refl, sym, ◌∙◌, ap, arith}
+use Rattle.std.specs.Prelude.{is_some}
 use Rattle.std.proofs.lemmas.Bool.{true≢false}
 use Rattle.model.specs.Graph.{Entry}
 use Rattle.model.specs.Session.{after_one, formatted}
@@ -45,8 +46,12 @@ bounded : AreBounded small
 bounded = record {
   names = λ parent first size es blocks h. omega (arith, ap (λ (xs : List Entry). length xs) h.1);
   nodes = λ t icb bytes h. elim h [ inl a ↦ few t first_table a.1 (omega arith) (omega arith) | inr a ↦ few t second_table a.1 (omega arith) (omega arith) ];
+  used = λ t icb bytes h. elim h [ inl a ↦ all t first_table a.1 refl | inr a ↦ all t second_table a.1 refl ];
 }
   where
+    all : (t u : Table_) → t ≡ u → count_by is_some u.entries ≡ 1 + (u.files + u.directories) → count_by is_some t.entries ≡ 1 + (t.files + t.directories)
+    all t u e a = rw e a
+
     few : (t u : Table_) → t ≡ u → 1 + (u.files + u.directories) ≤ length u.entries → length u.entries ≤ 4097 → (1 + (t.files + t.directories) ≤ length t.entries) × (length t.entries ≤ 4097)
     few t u e a b = rw e (a, b)
 

@@ -7,13 +7,14 @@ use Rattle.model.specs.Session.Due.{Repeat, Stale, Gap, ClientsFull, New}
 use Rattle.medium.specs.Formats.{Formats}
 use Rattle.medium.specs.Volume.{Medium, Stands, Past}
 use Rattle.medium.specs.Step.{Moves}
-use Rattle.medium.specs.Runs.{AllNew, Delivery, Answer, Effect, AnswersNew, AnswersDue, Row, Fits, AtMarks, Runs, Holds}
+use Rattle.model.specs.Runs.{AllNew}
+use Rattle.medium.specs.Runs.{Delivery, Answer, Effect, AnswersNew, AnswersDue, Row, Fits, AtMarks, Runs, Holds}
 use Rattle.medium.specs.Runs.Message.{Asks, Queries, Malformed, NoMemory}
 use Rattle.medium.specs.Runs.Delivery.{Delivered, Restart}
 use Rattle.medium.specs.Runs.AnswersNew.{committed, failed, full, no_memory}
 use Rattle.medium.proofs.Lists.{side, take_past}
 use Rattle.medium.proofs.History.{past_now}
-use Rattle.medium.proofs.Sessions.{each_once}
+use Rattle.model.proofs.Sessions.{each_once}
 
 -- a delivery commits nothing, or one new request and writes
 abbrev Commits : State → Effect → Type 0

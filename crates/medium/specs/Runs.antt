@@ -4,7 +4,8 @@ use Rattle.std.specs.Option.{option_to_list}
 use Rattle.std.specs.FinMap.{get}
 use Rattle.model.specs.Tree.{Name, Path, Node, Tree, is_directory_at}
 use Rattle.model.specs.Tree.Content.{File, Directory}
-use Rattle.model.specs.Session.{State, Request, Reply, Due, due, reply_to, after, after_one}
+use Rattle.model.specs.Session.{State, Request, Reply, Due, due, reply_to, after}
+use Rattle.model.specs.Runs.{AllNew, EachOnce}
 use Rattle.model.specs.Session.Due.{Repeat, Stale, Gap, ClientsFull, New}
 use Rattle.medium.specs.Formats.{Formats}
 use Rattle.medium.specs.Volume.{Medium, Stands, Past}
@@ -104,25 +105,6 @@ Fits need capacity end S mark count (d ∷ ds) answers marks counts C =
     × (answers ≡ option_to_list answer ++ rest) × (C ≡ effect.done ++ C1)
     × (marks ≡ (mark + effect.blocks) ∷ marks1) × (counts ≡ (count + length effect.done) ∷ counts1)
     × Fits need capacity end (after S effect.done) (mark + effect.blocks) (count + length effect.done) ds rest marks1 counts1 C1
-
--- no request is twice in the list, by its client and number
-abbrev pub IsNotAmong : Request → List Request → Type 0
-IsNotAmong r [] = Unit {0}
-IsNotAmong r (s ∷ C) = (s.client ≡ r.client → s.number ≡ r.number → ⊥) × IsNotAmong r C
-
-abbrev pub EachOnce : List Request → Type 0
-EachOnce [] = Unit {0}
-EachOnce (r ∷ C) = IsNotAmong r C × EachOnce C
-
--- each request is new where it stands
-abbrev pub AllNew : State → List Request → Type 0
-AllNew S [] = Unit {0}
-AllNew S (r ∷ C) = (due S r.client r.number ≡ New) × AllNew (after_one S r) C
-
--- how many requests of the list are the client's
-abbrev pub commits_of_client : ℕ → List Request → ℕ
-commits_of_client client [] = 0
-commits_of_client client (r ∷ C) = cond (r.client == client) 1 0 + commits_of_client client C
 
 -- at each mark the count is this one
 abbrev pub AtMarks : (ℕ → ℕ) → List ℕ → List ℕ → Type 0

@@ -1,0 +1,19 @@
+use Rattle.std.proofs.Common.{◌≡◌, ◌∙◌, ap, List, ℕ, ◌++◌, ◌∷◌, []}
+use Rattle.drive.specs.Waiting.{Waiting}
+use Rattle.drive.proofs.Packing.{takes_waiting, takes_alone}
+use Rattle.drive.proofs.packet.PacketWriter.put.Goals as goal
+use Rattle.drive.proofs.packet.PacketWriter.put.Goals.{then-waiting-eq-PACKET+in-Ok, else-waiting-eq-PACKET}
+
+pub returns-clause-ok : goal.returns-clause-ok
+returns-clause-ok g c =
+    let pushed = rw c.unwrap.ensures at c.push.ensures.items in
+    elim c.if-waiting-eq-PACKET.branch [
+      | then-waiting-eq-PACKET+in-Ok w ↦
+          let before = c.self-2.view_is ∙ w.self-is ∙ w.in-Ok.ensures.empty in
+          takes_alone (g.D.Drive.journal c.args.drive.now) (g.D.Drive.journal c.if-waiting-eq-PACKET.drive) c.args.self.now (record { at = c.self-2.inside.at; blocks = c.push.new.self.items }) c.args.block.now
+          (ap (λ d. g.D.Drive.journal d) w.drive-is ∙ w.in-Ok.ensures.ok) (ap (λ (v : Waiting). v.at) before) (pushed ∙ ap (λ (v : Waiting). v.blocks ++ c.args.block.now ∷ []) before)
+      | else-waiting-eq-PACKET w ↦
+          let before = c.self-2.view_is ∙ w.self-is in
+          takes_waiting (g.D.Drive.journal c.args.drive.now) (g.D.Drive.journal c.if-waiting-eq-PACKET.drive) c.args.self.now (record { at = c.self-2.inside.at; blocks = c.push.new.self.items }) c.args.block.now
+          (ap (λ d. g.D.Drive.journal d) w.drive-is) (ap (λ (v : Waiting). v.at) before) (pushed ∙ ap (λ (v : Waiting). v.blocks ++ c.args.block.now ∷ []) before)
+    ]

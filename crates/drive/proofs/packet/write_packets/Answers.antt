@@ -1,0 +1,18 @@
+use Rattle.std.proofs.Common.{◌∙◌, arith}
+use Rattle.drive.proofs.Packing.{packet_written, packet_front, packet_begins}
+use Rattle.drive.proofs.packet.write_packets.Goals as goal
+
+pub write-requires-clause-begins : goal.write-requires-clause-begins
+write-requires-clause-begins g c = packet_begins (g.D.Drive.journal c.args.drive.now) (g.D.Drive.journal c.loop-done.drive) c.args.at c.loop-done.done c.args.blocks.now c.requires.begins c.loop-done.invariant.in_range c.loop-done.invariant.journal
+
+pub returns-in-Err-clause-err : goal.returns-in-Err-clause-err
+returns-in-Err-clause-err g c = packet_front (g.D.Drive.journal c.args.drive.now) (g.D.Drive.journal c.loop-done.drive) (g.D.Drive.journal c.write.new.self) c.args.at c.loop-done.done c.min-end.result c.args.blocks.now (omega arith) (omega arith) c.loop-done.invariant.journal c.in-Err.ensures.err
+
+pub loop-done-preserved : goal.loop-done-preserved
+loop-done-preserved g c = record {
+  in_range = omega arith;
+  journal = packet_written (g.D.Drive.journal c.args.drive.now) (g.D.Drive.journal c.loop-done.drive) (g.D.Drive.journal c.write.new.self) c.args.at c.loop-done.done c.min-end.result c.args.blocks.now (omega arith) (omega arith) c.loop-done.invariant.journal c.in-Ok.ensures.ok;
+  capacity = c.write.ensures.capacity ∙ c.loop-done.invariant.capacity;
+  failures = c.in-Ok.ensures.failures ∙ c.loop-done.invariant.failures;
+  honest = λ h. c.loop-done.invariant.honest (c.write.ensures.honest h);
+}

@@ -1,0 +1,16 @@
+use Rattle.std.proofs.Common.{◌≡◌, ◌-◌, ◌≤◌, ◌++◌, length, take, IsTrue}
+use Rattle.drive.specs.Journal.{written}
+use Rattle.drive.proofs.packet.write_packets.Given as goal
+
+-- what was written so far is a front of the blocks
+abbrev pub invariant-loop-done : goal.invariant-loop-done
+invariant-loop-done g l = record {
+  in_range : l.done ≤ length l.blocks;
+  journal : g.D.Drive.journal l.drive ≡ g.D.Drive.journal l.fn.drive ++ written l.at (take l.done l.blocks);
+  capacity : g.D.Drive.capacity l.drive ≡ g.D.Drive.capacity l.fn.drive;
+  failures : g.D.Drive.failures l.drive ≡ g.D.Drive.failures l.fn.drive;
+  honest : IsTrue (g.D.Drive.honest l.drive) → IsTrue (g.D.Drive.honest l.fn.drive);
+}
+
+abbrev pub decreases-loop-done : goal.decreases-loop-done
+decreases-loop-done g l = length l.blocks - l.done

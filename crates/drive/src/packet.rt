@@ -1,0 +1,136 @@
+//! Blocks on their way to a drive, in packets that one write may be given.
+ghost use Rattle.std.specs.Prelude.{◌≡◌, ◌+◌, ◌<◌, ◌≤◌, ◌∷◌, ◌++◌, [], length, vec_len, is_err, IsTrue, IfOk, OnOk, OnErr};
+ghost use Rattle.std.specs.Vec.{vec_capacity};
+ghost use Rattle.drive.specs.Journal.{written, next_of, AddsFront, counted};
+ghost use Rattle.drive.specs.Waiting.{Waiting, end_of, Takes, Stops};
+
+use crate::{Block, Drive, DriveFault, PACKET};
+use std::alloc::{AllocError, Global};
+use std::marker::Model;
+
+/// Writes the blocks from this address on, in packets. What is left is as if they had been one write.
+pub fn write_packets<D: Drive>(drive: &mut D, at: u32, blocks: &[Block]) -> Result<(), DriveFault>
+    requires begins { at ≤ next_of (D.journal drive.old) }
+    requires fits { at + length blocks.now ≤ D.capacity drive.old }
+    ensures ok { OnOk result (D.journal drive.new ≡ D.journal drive.old ++ written at blocks.now) }
+    ensures err { OnErr result (AddsFront (D.journal drive.old) at blocks.now (D.journal drive.new)) }
+    ensures capacity { D.capacity drive.new ≡ D.capacity drive.old }
+    ensures failures { D.failures drive.new ≡ counted (is_err result) (D.failures drive.old) }
+    ensures honest { IsTrue (D.honest drive.new) → IsTrue (D.honest drive.old) }
+{
+    let _capacity = drive.capacity();
+    let mut done = 0;
+    while done < blocks.len() {
+        let end = blocks.len().min(done + PACKET);
+        match drive.write(at + done as u32, &blocks[done..end]) {
+            Ok(()) => done = end,
+            Err(fault) => return Err(fault),
+        }
+    }
+    Ok(())
+}
+
+/// Takes blocks one by one, for addresses that follow each other, and writes them in full packets. To a
+/// caller it is the blocks that wait and the address of the first of them.
+#[derive(Drop)]
+pub struct PacketWriter {
+    packet: Vec<Block>,
+    at: u32,
+}
+
+impl Model for PacketWriter {
+    ghost Value = { Waiting };
+
+    ghost view = { λ w. record { at = w.at; blocks = w.packet.items } };
+
+    ghost invariant = { λ w. (vec_len w.packet ≤ 32) × (32 ≤ vec_capacity w.packet) };
+}
+
+impl PacketWriter {
+    /// A writer of blocks from this address on. No later call takes memory.
+    pub fn new(alloc: Global, at: u32) -> Result<PacketWriter, AllocError>
+        ensures { IfOk result (λ w. w ≡ record { at = at; blocks = [] }) }
+    {
+        Ok(PacketWriter {
+            packet: Vec::with_capacity(alloc, PACKET)?,
+            at,
+        })
+    }
+
+    /// Goes on at this address. The blocks that wait are dropped.
+    pub fn restart(&mut self, at: u32)
+        ensures { self.new ≡ record { at = at; blocks = [] } }
+    {
+        self.packet.clear();
+        self.at = at;
+    }
+
+    /// How many blocks wait, from 0 to 32.
+    pub fn waiting(&self) -> usize
+        ensures count { result ≡ length self.now.blocks }
+        ensures few { result ≤ PACKET }
+    {
+        self.packet.len()
+    }
+
+    /// Takes a block. Where a whole packet waits already, it is written first.
+    pub fn put<D: Drive>(&mut self, drive: &mut D, block: &Block) -> Result<(), DriveFault>
+        requires begins { self.old.at ≤ next_of (D.journal drive.old) }
+        requires fits { end_of self.old < D.capacity drive.old }
+        ensures ok { OnOk result (Takes (D.journal drive.old) self.old (block.now ∷ []) (D.journal drive.new) self.new) }
+        ensures err { OnErr result (Stops (D.journal drive.old) self.old (block.now ∷ []) (D.journal drive.new)) }
+        ensures capacity { D.capacity drive.new ≡ D.capacity drive.old }
+        ensures failures { D.failures drive.new ≡ counted (is_err result) (D.failures drive.old) }
+        ensures honest { IsTrue (D.honest drive.new) → IsTrue (D.honest drive.old) }
+    {
+        if self.waiting() == PACKET {
+            match self.finish(drive) {
+                Ok(()) => {}
+                Err(fault) => return Err(fault),
+            }
+        }
+        self.packet.push(*block).unwrap();
+        Ok(())
+    }
+
+    /// Takes the blocks one after another.
+    pub fn put_all<D: Drive>(&mut self, drive: &mut D, blocks: &[Block]) -> Result<(), DriveFault>
+        requires begins { self.old.at ≤ next_of (D.journal drive.old) }
+        requires fits { end_of self.old + length blocks.now ≤ D.capacity drive.old }
+        ensures ok { OnOk result (Takes (D.journal drive.old) self.old blocks.now (D.journal drive.new) self.new) }
+        ensures err { OnErr result (Stops (D.journal drive.old) self.old blocks.now (D.journal drive.new)) }
+        ensures capacity { D.capacity drive.new ≡ D.capacity drive.old }
+        ensures failures { D.failures drive.new ≡ counted (is_err result) (D.failures drive.old) }
+        ensures honest { IsTrue (D.honest drive.new) → IsTrue (D.honest drive.old) }
+    {
+        for block in blocks {
+            self.put(drive, block)?;
+        }
+        Ok(())
+    }
+
+    /// Writes the blocks that wait.
+    pub fn finish<D: Drive>(&mut self, drive: &mut D) -> Result<(), DriveFault>
+        requires begins { self.old.at ≤ next_of (D.journal drive.old) }
+        requires fits { end_of self.old ≤ D.capacity drive.old }
+        ensures ok { OnOk result (D.journal drive.new ≡ D.journal drive.old ++ written self.old.at self.old.blocks) }
+        ensures empty { OnOk result (self.new ≡ record { at = end_of self.old; blocks = [] }) }
+        ensures err { OnErr result (AddsFront (D.journal drive.old) self.old.at self.old.blocks (D.journal drive.new)) }
+        ensures capacity { D.capacity drive.new ≡ D.capacity drive.old }
+        ensures failures { D.failures drive.new ≡ counted (is_err result) (D.failures drive.old) }
+        ensures honest { IsTrue (D.honest drive.new) → IsTrue (D.honest drive.old) }
+    {
+        let _capacity = drive.capacity();
+        if self.packet.is_empty() {
+            return Ok(());
+        }
+        match drive.write(self.at, &self.packet) {
+            Ok(()) => {
+                self.at += self.packet.len() as u32;
+                self.packet.clear();
+                Ok(())
+            }
+            Err(fault) => Err(fault),
+        }
+    }
+}

@@ -1,0 +1,7 @@
+use Rattle.std.proofs.Common.{ap, not, ◌∙◌, string_bytes}
+use Rattle.std.specs.Str.{bytes_eq}
+use Rattle.model.proofs.PlainEdits.{any-map}
+use Rattle.model.proofs.plain.edits.is_other.Goals as goal
+
+pub returns : goal.returns
+returns c = ap not (c.is_among.ensures ∙ any-map (bytes_eq c.args.name.now) string_bytes c.args.names.now)

@@ -1,0 +1,40 @@
+//! The definitions of this crate as a plain, slow program: a list of paths and nodes, and a list of clients' records.
+//! It keeps the whole tree in memory and looks through all of it at each step, so that it can be read beside the
+//! definitions. A store is tested against it, request by request.
+
+ghost use Rattle.std.specs.Prelude.{◌≡◌};
+ghost use Rattle.model.specs.Session.{draws_identity};
+ghost use Rattle.model.specs.Plain.{operation_in};
+
+mod codes;
+mod edits;
+mod nodes;
+mod paths;
+mod records;
+mod state;
+#[cfg(test)]
+mod tests;
+
+pub use codes::Code;
+pub use nodes::{Content, Entry, Node};
+pub use records::{ClientRecord, Due, Reply};
+pub use state::{Refusal, Request, State};
+
+/// What a client may ask for. A path is the list of its names from the root on; the root's own is empty.
+#[derive(Debug, Drop)]
+pub enum Operation {
+    Create { path: Vec<String>, bytes: Vec<u8> },
+    Replace { path: Vec<String>, bytes: Vec<u8> },
+    MakeDir { path: Vec<String> },
+    Rename { from: Vec<String>, to: Vec<String> },
+    Remove { path: Vec<String> },
+}
+
+impl Operation {
+    /// Whether a new node is made, which takes the next unique ID.
+    pub fn draws_identity(&self) -> bool
+        ensures { result ≡ draws_identity (operation_in self.now) }
+    {
+        matches!(self, Operation::Create { .. } | Operation::MakeDir { .. })
+    }
+}

@@ -1,0 +1,148 @@
+//! The checks of a request, in their order.
+
+ghost use Rattle.std.specs.Prelude.{◌≡◌, ◌==◌};
+ghost use Rattle.std.specs.List.{list_any};
+ghost use Rattle.model.specs.Operation.{code_of, code_of_addition, code_of_replacement, code_of_removal, code_of_move, is_too_deep, moves_too_deep};
+ghost use Rattle.model.specs.Plain.{names_in, path_in, tree_in, code_in, operation_in, AreApart};
+
+use super::Operation;
+use super::nodes::{Entry, find, is_directory_at, names_at};
+use super::paths::{begins_with, parent, same_path};
+
+/// How a request was answered.
+#[derive(Clone, Copy, Debug, PartialEq, Eq)]
+pub enum Code {
+    Done,
+    NoParent,
+    NotFound,
+    Exists,
+    IsDirectory,
+    NotEmpty,
+    IntoItself,
+    Root,
+    TooDeep,
+    DirectoryFull,
+    TooMany,
+}
+
+impl Code {
+    /// Whether the request was carried out.
+    pub fn is_done(self) -> bool
+        ensures { result ≡ (code_in self == 0) }
+    {
+        matches!(self, Code::Done)
+    }
+}
+
+/// How many names a path of the tree may have.
+const MOST_NAMES_IN_A_PATH: usize = 16;
+
+/// How many names a directory may have.
+const MOST_NAMES: usize = 512;
+
+/// How many nodes there may be, the root counted.
+const MOST_NODES: usize = 4_096;
+
+/// The code of an operation at these nodes.
+pub fn code_of(nodes: &[Entry], operation: &Operation) -> Code
+    requires { AreApart nodes.now }
+    ensures { code_in result ≡ code_of (operation_in operation.now) (tree_in nodes.now) }
+{
+    match operation {
+        Operation::Create { path, bytes: _ } => code_of_addition(nodes, path),
+        Operation::MakeDir { path } => code_of_addition(nodes, path),
+        Operation::Replace { path, bytes: _ } => code_of_replacement(nodes, path),
+        Operation::Rename { from, to } => code_of_move(nodes, from, to),
+        Operation::Remove { path } => code_of_removal(nodes, path),
+    }
+}
+
+fn code_of_addition(nodes: &[Entry], path: &[String]) -> Code
+    requires { AreApart nodes.now }
+    ensures { code_in result ≡ code_of_addition (names_in path.now) (tree_in nodes.now) }
+{
+    if path.is_empty() {
+        Code::Root
+    } else if path.len() > MOST_NAMES_IN_A_PATH {
+        Code::TooDeep
+    } else if !is_directory_at(nodes, parent(path)) {
+        Code::NoParent
+    } else if find(nodes, path).is_some() {
+        Code::Exists
+    } else if names_at(nodes, parent(path)) >= MOST_NAMES {
+        Code::DirectoryFull
+    } else if nodes.len() >= MOST_NODES {
+        Code::TooMany
+    } else {
+        Code::Done
+    }
+}
+
+fn code_of_replacement(nodes: &[Entry], path: &[String]) -> Code
+    ensures { code_in result ≡ code_of_replacement (names_in path.now) (tree_in nodes.now) }
+{
+    if path.is_empty() {
+        Code::Root
+    } else if find(nodes, path).is_none() {
+        Code::NotFound
+    } else if is_directory_at(nodes, path) {
+        Code::IsDirectory
+    } else {
+        Code::Done
+    }
+}
+
+fn code_of_removal(nodes: &[Entry], path: &[String]) -> Code
+    ensures { code_in result ≡ code_of_removal (names_in path.now) (tree_in nodes.now) }
+{
+    if path.is_empty() {
+        Code::Root
+    } else if find(nodes, path).is_none() {
+        Code::NotFound
+    } else if names_at(nodes, path) > 0 {
+        Code::NotEmpty
+    } else {
+        Code::Done
+    }
+}
+
+fn code_of_move(nodes: &[Entry], from: &[String], to: &[String]) -> Code
+    ensures { code_in result ≡ code_of_move (names_in from.now) (names_in to.now) (tree_in nodes.now) }
+{
+    if from.is_empty() || to.is_empty() {
+        Code::Root
+    } else if find(nodes, from).is_none() {
+        Code::NotFound
+    } else if from.len() < to.len() && begins_with(to, from) {
+        Code::IntoItself
+    } else if !is_directory_at(nodes, parent(to)) {
+        Code::NoParent
+    } else if find(nodes, to).is_some() {
+        Code::Exists
+    } else if moves_too_deep(nodes, from, to) {
+        Code::TooDeep
+    } else if names_at(nodes, parent(to)) >= MOST_NAMES && !same_path(parent(to), parent(from)) {
+        Code::DirectoryFull
+    } else {
+        Code::Done
+    }
+}
+
+/// Whether a path that begins with `from` would have too many names behind `to`.
+fn moves_too_deep(nodes: &[Entry], from: &[String], to: &[String]) -> bool
+    ensures { result ≡ moves_too_deep (names_in from.now) (names_in to.now) (tree_in nodes.now) }
+{
+    any_too_deep(nodes, from, to)
+}
+
+fn any_too_deep(nodes: &[Entry], from: &[String], to: &[String]) -> bool
+    ensures { result ≡ list_any (λ e. is_too_deep (names_in from.now) (names_in to.now) (path_in e)) nodes.now }
+{
+    nodes.iter().any(|e| is_too_deep(&e.path, from, to))
+}
+
+fn is_too_deep(path: &[String], from: &[String], to: &[String]) -> bool
+    ensures { result ≡ is_too_deep (names_in from.now) (names_in to.now) (names_in path.now) }
+{
+    begins_with(path, from) && MOST_NAMES_IN_A_PATH + from.len() < to.len() + path.len()
+}

@@ -1,0 +1,150 @@
+//! The records of the clients: what is due, and the replies that are kept.
+
+ghost use Rattle.std.specs.Prelude.{◌≡◌, ◌==◌, IfOk, OnOk, map, find, length, Some, None};
+ghost use Rattle.std.specs.List.{list_any};
+ghost use Rattle.std.specs.Option.{option_copied};
+ghost use Rattle.model.specs.Session.{record_of, due_by, answered, answered_if, with_reply};
+ghost use Rattle.model.specs.Plain.{reply_in, record_in, due_in};
+
+use super::Code;
+use std::alloc::{AllocError, Global};
+
+/// How many clients have a record.
+const MOST_CLIENTS: usize = 64;
+
+/// How many replies are kept for a client.
+const KEPT_REPLIES: usize = 4;
+
+/// The answer to a request that was committed: its code, and its number among all commits.
+#[derive(Clone, Copy, Debug, PartialEq, Eq)]
+pub struct Reply {
+    pub code: Code,
+    pub commit: u64,
+}
+
+/// A client's latest request number, and the replies that are kept for it and the numbers before it, the newest first.
+#[derive(Debug, Drop)]
+pub struct ClientRecord {
+    pub client: u64,
+    pub latest: u64,
+    pub replies: Vec<Reply>,
+}
+
+/// What a request's number is to its client's record.
+#[derive(Clone, Copy, Debug, PartialEq, Eq)]
+pub enum Due {
+    /// It was committed, and this is its reply.
+    Repeat(Reply),
+    /// It is at or below the client's latest number, and its reply is no longer kept.
+    Stale(u64),
+    /// It is more than one above the client's latest number.
+    Gap(u64),
+    /// It is the first of a client for which there is no room.
+    ClientsFull,
+    /// It is next.
+    New,
+}
+
+/// What is due.
+pub fn find_due(records: &[ClientRecord], client: u64, number: u64) -> Due
+    ensures { due_in result ≡ due_by number (length records.now) (record_of client (map record_in records.now)) }
+{
+    match find_record(records, client) {
+        None => due_with_none(records.len(), number),
+        Some(kept) => due_with(kept, number),
+    }
+}
+
+fn find_record(records: &[ClientRecord], client: u64) -> Option<&ClientRecord>
+    ensures { option_copied result ≡ find (λ r. r.client == client) records.now }
+{
+    records.iter().find(|r| r.client == client)
+}
+
+fn due_with_none(clients: usize, number: u64) -> Due
+    ensures { due_in result ≡ due_by number clients None }
+{
+    if number == 0 {
+        Due::Stale(0)
+    } else if number > 1 {
+        Due::Gap(0)
+    } else if clients >= MOST_CLIENTS {
+        Due::ClientsFull
+    } else {
+        Due::New
+    }
+}
+
+fn due_with(kept: &ClientRecord, number: u64) -> Due
+    ensures { due_in result ≡ due_by number 0 (Some (record_in kept.now)) }
+{
+    if number > kept.latest {
+        if number - kept.latest == 1 {
+            Due::New
+        } else {
+            Due::Gap(kept.latest)
+        }
+    } else {
+        match kept.replies.get((kept.latest - number) as usize) {
+            None => Due::Stale(kept.latest),
+            Some(reply) => Due::Repeat(*reply),
+        }
+    }
+}
+
+impl ClientRecord {
+    /// Keeps one more reply, and of all the newest four.
+    pub fn answer(&mut self, number: u64, reply: Reply) -> Result<(), AllocError>
+        ensures { OnOk result (record_in self.new ≡ answered number (reply_in reply) (record_in self.old)) }
+    {
+        self.replies.insert(0, reply)?;
+        self.replies.truncate(KEPT_REPLIES);
+        self.latest = number;
+        Ok(())
+    }
+}
+
+/// The records with one more reply: a new client's goes last.
+pub fn with_reply(
+    alloc: Global,
+    mut records: Vec<ClientRecord>,
+    client: u64,
+    number: u64,
+    reply: Reply,
+) -> Result<Vec<ClientRecord>, AllocError>
+    ensures { IfOk result (λ new. map record_in new.items ≡ with_reply client number (reply_in reply) (map record_in records.items)) }
+{
+    if !has_record(&records, client) {
+        let mut replies = Vec::new(alloc);
+        replies.push(reply)?;
+        records.push(ClientRecord {
+            client,
+            latest: number,
+            replies,
+        })?;
+        return Ok(records);
+    }
+    answer_all(records, client, number, reply)
+}
+
+fn has_record(records: &[ClientRecord], client: u64) -> bool
+    ensures { result ≡ list_any (λ r. r.client == client) records.now }
+{
+    records.iter().any(|r| r.client == client)
+}
+
+fn answer_all(
+    mut records: Vec<ClientRecord>,
+    client: u64,
+    number: u64,
+    reply: Reply,
+) -> Result<Vec<ClientRecord>, AllocError>
+    ensures { IfOk result (λ new. map record_in new.items ≡ map (λ r. answered_if client number (reply_in reply) r) (map record_in records.items)) }
+{
+    for i in 0..records.len() {
+        if records[i].client == client {
+            records[i].answer(number, reply)?;
+        }
+    }
+    Ok(records)
+}

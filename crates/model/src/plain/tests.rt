@@ -1,0 +1,390 @@
+//! Requests and their replies, by the plain program. A request's moment is its number.
+
+ghost use Rattle.std.specs.Prelude.{IfOk};
+ghost use Rattle.model.specs.PlainState.{IsWhole};
+
+use super::*;
+use std::alloc::{AllocError, Global};
+use std::test::Fail;
+
+/// The path of these names, written as `d/x`; the root's is empty.
+fn path(alloc: Global, text: &str) -> Result<Vec<String>, AllocError> {
+    let mut names = Vec::new(alloc);
+    for name in text.split('/') {
+        if !name.is_empty() {
+            names.push(String::from_str(alloc, name)?)?;
+        }
+    }
+    Ok(names)
+}
+
+fn create(alloc: Global, at: &str) -> Result<Operation, AllocError> {
+    Ok(Operation::Create {
+        path: path(alloc, at)?,
+        bytes: b"hello".to_vec(alloc)?,
+    })
+}
+
+fn replace(alloc: Global, at: &str) -> Result<Operation, AllocError> {
+    Ok(Operation::Replace {
+        path: path(alloc, at)?,
+        bytes: b"other".to_vec(alloc)?,
+    })
+}
+
+fn make(alloc: Global, at: &str) -> Result<Operation, AllocError> {
+    Ok(Operation::MakeDir {
+        path: path(alloc, at)?,
+    })
+}
+
+fn rename(alloc: Global, from: &str, to: &str) -> Result<Operation, AllocError> {
+    Ok(Operation::Rename {
+        from: path(alloc, from)?,
+        to: path(alloc, to)?,
+    })
+}
+
+fn remove(alloc: Global, at: &str) -> Result<Operation, AllocError> {
+    Ok(Operation::Remove {
+        path: path(alloc, at)?,
+    })
+}
+
+fn ask(
+    alloc: Global,
+    state: State,
+    client: u64,
+    number: u64,
+    operation: Operation,
+) -> Result<(State, Reply), Refusal>
+    requires { IsWhole state }
+    ensures { IfOk result (λ pair. IsWhole pair.0) }
+{
+    let request = Request {
+        client,
+        number,
+        moment: number,
+        operation,
+    };
+    state.apply(alloc, request)
+}
+
+/// A new volume after these operations of client 7, and their codes.
+fn after(alloc: Global, operations: Vec<Operation>) -> Result<(State, Vec<Code>), Refusal>
+    ensures { IfOk result (λ pair. IsWhole pair.0) }
+{
+    let mut state = State::formatted(alloc, 0)?;
+    let mut codes = Vec::new(alloc);
+    let mut number = 0u64;
+    for operation in operations {
+        number = number.wrapping_add(1);
+        let (next, reply) = ask(alloc, state, 7, number, operation)?;
+        state = next;
+        codes.push(reply.code).map_err(AllocError::from)?;
+    }
+    Ok((state, codes))
+}
+
+fn is_directory_of(node: Option<&Node>, names: &[&str]) -> bool {
+    match node {
+        Some(
+            Node {
+                content: Content::Directory(listed),
+                ..
+            },
+        ) => listed.len() == names.len() && listed.iter().zip(names).all(|(a, b)| a.as_str() == *b),
+        _ => false,
+    }
+}
+
+fn moment_of(node: Option<&Node>) -> Option<u64> {
+    node.map(|node| node.moment)
+}
+
+fn identity_of(node: Option<&Node>) -> Option<u64> {
+    node.map(|node| node.identity)
+}
+
+#[test]
+fn a_repeat_gets_its_own_reply(rt: HostRuntime) -> Result<(), Fail> {
+    let alloc = rt.alloc();
+    let state = State::formatted(alloc, 0)?;
+    let (state, first) = ask(alloc, state, 7, 1, create(alloc, "a")?)?;
+    let (state, second) = ask(alloc, state, 7, 2, create(alloc, "a")?)?;
+    let (state, other) = ask(alloc, state, 8, 1, remove(alloc, "a")?)?;
+    assert_eq!(rt; (first.code, first.commit), (Code::Done, 1));
+    assert_eq!(rt; (second.code, second.commit), (Code::Exists, 2));
+    assert_eq!(rt; (other.code, other.commit), (Code::Done, 3));
+    assert_eq!(rt; state.due(7, 2), Due::Repeat(second));
+    let (state, third) = ask(alloc, state, 7, 3, remove(alloc, "q")?)?;
+    assert_eq!(rt; (third.code, third.commit), (Code::NotFound, 4));
+    assert_eq!(rt; state.due(7, 1), Due::Repeat(first));
+    assert_eq!(rt; state.due(7, 2), Due::Repeat(second));
+    assert_eq!(rt; state.due(7, 3), Due::Repeat(third));
+    assert_eq!(rt; state.due(8, 1), Due::Repeat(other));
+    Ok(())
+}
+
+#[test]
+fn a_directory_moves_with_all_below_it(rt: HostRuntime) -> Result<(), Fail> {
+    let alloc = rt.alloc();
+    let operations = vec![in alloc;
+        make(alloc, "d")?,
+        make(alloc, "e")?,
+        create(alloc, "d/x")?,
+        rename(alloc, "d", "e/d")?,
+    ]?;
+    let (state, codes) = after(alloc, operations)?;
+    assert_eq!(rt;
+        codes.as_slice(),
+        [Code::Done, Code::Done, Code::Done, Code::Done].as_slice()
+    );
+    assert!(rt; is_directory_of(state.node(&path(alloc, "")?), &["e"]));
+    assert!(rt; is_directory_of(state.node(&path(alloc, "e")?), &["d"]));
+    assert!(rt; is_directory_of(state.node(&path(alloc, "e/d")?), &["x"]));
+    assert!(rt; state.node(&path(alloc, "d")?).is_none());
+    assert!(rt; state.node(&path(alloc, "d/x")?).is_none());
+    assert_eq!(rt; moment_of(state.node(&path(alloc, "")?)), Some(4));
+    assert_eq!(rt; moment_of(state.node(&path(alloc, "e")?)), Some(4));
+    assert_eq!(rt; moment_of(state.node(&path(alloc, "e/d")?)), Some(3));
+    assert_eq!(rt; moment_of(state.node(&path(alloc, "e/d/x")?)), Some(3));
+    assert_eq!(rt; identity_of(state.node(&path(alloc, "e/d/x")?)), Some(18));
+    match state.node(&path(alloc, "e/d/x")?) {
+        Some(
+            Node {
+                content: Content::File(bytes),
+                ..
+            },
+        ) => assert_eq!(rt; bytes.as_slice(), b"hello".as_slice()),
+        _ => assert!(rt; false, "the file has moved"),
+    }
+    Ok(())
+}
+
+#[test]
+fn a_renamed_name_goes_last(rt: HostRuntime) -> Result<(), Fail> {
+    let alloc = rt.alloc();
+    let operations = vec![in alloc;
+        make(alloc, "d")?,
+        make(alloc, "b")?,
+        make(alloc, "c")?,
+        rename(alloc, "d", "a")?,
+    ]?;
+    let (state, _codes) = after(alloc, operations)?;
+    assert!(rt; is_directory_of(state.node(&path(alloc, "")?), &["b", "c", "a"]));
+    Ok(())
+}
+
+#[test]
+fn refused_moves_removals_and_depths(rt: HostRuntime) -> Result<(), Fail> {
+    let alloc = rt.alloc();
+    let deep = "a/a/a/a/a/a/a/a/a/a/a/a/a/a/a/a/a";
+    let operations = vec![in alloc;
+        make(alloc, "d")?,
+        rename(alloc, "d", "d/x/y")?,
+        remove(alloc, "")?,
+        create(alloc, deep)?,
+    ]?;
+    let (state, codes) = after(alloc, operations)?;
+    assert_eq!(rt;
+        codes.as_slice(),
+        [Code::Done, Code::IntoItself, Code::Root, Code::TooDeep].as_slice()
+    );
+    assert_eq!(rt; state.commits, 4);
+    Ok(())
+}
+
+#[test]
+fn replies_after_one_directory(rt: HostRuntime) -> Result<(), Fail> {
+    let alloc = rt.alloc();
+    for (operation, want) in [
+        (rename(alloc, "d", "d")?, Code::Exists),
+        (rename(alloc, "x", "d/y")?, Code::NotFound),
+        (create(alloc, "d/x/y")?, Code::NoParent),
+        (replace(alloc, "d")?, Code::IsDirectory),
+    ] {
+        let (state, codes) = after(alloc, vec![in alloc; make(alloc, "d")?, operation]?)?;
+        assert_eq!(rt; codes.as_slice(), [Code::Done, want].as_slice());
+        assert_eq!(rt; state.commits, 2);
+    }
+    let (_state, codes) = after(
+        alloc,
+        vec![in alloc;
+            make(alloc, "d")?,
+            create(alloc, "d/x")?,
+            remove(alloc, "d")?,
+        ]?,
+    )?;
+    assert_eq!(rt;
+        codes.as_slice(),
+        [Code::Done, Code::Done, Code::NotEmpty].as_slice()
+    );
+    let (state, _codes) = after(
+        alloc,
+        vec![in alloc;
+            make(alloc, "d")?,
+            create(alloc, "d/x")?,
+            remove(alloc, "d/x")?,
+            create(alloc, "d/z")?,
+        ]?,
+    )?;
+    assert_eq!(rt; identity_of(state.node(&path(alloc, "d/z")?)), Some(18));
+    assert_eq!(rt; state.table_length, 4);
+    Ok(())
+}
+
+#[test]
+fn the_first_check_that_holds_gives_the_code(rt: HostRuntime) -> Result<(), Fail> {
+    let alloc = rt.alloc();
+    let deep = "q/a/a/a/a/a/a/a/a/a/a/a/a/a/a/a/a";
+    for (operation, want) in [
+        (create(alloc, "")?, Code::Root),
+        (create(alloc, deep)?, Code::TooDeep),
+        (create(alloc, "q/x")?, Code::NoParent),
+        (create(alloc, "f/x")?, Code::NoParent),
+        (make(alloc, "d")?, Code::Exists),
+        (make(alloc, "g")?, Code::Done),
+        (replace(alloc, "")?, Code::Root),
+        (replace(alloc, deep)?, Code::NotFound),
+        (replace(alloc, "d")?, Code::IsDirectory),
+        (replace(alloc, "f")?, Code::Done),
+        (rename(alloc, "q", "")?, Code::Root),
+        (rename(alloc, "", "q")?, Code::Root),
+        (rename(alloc, "q", "q/x")?, Code::NotFound),
+        (rename(alloc, "f", "f/x")?, Code::IntoItself),
+        (rename(alloc, "d", "d/q/x")?, Code::IntoItself),
+        (rename(alloc, "f", deep)?, Code::NoParent),
+        (rename(alloc, "d/x", "d")?, Code::Exists),
+        (rename(alloc, "d", "g")?, Code::Done),
+        (remove(alloc, "")?, Code::Root),
+        (remove(alloc, deep)?, Code::NotFound),
+        (remove(alloc, "d")?, Code::NotEmpty),
+        (remove(alloc, "d/x")?, Code::Done),
+    ] {
+        let (_state, codes) = after(
+            alloc,
+            vec![in alloc;
+                make(alloc, "d")?,
+                create(alloc, "f")?,
+                create(alloc, "d/x")?,
+                operation,
+            ]?,
+        )?;
+        assert_eq!(rt;
+            codes.as_slice(),
+            [Code::Done, Code::Done, Code::Done, want].as_slice()
+        );
+    }
+    Ok(())
+}
+
+#[test]
+fn sixteen_names_are_the_most(rt: HostRuntime) -> Result<(), Fail> {
+    let alloc = rt.alloc();
+    let mut operations = Vec::new(alloc);
+    let mut at = String::new(alloc);
+    for _ in 0..15 {
+        at.push_str("/a")?;
+        operations.push(make(alloc, &at)?)?;
+    }
+    operations.push(make(alloc, "d")?)?;
+    operations.push(make(alloc, "e")?)?;
+    operations.push(create(alloc, "e/x")?)?;
+    at.push_str("/b")?;
+    operations.push(rename(alloc, "e", &at)?)?;
+    operations.push(rename(alloc, "d", &at)?)?;
+    at.push_str("/c")?;
+    operations.push(make(alloc, &at)?)?;
+    let (_state, codes) = after(alloc, operations)?;
+    assert_eq!(rt; codes.len(), 21);
+    assert_eq!(rt; codes.get(18).copied(), Some(Code::TooDeep));
+    assert_eq!(rt; codes.get(19).copied(), Some(Code::Done));
+    assert_eq!(rt; codes.get(20).copied(), Some(Code::TooDeep));
+    Ok(())
+}
+
+#[test]
+fn a_directory_and_a_tree_are_full(rt: HostRuntime) -> Result<(), Fail> {
+    let alloc = rt.alloc();
+    let mut operations = Vec::new(alloc);
+    // Seven full directories and one with 503 files: with it and the root there are 4,096 nodes.
+    for i in 0..8u16 {
+        operations.push(make(alloc, &format!(in alloc; "{i}")?)?)?;
+    }
+    for i in 0..8u16 {
+        for j in 0..512u16 {
+            if i < 7 || j < 503 {
+                operations.push(create(alloc, &format!(in alloc; "{i}/{j}")?)?)?;
+            }
+        }
+    }
+    operations.push(create(alloc, "0/0")?)?;
+    operations.push(create(alloc, "0/x")?)?;
+    operations.push(create(alloc, "7/x")?)?;
+    operations.push(rename(alloc, "7/0", "0/x")?)?;
+    operations.push(rename(alloc, "0/0", "0/x")?)?;
+    let (state, codes) = after(alloc, operations)?;
+    assert_eq!(rt; state.nodes.len(), 4_096);
+    assert_eq!(rt; state.table_length, 4_097);
+    assert_eq!(rt; codes.iter().filter(|code| **code != Code::Done).count(), 4);
+    assert_eq!(rt; codes.len(), 4_100);
+    assert_eq!(rt; codes.get(4_095).copied(), Some(Code::Exists));
+    assert_eq!(rt; codes.get(4_096).copied(), Some(Code::DirectoryFull));
+    assert_eq!(rt; codes.get(4_097).copied(), Some(Code::TooMany));
+    assert_eq!(rt; codes.get(4_098).copied(), Some(Code::DirectoryFull));
+    assert_eq!(rt; codes.get(4_099).copied(), Some(Code::Done));
+    Ok(())
+}
+
+#[test]
+fn four_replies_are_kept(rt: HostRuntime) -> Result<(), Fail> {
+    let alloc = rt.alloc();
+    let mut operations = Vec::new(alloc);
+    for _ in 0..6 {
+        operations.push(remove(alloc, "z")?)?;
+    }
+    let (state, _codes) = after(alloc, operations)?;
+    assert_eq!(rt; state.due(7, 0), Due::Stale(6));
+    assert_eq!(rt; state.due(7, 2), Due::Stale(6));
+    for number in 3..7u64 {
+        let reply = Reply {
+            code: Code::NotFound,
+            commit: number,
+        };
+        assert_eq!(rt; state.due(7, number), Due::Repeat(reply));
+    }
+    assert_eq!(rt; state.due(7, 7), Due::New);
+    assert_eq!(rt; state.due(7, 8), Due::Gap(6));
+    assert_eq!(rt; state.due(8, 0), Due::Stale(0));
+    assert_eq!(rt; state.due(8, 1), Due::New);
+    assert_eq!(rt; state.due(9, 2), Due::Gap(0));
+    assert_eq!(rt; state.due(9, u64::MAX), Due::Gap(0));
+    Ok(())
+}
+
+/// A new volume after one request of each of 64 clients.
+fn with_all_clients(alloc: Global) -> Result<State, Refusal>
+    ensures { IfOk result (λ state. IsWhole state) }
+{
+    let mut state = State::formatted(alloc, 0)?;
+    for client in 1..65u64 {
+        let (next, _reply) = ask(alloc, state, client, 1, remove(alloc, "z")?)?;
+        state = next;
+    }
+    Ok(state)
+}
+
+#[test]
+fn a_client_too_many(rt: HostRuntime) -> Result<(), Fail> {
+    let state = with_all_clients(rt.alloc())?;
+    let reply = Reply {
+        code: Code::NotFound,
+        commit: 1,
+    };
+    assert_eq!(rt; state.due(65, 1), Due::ClientsFull);
+    assert_eq!(rt; state.due(65, 2), Due::Gap(0));
+    assert_eq!(rt; state.due(1, 1), Due::Repeat(reply));
+    assert_eq!(rt; state.due(64, 2), Due::New);
+    Ok(())
+}

@@ -1,0 +1,71 @@
+ghost use Rattle.std.specs.Prelude.{◌≡◌};
+ghost use Rattle.recover.specs.declared.fault.StoreFault.TheVariants.{Device, Memory};
+
+use drive::DriveFault;
+use std::alloc::{AllocError, AllocFailed};
+use thiserror::Error;
+
+/// Why a call on a volume was refused. It is shown as its number and its name.
+#[derive(Clone, Copy, Debug, PartialEq, Eq, Error)]
+pub enum StoreFault {
+    /// Something is written that a format with these words would not have written.
+    #[error("61 NotBlank")]
+    NotBlank,
+    /// The text is no label of at most 31 bytes.
+    #[error("62 Label")]
+    Label,
+    /// The drive has fewer than 512 blocks.
+    #[error("63 Small")]
+    Small,
+    /// The drive failed. What was asked of it may have been done.
+    #[error("64 Device")]
+    Device,
+    #[error("65 Memory")]
+    Memory,
+    /// There is no table on the medium.
+    #[error("66 NotFormatted")]
+    NotFormatted,
+    /// A structure is not as it must be. `block` is the address of its first block, and `cause` the number of what
+    /// is wrong with it.
+    #[error("67 Damaged block {block} cause {cause}")]
+    Damaged { block: u32, cause: u8 },
+    /// There may be no room for what the request writes.
+    #[error("68 Full")]
+    Full,
+    /// A write failed earlier, so that the store does not know what is on the medium.
+    #[error("69 Stopped")]
+    Stopped,
+    /// The volume has fewer commits.
+    #[error("70 NoCommit")]
+    NoCommit,
+    #[error("96 NotFound")]
+    NotFound,
+    #[error("97 IsDirectory")]
+    IsDirectory,
+    #[error("98 NotDirectory")]
+    NotDirectory,
+}
+
+impl From<DriveFault> for StoreFault {
+    ghost from_gives = { λ _ e. e ≡ Device };
+
+    fn from(_fault: DriveFault) -> StoreFault {
+        StoreFault::Device
+    }
+}
+
+impl From<AllocError> for StoreFault {
+    ghost from_gives = { λ _ e. e ≡ Memory };
+
+    fn from(_error: AllocError) -> StoreFault {
+        StoreFault::Memory
+    }
+}
+
+impl<T: Drop> From<AllocFailed<T>> for StoreFault {
+    ghost from_gives = { λ _ e. e ≡ Memory };
+
+    fn from(_error: AllocFailed<T>) -> StoreFault {
+        StoreFault::Memory
+    }
+}

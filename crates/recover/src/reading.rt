@@ -1,0 +1,87 @@
+//! Reads of structures by their addresses. No call writes.
+
+ghost use Rattle.std.specs.Prelude.{◌≡◌, ◌+◌, ◌<◌, ◌≤◌, ◌^◌, IsTrue, IfOk, Some, vec_len};
+ghost use Rattle.std.specs.Int.{div_ceil};
+ghost use Rattle.drive.specs.Journal.{next_of, last_at};
+ghost use Rattle.recover.specs.Faults.{Counts, devices};
+
+use crate::fault::StoreFault;
+use drive::Drive;
+use ecma::Block;
+use std::alloc::Global;
+
+/// The address of the block with number 0 of the partition.
+pub const PARTITION_START: u32 = 257;
+
+/// The bytes of a block.
+pub const BLOCK_BYTES: u32 = 2048;
+
+/// How many blocks so many bytes take.
+pub fn block_count(size: u32) -> u32
+    ensures { result ≡ div_ceil size 2048 }
+{
+    size.div_ceil(BLOCK_BYTES)
+}
+
+/// Reads the block at an address.
+pub fn read_block<D: Drive>(drive: &mut D, at: u32) -> Result<Block, StoreFault>
+    requires { at < next_of (D.journal drive.old) }
+    ensures read { IfOk result (λ block. IsTrue (D.honest drive.new) → last_at (D.journal drive.old) at ≡ Some block) }
+    ensures journal { D.journal drive.new ≡ D.journal drive.old }
+    ensures capacity { D.capacity drive.new ≡ D.capacity drive.old }
+    ensures honest { IsTrue (D.honest drive.new) → IsTrue (D.honest drive.old) }
+    ensures failures { Counts (devices result) (D.failures drive.old) (D.failures drive.new) }
+{
+    let mut block = [0; 2048];
+    match drive.read(at, &mut block) {
+        Ok(()) => Ok(block),
+        Err(_) => Err(StoreFault::Device),
+    }
+}
+
+/// Reads so many blocks from an address on.
+pub fn read_blocks<D: Drive>(
+    alloc: Global,
+    drive: &mut D,
+    at: u32,
+    count: u32,
+) -> Result<Vec<Block>, StoreFault>
+    requires within { at + count ≤ next_of (D.journal drive.old) }
+    requires fits { at + count < 2 ^ 32 }
+    ensures count { IfOk result (λ blocks. vec_len blocks ≡ count) }
+    ensures journal { D.journal drive.new ≡ D.journal drive.old }
+    ensures capacity { D.capacity drive.new ≡ D.capacity drive.old }
+    ensures honest { IsTrue (D.honest drive.new) → IsTrue (D.honest drive.old) }
+    ensures failures { Counts (devices result) (D.failures drive.old) (D.failures drive.new) }
+{
+    let mut blocks = Vec::with_capacity(alloc, count as usize)?;
+    for i in 0..count {
+        let block = read_block(drive, at + i)?;
+        blocks.push(block)?;
+    }
+    Ok(blocks)
+}
+
+/// Reads so many bytes from the address of their first block on.
+pub fn read_bytes<D: Drive>(
+    alloc: Global,
+    drive: &mut D,
+    at: u32,
+    size: u32,
+) -> Result<Vec<u8>, StoreFault>
+    requires within { at + div_ceil size 2048 ≤ next_of (D.journal drive.old) }
+    requires fits { at + div_ceil size 2048 < 2 ^ 32 }
+    ensures size { IfOk result (λ bytes. vec_len bytes ≡ size) }
+    ensures journal { D.journal drive.new ≡ D.journal drive.old }
+    ensures capacity { D.capacity drive.new ≡ D.capacity drive.old }
+    ensures honest { IsTrue (D.honest drive.new) → IsTrue (D.honest drive.old) }
+    ensures failures { Counts (devices result) (D.failures drive.old) (D.failures drive.new) }
+{
+    let mut bytes = Vec::with_capacity(alloc, size as usize)?;
+    for i in 0..block_count(size) {
+        let block = read_block(drive, at + i)?;
+        let left = (size - i * BLOCK_BYTES).min(BLOCK_BYTES);
+        bytes.extend_from_slice(&block[..left as usize])?;
+    }
+    Ok(bytes)
+}

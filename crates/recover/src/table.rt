@@ -1,0 +1,144 @@
+//! The tables of a medium: the last one, and the one before each.
+
+ghost use Rattle.std.specs.Prelude.{◌≡◌, ◌+◌, ◌<◌, ◌≤◌, IsTrue, IfOk, IfSome};
+ghost use Rattle.std.specs.Int.{div_ceil};
+ghost use Rattle.drive.specs.Journal.{next_of};
+ghost use Rattle.recover.specs.Faults.{Counts, devices};
+
+use crate::cause;
+use crate::fault::StoreFault;
+use crate::reading::{PARTITION_START, block_count, read_block, read_bytes};
+use drive::Drive;
+use ecma::Timestamp;
+use icb::{Kind, Place, decode_fe};
+use std::alloc::Global;
+use vat::{Vat, VatFault, decode_vat, is_vat_icb};
+
+/// What the entry of a table says: when its request was committed, and where its data lie.
+#[derive(Clone, Copy, Debug)]
+pub struct TableEntry {
+    pub moment: Timestamp,
+    /// The number of the first block of its data.
+    pub first: u32,
+    /// In bytes.
+    pub size: u32,
+}
+
+/// The address of the last entry of a table, from the partition's start on. It looks from the end, and reads no more
+/// blocks than lie behind it.
+pub fn last<D: Drive>(drive: &mut D) -> Result<Option<u32>, StoreFault>
+    ensures within { IfOk result (λ found. IfSome found (λ at. (257 ≤ at) × (at < next_of (D.journal drive.old)))) }
+    ensures journal { D.journal drive.new ≡ D.journal drive.old }
+    ensures capacity { D.capacity drive.new ≡ D.capacity drive.old }
+    ensures honest { IsTrue (D.honest drive.new) → IsTrue (D.honest drive.old) }
+    ensures failures { Counts (devices result) (D.failures drive.old) (D.failures drive.new) }
+{
+    let mut left = match drive.next() {
+        Ok(next) => next,
+        Err(_) => return Err(StoreFault::Device),
+    };
+    while left > PARTITION_START {
+        left -= 1;
+        let block = read_block(drive, left)?;
+        if is_vat_icb(&block, left - PARTITION_START) {
+            return Ok(Some(left));
+        }
+    }
+    Ok(None)
+}
+
+/// What the entry of a table at an address says. Where none is there, the chain is broken.
+pub fn table_entry<D: Drive>(drive: &mut D, at: u32) -> Result<TableEntry, StoreFault>
+    requires low { 257 ≤ at }
+    requires within { at < next_of (D.journal drive.old) }
+    ensures below { IfOk result (λ e. e.first + 257 + div_ceil e.size 2048 ≤ at) }
+    ensures journal { D.journal drive.new ≡ D.journal drive.old }
+    ensures capacity { D.capacity drive.new ≡ D.capacity drive.old }
+    ensures honest { IsTrue (D.honest drive.new) → IsTrue (D.honest drive.old) }
+    ensures failures { Counts (devices result) (D.failures drive.old) (D.failures drive.new) }
+{
+    let block = read_block(drive, at)?;
+    let entry = match decode_fe(&block, at - PARTITION_START) {
+        Ok(entry) => entry,
+        Err(_) => return Err(damaged(at, cause::CHAIN)),
+    };
+    match (entry.kind, entry.place) {
+        (Kind::Vat, Place::Extent(first)) => {
+            if !lies_below(first, entry.size, at) {
+                return Err(damaged(at, cause::RANGE));
+            }
+            Ok(TableEntry {
+                moment: entry.moment,
+                first,
+                size: entry.size,
+            })
+        }
+        _ => Err(damaged(at, cause::CHAIN)),
+    }
+}
+
+/// The table whose entry stands at an address.
+pub fn read_table<D: Drive>(
+    alloc: Global,
+    drive: &mut D,
+    at: u32,
+    entry: &TableEntry,
+) -> Result<Vat, StoreFault>
+    requires low { 257 ≤ at }
+    requires within { at < next_of (D.journal drive.old) }
+    requires below { entry.now.first + 257 + div_ceil entry.now.size 2048 ≤ at }
+    ensures journal { D.journal drive.new ≡ D.journal drive.old }
+    ensures capacity { D.capacity drive.new ≡ D.capacity drive.old }
+    ensures honest { IsTrue (D.honest drive.new) → IsTrue (D.honest drive.old) }
+    ensures failures { Counts (devices result) (D.failures drive.old) (D.failures drive.new) }
+{
+    let start = entry.first + PARTITION_START;
+    let bytes = read_bytes(alloc, drive, start, entry.size)?;
+    match decode_vat(alloc, &bytes, at - PARTITION_START) {
+        Ok(vat) => Ok(vat),
+        Err(VatFault::Memory) => Err(StoreFault::Memory),
+        Err(fault) => Err(damaged(start, fault.number())),
+    }
+}
+
+/// Whether so many bytes from a block number on lie below an address.
+pub fn lies_below(first: u32, size: u32, at: u32) -> bool
+    ensures { IsTrue result → first + 257 + div_ceil size 2048 ≤ at }
+{
+    u64::from(first) + u64::from(PARTITION_START) + u64::from(block_count(size)) <= u64::from(at)
+}
+
+pub fn damaged(block: u32, cause: u8) -> StoreFault
+    ensures { result ≡ StoreFault.Damaged block cause }
+{
+    StoreFault::Damaged { block, cause }
+}
+
+/// The address of the entry of the table before the one whose entry stands at `at`, by one step of the chain; none where
+/// no request was committed.
+pub fn before<D: Drive>(
+    alloc: Global,
+    drive: &mut D,
+    at: u32,
+) -> Result<Option<u32>, StoreFault>
+    requires low { 257 ≤ at }
+    requires within { at < next_of (D.journal drive.old) }
+    ensures below { IfOk result (λ found. IfSome found (λ earlier. (257 ≤ earlier) × (earlier < at))) }
+    ensures journal { D.journal drive.new ≡ D.journal drive.old }
+    ensures capacity { D.capacity drive.new ≡ D.capacity drive.old }
+    ensures honest { IsTrue (D.honest drive.new) → IsTrue (D.honest drive.old) }
+    ensures failures { Counts (devices result) (D.failures drive.old) (D.failures drive.new) }
+{
+    let entry = table_entry(drive, at)?;
+    let vat = read_table(alloc, drive, at, &entry)?;
+    let Some(previous) = vat.previous else {
+        return Ok(None);
+    };
+    let linked = previous + PARTITION_START;
+    let earlier_entry = table_entry(drive, linked)?;
+    let earlier = read_table(alloc, drive, linked, &earlier_entry)?;
+    if vat.sessions.commits == 0 || earlier.sessions.commits != vat.sessions.commits - 1 {
+        return Err(damaged(linked, cause::CHAIN));
+    }
+    Ok(Some(linked))
+}

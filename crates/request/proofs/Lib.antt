@@ -1,0 +1,10 @@
+pub mod Names
+pub mod NameLoop
+pub mod Appending
+pub mod Fields
+pub mod Paths
+pub mod Said
+pub mod FrameLaws
+pub mod AnswerLaws
+pub mod PathTexts
+pub mod Listings

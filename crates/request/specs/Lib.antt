@@ -1,0 +1,11 @@
+pub mod Path
+pub mod PathFault
+pub mod Listing
+pub mod Spelling
+pub mod Reading
+pub mod Payload
+pub mod Frames
+pub mod Answers
+pub mod Numbers
+pub mod FirstFrame
+pub mod Appending

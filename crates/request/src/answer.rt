@@ -1,0 +1,206 @@
+//! What a client is told.
+
+ghost use Rattle.std.specs.Prelude.{◌≡◌, ◌<◌, ◌≤◌, ◌++◌, ◌∷◌, [], List, ℕ, length, vec_len, OnOk, OnErr};
+
+use crate::message::{Cause, FileData};
+use osta::Name;
+use std::alloc::{AllocError, Global};
+use std::marker::Model;
+
+/// The most names that a directory can have.
+pub const DIRECTORY_NAMES: usize = 512;
+
+/// How a committed request went.
+#[derive(Clone, Copy, Debug, PartialEq, Eq)]
+pub enum Code {
+    /// The tree was changed as asked. With each other code it stays as it was.
+    Done,
+    /// The parent is no directory of the tree.
+    NoParent,
+    NotFound,
+    Exists,
+    IsDirectory,
+    /// A directory that has names is not removed.
+    NotEmpty,
+    /// A directory is not moved below itself.
+    IntoItself,
+    /// The root is neither made, replaced, moved nor removed.
+    Root,
+    /// A path would have more than 16 names.
+    TooDeep,
+    /// The parent has 512 names.
+    DirectoryFull,
+    /// The tree has 4,096 nodes.
+    TooMany,
+}
+
+impl Code {
+    ghost use Rattle.std.specs.Prelude.{MatchOption};
+    ghost use Rattle.request.specs.Numbers.{code_number};
+
+    /// The number under which the code is answered and kept, from 0 to 10.
+    pub fn number(self) -> u16
+        ensures { result ≡ code_number self }
+    {
+        match self {
+            Code::Done => 0,
+            Code::NoParent => 1,
+            Code::NotFound => 2,
+            Code::Exists => 3,
+            Code::IsDirectory => 4,
+            Code::NotEmpty => 5,
+            Code::IntoItself => 6,
+            Code::Root => 7,
+            Code::TooDeep => 8,
+            Code::DirectoryFull => 9,
+            Code::TooMany => 10,
+        }
+    }
+
+    /// The code with this number, for a number from 0 to 10.
+    pub fn of(number: u16) -> Option<Code>
+        ensures { MatchOption result (10 < number) (λ code. number ≡ code_number code) }
+    {
+        match number {
+            0 => Some(Code::Done),
+            1 => Some(Code::NoParent),
+            2 => Some(Code::NotFound),
+            3 => Some(Code::Exists),
+            4 => Some(Code::IsDirectory),
+            5 => Some(Code::NotEmpty),
+            6 => Some(Code::IntoItself),
+            7 => Some(Code::Root),
+            8 => Some(Code::TooDeep),
+            9 => Some(Code::DirectoryFull),
+            10 => Some(Code::TooMany),
+            _ => None,
+        }
+    }
+}
+
+/// How a request went, and which commit it was.
+#[derive(Clone, Copy, Debug, PartialEq, Eq)]
+pub struct Reply {
+    pub code: Code,
+    pub commit: u32,
+}
+
+/// What a path leads to.
+#[derive(Clone, Copy, Debug, PartialEq, Eq)]
+pub enum NodeKind {
+    File,
+    Directory,
+}
+
+impl NodeKind {
+    ghost use Rattle.request.specs.Numbers.{kind_number};
+
+    /// The number under which the kind is answered.
+    pub fn number(self) -> u8
+        ensures { result ≡ kind_number self }
+    {
+        match self {
+            NodeKind::File => 0,
+            NodeKind::Directory => 1,
+        }
+    }
+}
+
+/// A name in a directory, and what it leads to.
+#[derive(Debug, Drop)]
+pub struct Listed {
+    pub kind: NodeKind,
+    pub name: Name,
+}
+
+/// The names in a directory in their stored order, at most 512.
+#[derive(Debug, Drop)]
+pub struct Listing {
+    names: Vec<Listed>,
+}
+
+impl Model for Listing {
+    ghost use Rattle.std.specs.Prelude.{List};
+    ghost use Rattle.request.specs.declared.answer.Listed.{Listed};
+    ghost use Rattle.request.specs.Listing.{IsListing};
+
+    ghost Value = { List Listed };
+
+    ghost view = { λ l. l.names.items };
+
+    ghost invariant = { λ l. IsListing l.names.items };
+}
+
+impl Listing {
+    ghost use Rattle.request.specs.Listing.{IsListing};
+
+    /// The listing of an empty directory.
+    pub fn new(alloc: Global) -> Listing
+        ensures { result ≡ [] }
+    {
+        Listing {
+            names: Vec::new(alloc),
+        }
+    }
+
+    /// The names in their stored order.
+    pub fn names(&self) -> &[Listed]
+        ensures names { result.now ≡ self.now }
+        ensures listing { IsListing self.now }
+    {
+        self.names.as_slice()
+    }
+
+    /// Adds a name at the end, and leaves the listing as it was where there is no memory.
+    pub fn push(&mut self, listed: Listed) -> Result<(), AllocError>
+        requires { length self.old < 512 }
+        ensures ok { OnOk result (self.new ≡ self.old ++ listed ∷ []) }
+        ensures err { OnErr result (self.new ≡ self.old) }
+    {
+        // By its type it is a name.
+        let _text = listed.name.as_str();
+        self.names.push(listed)?;
+        Ok(())
+    }
+}
+
+/// What is known of a file or a directory.
+#[derive(Clone, Copy, Debug, PartialEq, Eq)]
+pub struct NodeStatus {
+    pub kind: NodeKind,
+    /// Microseconds from 1970-01-01 UTC.
+    pub moment: u64,
+    /// The bytes of a file, or the names of a directory.
+    pub size: u64,
+}
+
+/// What a client is told.
+#[derive(Debug, Drop)]
+pub enum Answer {
+    /// The request is committed.
+    Reply(Reply),
+    /// The request is older than those whose replies are kept. The client's latest number.
+    Stale(u64),
+    /// The request is not the client's next one. The client's latest number, or 0.
+    Gap(u64),
+    /// No further client can be kept.
+    ClientsFull,
+    /// The medium has no room for the request.
+    Full,
+    /// The drive failed. The request may be committed or not.
+    Fault,
+    /// There was no memory.
+    Memory,
+    /// The payload was no message.
+    Malformed(Cause),
+    /// The medium holds no volume, or a damaged one.
+    Damaged,
+    NotFound,
+    /// A file was asked for.
+    IsDirectory,
+    /// A directory was asked for.
+    NotDirectory,
+    Data(FileData),
+    Names(Listing),
+    Node(NodeStatus),
+}

@@ -1,0 +1,136 @@
+//! What a client sends: requests that change the tree, and queries that read it.
+
+ghost use Rattle.std.specs.Prelude.{◌<◌, ◌≤◌, ◌≡◌, ◌≢◌, List, ℕ, length, vec_len, IfOk, IsOk};
+
+use crate::path::Path;
+use std::alloc::{AllocError, Global};
+use std::marker::Model;
+
+/// The most bytes that a file can have.
+pub const FILE_BYTES: usize = 1_048_576;
+
+/// The first moment that has no timestamp, in microseconds from 1970-01-01 UTC.
+pub const MOMENT_LIMIT: u64 = 4_102_444_800_000_000;
+
+/// The bytes of a file, at most 1,048,576.
+#[derive(Debug, Drop)]
+pub struct FileData {
+    bytes: Vec<u8>,
+}
+
+impl Model for FileData {
+    ghost Value = { List ℕ };
+
+    ghost view = { λ d. d.bytes.items };
+
+    ghost invariant = { λ d. vec_len d.bytes ≤ 1048576 };
+}
+
+impl FileData {
+    /// The bytes of a file, without copying them.
+    pub fn new(bytes: Vec<u8>) -> FileData
+        requires { vec_len bytes ≤ 1048576 }
+        ensures { result ≡ bytes.items }
+    {
+        FileData { bytes }
+    }
+
+    /// The bytes.
+    pub fn as_slice(&self) -> &[u8]
+        ensures bytes { result.now ≡ self.now }
+        ensures few { length result.now ≤ 1048576 }
+    {
+        self.bytes.as_slice()
+    }
+}
+
+/// What a request changes.
+#[derive(Debug, Drop)]
+pub enum Op {
+    /// Makes a file that is not there yet.
+    Create { path: Path, bytes: FileData },
+    /// Gives a file other bytes.
+    Replace { path: Path, bytes: FileData },
+    /// Makes an empty directory.
+    MakeDir { path: Path },
+    /// Moves a file or a directory, with all that is below it.
+    Rename { from: Path, to: Path },
+    /// Takes a file or an empty directory away.
+    Remove { path: Path },
+}
+
+/// A change that a client asks for. A client counts its requests from 1 on.
+#[derive(Debug, Drop)]
+pub struct Request {
+    pub client: u64,
+    pub number: u64,
+    /// Microseconds from 1970-01-01 UTC.
+    pub moment: u64,
+    pub op: Op,
+    pub ghost client_above_zero: { 0 < client },
+    pub ghost number_above_zero: { 0 < number },
+    pub ghost moment_in_range: { moment < 4102444800000000 },
+}
+
+/// A question about the tree.
+#[derive(Debug, Drop)]
+pub enum Query {
+    /// The bytes of a file.
+    Get(Path),
+    /// The names in a directory.
+    List(Path),
+    /// What is known of a file or a directory.
+    Stat(Path),
+}
+
+/// Why bytes are no message.
+#[derive(Clone, Copy, Debug, PartialEq, Eq)]
+pub enum Cause {
+    /// The frame's payload is longer than 1,114,112 bytes.
+    TooLong,
+    /// There is no message of this kind.
+    Kind,
+    /// The payload ends before its last field does.
+    Short,
+    /// Bytes behind the last field, or a file longer than the limit.
+    Extra,
+    /// A name that no file can have.
+    Path,
+    /// A moment that has no timestamp.
+    Moment,
+    /// Client 0.
+    ClientZero,
+    /// Number 0.
+    NumberZero,
+}
+
+impl Cause {
+    ghost use Rattle.request.specs.Numbers.{cause_number};
+
+    /// The number under which the cause is answered.
+    pub fn number(self) -> u16
+        ensures { result ≡ cause_number self }
+    {
+        match self {
+            Cause::TooLong => 51,
+            Cause::Kind => 52,
+            Cause::Short => 53,
+            Cause::Extra => 54,
+            Cause::Path => 55,
+            Cause::Moment => 56,
+            Cause::ClientZero => 57,
+            Cause::NumberZero => 58,
+        }
+    }
+}
+
+/// What the payload of a frame says.
+#[derive(Debug, Drop)]
+pub enum Message {
+    Request(Request),
+    Query(Query),
+    /// The payload is no message.
+    Malformed(Cause),
+    /// There was no memory for what the payload says.
+    NoMemory,
+}

@@ -1,0 +1,375 @@
+use super::*;
+use osta::Name;
+use std::alloc::{AllocError, Global};
+use std::process::Abort;
+use std::test::*;
+
+/// Client 7 number 1 creates `/a` with `hello`.
+const CREATE: [u8; 42] = [
+    0x26, 0, 0, 0, 1, 7, 0, 0, 0, 0, 0, 0, 0, 1, 0, 0, 0, 0, 0, 0, 0, 0, 0, 0, 0, 0, 0, 0, 0, 1, 1,
+    0, 0x61, 5, 0, 0, 0, 0x68, 0x65, 0x6C, 0x6C, 0x6F,
+];
+
+/// A length that no payload has.
+const OVERLONG: [u8; 4] = [0, 0, 0, 0x80];
+
+fn is_one_name(path: &Path, name: &str) -> bool {
+    match path.names() {
+        [only] => only.as_str() == name,
+        _ => false,
+    }
+}
+
+fn is_the_create(message: &Message) -> bool {
+    let Message::Request(request) = message else {
+        return false;
+    };
+    let Op::Create { path, bytes } = &request.op else {
+        return false;
+    };
+    request.client == 7
+        && request.number == 1
+        && request.moment == 0
+        && is_one_name(path, "a")
+        && bytes.as_slice() == b"hello".as_slice()
+}
+
+fn cause_of(message: &Message) -> Option<u16> {
+    match message {
+        Message::Malformed(cause) => Some(cause.number()),
+        _ => None,
+    }
+}
+
+/// The payload of the create.
+fn payload() -> &'static [u8] {
+    let (_, payload) = CREATE.as_slice().split_at(4);
+    payload
+}
+
+#[test]
+fn a_frame_in_any_two_pieces(rt: HostRuntime) -> Result<(), Fail> {
+    for cut in 0..=CREATE.len() {
+        let (front, back) = CREATE.as_slice().split_at(cut);
+        let mut frames = Frames::new(rt.alloc());
+        frames.feed(front)?;
+        if !back.is_empty() {
+            assert!(rt; frames.take().is_none(), "at {cut}");
+            frames.feed(back)?;
+        }
+        let message = frames.take().ok_or("the frame is whole")?;
+        assert!(rt; is_the_create(&message), "at {cut}");
+        assert!(rt; frames.take().is_none());
+        frames.feed(&OVERLONG)?;
+        let message = frames.take().ok_or("the length is there")?;
+        assert_eq!(rt; cause_of(&message), Some(51));
+        frames.feed(&CREATE)?;
+        assert!(rt; frames.take().is_none());
+        assert!(rt; frames.take().is_none());
+    }
+    Ok(())
+}
+
+#[test]
+fn a_frame_byte_by_byte(rt: HostRuntime) -> Result<(), Fail> {
+    let mut frames = Frames::new(rt.alloc());
+    for turn in 0..3u8 {
+        for (i, byte) in CREATE.iter().enumerate() {
+            assert!(rt; frames.take().is_none(), "in {turn} at {i}");
+            frames.feed(&[*byte])?;
+        }
+        let message = frames.take().ok_or("the frame is whole")?;
+        assert!(rt; is_the_create(&message));
+    }
+    for byte in &OVERLONG {
+        assert!(rt; frames.take().is_none());
+        frames.feed(&[*byte])?;
+    }
+    let message = frames.take().ok_or("the length is there")?;
+    assert_eq!(rt; cause_of(&message), Some(51));
+    assert!(rt; frames.take().is_none());
+    Ok(())
+}
+
+#[test]
+fn the_longest_payload(rt: HostRuntime) -> Result<(), Fail> {
+    let mut frames = Frames::new(rt.alloc());
+    frames.feed(&1_114_112u32.to_le_bytes())?;
+    assert!(rt; frames.take().is_none());
+    let mut frames = Frames::new(rt.alloc());
+    frames.feed(&1_114_113u32.to_le_bytes())?;
+    let message = frames.take().ok_or("the length is there")?;
+    assert_eq!(rt; cause_of(&message), Some(51));
+    Ok(())
+}
+
+#[test]
+fn several_frames_in_one_piece(rt: HostRuntime) -> Result<(), Fail> {
+    let mut bytes = Vec::new(rt.alloc());
+    for _ in 0..5u8 {
+        bytes.extend_from_slice(&CREATE)?;
+        bytes.extend_from_slice(&[1, 0, 0, 0, 9])?;
+    }
+    let mut frames = Frames::new(rt.alloc());
+    frames.feed(&bytes)?;
+    for _ in 0..5u8 {
+        let message = frames.take().ok_or("a request")?;
+        assert!(rt; is_the_create(&message));
+        let message = frames.take().ok_or("a fault")?;
+        assert_eq!(rt; cause_of(&message), Some(52));
+    }
+    assert!(rt; frames.take().is_none());
+    Ok(())
+}
+
+#[test]
+fn shorter_payloads(rt: HostRuntime) {
+    for len in 0..payload().len() {
+        let (front, _) = payload().split_at(len);
+        let message = read_payload(rt.alloc(), front);
+        assert_eq!(rt; cause_of(&message), Some(53), "at {len}");
+    }
+}
+
+/// What is answered to a kind with no field behind it.
+fn cause_of_kind(kind: u8) -> u16 {
+    match kind {
+        1..=5 | 16..=18 => 53,
+        _ => 52,
+    }
+}
+
+#[test]
+fn payloads_of_one_and_two_bytes(rt: HostRuntime) {
+    for kind in 0..=255u8 {
+        let message = read_payload(rt.alloc(), &[kind]);
+        assert_eq!(rt;
+            cause_of(&message),
+            Some(cause_of_kind(kind)),
+            "kind {kind}"
+        );
+        for count in 0..=255u8 {
+            let message = read_payload(rt.alloc(), &[kind, count]);
+            if count == 0 && (16..=18).contains(&kind) {
+                assert!(rt; matches!(message, Message::Query(_)), "kind {kind}");
+            } else {
+                assert_eq!(rt;
+                    cause_of(&message),
+                    Some(cause_of_kind(kind)),
+                    "kind {kind}, {count}"
+                );
+            }
+        }
+    }
+}
+
+/// The create's payload with other bytes from `at` on, and bytes behind it.
+fn edited(alloc: Global, at: usize, with: &[u8], behind: &[u8]) -> Result<Vec<u8>, AllocError> {
+    let mut bytes = Vec::new(alloc);
+    for (i, byte) in payload().iter().enumerate() {
+        let put = if at <= i && i - at < with.len() {
+            with[i - at]
+        } else {
+            *byte
+        };
+        bytes.push(put)?;
+    }
+    bytes.extend_from_slice(behind)?;
+    Ok(bytes)
+}
+
+#[test]
+fn the_first_fault_is_told(rt: HostRuntime) -> Result<(), Fail> {
+    let limit = 4_102_444_800_000_000u64.to_le_bytes();
+    let under = 4_102_444_799_999_999u64.to_le_bytes();
+    let cases: [(usize, &[u8], &[u8], Option<u16>); 14] = [
+        (0, &[], &[], None),
+        (0, &[9], &[], Some(52)),
+        (1, &[0], &[], Some(57)),
+        (9, &[0], &[], Some(58)),
+        (1, &[0, 0, 0, 0, 0, 0, 0, 0, 0], &[], Some(57)),
+        (17, &limit, &[], Some(56)),
+        (17, &under, &[], None),
+        (0, &[], &[0], Some(54)),
+        // A name that is empty, or no UTF-8, or too long for the bytes that are there.
+        (26, &[0], &[], Some(55)),
+        (28, &[0xFF], &[], Some(55)),
+        (28, &[0x2F], &[0], Some(55)),
+        (26, &[255, 255], &[], Some(53)),
+        // A file above the limit, and one at the limit that is not there.
+        (29, &[1, 0, 16, 0], &[], Some(54)),
+        (29, &[0, 0, 16, 0], &[], Some(53)),
+    ];
+    for (i, (at, with, behind, cause)) in cases.iter().enumerate() {
+        let bytes = edited(rt.alloc(), *at, with, behind)?;
+        let message = read_payload(rt.alloc(), &bytes);
+        assert_eq!(rt; cause_of(&message), *cause, "in case {i}");
+    }
+    Ok(())
+}
+
+#[test]
+fn every_kind(rt: HostRuntime) -> Result<(), Fail> {
+    let replace = edited(rt.alloc(), 0, &[2], &[])?;
+    let Message::Request(request) = read_payload(rt.alloc(), &replace) else {
+        return Err(Fail::from("a replace"));
+    };
+    assert!(rt; matches!(request.op, Op::Replace { .. }));
+    let head = [
+        7, 0, 0, 0, 0, 0, 0, 0, 2, 0, 0, 0, 0, 0, 0, 0, 9, 0, 0, 0, 0, 0, 0, 0,
+    ];
+    let mut make = vec![in rt.alloc(); 3]?;
+    make.extend_from_slice(&head)?;
+    make.extend_from_slice(&[1, 1, 0, 0x64])?;
+    let Message::Request(request) = read_payload(rt.alloc(), &make) else {
+        return Err(Fail::from("a directory"));
+    };
+    assert_eq!(rt; (request.client, request.number, request.moment), (7, 2, 9));
+    assert!(rt; matches!(&request.op, Op::MakeDir { path } if is_one_name(path, "d")));
+    let mut rename = vec![in rt.alloc(); 4]?;
+    rename.extend_from_slice(&head)?;
+    rename.extend_from_slice(&[1, 1, 0, 0x64, 2, 1, 0, 0x65, 1, 0, 0x64])?;
+    let Message::Request(request) = read_payload(rt.alloc(), &rename) else {
+        return Err(Fail::from("a rename"));
+    };
+    let Op::Rename { from, to } = &request.op else {
+        return Err(Fail::from("a rename"));
+    };
+    assert!(rt; is_one_name(from, "d"));
+    assert_eq!(rt; to.names().len(), 2);
+    let mut remove = vec![in rt.alloc(); 5]?;
+    remove.extend_from_slice(&head)?;
+    remove.extend_from_slice(&[0])?;
+    let Message::Request(request) = read_payload(rt.alloc(), &remove) else {
+        return Err(Fail::from("a removal"));
+    };
+    assert!(rt; matches!(&request.op, Op::Remove { path } if path.names().is_empty()));
+    Ok(())
+}
+
+#[test]
+fn queries(rt: HostRuntime) -> Result<(), Fail> {
+    let mut frames = Frames::new(rt.alloc());
+    frames.feed(&[5, 0, 0, 0, 0x10, 1, 1, 0, 0x61])?;
+    frames.feed(&[2, 0, 0, 0, 0x11, 0])?;
+    frames.feed(&[5, 0, 0, 0, 0x12, 1, 1, 0, 0x61])?;
+    let get = frames.take().ok_or("a query")?;
+    assert!(rt; matches!(&get, Message::Query(Query::Get(path)) if is_one_name(path, "a")));
+    let list = frames.take().ok_or("a query")?;
+    assert!(rt; matches!(&list, Message::Query(Query::List(path)) if path.names().is_empty()));
+    let stat = frames.take().ok_or("a query")?;
+    assert!(rt; matches!(&stat, Message::Query(Query::Stat(path)) if is_one_name(path, "a")));
+    Ok(())
+}
+
+#[test]
+fn path_texts(rt: HostRuntime) -> Result<(), Fail> {
+    let root = Path::parse(rt.alloc(), "/").ok().ok_or("the root")?;
+    assert_eq!(rt; root.names().len(), 0);
+    let path = Path::parse(rt.alloc(), "/d/x").ok().ok_or("a path")?;
+    assert!(rt; matches!(path.names(), [d, x] if d.as_str() == "d" && x.as_str() == "x"));
+    for text in ["", "a", "a/b", "//", "/a/", "/a//b", "/.", "/..", "/a/\0"] {
+        let fault = Path::parse(rt.alloc(), text).err();
+        assert_eq!(rt; fault.map(PathFault::number), Some(55), "at {text:?}");
+    }
+    let mut text = String::new(rt.alloc());
+    for _ in 0..255u8 {
+        text.push_str("/n")?;
+    }
+    let path = Path::parse(rt.alloc(), text.as_str())
+        .ok()
+        .ok_or("255 names")?;
+    assert_eq!(rt; path.names().len(), 255);
+    text.push_str("/n")?;
+    let fault = Path::parse(rt.alloc(), text.as_str()).err();
+    assert_eq!(rt; fault, Some(PathFault::Path));
+    assert_eq!(rt; PathFault::Memory.number(), 65);
+    Ok(())
+}
+
+fn check_answer(
+    rt: &(impl Abort + AllocGlobal),
+    answer: &Answer,
+    wanted: &[u8],
+) -> Result<(), Fail> {
+    let mut out = Vec::new(rt.alloc());
+    out.push(9)?;
+    encode_answer(answer, &mut out)?;
+    let (front, frame) = out.as_slice().split_at(1);
+    assert_eq!(rt; front, [9].as_slice());
+    assert_eq!(rt; frame, wanted);
+    Ok(())
+}
+
+#[test]
+fn replies(rt: HostRuntime) -> Result<(), Fail> {
+    for number in 0..=10u16 {
+        let code = Code::of(number).ok_or("a code")?;
+        assert_eq!(rt; code.number(), number);
+        let low = (number & 0xFF) as u8;
+        let answer = Answer::Reply(Reply { code, commit: 1 });
+        check_answer(&rt, &answer, &[6, 0, 0, 0, low, 0, 1, 0, 0, 0])?;
+    }
+    assert_eq!(rt; Code::of(11), None);
+    Ok(())
+}
+
+#[test]
+fn answers_without_a_field(rt: HostRuntime) -> Result<(), Fail> {
+    check_answer(&rt, &Answer::ClientsFull, &[2, 0, 0, 0, 34, 0])?;
+    check_answer(&rt, &Answer::Full, &[2, 0, 0, 0, 35, 0])?;
+    check_answer(&rt, &Answer::Fault, &[2, 0, 0, 0, 36, 0])?;
+    check_answer(&rt, &Answer::Memory, &[2, 0, 0, 0, 37, 0])?;
+    check_answer(&rt, &Answer::Damaged, &[2, 0, 0, 0, 39, 0])?;
+    check_answer(&rt, &Answer::NotFound, &[2, 0, 0, 0, 96, 0])?;
+    check_answer(&rt, &Answer::IsDirectory, &[2, 0, 0, 0, 97, 0])?;
+    check_answer(&rt, &Answer::NotDirectory, &[2, 0, 0, 0, 98, 0])
+}
+
+#[test]
+fn answers_with_fields(rt: HostRuntime) -> Result<(), Fail> {
+    check_answer(
+        &rt,
+        &Answer::Stale(6),
+        &[10, 0, 0, 0, 32, 0, 6, 0, 0, 0, 0, 0, 0, 0],
+    )?;
+    check_answer(
+        &rt,
+        &Answer::Gap(2),
+        &[10, 0, 0, 0, 33, 0, 2, 0, 0, 0, 0, 0, 0, 0],
+    )?;
+    check_answer(
+        &rt,
+        &Answer::Malformed(Cause::TooLong),
+        &[4, 0, 0, 0, 0x26, 0, 0x33, 0],
+    )?;
+    let hello = FileData::new(Vec::from_slice(rt.alloc(), b"hello")?);
+    check_answer(
+        &rt,
+        &Answer::Data(hello),
+        &[
+            0x0B, 0, 0, 0, 0x40, 0, 5, 0, 0, 0, 0x68, 0x65, 0x6C, 0x6C, 0x6F,
+        ],
+    )?;
+    let mut names = Listing::new(rt.alloc());
+    let name = Name::read(rt.alloc(), "a").ok().ok_or("a name")?;
+    let kind = NodeKind::File;
+    names.push(Listed { kind, name })?;
+    check_answer(
+        &rt,
+        &Answer::Names(names),
+        &[8, 0, 0, 0, 0x41, 0, 1, 0, 0, 1, 0, 0x61],
+    )?;
+    let status = NodeStatus {
+        kind,
+        moment: 0,
+        size: 5,
+    };
+    check_answer(
+        &rt,
+        &Answer::Node(status),
+        &[
+            0x13, 0, 0, 0, 0x42, 0, 0, 0, 0, 0, 0, 0, 0, 0, 0, 5, 0, 0, 0, 0, 0, 0, 0,
+        ],
+    )
+}
