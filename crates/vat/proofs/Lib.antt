@@ -1,4 +1,9 @@
-pub mod Records
-pub mod Head
 pub mod Words
+pub mod Labels
+pub mod Areas
+pub mod Records
+pub mod Entries
+pub mod Head
 pub mod Places
+pub mod TableLaws
+pub mod TableReads

@@ -4,9 +4,11 @@ use Rattle.std.specs.Prelude.{◌⊎◌}
 use Rattle.std.proofs.lemmas.Bool.{cases_lt, cases_eq}
 use Rattle.std.proofs.lemmas.List.{get_or_append_left, drop-replicate, take_all}
 use Rattle.ecma.specs.Numbers.{u16_at, u32_at}
-use Rattle.ecma.specs.Tag.{Sealed}
-use Rattle.ecma.specs.Descriptor.{IsDescriptor, padded}
-use Rattle.vat.specs.Imitation.{IsVatIcb, Imitates, data_block, blocks_of}
+use Rattle.ecma.specs.Descriptor.{padded}
+use Rattle.icb.specs.Entry.{blocks_of}
+use Rattle.icb.specs.VatIcb.{IsVatIcb}
+use Rattle.icb.proofs.VatIcbs.{located}
+use Rattle.vat.specs.Imitation.{Imitates, data_block}
 
 -- a number in the front
 pub u32_at-append : (n : ℕ) (xs ys : List ℕ) → n + 4 ≤ length xs → u32_at n (xs ++ ys) ≡ u32_at n xs
@@ -18,13 +20,8 @@ u32_at-append n xs ys room = omega (
   get_or_append_left xs ys 0 (n + 2 + 1) (omega arith),
 )
 
--- a descriptor tells its location in its block
-located : (id loc : ℕ) (body block : List ℕ) → IsDescriptor id loc body block → u32_at 12 block ≡ loc
-located id loc body block d =
-    ap (u32_at 12) d.whole ∙ u32_at-append 12 d.descriptor (replicate (2048 - length d.descriptor) 0) d.sealed.long ∙ d.sealed.location
-
 pub icb_located : (block : List ℕ) (number : ℕ) → IsVatIcb block number → u32_at 12 block ≡ number
-icb_located block number is = located _ number _ block is.entry.whole
+icb_located block number is = located 261 number _ block is.entry.laid.whole
 
 -- a text whose location is another is no entry, whatever zeros stand behind it
 pub elsewhere : (text : List ℕ) (number : ℕ) → 16 ≤ length text → u32_at 12 text ≢ number → IsVatIcb (padded text) number → ⊥
@@ -43,15 +40,15 @@ pigeonhole (suc n) At has one =
     let Now : ℕ → ℕ → Type 0 = λ k i. ((i ≡ m) × At k n) ⊎ ((i ≢ m) × At k i) in
     pigeonhole n Now
     (λ k le.
-        let h = has k (omega arith) in
-        let i = h.0 in
-        let other : i ≢ m = λ e. let same = one k (suc n) m (subst (At k) e h.2) last.2 in absurd (omega (arith, same, le)) in
-        elim (cases_eq i n) [
-          | inl e ↦ (m, (omega (arith, last.1, other, e)), inl (refl, subst (At k) e h.2))
-          | inr ne ↦ (i, (omega (arith, h.1, ne)), inr (other, h.2))
-        ])
+    let h = has k (omega arith) in
+    let i = h.0 in
+    let other : i ≢ m = λ e. let same = one k (suc n) m (subst (At k) e h.2) last.2 in absurd (omega (arith, same, le)) in
+    elim (cases_eq i n) [
+      | inl e ↦ (m, (omega (arith, last.1, other, e)), inl (refl, subst (At k) e h.2))
+      | inr ne ↦ (i, (omega (arith, h.1, ne)), inr (other, h.2))
+    ])
     (λ j k i.
-        now_one n m At one j k i)
+    now_one n m At one j k i)
   where
     now_one : (n m : ℕ) (At : ℕ → ℕ → Type 0) → ((j k i : ℕ) → At j i → At k i → j ≡ k) → (j k i : ℕ)
         → ((i ≡ m) × At j n) ⊎ ((i ≢ m) × At j i) → ((i ≡ m) × At k n) ⊎ ((i ≢ m) × At k i) → j ≡ k
@@ -66,16 +63,16 @@ pub one_free : (bytes : List ℕ) (from : ℕ) → ((start : ℕ) → from ≤ s
 one_free bytes from all here =
     let n = blocks_of (length bytes) in
     let every : (k : ℕ) → k ≤ n → Imitates bytes (from + k) =
-        λ k le. elim (cases_lt k n) [
-          | inl lt ↦ all (from + k) (omega arith) (omega arith)
-          | inr ge ↦ let e : n ≡ k = omega arith in subst (λ (x : ℕ). Imitates bytes (from + x)) e here
-        ] in
+    λ k le. elim (cases_lt k n) [
+      | inl lt ↦ all (from + k) (omega arith) (omega arith)
+      | inr ge ↦ let e : n ≡ k = omega arith in subst (λ (x : ℕ). Imitates bytes (from + x)) e here
+    ] in
     pigeonhole n (λ k i. IsVatIcb (data_block bytes i) (from + k + i))
     (λ k le. let is = every k le in (is.index, is.there, is.entry))
     (λ j k i a b.
-        let x = icb_located (data_block bytes i) (from + j + i) a in
-        let y = icb_located (data_block bytes i) (from + k + i) b in
-        omega (arith, x, y))
+    let x = icb_located (data_block bytes i) (from + j + i) a in
+    let y = icb_located (data_block bytes i) (from + k + i) b in
+    omega (arith, x, y))
 
 -- as many as there are, and no more than so many
 pub take_front : (n : ℕ) (xs : List ℕ) (m : ℕ) → m ≡ min (length xs) n → take m xs ≡ take n xs
@@ -83,3 +80,7 @@ take_front n xs m e = elim (cases_lt n (length xs)) [
   | inl lt ↦ ap (λ (k : ℕ). take k xs) (omega arith)
   | inr le ↦ take_all m xs (omega arith) ∙ sym (take_all n xs le)
 ]
+
+-- the text over zeros
+pub padded_is : (text put : List ℕ) → put ≡ text → length text ≤ 2048 → put ++ drop (length text) (replicate 2048 0) ≡ padded text
+padded_is text put e room = ap (λ (x : List ℕ). x ++ drop (length text) (replicate 2048 0)) e ∙ ap (λ (x : List ℕ). text ++ x) (drop-replicate (length text) 2048 0)

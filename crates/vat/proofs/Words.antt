@@ -1,8 +1,10 @@
 -- Numbers of four bytes each, one behind the other.
-use Rattle.std.proofs.Common.{◌≡◌, ◌≢◌, ℕ, zero, suc, ◌+◌, ◌*◌, ◌/◌, ◌^◌, ◌<◌, ◌≤◌, List, [], ◌∷◌, length, drop, get_or, refl, sym, ap, ◌∙◌, inl, inr, arith}
+use Rattle.std.proofs.Common.{◌≡◌, ◌≢◌, ℕ, zero, suc, ◌+◌, ◌*◌, ◌/◌, ◌^◌, ◌<◌, ◌≤◌, true, false, List, [], ◌∷◌, length, take, drop, get_or, refl, sym, ap, ◌∙◌, inl, inr, arith}
 use Rattle.std.specs.Prelude.{◌⊎◌, ◌==◌, not}
-use Rattle.std.proofs.lemmas.List.{get_or-drop}
+use Rattle.std.proofs.lemmas.Bool.{ne_eqb, eq-eqb}
+use Rattle.std.proofs.lemmas.List.{get_or-drop, get_or-take}
 use Rattle.ecma.specs.Numbers.{u16_at, u32_at, u64_at}
+use Rattle.ecma.proofs.Pieces.{IsBytes}
 use Rattle.vat.specs.Entry.{words, unused}
 
 pub length-words : (xs : List ℕ) → length (words xs) ≡ length xs / 4
@@ -35,3 +37,40 @@ get_or-words (a ∷ b ∷ c ∷ d ∷ rest) zero lt = refl
 get_or-words (a ∷ b ∷ c ∷ d ∷ rest) (suc i) lt =
     let place : 4 + 4 * i ≡ 4 * suc i = omega arith in
     get_or-words rest i (omega arith) ∙ u32_at-drop 4 (4 * i) (a ∷ b ∷ c ∷ d ∷ rest) ∙ ap (λ (n : ℕ). u32_at n (a ∷ b ∷ c ∷ d ∷ rest)) place
+
+-- whether a number counts as used
+pub counts : (n : ℕ) → n ≢ unused → not (n == unused) ≡ true
+counts n other = ap not (ne_eqb n unused other)
+
+pub counts_not : (n : ℕ) → n ≡ unused → not (n == unused) ≡ false
+counts_not n same = ap not (eq-eqb n unused same)
+
+-- eight bytes behind a place, and within a front
+pub u64_at-drop : (k : ℕ) (xs : List ℕ) → u64_at 0 (drop k xs) ≡ u64_at k xs
+u64_at-drop k xs = omega (
+  arith,
+  cell k 0 k xs (omega arith),
+  cell k 1 (k + 1) xs refl,
+  cell k 2 (k + 2) xs refl,
+  cell k 3 (k + 2 + 1) xs (omega arith),
+  cell k 4 (k + 4) xs refl,
+  cell k 5 (k + 4 + 1) xs (omega arith),
+  cell k 6 (k + 4 + 2) xs (omega arith),
+  cell k 7 (k + 4 + 2 + 1) xs (omega arith),
+)
+
+pub u64_at-take : (n : ℕ) (xs : List ℕ) → 8 ≤ n → u64_at 0 (take n xs) ≡ u64_at 0 xs
+u64_at-take n xs le = omega (
+  arith,
+  get_or-take n xs 0 0 (omega arith),
+  get_or-take n xs 1 0 (omega arith),
+  get_or-take n xs 2 0 (omega arith),
+  get_or-take n xs 3 0 (omega arith),
+  get_or-take n xs 4 0 (omega arith),
+  get_or-take n xs 5 0 (omega arith),
+  get_or-take n xs 6 0 (omega arith),
+  get_or-take n xs 7 0 (omega arith),
+)
+
+pub u32_at-fits : (n : ℕ) (xs : List ℕ) → IsBytes xs → u32_at n xs < 2 ^ 32
+u32_at-fits n xs fits = omega (arith, fits n, fits (n + 1), fits (n + 2), fits (n + 2 + 1))

@@ -1,18 +1,8 @@
 -- Blocks that look like the entry of a table where they stand.
-use Rattle.std.specs.Prelude.{◌≡◌, ℕ, ◌+◌, ◌*◌, ◌/◌, ◌<◌, List, length, take, drop}
+use Rattle.std.specs.Prelude.{ℕ, ◌+◌, ◌*◌, ◌<◌, List, length, take, drop}
 use Rattle.ecma.specs.Descriptor.{padded}
-use Rattle.icb.specs.declared.entry.Kind.TheVariants.{Vat}
-use Rattle.icb.specs.declared.entry.FileEntry.{FileEntry}
-use Rattle.icb.specs.Entry.{IsEntry}
-
--- the block is the entry of a virtual allocation table at this block number
-pub record IsVatIcb (block : List ℕ) (number : ℕ) : Type 0 where
-  pub fields : FileEntry
-  pub kind : fields.kind ≡ Vat
-  pub entry : IsEntry fields number block
-
-abbrev pub blocks_of : ℕ → ℕ
-blocks_of size = (size + 2047) / 2048
+use Rattle.icb.specs.Entry.{blocks_of}
+use Rattle.icb.specs.VatIcb.{IsVatIcb}
 
 -- a block of the data, the last one with zeros behind
 abbrev pub data_block : List ℕ → ℕ → List ℕ

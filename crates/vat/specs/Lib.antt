@@ -6,3 +6,4 @@ pub mod Entry
 pub mod Table
 pub mod Rules
 pub mod Imitation
+pub mod Laws

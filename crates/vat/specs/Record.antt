@@ -14,15 +14,19 @@ record_bytes version kept = concat (
     ∷ flat_map reply_bytes (filled (places version) kept.replies)  -- 16
     ∷ [])
 
+-- the version has room for the replies
+pub record HasRoom (version : Version) (kept : Record) : Type 0 where
+  pub some : 0 < length kept.replies
+  pub room : length kept.replies ≤ places version
+
 -- what may be kept of a client after so many commits
 pub record IsKept (version : Version) (commits : ℕ) (kept : Record) : Type 0 where
   pub client : 0 < kept.client
   pub client_fits : kept.client < 2 ^ 64
   pub latest : 0 < kept.latest
   pub latest_fits : kept.latest < 2 ^ 64
-  -- one reply at least, and none to a number below 1
-  pub some : 0 < length kept.replies
-  pub room : length kept.replies ≤ places version
+  pub room : HasRoom version kept
+  -- no reply is to a number below 1
   pub numbers : length kept.replies ≤ kept.latest
   pub replies : AreReplies commits kept.replies
 

@@ -1,14 +1,16 @@
 -- What makes bytes a table, in the order in which the faults are told.
-use Rattle.std.specs.Prelude.{◌≡◌, ◌≢◌, ℕ, ◌+◌, ◌-◌, ◌*◌, ◌%◌, ◌<◌, ◌≤◌, ◌==◌, ◌⊎◌, not, if◌then◌else◌, List, [], ◌∷◌, length, take, drop, map, codes, replicate, slice_index, IsSome, unwrap_or, All, count_by}
+use Rattle.std.specs.Prelude.{◌≡◌, ◌≢◌, ℕ, ◌+◌, ◌-◌, ◌*◌, ◌%◌, ◌<◌, ◌≤◌, ◌==◌, ◌⊎◌, not, if◌then◌else◌, List, [], ◌∷◌, length, take, drop, map, codes, replicate, slice_index, IsSome, unwrap_or, count_by}
 use Rattle.std.specs.Int.{w16, to_le_bytes}
-use Rattle.std.specs.List.{concat, flat_map}
+use Rattle.std.specs.List.{concat, flat_map, AllByRecursion}
 use Rattle.ecma.specs.Field.{IsAt}
 use Rattle.ecma.specs.Numbers.{u16_at, u32_at, u64_at}
+use Rattle.osta.specs.Label.{IsLabelDstring}
 use Rattle.vat.specs.declared.fault.VatFault.{VatFault}
 use Rattle.vat.specs.declared.fault.VatFault.TheVariants as faults
 use Rattle.vat.specs.declared.table.Version.{Version}
 use Rattle.vat.specs.declared.table.Version.TheVariants.{One, Two}
 use Rattle.vat.specs.declared.record.Reply.{Reply}
+use Rattle.vat.specs.declared.record.Record.{Record}
 use Rattle.vat.specs.Reply.{nothing}
 use Rattle.vat.specs.Version.{version_of, record_size}
 use Rattle.vat.specs.Record.{SpellsRecord, IsKept, record_bytes}
@@ -53,8 +55,12 @@ pub record HasHeader (icb : ℕ) (bytes : List ℕ) : Type 0 where
   pub first : commits_at bytes ≡ 0 → u32_at 132 bytes ≡ unused
   pub previous : commits_at bytes ≢ 0 → u32_at 132 bytes < icb
 
-abbrev pub HasLabel : List ℕ → Type 0
-HasLabel bytes = 196 ≤ length bytes
+abbrev pub label_field : List ℕ → List ℕ
+label_field bytes = take 128 (drop 4 bytes)
+
+pub record HasLabel (bytes : List ℕ) : Type 0 where
+  pub label : List ℕ
+  pub spelled : IsLabelDstring label (label_field bytes)
 
 abbrev pub HasRevisions : List ℕ → Type 0
 HasRevisions bytes = IsAt 144 (concat (to_le_bytes w16 0x0201 ∷ to_le_bytes w16 0x0201 ∷ to_le_bytes w16 0x0201 ∷ [])) bytes
@@ -110,16 +116,20 @@ table_rules icb bytes =
     ∷ (faults.Count, HasCounts bytes)
     ∷ []
 
+-- the records that the bytes have
+pub record SaysRecords (records : List Record) (bytes : List ℕ) : Type 0 where
+  pub count : length records ≡ count_at bytes
+  pub kept : AllByRecursion (IsKept (version_at bytes) (commits_at bytes)) records
+  pub whole : flat_map (record_bytes (version_at bytes)) records ≡ take (record_size_at bytes * count_at bytes) (drop 196 bytes)
+
 -- what the bytes say
 pub record Says (t : Table) (bytes : List ℕ) : Type 0 where
-  pub label : t.label ≡ take 128 (drop 4 bytes)
+  pub label : IsLabelDstring t.label (label_field bytes)
   pub previous : t.previous ≡ entry_of (u32_at 132 bytes)
   pub files : t.files ≡ u32_at 136 bytes
   pub directories : t.directories ≡ u32_at 140 bytes
   pub version : t.version ≡ version_at bytes
   pub next_unique : t.next_unique ≡ u32_at 188 bytes
   pub commits : t.commits ≡ commits_at bytes
-  pub count : length t.records ≡ count_at bytes
-  pub kept : All (IsKept (version_at bytes) (commits_at bytes)) t.records
-  pub records : flat_map (record_bytes (version_at bytes)) t.records ≡ take (record_size_at bytes * count_at bytes) (drop 196 bytes)
+  pub records : SaysRecords t.records bytes
   pub entries : t.entries ≡ map entry_of (numbers_at bytes)

@@ -2,6 +2,8 @@
 use Rattle.std.specs.Prelude.{◌≡◌, ℕ, ◌+◌, ◌*◌, ◌^◌, ◌<◌, ◌≤◌, ◌≢◌, ◌↔◌, List, [], ◌∷◌, ◌++◌, length, codes, replicate, slice_get, Option, Some, is_some, IfSome, IsNone, All, AllPairs, count_by}
 use Rattle.std.specs.Int.{w16, w32, to_le_bytes}
 use Rattle.std.specs.List.{concat, flat_map}
+use Rattle.osta.specs.Dstring.{dstring}
+use Rattle.osta.specs.Label.{IsLabel}
 use Rattle.vat.specs.declared.record.Record.{Record}
 use Rattle.vat.specs.declared.table.Version.{Version}
 use Rattle.vat.specs.declared.table.Vat.{Vat}
@@ -11,7 +13,7 @@ use Rattle.vat.specs.Entry.{unused, entry_number, entry_bytes}
 
 -- what a table says, apart from where it lies in memory
 pub record Table : Type 0 where
-  pub label : List ℕ
+  pub label : List ℕ  -- the text, in UTF-8
   pub previous : Option ℕ  -- the block number of the entry of the table before
   pub files : ℕ
   pub directories : ℕ  -- the root counted
@@ -38,12 +40,10 @@ view vat = record {
 abbrev pub use_size : Version → ℕ → ℕ
 use_size version count = 44 + record_size version * count
 
--- what stands before the records, piece by piece
-abbrev pub head_parts : ℕ → List ℕ → ℕ → ℕ → ℕ → ℕ → ℕ → ℕ → ℕ → List (List ℕ)
-head_parts size label previous files directories version count next_unique commits =
-    to_le_bytes w16 (152 + size) ∷ to_le_bytes w16 size  -- 0 length of the header, 2 length of the implementation use
-    ∷ label  -- 4
-    ∷ to_le_bytes w32 previous  -- 132
+-- what stands between the label and the records, piece by piece
+abbrev pub middle_parts : ℕ → ℕ → ℕ → ℕ → ℕ → ℕ → ℕ → List (List ℕ)
+middle_parts previous files directories version count next_unique commits =
+    to_le_bytes w32 previous  -- 132
     ∷ to_le_bytes w32 files ∷ to_le_bytes w32 directories  -- 136, 140
     ∷ to_le_bytes w16 0x0201 ∷ to_le_bytes w16 0x0201 ∷ to_le_bytes w16 0x0201  -- 144 minimum read, minimum write and maximum write revision
     ∷ to_le_bytes w16 0  -- 150 reserved
@@ -52,16 +52,25 @@ head_parts size label previous files directories version count next_unique commi
     ∷ to_le_bytes w32 next_unique ∷ to_le_bytes w32 commits  -- 188, 192
     ∷ []
 
+-- what stands before the records
+abbrev pub head_parts : ℕ → List ℕ → List (List ℕ) → List (List ℕ)
+head_parts size label middle =
+    to_le_bytes w16 (152 + size) ∷ to_le_bytes w16 size  -- 0 length of the header, 2 length of the implementation use
+    ∷ label  -- 4
+    ∷ middle
+
+abbrev pub middle_of : Table → List (List ℕ)
+middle_of t = middle_parts (entry_number t.previous) t.files t.directories (version_number t.version) (length t.records) t.next_unique t.commits
+
 abbrev pub head_bytes : Table → List ℕ
-head_bytes t = concat (head_parts (use_size t.version (length t.records)) t.label (entry_number t.previous) t.files t.directories
-    (version_number t.version) (length t.records) t.next_unique t.commits)
+head_bytes t = concat (head_parts (use_size t.version (length t.records)) (dstring 128 t.label) (middle_of t))
 
 abbrev pub table_bytes : Table → List ℕ
 table_bytes t = head_bytes t ++ (flat_map (record_bytes t.version) t.records ++ flat_map entry_bytes t.entries)
 
 -- what has a spelling
 pub record Fits (t : Table) : Type 0 where
-  pub label : length t.label ≡ 128
+  pub label : IsLabel t.label
   -- the first table alone has none before it
   pub first : IsNone t.previous ↔ (t.commits ≡ 0)
   pub previous : IfSome t.previous (λ p. p < unused)

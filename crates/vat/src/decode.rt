@@ -1,32 +1,41 @@
-ghost use Rattle.std.specs.Prelude.{◌≡◌, ◌≤◌, ◌+◌, ◌*◌, ◌%◌, ℕ, ◌<◌, IfErr, IfOk, length, take, drop, map, All, IsErrOf, OnOk, OnErr};
-ghost use Rattle.std.specs.List.{flat_map};
+ghost use Rattle.std.specs.Prelude.{◌≡◌, ◌≤◌, ◌+◌, ◌*◌, ◌⊎◌, ℕ, IfErr, IfOk, OnOk, MatchResult, length, map};
 ghost use Rattle.ecma.specs.FirstFault.{IsFirst, AllHold};
-ghost use Rattle.ecma.specs.Numbers as read;
-ghost use Rattle.vat.specs.Record.{IsKept, SpellsRecord, record_bytes};
+ghost use Rattle.ecma.specs.Numbers as numbers;
 ghost use Rattle.vat.specs.Entry.{entry_of, words};
 ghost use Rattle.vat.specs.Table.{Table, IsTableAt, view};
 ghost use Rattle.vat.specs.Rules as rule;
-ghost use Rattle.vat.specs.Rules.{table_rules, Says};
+ghost use Rattle.vat.specs.Rules.{table_rules, HasLabel, HasRecords, Says, SaysRecords};
 
 use crate::encode::UNUSED;
 use crate::fault::VatFault;
 use crate::record::Record;
 use crate::rules::{
     entry_text, has_clients, has_counts, has_entries, has_header, has_label, has_records,
-    has_revisions, read_record, record_count, record_text, version,
+    has_revisions, label_field, read_record, record_count, record_text, version,
 };
 use crate::table::{Sessions, Vat};
 use ecma::u32_at;
+use osta::Label;
 use std::alloc::{AllocError, Global};
 
 /// The table that the bytes spell, whose entry stands at block number `icb`.
-pub fn decode_vat(alloc: Global, bytes: &[u8], icb: u32) -> Result<Vat, VatFault> {
+pub fn decode_vat(alloc: Global, bytes: &[u8], icb: u32) -> Result<Vat, VatFault>
+    // What is read stands there.
+    ensures found { IfOk result (λ vat. IsTableAt icb (view vat) bytes.now) }
+    // What stands there is read, where there is memory for it.
+    ensures only { (t : Table) → IsTableAt icb t bytes.now → MatchResult result (λ vat. view vat ≡ t) (λ e. e ≡ VatFault.Memory) }
+    // A fault is the first, and want of memory is told only where there is none.
+    ensures fault { IfErr result (λ e. IsFirst (table_rules icb bytes.now) e ⊎ ((e ≡ VatFault.Memory) × AllHold (table_rules icb bytes.now))) }
+{
     examine(bytes, icb)?;
-    read(alloc, bytes).map_err(|_| VatFault::Memory)
+    Ok(read(alloc, bytes)?)
 }
 
 /// The rules of a table, one after another.
-fn examine(bytes: &[u8], icb: u32) -> Result<(), VatFault> {
+fn examine(bytes: &[u8], icb: u32) -> Result<(), VatFault>
+    ensures rules { OnOk result (AllHold (table_rules icb bytes.now)) }
+    ensures fault { IfErr result (IsFirst (table_rules icb bytes.now)) }
+{
     if !has_header(bytes, icb) {
         return Err(VatFault::Header);
     }
@@ -52,9 +61,15 @@ fn examine(bytes: &[u8], icb: u32) -> Result<(), VatFault> {
 }
 
 /// The table, from bytes that keep the rules.
-fn read(alloc: Global, bytes: &[u8]) -> Result<Vat, AllocError> {
-    let mut label = [0; 128];
-    label.copy_from_slice(&bytes[4..132]);
+fn read(alloc: Global, bytes: &[u8]) -> Result<Vat, AllocError>
+    requires long { 196 ≤ length bytes.now }
+    requires header { numbers.u16_at 0 bytes.now ≤ length bytes.now }
+    requires whole { 196 + rule.record_size_at bytes.now * rule.count_at bytes.now ≤ length bytes.now }
+    requires label { HasLabel bytes.now }
+    requires kept { HasRecords bytes.now }
+    ensures { IfOk result (λ vat. Says (view vat) bytes.now) }
+{
+    let label = Label::of(label_field(bytes)).unwrap();
     let records = read_records(alloc, bytes)?;
     let entries = read_entries(alloc, entry_text(bytes))?;
     Ok(Vat {
@@ -80,7 +95,12 @@ fn entry(number: u32) -> Option<u32>
 }
 
 /// The records of the clients.
-fn read_records(alloc: Global, bytes: &[u8]) -> Result<Vec<Record>, AllocError> {
+fn read_records(alloc: Global, bytes: &[u8]) -> Result<Vec<Record>, AllocError>
+    requires long { 196 ≤ length bytes.now }
+    requires whole { 196 + rule.record_size_at bytes.now * rule.count_at bytes.now ≤ length bytes.now }
+    requires kept { HasRecords bytes.now }
+    ensures { IfOk result (λ records. SaysRecords records.items bytes.now) }
+{
     let version = version(bytes);
     let commits = u32_at(bytes, 192);
     let count = record_count(bytes);
@@ -93,7 +113,9 @@ fn read_records(alloc: Global, bytes: &[u8]) -> Result<Vec<Record>, AllocError> 
 }
 
 /// What the table has for each virtual address.
-fn read_entries(alloc: Global, text: &[u8]) -> Result<Vec<Option<u32>>, AllocError> {
+fn read_entries(alloc: Global, text: &[u8]) -> Result<Vec<Option<u32>>, AllocError>
+    ensures { IfOk result (λ entries. entries.items ≡ map entry_of (words text.now)) }
+{
     let mut entries = Vec::with_capacity(alloc, text.len() / 4)?;
     for i in 0..text.len() / 4 {
         entries.push(entry(u32_at(text, 4 * i)))?;

@@ -1,12 +1,13 @@
-ghost use Rattle.std.specs.Prelude.{◌≡◌, ◌≤◌, ◌++◌, length, take, IfOk, OnOk};
+ghost use Rattle.std.specs.Prelude.{◌≡◌, ◌≤◌, ◌++◌, length, All, IfOk, OnOk};
+ghost use Rattle.std.specs.List.{flat_map};
 ghost use Rattle.vat.specs.Table.{view, Fits, head_bytes, table_bytes};
 ghost use Rattle.vat.specs.Record as spec;
-ghost use Rattle.vat.specs.Entry.{entry_number};
-
+ghost use Rattle.vat.specs.Record.{HasRoom};
+ghost use Rattle.vat.specs.Entry.{entry_number, entry_bytes};
 
 use crate::record::Record;
 use crate::table::{Vat, Version};
-use ecma::{EntityId, Field, write_fields};
+use ecma::{Field, write_fields};
 use std::alloc::{AllocError, Global};
 
 /// The bytes before the implementation use.
@@ -21,30 +22,45 @@ pub(crate) const UNUSED: u32 = u32::MAX;
 /// The revision of UDF, three times over.
 pub(crate) const REVISION: u16 = 0x0201;
 
-/// The identifier of the sessions (ECMA-167 1/7.4).
-pub(crate) const SESSIONS: EntityId = EntityId {
-    identifier: *b"*udfburn sessions\0\0\0\0\0\0",
-    suffix: [0; 8],
-};
+/// The flags and the text of the sessions' entity identifier (ECMA-167 1/7.4); zeros fill it up.
+pub(crate) const SESSIONS: &[u8; 18] = b"\x00*udfburn sessions";
 
 /// The one spelling of a table.
 pub fn encode_vat(alloc: Global, vat: &Vat) -> Result<Vec<u8>, AllocError>
     requires { Fits (view vat.now) }
     ensures { IfOk result (λ bytes. bytes.items ≡ table_bytes (view vat.now)) }
 {
-    let version = vat.sessions.version;
-    let records = &vat.sessions.records;
-    let size = RECORDS_AT + version.record_size() * records.len() + 4 * vat.entries.len();
+    let sessions = &vat.sessions;
+    let size = RECORDS_AT
+        + sessions.version.record_size() * sessions.records.len()
+        + 4 * vat.entries.len();
     let mut out = Vec::with_capacity(alloc, size)?;
     out.extend_from_slice(&head(vat))?;
-    for record in records {
-        let bytes = record_bytes(record);
+    put_records(&mut out, sessions.version, &sessions.records)?;
+    put_entries(&mut out, &vat.entries)?;
+    Ok(out)
+}
+
+/// Writes the records at the end.
+fn put_records(out: &mut Vec<u8>, version: Version, records: &[Record]) -> Result<(), AllocError>
+    requires { All (HasRoom version) records.now }
+    ensures { OnOk result (out.new.items ≡ out.old.items ++ flat_map (spec.record_bytes version) records.now) }
+{
+    for kept in records {
+        let bytes = record_bytes(kept);
         out.extend_from_slice(&bytes[..version.record_size()])?;
     }
-    for entry in &vat.entries {
+    Ok(())
+}
+
+/// Writes what the table has for each virtual address at the end.
+fn put_entries(out: &mut Vec<u8>, entries: &[Option<u32>]) -> Result<(), AllocError>
+    ensures { OnOk result (out.new.items ≡ out.old.items ++ flat_map entry_bytes entries.now) }
+{
+    for entry in entries {
         out.extend_from_slice(&number_of(*entry).to_le_bytes())?;
     }
-    Ok(out)
+    Ok(())
 }
 
 /// The number that stands for a block number that there may be.
@@ -63,12 +79,13 @@ fn head(vat: &Vat) -> [u8; RECORDS_AT]
     let count = sessions.records.len() as u16;
     let record_size = sessions.version.record_size() as u16;
     let implementation_use = 44 + record_size * count;
+    let label = vat.label.dstring_128();
     let mut head = [0; RECORDS_AT];
     write_fields(
         &[
             Field::U16(152 + implementation_use),
             Field::U16(implementation_use),
-            Field::Bytes(&vat.label),
+            Field::Bytes(&label),
             Field::U32(number_of(vat.previous)),
             Field::U32(vat.files),
             Field::U32(vat.directories),
@@ -76,7 +93,8 @@ fn head(vat: &Vat) -> [u8; RECORDS_AT]
             Field::U16(REVISION),
             Field::U16(REVISION),
             Field::U16(0),
-            Field::EntityId(SESSIONS),
+            Field::Bytes(SESSIONS),
+            Field::Zeros(14),
             Field::U16(sessions.version.number()),
             Field::U16(count),
             Field::U32(sessions.next_unique),

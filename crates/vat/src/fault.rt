@@ -1,3 +1,10 @@
+//! Why bytes are no table.
+
+ghost use Rattle.std.specs.Prelude.{◌≡◌};
+ghost use Rattle.vat.specs.declared.fault.VatFault.TheVariants.{Memory};
+
+use std::alloc::AllocError;
+
 /// Why bytes are no virtual allocation table, in the order in which the faults are told.
 #[derive(Clone, Copy, Debug, PartialEq, Eq)]
 pub enum VatFault {
@@ -37,5 +44,13 @@ impl VatFault {
             VatFault::Count => 47,
             VatFault::Memory => 65,
         }
+    }
+}
+
+impl From<AllocError> for VatFault {
+    ghost from_gives = { λ _ e. e ≡ Memory };
+
+    fn from(_: AllocError) -> VatFault {
+        VatFault::Memory
     }
 }

@@ -12,6 +12,7 @@
 mod decode;
 mod encode;
 mod fault;
+mod laws;
 mod place;
 mod record;
 mod rules;
@@ -20,9 +21,7 @@ mod table;
 pub use decode::decode_vat;
 pub use encode::encode_vat;
 pub use fault::VatFault;
+pub use laws::tables;
 pub use place::{clear_start, is_vat_icb};
 pub use record::{KEPT_REPLIES, Record, Replies, Reply};
 pub use table::{Sessions, Vat, Version};
-
-#[cfg(test)]
-mod tests;

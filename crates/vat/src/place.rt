@@ -2,7 +2,9 @@
 
 ghost use Rattle.std.specs.Prelude.{◌≡◌, ℕ, ◌+◌, ◌*◌, ◌<◌, ◌≤◌, ◌↔◌, length, take, drop, IsTrue};
 ghost use Rattle.ecma.specs.Descriptor.{padded};
-ghost use Rattle.vat.specs.Imitation.{IsVatIcb, Imitates, blocks_of};
+ghost use Rattle.icb.specs.Entry.{blocks_of};
+ghost use Rattle.icb.specs.VatIcb.{IsVatIcb};
+ghost use Rattle.vat.specs.Imitation.{Imitates};
 
 use ecma::{Block, u32_at};
 use icb::{Kind, decode_fe};

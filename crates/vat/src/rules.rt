@@ -6,7 +6,7 @@ ghost use Rattle.vat.specs.declared.record.Record.{Record};
 ghost use Rattle.vat.specs.Version as versions;
 ghost use Rattle.vat.specs.Reply as replies;
 ghost use Rattle.vat.specs.Reply.{AreReplies};
-ghost use Rattle.vat.specs.Record.{IsKept, SpellsRecord};
+ghost use Rattle.vat.specs.Record.{HasRoom, IsKept, SpellsRecord};
 ghost use Rattle.vat.specs.Record as spec;
 ghost use Rattle.vat.specs.Entry.{words};
 ghost use Rattle.vat.specs.Rules as rule;
@@ -16,6 +16,7 @@ use crate::encode::{RECORDS_AT, REVISION, SESSIONS, UNUSED, record_bytes};
 use crate::record::{Record, Replies, Reply};
 use crate::table::Version;
 use ecma::{Field, stands_at, u16_at, u32_at, u64_at};
+use osta::Label;
 
 /// How many clients are kept at most.
 const CLIENTS: u16 = 64;
@@ -72,10 +73,21 @@ pub(crate) fn has_header(bytes: &[u8], icb: u32) -> bool
     previous < icb
 }
 
+/// The bytes of the label.
+pub(crate) fn label_field(bytes: &[u8]) -> &[u8]
+    requires { 196 ≤ length bytes.now }
+    ensures { result.now ≡ rule.label_field bytes.now }
+{
+    let (_, rest) = bytes.split_at(4);
+    let (field, _) = rest.split_at(128);
+    field
+}
+
 pub(crate) fn has_label(bytes: &[u8]) -> bool
+    requires { 196 ≤ length bytes.now }
     ensures { IsTrue result ↔ HasLabel bytes.now }
 {
-    bytes.len() >= RECORDS_AT
+    Label::of(label_field(bytes)).is_some()
 }
 
 pub(crate) fn has_revisions(bytes: &[u8]) -> bool
@@ -197,8 +209,7 @@ fn are_replies(commits: u32, replies: &[Reply]) -> bool
 
 /// Whether the bytes are those of the record.
 fn spells(version: Version, kept: &Record, text: &[u8]) -> bool
-    requires room { length kept.now.replies ≤ versions.places version }
-    requires some { 0 < length kept.now.replies }
+    requires { HasRoom version kept.now }
     ensures { IsTrue result ↔ (text.now ≡ spec.record_bytes version kept.now) }
 {
     let bytes = record_bytes(kept);
@@ -210,7 +221,7 @@ pub(crate) fn has_records(bytes: &[u8]) -> bool
     requires whole { 196 + rule.record_size_at bytes.now * rule.count_at bytes.now ≤ length bytes.now }
     ensures { IsTrue result ↔ HasRecords bytes.now }
 {
-    if !stands_at(&[Field::EntityId(SESSIONS)], bytes, 152) {
+    if !stands_at(&[Field::Bytes(SESSIONS), Field::Zeros(14)], bytes, 152) {
         return false;
     }
     let Some(version) = Version::read(u16_at(bytes, 184)) else {

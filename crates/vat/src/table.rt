@@ -4,6 +4,7 @@ ghost use Rattle.std.specs.Prelude.{◌≡◌};
 ghost use Rattle.vat.specs.Version as spec;
 
 use crate::record::Record;
+use osta::Label;
 
 /// The version of the sessions, which gives the room for replies in a record.
 #[derive(Clone, Copy, Debug, PartialEq, Eq)]
@@ -71,8 +72,8 @@ pub struct Sessions {
 /// A virtual allocation table, without its own entry (UDF 2.01 2.2.10).
 #[derive(Debug, Drop)]
 pub struct Vat {
-    /// The dstring of 128 bytes of the volume's label.
-    pub label: [u8; 128],
+    /// The volume's.
+    pub label: Label,
     /// The block number of the entry of the table before; `None` in the first, whose commit count is 0.
     pub previous: Option<u32>,
     pub files: u32,

@@ -1,5 +1,6 @@
 use Rattle.std.proofs.Common.{ℕ, ◌+◌, ◌<◌}
-use Rattle.vat.specs.Imitation.{IsVatIcb, data_block}
+use Rattle.icb.specs.VatIcb.{IsVatIcb}
+use Rattle.vat.specs.Imitation.{data_block}
 use Rattle.vat.proofs.place.imitates.Given as goal
 
 abbrev pub invariant-loop-i : goal.invariant-loop-i

@@ -1,5 +1,7 @@
-use Rattle.std.proofs.Common.{◌≡◌, refl, sym, ap, ◌∙◌, rules}
+use Rattle.std.proofs.Common.{◌↔◌, List, ℕ, IsTrue, subst}
+use Rattle.icb.specs.VatIcb.{IsVatIcb}
+use Rattle.vat.proofs.Places.{padded_is}
 use Rattle.vat.proofs.place.is_padded_entry.Goals as goal
 
 pub returns : goal.returns
-returns c = let e = c.is_vat_icb.ensures in let f = c.copy_from_slice.ensures.after in ?
+returns c = subst (λ (x : List ℕ). IsTrue c.is_vat_icb.result ↔ IsVatIcb x c.args.number) (padded_is c.args.text.now c.copy_from_slice.new.self c.copy_from_slice.ensures.after c.requires) c.is_vat_icb.ensures

@@ -1,0 +1,20 @@
+-- What holds of tables, each the contract of a public function.
+use Rattle.std.specs.Prelude.{◌≡◌, ℕ, ◌+◌, ◌*◌, ◌<◌, ◌≤◌, List, length}
+use Rattle.vat.specs.Version.{record_size}
+use Rattle.vat.specs.Table.{Table, Fits, IsTable, IsTableAt}
+
+-- bytes are one table at most, wherever its entry stands
+abbrev pub OneTable : Type 0
+OneTable = (icb other : ℕ) (t u : Table) (bytes : List ℕ) → IsTableAt icb t bytes → IsTableAt other u bytes → t ≡ u
+
+-- each node and the file set have an entry, and there is an end to them
+abbrev pub NodesHaveEntries : Type 0
+NodesHaveEntries = (t : Table) → Fits t → (1 + (t.files + t.directories) ≤ length t.entries) × (length t.entries ≤ 4097)
+
+-- how many bytes a table takes: 48 for a record in version 2
+abbrev pub TakesSoMany : Type 0
+TakesSoMany = (t : Table) (bytes : List ℕ) → IsTable t bytes → length bytes ≡ 196 + (record_size t.version * length t.records + 4 * length t.entries)
+
+-- a table that stands stands for every later entry too
+abbrev pub StandsLater : Type 0
+StandsLater = (icb later : ℕ) (t : Table) (bytes : List ℕ) → icb ≤ later → IsTableAt icb t bytes → IsTableAt later t bytes
