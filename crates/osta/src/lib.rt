@@ -1,2 +1,25 @@
-//! Names, labels and the compressed Unicode in which UDF stores text.
+//! Text on a UDF volume: compressed Unicode, dstrings, names and labels (UDF 2.01 2.1).
+//!
+//! A text has at most one spelling on the medium, and a reader takes no other: what is written is
+//! read back exactly, and two texts never have the same bytes. What is no spelling is refused by
+//! the first fault that it has.
+//!
+//! Case folding and normal forms are left to nobody: texts are equal where their characters are.
 #![tactic(auto)]
+
+mod dstring;
+mod fault;
+mod label;
+mod name;
+mod reading;
+mod writing;
+
+pub use dstring::{dstring_read, dstring_write};
+pub use fault::{NameFault, OstaFault};
+pub use label::Label;
+pub use name::Name;
+pub use reading::{check_spelling, expand};
+pub use writing::{compress, one_spelling};
+
+#[cfg(test)]
+mod tests;

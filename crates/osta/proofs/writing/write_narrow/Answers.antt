@@ -1,0 +1,38 @@
+use Rattle.std.proofs.Common.{◌≡◌, ℕ, ◌+◌, ◌*◌, List, ◌∷◌, length, arith, ap, sym, ◌∙◌}
+use Rattle.std.specs.List.{flat_map}
+use Rattle.osta.specs.Compressed.{two_bytes}
+use Rattle.std.specs.Str.{chars}
+use Rattle.std.proofs.lemmas.List.{length_push, length-set, take_all}
+use Rattle.std.proofs.lemmas.List.FromFn.{length-enumerate_from}
+use Rattle.std.proofs.lemmas.Iterator.{YieldsList-from_chars}
+use Rattle.std.proofs.lemmas.Iterator.Consumers.{YieldsList-from_enumerate, YieldsList-at, YieldsList-turn, YieldsList-end}
+use Rattle.osta.proofs.Loops.{enumerate_turn, turn_narrow, turn_spelled, narrow_step, wide_step, high_byte, low_byte, first_cell}
+use Rattle.osta.proofs.writing.write_narrow.Goals as goal
+
+pub overflow_cast-into : goal.overflow_cast-into
+overflow_cast-into c =
+    let road = YieldsList-at c.into_iter-at-iterator.ensures.into_iter_gives (YieldsList-from_enumerate (YieldsList-at c.enumerate-at-items.ensures.source (YieldsList-from_chars c.args.text.now c.utf8.text cc)) c.enumerate-at-items.ensures.count) in
+    let turn = enumerate_turn _ _ _ _ (YieldsList-turn road c.loop-at.yielded _ c.loop-at.yielded_by _ _ (c.in-Some.at, c.in-Some.c) c.in-Some.is c.next.ensures.steps) in
+    omega (arith, turn_narrow _ _ _ _ turn c.requires.narrow)
+
+pub bounds-into-at : goal.bounds-into-at
+bounds-into-at c =
+    let road = YieldsList-at c.into_iter-at-iterator.ensures.into_iter_gives (YieldsList-from_enumerate (YieldsList-at c.enumerate-at-items.ensures.source (YieldsList-from_chars c.args.text.now c.utf8.text cc)) c.enumerate-at-items.ensures.count) in
+    let turn = enumerate_turn _ _ _ _ (YieldsList-turn road c.loop-at.yielded _ c.loop-at.yielded_by _ _ (c.in-Some.at, c.in-Some.c) c.in-Some.is c.next.ensures.steps) in
+    omega (arith, turn.below, turn.index, c.loop-at.auto.into, length-set c.args.into.now 0 8)
+
+pub loop-at-init : goal.loop-at-init
+loop-at-init c = first_cell c.args.into.now 8 (omega arith)
+
+pub loop-at-preserved : goal.loop-at-preserved
+loop-at-preserved c =
+    let road = YieldsList-at c.into_iter-at-iterator.ensures.into_iter_gives (YieldsList-from_enumerate (YieldsList-at c.enumerate-at-items.ensures.source (YieldsList-from_chars c.args.text.now c.utf8.text cc)) c.enumerate-at-items.ensures.count) in
+    let turn = enumerate_turn _ _ _ _ (YieldsList-turn road c.loop-at.yielded _ c.loop-at.yielded_by _ _ (c.in-Some.at, c.in-Some.c) c.in-Some.is c.next.ensures.steps) in
+    rw (length_push c.loop-at.yielded (c.in-Some.at, c.in-Some.c)) (narrow_step _ _ _ _ _ turn (omega (arith, turn.below, c.loop-at.auto.into, length-set c.args.into.now 0 8)) c.loop-at.invariant)
+
+pub returns : goal.returns
+returns c =
+    let road = YieldsList-at c.into_iter-at-iterator.ensures.into_iter_gives (YieldsList-from_enumerate (YieldsList-at c.enumerate-at-items.ensures.source (YieldsList-from_chars c.args.text.now c.utf8.text cc)) c.enumerate-at-items.ensures.count) in
+    let all = YieldsList-end road c.loop-at.yielded _ c.loop-at.yielded_by _ _ c.in-None.is c.next.ensures.steps in
+    let end : length c.loop-at.yielded ≡ length (chars c.args.text.now) = all.1 ∙ length-enumerate_from 0 (chars c.args.text.now) in
+    sym (take_all (length c.loop-at.yielded + 1) c.loop-at.into (omega (arith, end, c.loop-at.auto.into, length-set c.args.into.now 0 8))) ∙ (c.loop-at.invariant ∙ ap (λ (xs : List ℕ). 8 ∷ xs) (take_all (length c.loop-at.yielded) (chars c.args.text.now) (omega (arith, end))))

@@ -1,0 +1,150 @@
+ghost use Rattle.std.specs.Prelude.{◌≡◌, ◌↔◌, ◌≤◌, ℕ, List, IsTrue, IfOk, IfErr, MatchOption, length, nat_eq, None, bytes_eq, codes};
+ghost use Rattle.std.specs.Result.{result_err};
+ghost use Rattle.std.specs.Hash as fed;
+ghost use Rattle.std.specs.Cmp.Lexicographic.{pointwise, nat_list_eq_equiv};
+ghost use Rattle.std.specs.Cmp.{partial_equiv_from_equiv};
+ghost use Rattle.std.specs.Cmp.Rules.{hashing};
+ghost use Rattle.std.proofs.Common.{rules};
+ghost use Rattle.osta.specs.FirstFault.{first_fault};
+ghost use Rattle.osta.specs.Fault.{text_fault};
+ghost use Rattle.osta.specs.Compressed.{compressed, Named};
+ghost use Rattle.osta.specs.Name.{name_faults, IsName, has_character};
+
+use crate::dstring::check_room;
+use crate::fault::NameFault;
+use crate::reading::{check_spelling, expand_checked};
+use crate::writing::compress;
+use std::alloc::{AllocError, Global};
+use std::hash::{Hash, Hasher};
+use std::marker::Model;
+
+/// The most bytes of a name's spelling.
+const NAME_ROOM: usize = 255;
+
+/// The name of a file or a directory: a text of 1 to 255 bytes on the medium that is neither `.` nor
+/// `..` and has no slash and no NUL. A contract sees it as its text.
+#[derive(Debug, Drop)]
+pub struct Name {
+    text: String,
+    compressed: Vec<u8>,
+}
+
+impl Model for Name {
+    ghost use Rattle.std.specs.Prelude.{◌≡◌, ℕ, List, string_bytes};
+    ghost use Rattle.osta.specs.Compressed as spelled;
+    ghost use Rattle.osta.specs.Name.{IsName};
+
+    ghost Value = { List ℕ };
+
+    ghost view = { λ n. string_bytes n.text };
+
+    ghost invariant = { λ n. IsName (string_bytes n.text) × (n.compressed.items ≡ spelled.compressed (string_bytes n.text)) };
+}
+
+impl Name {
+    /// Whether a text is a name, or its first fault. It takes no memory, and never tells `Memory`.
+    pub fn check(text: &str) -> Result<(), NameFault>
+        ensures { result_err result ≡ first_fault (name_faults text.now) }
+    {
+        if text.is_empty() {
+            return Err(NameFault::Empty);
+        }
+        if text == "." || text == ".." {
+            return Err(NameFault::Dot);
+        }
+        if has_character(text, '/') {
+            return Err(NameFault::Slash);
+        }
+        if has_character(text, '\0') {
+            return Err(NameFault::Nul);
+        }
+        check_room(text, NAME_ROOM)?;
+        Ok(())
+    }
+
+    /// A copy of a text that is a name, or the first fault of it.
+    pub fn read(alloc: Global, text: &str) -> Result<Name, NameFault>
+        ensures name { IfOk result (λ name. (name ≡ text.now) × IsName text.now) }
+        ensures fault { IfErr result (λ fault. text_fault fault ≡ first_fault (name_faults text.now)) }
+    {
+        Name::check(text)?;
+        let mut compressed = Vec::new(alloc);
+        compress(text, &mut compressed)?;
+        let text = String::from_str(alloc, text)?;
+        Ok(Name { text, compressed })
+    }
+
+    /// The name whose spelling the bytes are, if they are one's.
+    pub fn of(alloc: Global, bytes: &[u8]) -> Result<Option<Name>, AllocError>
+        ensures { IfOk result (λ found. MatchOption found ((text : List ℕ) → IsName text → ¬ (Named text bytes.now)) (λ name. IsName name × Named name bytes.now)) }
+    {
+        if check_spelling(bytes).is_err() {
+            return Ok(None);
+        }
+        let text = expand_checked(alloc, bytes)?;
+        if Name::check(text.as_str()).is_err() {
+            return Ok(None);
+        }
+        let compressed = Vec::from_slice(alloc, bytes)?;
+        Ok(Some(Name { text, compressed }))
+    }
+
+    /// The name as text.
+    pub fn as_str(&self) -> &str
+        ensures value { result.now ≡ self.now }
+        ensures name { IsName self.now }
+    {
+        self.text.as_str()
+    }
+
+    /// The 1 to 255 bytes that the name takes on the medium. Names are equal exactly where these are.
+    pub fn compressed(&self) -> &[u8]
+        ensures value { result.now ≡ compressed self.now }
+        ensures name { Named self.now result.now }
+        ensures some { 1 ≤ length result.now }
+        ensures few { length result.now ≤ 255 }
+    {
+        self.compressed.as_slice()
+    }
+}
+
+/// Whether a text has a character.
+pub(crate) fn has_character(text: &str, wanted: char) -> bool
+    ensures { result ≡ has_character wanted text.now }
+{
+    text.chars().any(|c| c == wanted)
+}
+
+impl Clone for Name {
+    ghost is_clone = { λ name copy. copy ≡ name };
+
+    fn clone(&self) -> Result<Name, AllocError> {
+        let text = self.text.clone()?;
+        let compressed = self.compressed.clone()?;
+        Ok(Name { text, compressed })
+    }
+}
+
+impl PartialEq for Name {
+    ghost eq = { pointwise nat_eq };
+
+    ghost laws = { partial_equiv_from_equiv nat_list_eq_equiv };
+
+    fn eq(&self, other: &Name) -> bool {
+        self.as_str() == other.as_str()
+    }
+}
+
+impl Eq for Name {
+    ghost laws = { nat_list_eq_equiv };
+}
+
+impl Hash for Name {
+    ghost hash_input = { fed.str };
+
+    ghost respects_eq = { Prim.search (hashing, rules) };
+
+    fn hash<H: Hasher>(&self, state: &mut H) {
+        self.as_str().hash(state);
+    }
+}
