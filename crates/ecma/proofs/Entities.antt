@@ -1,7 +1,6 @@
 -- The bytes of an entity identifier.
-use Rattle.std.proofs.Common.{◌≡◌, ℕ, ◌+◌, ◌-◌, List, [], ◌∷◌, ◌++◌, length, take, drop, replicate, refl, sym, ap, ◌∙◌, arith}
-use Rattle.std.specs.List.{concat}
-use Rattle.std.proofs.lemmas.List.{append-nil, drop_all, length-append, length-drop, length-replicate, length-take, take_at}
+use Rattle.std.proofs.Common.{◌≡◌, ℕ, List, [], ◌∷◌, ◌++◌, length, take, drop, replicate, sym, ap, ◌∙◌, arith}
+use Rattle.std.proofs.lemmas.List.{drop_all, length-append, length-drop, length-replicate, length-take, take_at}
 use borrow.Rule.Slice.PartMut.{post_of}
 use Rattle.ecma.specs.declared.entity.EntityId.{EntityId}
 use Rattle.ecma.specs.EntityId.{zero_filled, entity_id}

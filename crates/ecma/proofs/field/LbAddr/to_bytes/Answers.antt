@@ -1,0 +1,5 @@
+use Rattle.std.proofs.Common.{refl}
+use Rattle.ecma.proofs.field.LbAddr.to_bytes.Goals as goal
+
+pub returns : goal.returns
+returns c = rw (c.write_u16.ensures, c.write_u32.ensures) refl
