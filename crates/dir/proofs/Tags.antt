@@ -1,0 +1,52 @@
+-- A sealed descriptor is its tag's bytes and its body, and these bytes are sealed.
+use Rattle.std.proofs.Common.{◌≡◌, ℕ, ◌+◌, ◌-◌, ◌*◌, ◌/◌, ◌%◌, ◌^◌, ◌<◌, ◌≤◌, List, [], ◌∷◌, ◌++◌, length, take, drop, get_or, refl, sym, ap, subst, ◌∙◌, arith, inl, inr}
+use Rattle.std.specs.Int.{w16, w32, to_le_bytes}
+use Rattle.std.proofs.lemmas.List.{length-append, length-drop, get_or-drop}
+use Rattle.ecma.specs.Crc.{IsCrc, crc_of}
+use Rattle.ecma.specs.Numbers.{u16_at, u32_at}
+use Rattle.ecma.specs.Tag.{Sealed, tag_cells, tag_sum}
+use Rattle.ecma.proofs.Pieces.{IsBytes, cut, u8_stands, u16_stands, u32_stands}
+use Rattle.ecma.proofs.Remainders.{IsCrc-unique, IsCrc-crc_of}
+
+-- the cells of a tag with its checksum as it stands
+cells : ℕ → ℕ → ℕ → ℕ → ℕ → List ℕ → List ℕ
+cells id sum crc len loc body =
+    to_le_bytes w16 id ++ (to_le_bytes w16 3 ++ (sum ∷ (0 ∷ (to_le_bytes w16 1 ++ (to_le_bytes w16 crc ++ (to_le_bytes w16 len ++ (to_le_bytes w32 loc ++ body)))))))
+
+pub sealed_is : (id loc : ℕ) (bytes body : List ℕ) → IsBytes bytes → Sealed id loc bytes → drop 16 bytes ≡ body
+    → bytes ≡ tag_cells id (crc_of body) (length body) loc ++ body
+unfolding cells
+sealed_is id loc bytes body fits s behind =
+    let long = s.long in
+    let crc_is : u16_at 8 bytes ≡ crc_of body =
+    IsCrc-unique (drop 16 bytes) _ _ s.crc (IsCrc-crc_of (drop 16 bytes) (λ i. rw get_or-drop (fits (16 + i)))) ∙ ap crc_of behind in
+    let len_is : u16_at 10 bytes ≡ length body = s.crc_length ∙ sym (length-drop 16 bytes) ∙ ap length behind in
+    let p12 = cut 12 16 (to_le_bytes w32 loc) bytes body refl (u32_stands 12 bytes loc fits (omega arith) s.location) behind in
+    let p10 = cut 10 12 (to_le_bytes w16 (length body)) bytes _ refl (u16_stands 10 bytes (length body) fits (omega arith) len_is) p12 in
+    let p8 = cut 8 10 (to_le_bytes w16 (crc_of body)) bytes _ refl (u16_stands 8 bytes (crc_of body) fits (omega arith) crc_is) p10 in
+    let p6 = cut 6 8 (to_le_bytes w16 1) bytes _ refl (u16_stands 6 bytes 1 fits (omega arith) s.serial) p8 in
+    let p5 = cut 5 6 (0 ∷ []) bytes _ refl (u8_stands 5 bytes 0 (omega arith) s.reserved) p6 in
+    let p4 = cut 4 5 (get_or bytes 4 0 ∷ []) bytes _ refl (u8_stands 4 bytes (get_or bytes 4 0) (omega arith) refl) p5 in
+    let p2 = cut 2 4 (to_le_bytes w16 3) bytes _ refl (u16_stands 2 bytes 3 fits (omega arith) s.version) p4 in
+    let p0 = cut 0 2 (to_le_bytes w16 id) bytes _ refl (u16_stands 0 bytes id fits (omega arith) s.identifier) p2 in
+    let whole : bytes ≡ cells id (get_or bytes 4 0) (crc_of body) (length body) loc body = p0 in
+    let sum : get_or bytes 4 0 ≡ tag_sum (cells id (get_or bytes 4 0) (crc_of body) (length body) loc body) = s.checksum ∙ ap tag_sum whole in
+    whole ∙ ap (λ (x : ℕ). cells id x (crc_of body) (length body) loc body) sum
+
+pub is_sealed : (id loc : ℕ) (body : List ℕ) → id < 2 ^ 16 → loc < 2 ^ 32 → length body < 2 ^ 16 → IsBytes body
+    → Sealed id loc (tag_cells id (crc_of body) (length body) loc ++ body)
+is_sealed id loc body id-fits loc-fits len-fits fits =
+    let crc = IsCrc-crc_of body fits in
+    let below = crc.below in
+    let crc_is : u16_at 8 (tag_cells id (crc_of body) (length body) loc ++ body) ≡ crc_of body = omega arith in
+    record {
+      long = omega arith;
+      identifier = omega arith;
+      version = omega arith;
+      checksum = refl;
+      reserved = refl;
+      serial = omega arith;
+      crc_length = omega arith;
+      crc = subst (λ (r : ℕ). IsCrc body r) (sym crc_is) crc;
+      location = omega arith;
+    }

@@ -1,0 +1,76 @@
+-- How the data of a directory splits into identifiers, by their lengths alone.
+use Rattle.std.specs.Prelude.{◌≡◌, ◌⊎◌, ℕ, ◌+◌, ◌-◌, ◌%◌, ◌^◌, ◌<◌, ◌≤◌, IsTrue, false, List, length, take, drop, replicate, slice_index}
+use Rattle.ecma.specs.Field.{IsAt}
+use Rattle.ecma.specs.Numbers.{u16_at, u32_at}
+use Rattle.ecma.specs.Tag.{Sealed}
+use Rattle.dir.specs.declared.fids.Fid.{Fid}
+use Rattle.dir.specs.Identifier.{Identifier, rounded, plain_size, use_of, head_of}
+use Rattle.dir.specs.Kinds.{IsKind}
+use Rattle.dir.specs.Layout.{fits}
+
+-- the bytes of the name and of the implementation use of the identifier at the front
+abbrev pub name_size : List ℕ → ℕ
+name_size bytes = slice_index bytes 19
+
+abbrev pub use_size : List ℕ → ℕ
+use_size bytes = u16_at 36 bytes
+
+-- the bytes of the identifier at the front
+abbrev pub size_of : List ℕ → ℕ
+size_of bytes = rounded (38 + use_size bytes + name_size bytes)
+
+-- an identifier stands at the front of bytes that begin at a place of a block: within the bytes, and within the block
+pub record IsSplit (at : ℕ) (bytes : List ℕ) : Type 0 where
+  pub long : 38 ≤ length bytes
+  pub whole : size_of bytes ≤ length bytes
+  pub within : IsTrue (fits (size_of bytes) (2048 - at))
+
+-- the slices are those of the identifier at the front
+pub record Shows (fid : Fid) (bytes : List ℕ) : Type 0 where
+  pub bytes_are : fid.bytes.now ≡ take (size_of bytes) bytes
+  pub icb : fid.icb.now ≡ take 16 (drop 20 bytes)
+  pub implementation_use : fid.implementation_use.now ≡ take (use_size bytes) (drop 38 bytes)
+  pub name : fid.name.now ≡ take (name_size bytes) (drop (38 + use_size bytes) bytes)
+
+-- the slices are those of a whole identifier
+pub record IsWhole (fid : Fid) : Type 0 where
+  pub long : 38 ≤ length fid.bytes.now
+  pub shown : Shows fid fid.bytes.now
+  pub size : size_of fid.bytes.now ≡ length fid.bytes.now
+
+-- what the bytes of a whole identifier say
+abbrev pub said_by : List ℕ → Identifier
+said_by bytes = record {
+  name = take (name_size bytes) (drop (38 + use_size bytes) bytes);
+  characteristics = slice_index bytes 18;
+  icb = u32_at 24 bytes;
+  unique = u32_at 32 bytes;
+}
+
+-- the fields that say the same in each identifier, and the tag
+pub record HasHead (number : ℕ) (bytes : List ℕ) : Type 0 where
+  pub «sealed» : Sealed 257 number bytes
+  pub kind : IsKind (slice_index bytes 18)
+  pub fields : IsAt 16 (head_of (slice_index bytes 18) (name_size bytes) (u32_at 24 bytes) (u32_at 32 bytes) (use_size bytes)) bytes
+
+-- an implementation use lengthens the identifier at a place to its block's end, since what comes behind it was not
+-- put into the block
+pub record IsLengthened (at : ℕ) (bytes behind : List ℕ) : Type 0 where
+  pub some : 32 ≤ use_size bytes
+  pub whole : use_size bytes % 4 ≡ 0
+  pub full : at + length bytes ≡ 2048
+  pub next : 38 ≤ length behind
+  pub left : fits (plain_size (name_size behind)) (use_size bytes) ≡ false
+
+-- implementation use and padding are those of the layout
+pub record IsPadded (at : ℕ) (bytes behind : List ℕ) : Type 0 where
+  pub filled : take (use_size bytes) (drop 38 bytes) ≡ use_of (use_size bytes)
+  pub padding : drop (38 + use_size bytes + name_size bytes) bytes ≡ replicate (length bytes - (38 + use_size bytes + name_size bytes)) 0
+  pub lengthened : (use_size bytes ≡ 0) ⊎ IsLengthened at bytes behind
+
+-- what an identifier can say
+pub record Fits (x : Identifier) : Type 0 where
+  pub name : length x.name ≤ 255
+  pub kind : IsKind x.characteristics
+  pub icb : x.icb < 2 ^ 32
+  pub unique : x.unique < 2 ^ 32

@@ -1,0 +1,177 @@
+ghost use Rattle.std.specs.Prelude.{◌+◌, ◌<◌, ◌^◌, length};
+
+use crate::characteristics::Characteristics;
+use crate::fault::DirFault;
+use crate::item::{FILE_IDENTIFIER, HEAD_SIZE, Item};
+use crate::size::{BLOCK_SIZE, fits, rounded};
+use ecma::{Block, Field, LongAd, open_tag, stands_at, u16_at, u32_at};
+
+/// A file identifier (ECMA-167 4/14.4) as it stands in a block.
+#[derive(Clone, Copy)]
+pub struct Fid<'a> {
+    /// The whole identifier with its tag and its padding.
+    pub bytes: &'a [u8],
+    /// The 16 bytes of the extent that holds the entry.
+    pub icb: &'a [u8],
+    pub implementation_use: &'a [u8],
+    /// In compressed form, empty in a parent.
+    pub name: &'a [u8],
+}
+
+impl<'a> Fid<'a> {
+    ghost use Rattle.std.specs.Prelude.{◌≡◌, ◌+◌, ◌≤◌, ◌<◌, ◌^◌, length, take, drop};
+
+    /// The parts of a whole identifier, by the bytes of its implementation use and its name.
+    fn new(bytes: &'a [u8], use_size: usize, name_size: usize) -> Fid<'a>
+        requires use_size { use_size < 2 ^ 16 }
+        requires name_size { name_size < 2 ^ 8 }
+        requires long { 38 + use_size + name_size ≤ length bytes.now }
+        ensures bytes { result.bytes.now ≡ bytes.now }
+        ensures icb { result.icb.now ≡ take 16 (drop 20 bytes.now) }
+        ensures implementation_use { result.implementation_use.now ≡ take use_size (drop 38 bytes.now) }
+        ensures name { result.name.now ≡ take name_size (drop (38 + use_size) bytes.now) }
+    {
+        let (_, rest) = bytes.split_at(HEAD_SIZE);
+        let (implementation_use, rest) = rest.split_at(use_size);
+        let (name, _) = rest.split_at(name_size);
+        Fid {
+            bytes,
+            icb: &bytes[20..36],
+            implementation_use,
+            name,
+        }
+    }
+}
+
+impl<'a> Fid<'a> {
+    ghost use Rattle.std.specs.Prelude.{◌≡◌, ◌+◌, ◌≤◌, length, take, drop, IfSome, IsSome, ◌↔◌};
+    ghost use Rattle.dir.specs.Item.{said};
+    ghost use Rattle.dir.specs.Split.{HasHead, IsWhole, said_by, name_size, use_size};
+
+    /// What the identifier says, if it has a tag for the block of this number and the fields are
+    /// those of a file, a directory or a parent.
+    pub(crate) fn item(&self, number: u32) -> Option<Item<'a>>
+        requires { IsWhole self.now }
+        ensures exactly { IsSome result ↔ HasHead number self.now.bytes.now }
+        ensures says { IfSome result (λ item. said item ≡ said_by self.now.bytes.now) }
+    {
+        if open_tag(self.bytes, FILE_IDENTIFIER, number).is_err() {
+            return None;
+        }
+        let characteristics = Characteristics::read(self.bytes[18])?;
+        let icb = u32_at(self.bytes, 24);
+        let unique = u32_at(self.bytes, 32);
+        let head = [
+            Field::U16(1),
+            Field::U8(self.bytes[18]),
+            Field::U8(self.bytes[19]),
+            Field::LongAd(LongAd {
+                length: 2048,
+                block: icb,
+                partition: 1,
+                flags: 0,
+                unique,
+            }),
+            Field::U16(u16_at(self.bytes, 36)),
+        ];
+        if !stands_at(&head, self.bytes, 16) {
+            return None;
+        }
+        Some(Item {
+            name: self.name,
+            characteristics,
+            icb,
+            unique,
+        })
+    }
+}
+
+/// The file identifiers of a directory's data in order, up to the first that passes the data's end
+/// or its block's end. Only their lengths are looked at.
+#[derive(Drop)]
+pub struct Fids<'a> {
+    /// What is left of the data.
+    data: &'a [u8],
+    /// Where it begins in its block.
+    at: usize,
+    /// How many blocks lie before that block.
+    index: usize,
+    ghost in_block: { at < 2048 },
+    ghost small: { index + length data.now < 2 ^ 60 },
+}
+
+impl<'a> Fids<'a> {
+    ghost use Rattle.std.specs.Prelude.{◌≡◌, ◌==◌, if◌then◌else◌, ◌+◌, ◌*◌, ◌^◌, ◌<◌, ◌≤◌, ◌↔◌, length, take, drop, IsOk, IfOk, OnOk, OnErr};
+    ghost use Rattle.std.specs.List.{concat};
+    ghost use Rattle.dir.specs.Split.{IsSplit, Shows, size_of};
+
+    /// The identifiers of `size` bytes of data in these blocks.
+    pub fn new(blocks: &'a [Block], size: usize) -> Fids<'a>
+        requires size { size ≤ 2048 * length blocks.now }
+        requires count { length blocks.now < 2 ^ 40 }
+        ensures data { result.data.now ≡ take size (concat blocks.now) }
+        ensures length { length result.data.now ≡ size }
+        ensures at { result.at ≡ 0 }
+        ensures index { result.index ≡ 0 }
+    {
+        let (data, _) = blocks.as_flattened().split_at(size);
+        Fids {
+            data,
+            at: 0,
+            index: 0,
+        }
+    }
+
+    /// The next identifier, or the fault of its lengths. After a fault all is as before.
+    pub(crate) fn split(&mut self) -> Result<Fid<'a>, DirFault>
+        ensures exactly { IsOk result ↔ IsSplit self.old.at self.old.data.now }
+        ensures shows { IfOk result (λ fid. Shows fid self.old.data.now) }
+        ensures data { OnOk result (self.new.data.now ≡ drop (size_of self.old.data.now) self.old.data.now) }
+        ensures at { OnOk result (let end = self.old.at + size_of self.old.data.now in self.new.at ≡ (if end == 2048 then 0 else end)) }
+        ensures index { OnOk result (let end = self.old.at + size_of self.old.data.now in self.new.index ≡ (if end == 2048 then self.old.index + 1 else self.old.index)) }
+        ensures err { OnErr result (self.new ≡ self.old) }
+    {
+        let data = self.data;
+        if data.len() < HEAD_SIZE {
+            return Err(DirFault::End);
+        }
+        let name_size = usize::from(data[19]);
+        let use_size = usize::from(u16_at(data, 36));
+        let size = rounded(HEAD_SIZE + use_size + name_size);
+        if size > data.len() {
+            return Err(DirFault::End);
+        }
+        if !fits(size, BLOCK_SIZE - self.at) {
+            return Err(DirFault::Span);
+        }
+        let (bytes, behind) = data.split_at(size);
+        let end = self.at + size;
+        *self = if end == BLOCK_SIZE {
+            Fids {
+                data: behind,
+                at: 0,
+                index: self.index + 1,
+            }
+        } else {
+            Fids {
+                data: behind,
+                at: end,
+                index: self.index,
+            }
+        };
+        Ok(Fid::new(bytes, use_size, name_size))
+    }
+}
+
+impl<'a> Iterator for Fids<'a> {
+    ghost use Rattle.std.specs.Prelude.{length};
+    ghost use Rattle.std.specs.Iterator.{at_most};
+
+    type Item = Fid<'a>;
+
+    ghost remaining = { λ f. at_most (length f.data.now) };
+
+    fn next(&mut self) -> Option<Fid<'a>> {
+        self.split().ok()
+    }
+}

@@ -1,0 +1,83 @@
+//! How many bytes identifiers take, and which of them share a block.
+
+ghost use Rattle.std.specs.Prelude.{◌≡◌, ◌+◌, ◌<◌, ◌≤◌, ◌^◌};
+ghost use Rattle.dir.specs.Identifier as identifier;
+ghost use Rattle.dir.specs.Layout as layout;
+
+/// The bytes of a block.
+pub(crate) const BLOCK_SIZE: usize = 2048;
+
+/// The least multiple of 4 that is not below the size.
+pub(crate) fn rounded(size: usize) -> usize
+    requires { size < 2 ^ 32 }
+    ensures { result ≡ identifier.rounded size }
+{
+    (size + 3) / 4 * 4
+}
+
+/// The bytes of a file identifier without implementation use, by the bytes of its compressed name.
+pub(crate) fn plain_size(name_size: usize) -> usize
+    requires { name_size ≤ 255 }
+    ensures { result ≡ identifier.plain_size name_size }
+{
+    rounded(38 + name_size)
+}
+
+/// Whether so many bytes may be put where `left` bytes of a block are left. Behind them none are
+/// left, or enough for the EntityID that begins an implementation use.
+pub(crate) fn fits(size: usize, left: usize) -> bool
+    requires { size < 2 ^ 32 }
+    ensures { result ≡ layout.fits size left }
+{
+    size == left || size + 32 <= left
+}
+
+/// The size of a directory's data, from the lengths of its names alone.
+#[derive(Clone, Copy, Debug, PartialEq, Eq)]
+pub struct DataSize {
+    full: u32,
+    used: u32,
+    ghost in_block: { used ≤ 2048 },
+}
+
+impl DataSize {
+    ghost use Rattle.std.specs.Prelude.{◌≡◌, ◌+◌, ◌<◌, ◌≤◌, ◌^◌};
+    ghost use Rattle.dir.specs.Size.{end_of, parent_end, next_end, end_bytes};
+
+    /// The data of a directory without names.
+    pub fn new() -> DataSize
+        ensures { end_of result ≡ parent_end }
+    {
+        DataSize { full: 0, used: 40 }
+    }
+
+    /// Adds a name behind the others, of `name_size` bytes in compressed form (1 to 255).
+    pub fn add(&mut self, name_size: usize)
+        requires short { name_size ≤ 255 }
+        requires room { self.old.full + 1 < 2 ^ 32 }
+        ensures { end_of self.new ≡ next_end (end_of self.old) name_size }
+    {
+        let size = plain_size(name_size);
+        if fits(size, BLOCK_SIZE - self.used as usize) {
+            self.used += size as u32;
+        } else {
+            self.full += 1;
+            self.used = size as u32;
+        }
+    }
+
+    /// The information length of the directory's entry, in bytes.
+    pub fn bytes(&self) -> u64
+        ensures { result ≡ end_bytes (end_of self.now) }
+    {
+        u64::from(self.full) * 2048 + u64::from(self.used)
+    }
+
+    /// The blocks that the data takes.
+    pub fn blocks(&self) -> u32
+        requires { self.now.full + 1 < 2 ^ 32 }
+        ensures { result ≡ self.now.full + 1 }
+    {
+        self.full + 1
+    }
+}
