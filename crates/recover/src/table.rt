@@ -1,11 +1,12 @@
 //! The tables of a medium: the last one, and the one before each.
 
-ghost use Rattle.std.specs.Prelude.{◌≡◌, ◌+◌, ◌<◌, ◌≤◌, IsTrue, IfOk, IfSome};
+ghost use Rattle.std.specs.Prelude.{◌≡◌, ℕ, ◌+◌, ◌-◌, ◌<◌, ◌≤◌, List, IsTrue, IfOk, IfSome};
 ghost use Rattle.std.specs.Int.{div_ceil};
 ghost use Rattle.drive.specs.Journal.{next_of};
+ghost use Rattle.vat.specs.Table.{IsTableAt, view};
 ghost use Rattle.recover.specs.Faults.{Counts, devices};
 
-use crate::cause;
+use crate::cause::{CHAIN, RANGE};
 use crate::fault::StoreFault;
 use crate::reading::{PARTITION_START, block_count, read_block, read_bytes};
 use drive::Drive;
@@ -60,12 +61,15 @@ pub fn table_entry<D: Drive>(drive: &mut D, at: u32) -> Result<TableEntry, Store
     let block = read_block(drive, at)?;
     let entry = match decode_fe(&block, at - PARTITION_START) {
         Ok(entry) => entry,
-        Err(_) => return Err(damaged(at, cause::CHAIN)),
+        Err(_) => return Err(no_table(at)),
     };
     match (entry.kind, entry.place) {
         (Kind::Vat, Place::Extent(first)) => {
             if !lies_below(first, entry.size, at) {
-                return Err(damaged(at, cause::RANGE));
+                return Err(StoreFault::Damaged {
+                    block: at,
+                    cause: RANGE,
+                });
             }
             Ok(TableEntry {
                 moment: entry.moment,
@@ -73,7 +77,7 @@ pub fn table_entry<D: Drive>(drive: &mut D, at: u32) -> Result<TableEntry, Store
                 size: entry.size,
             })
         }
-        _ => Err(damaged(at, cause::CHAIN)),
+        _ => Err(no_table(at)),
     }
 }
 
@@ -87,6 +91,8 @@ pub fn read_table<D: Drive>(
     requires low { 257 ≤ at }
     requires within { at < next_of (D.journal drive.old) }
     requires below { entry.now.first + 257 + div_ceil entry.now.size 2048 ≤ at }
+    ensures table { IfOk result (λ vat. (bytes : List ℕ) × IsTableAt (at - 257) (view vat) bytes) }
+    ensures previous { IfOk result (λ vat. IfSome vat.previous (λ number. number + 257 < at)) }
     ensures journal { D.journal drive.new ≡ D.journal drive.old }
     ensures capacity { D.capacity drive.new ≡ D.capacity drive.old }
     ensures honest { IsTrue (D.honest drive.new) → IsTrue (D.honest drive.old) }
@@ -97,7 +103,10 @@ pub fn read_table<D: Drive>(
     match decode_vat(alloc, &bytes, at - PARTITION_START) {
         Ok(vat) => Ok(vat),
         Err(VatFault::Memory) => Err(StoreFault::Memory),
-        Err(fault) => Err(damaged(start, fault.number())),
+        Err(fault) => Err(StoreFault::Damaged {
+            block: start,
+            cause: fault.number(),
+        }),
     }
 }
 
@@ -108,19 +117,19 @@ pub fn lies_below(first: u32, size: u32, at: u32) -> bool
     u64::from(first) + u64::from(PARTITION_START) + u64::from(block_count(size)) <= u64::from(at)
 }
 
-pub fn damaged(block: u32, cause: u8) -> StoreFault
-    ensures { result ≡ StoreFault.Damaged block cause }
+/// An address at which the chain wants the entry of a table, and none is.
+fn no_table(at: u32) -> StoreFault
+    ensures { result ≡ StoreFault.Damaged at CHAIN }
 {
-    StoreFault::Damaged { block, cause }
+    StoreFault::Damaged {
+        block: at,
+        cause: CHAIN,
+    }
 }
 
 /// The address of the entry of the table before the one whose entry stands at `at`, by one step of the chain; none where
 /// no request was committed.
-pub fn before<D: Drive>(
-    alloc: Global,
-    drive: &mut D,
-    at: u32,
-) -> Result<Option<u32>, StoreFault>
+pub fn before<D: Drive>(alloc: Global, drive: &mut D, at: u32) -> Result<Option<u32>, StoreFault>
     requires low { 257 ≤ at }
     requires within { at < next_of (D.journal drive.old) }
     ensures below { IfOk result (λ found. IfSome found (λ earlier. (257 ≤ earlier) × (earlier < at))) }
@@ -138,7 +147,7 @@ pub fn before<D: Drive>(
     let earlier_entry = table_entry(drive, linked)?;
     let earlier = read_table(alloc, drive, linked, &earlier_entry)?;
     if vat.sessions.commits == 0 || earlier.sessions.commits != vat.sessions.commits - 1 {
-        return Err(damaged(linked, cause::CHAIN));
+        return Err(no_table(linked));
     }
     Ok(Some(linked))
 }
