@@ -20,6 +20,7 @@ use Rattle.model.proofs.Moving.{keys_have}
 use Rattle.model.proofs.Place.{Placed, reached_path, reached_at}
 use Rattle.model.proofs.Made.{one_in, place_of, placed_from_makes}
 use Rattle.model.proofs.Counts.{one, EntriesApart, keys_apart}
+use Rattle.model.proofs.Entries.{with_used, without_used}
 
 -- how many addresses are used, entry by entry
 used : Table → ℕ
@@ -273,6 +274,7 @@ new_entries table nodes start two set root many = go (nat_lt (free_address table
         let is : with_entry (free_address table) start table ≡ slice_set table (free_address table) (Some start) = ap (λ b. if b then slice_set table (free_address table) (Some start) else table ++ Some start ∷ []) e in
         record {
           used = ap used_in is ∙ used-in (slice_set table (free_address table) (Some start)) ∙ more ∙ ap (λ n. n + 1) (sym (used-in table));
+          each = λ other. with_used table (free_address table) start other (inl below);
           long = ap (λ (t : Table). length t) is ∙ long ∙ (let m : length table ≡ max (length table) (1 + (nodes + 1)) = omega arith in m);
         }
     go false e =
@@ -284,6 +286,7 @@ new_entries table nodes start two set root many = go (nat_lt (free_address table
         let is : with_entry (free_address table) start table ≡ table ++ Some start ∷ [] = ap (λ b. if b then slice_set table (free_address table) (Some start) else table ++ Some start ∷ []) e in
         record {
           used = ap used_in is ∙ used-in (table ++ Some start ∷ []) ∙ push_used table start ∙ ap (λ n. n + 1) (sym (used-in table));
+          each = λ other. with_used table (free_address table) start other (inr (omega arith));
           long = ap (λ (t : Table). length t) is ∙ (let m : length (table ++ Some start ∷ []) ≡ max (length table) (1 + (nodes + 1)) = omega arith in m);
         }
       where
@@ -296,5 +299,5 @@ pub gone_entries : (table : Table) (address : ℕ) → is_used table address ≡
 gone_entries table address e = record {
   used = ap (λ n. n + 1) (used-in (slice_set table address None)) ∙ set_less table address e ∙ sym (used-in table);
   long = length-set table address None;
-  unused = set_here table address;
+  each = λ other. without_used table address other;
 }
