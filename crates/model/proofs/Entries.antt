@@ -17,12 +17,12 @@ set_here [] a start l = absurd (omega arith)
 set_here (x ∷ table) zero start l = refl
 set_here (x ∷ table) (suc a) start l = set_here table a start (omega arith)
 
-out_here : (table : Table) (a : ℕ) → is_used (slice_set table a None) a ≡ false
+pub out_here : (table : Table) (a : ℕ) → is_used (slice_set table a None) a ≡ false
 out_here [] a = refl
 out_here (x ∷ table) zero = refl
 out_here (x ∷ table) (suc a) = out_here table a
 
-set_beside : (table : Table) (a : ℕ) (entry : Option ℕ) (b : ℕ) → (b ≡ a → ⊥) → is_used (slice_set table a entry) b ≡ is_used table b
+pub set_beside : (table : Table) (a : ℕ) (entry : Option ℕ) (b : ℕ) → (b ≡ a → ⊥) → is_used (slice_set table a entry) b ≡ is_used table b
 set_beside [] a entry b apart = refl
 set_beside (x ∷ table) zero entry zero apart = absurd (apart refl)
 set_beside (x ∷ table) zero entry (suc b) apart = refl
