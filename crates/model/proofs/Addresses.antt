@@ -20,6 +20,7 @@ use Rattle.model.proofs.Moving.{keys_have}
 use Rattle.model.proofs.Place.{Placed, reached_path, reached_at}
 use Rattle.model.proofs.Made.{one_in, place_of, placed_from_makes}
 use Rattle.model.proofs.Counts.{one, EntriesApart, keys_apart}
+use Rattle.model.proofs.Entries.{out_here, set_beside, with_used, without_used}
 
 -- how many addresses are used, entry by entry
 used : Table → ℕ
@@ -82,18 +83,6 @@ set_less (Some s ∷ table) zero e = omega arith
 set_less (None ∷ table) (suc a) e = set_less table a e
 set_less (Some s ∷ table) (suc a) e = let m = set_less table a e in omega arith
 
-set_here : (table : Table) (a : ℕ) → is_used (slice_set table a None) a ≡ false
-set_here [] a = refl
-set_here (x ∷ table) zero = refl
-set_here (x ∷ table) (suc a) = set_here table a
-
-set_other : (table : Table) (a b : ℕ) → (b ≡ a → ⊥) → is_used (slice_set table a None) b ≡ is_used table b
-set_other [] a b apart = refl
-set_other (x ∷ table) zero zero apart = absurd (apart refl)
-set_other (x ∷ table) zero (suc b) apart = refl
-set_other (x ∷ table) (suc a) zero apart = refl
-set_other (x ∷ table) (suc a) (suc b) apart = set_other table a b (λ e. apart (ap suc e))
-
 push_used : (table : Table) (start : ℕ) → used (table ++ Some start ∷ []) ≡ used table + 1
 unfolding used
 push_used [] start = refl
@@ -117,10 +106,10 @@ filled (x ∷ xs) table apart same =
   where
     fewer : (a : ℕ) → (is_used (slice_set table x None) a ≡ true) ↔ Contains xs a
     fewer a = (
-      (λ e. let other : a ≡ x → ⊥ = λ s. true≢false (sym e ∙ ap (is_used (slice_set table x None)) s ∙ set_here table x) in
-          elim (contains_cons x xs a ((same a).0 (sym (set_other table x a other) ∙ e))) [ inl s ↦ absurd (other (sym s)) | inr c ↦ c ]),
+      (λ e. let other : a ≡ x → ⊥ = λ s. true≢false (sym e ∙ ap (is_used (slice_set table x None)) s ∙ out_here table x) in
+          elim (contains_cons x xs a ((same a).0 (sym (set_beside table x None a other) ∙ e))) [ inl s ↦ absurd (other (sym s)) | inr c ↦ c ]),
       (λ c. let other : a ≡ x → ⊥ = λ s. apart.0 (subst (Contains xs) s c) in
-          set_other table x a other ∙ (same a).1 (contains_there x xs a c)),
+          set_beside table x None a other ∙ (same a).1 (contains_there x xs a c)),
     )
 
 -- what is found is an entry of the list
@@ -273,6 +262,7 @@ new_entries table nodes start two set root many = go (nat_lt (free_address table
         let is : with_entry (free_address table) start table ≡ slice_set table (free_address table) (Some start) = ap (λ b. if b then slice_set table (free_address table) (Some start) else table ++ Some start ∷ []) e in
         record {
           used = ap used_in is ∙ used-in (slice_set table (free_address table) (Some start)) ∙ more ∙ ap (λ n. n + 1) (sym (used-in table));
+          each = λ other. with_used table (free_address table) start other (inl below);
           long = ap (λ (t : Table). length t) is ∙ long ∙ (let m : length table ≡ max (length table) (1 + (nodes + 1)) = omega arith in m);
         }
     go false e =
@@ -284,6 +274,7 @@ new_entries table nodes start two set root many = go (nat_lt (free_address table
         let is : with_entry (free_address table) start table ≡ table ++ Some start ∷ [] = ap (λ b. if b then slice_set table (free_address table) (Some start) else table ++ Some start ∷ []) e in
         record {
           used = ap used_in is ∙ used-in (table ++ Some start ∷ []) ∙ push_used table start ∙ ap (λ n. n + 1) (sym (used-in table));
+          each = λ other. with_used table (free_address table) start other (inr (omega arith));
           long = ap (λ (t : Table). length t) is ∙ (let m : length (table ++ Some start ∷ []) ≡ max (length table) (1 + (nodes + 1)) = omega arith in m);
         }
       where
@@ -296,5 +287,5 @@ pub gone_entries : (table : Table) (address : ℕ) → is_used table address ≡
 gone_entries table address e = record {
   used = ap (λ n. n + 1) (used-in (slice_set table address None)) ∙ set_less table address e ∙ sym (used-in table);
   long = length-set table address None;
-  unused = set_here table address;
+  each = λ other. without_used table address other;
 }

@@ -6,7 +6,7 @@ use Rattle.std.specs.FinMap.{get, insert, remove, from_entries, get-from_entries
 use Rattle.std.specs.FinMap as finmap
 use Rattle.std.specs.Ordering.{eq_by_cmp}
 use Rattle.std.proofs.lemmas.Bool.{true≢false, false≢true}
-use Rattle.std.proofs.lemmas.List.{map_push, length-map, get_or-map, map-set}
+use Rattle.std.proofs.lemmas.List.{map_push, length-map, get_or-map, get_or_default, map-set}
 use Rattle.std.proofs.lemmas.List.Edits.{map_over_more}
 use Rattle.model.specs.Tree.{Path, Node, Tree, IsTree, Has, path_cmp, paths_eq, parent_of, last_of}
 use Rattle.model.specs.Operation.{changed_at, changed_in, name_added, all_moved, moved, code_of_move}
@@ -20,10 +20,6 @@ use Rattle.model.proofs.Edits.{get-changed_same, get-changed_other, some-changed
 use Rattle.model.proofs.Moving.{moved_list}
 use Rattle.model.proofs.Counts.{moved_apart}
 use Rattle.model.proofs.PlainLists.{test, test_same, paths_eq-itself, at_place, at_none}
-
-pub any-map : {X Y : Type 0} (f : Y → Bool) (g : X → Y) (xs : List X) → list_any (λ x. f (g x)) xs ≡ list_any f (map g xs)
-any-map f g [] = refl
-any-map f g (x ∷ xs) = ap (λ b. f (g x) || b) (any-map f g xs)
 
 abbrev found : Path → List Entry → Option Node
 found q es = finmap.find path_cmp q (map entry_in es)
@@ -242,11 +238,6 @@ module _ (from to : Path) (es : List Entry) (d : AreApart es) (is : IsTree (tree
       paths : map path_in after ≡ map (moved from to) (map path_in es)
       paths = sym (firsts after) ∙ ap (map (λ (e : Path × Node). e.0)) same ∙ turned_firsts es
 
-get_or_same : (es : List Entry) (i : ℕ) (a b : Entry) → i < length es → get_or es i a ≡ get_or es i b
-get_or_same [] i a b l = absurd (omega arith)
-get_or_same (x ∷ es) zero a b l = refl
-get_or_same (x ∷ es) (suc i) a b l = get_or_same es i a b (omega arith)
-
 -- A change at a place that was found by its path.
 module _ (p q : Path) (es xs : List Entry) (same : xs ≡ es) (path : q ≡ p) where
   pub changed_place : (i : ℕ) (e old : Entry) (change : Node → Node) → AreApart es → position (test q) xs ≡ Some i → old ≡ get_or es i old → path_in e ≡ path_in old
@@ -254,7 +245,7 @@ module _ (p q : Path) (es xs : List Entry) (same : xs ≡ es) (path : q ≡ p) w
   changed_place i e old change d at is names node =
       let place = at_place p es i (subst (λ x. position (test x) es ≡ Some i) path (subst (λ ys. position (test q) ys ≡ Some i) same at)) in
       let here = place.1 e in
-      let one : get_or es i e ≡ old = get_or_same es i e old place.0 ∙ sym is in
+      let one : get_or es i e ≡ old = get_or_default es i e old place.0 ∙ sym is in
       changed_list p es i e change d place.0 here (names ∙ ap path_in (sym one) ∙ here.1) (node ∙ ap (λ (x : Entry). change (node_in x.node)) (sym one))
 
   pub changed_none : (change : Node → Node) → AreApart es → position (test q) xs ≡ None → HasTree es (changed_at p change (tree_in es))
@@ -275,9 +266,6 @@ has_along es s t e h = subst (HasTree es) e h
 -- names change at no new path
 pub still_none : (p : Path) (moment : ℕ) (tree : Tree) → get tree p ≡ None → get (name_added p moment tree) p ≡ None
 still_none p moment tree none = none_at (name_added p moment tree) p (λ h. not_none tree p none (sym (some-changed (parent_of p) (λ names. names ++ last_of p) moment tree p) ∙ h))
-
-pub same_read : (es : List Entry) (i : ℕ) (a b : Entry) → i < length es → a ≡ get_or es i a → b ≡ get_or es i b → a ≡ b
-same_read es i a b l f g = f ∙ get_or_same es i a b l ∙ sym g
 
 -- one more path of the list is moved
 pub moved_more : (from to : Path) (es start : List Entry) (i : ℕ) (old e : Entry) → i < length start → length es ≡ length start

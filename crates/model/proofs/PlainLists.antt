@@ -141,7 +141,3 @@ module _ (f : Path → Bool) where
   any-tree es = any-paths (map path_in es) (keys (tree_in es)) (λ x.
       ap (list_any (eq_by_cmp path_cmp x)) (sym (map-paths es)) ∙ sym (is_some-find path_cmp x (map entry_in es))
       ∙ ap is_some (sym (get-from_entries path_cmp_total (map entry_in es) x)) ∙ contains_key-keys (tree_in es) x)
-
-  pub any-entries : (es : List Entry) → list_any (λ e. f (path_in e)) es ≡ list_any f (map path_in es)
-  any-entries [] = refl
-  any-entries (e ∷ es) = ap (λ b. f (path_in e) || b) (any-entries es)

@@ -8,6 +8,7 @@ use Rattle.model.specs.Session.{Reply, ClientRecord, record_of, answered, answer
 use Rattle.model.specs.Plain.{reply_in, record_in}
 use Rattle.model.specs.declared.plain.records.Reply.{Reply as PlainReply}
 use Rattle.model.specs.declared.plain.records.ClientRecord.{ClientRecord as PlainRecord}
+use Rattle.model.proofs.Lists.{any-map, same_read}
 
 pub find-records : (client : ℕ) (rs : List PlainRecord) → option_map record_in (find (λ (r : PlainRecord). r.client == client) rs) ≡ record_of client (map record_in rs)
 find-records client [] = refl
@@ -18,10 +19,6 @@ find-records client (x ∷ rs) = go (x.client == client) (find-records client rs
     go true rest = refl
     go false rest = rest
 
-pub any-records : (client : ℕ) (rs : List PlainRecord) → list_any (λ (r : PlainRecord). r.client == client) rs ≡ list_any (λ (r : ClientRecord). r.client == client) (map record_in rs)
-any-records client [] = refl
-any-records client (x ∷ rs) = ap (λ b. (x.client == client) || b) (any-records client rs)
-
 -- one more record is gone through
 pub answered_more : (client number : ℕ) (reply : Reply) (rs start : List PlainRecord) (i : ℕ) (old e : PlainRecord) → i < length start → length rs ≡ length start
     → map record_in rs ≡ map (answered_if client number reply) (take i (map record_in start)) ++ drop i (map record_in start) → old ≡ get_or rs i old
@@ -31,14 +28,6 @@ answered_more client number reply rs start i old e l size before at same =
     map-set record_in rs i e ∙ ap (slice_set (map record_in rs) i) same
     ∙ map_over_more (answered_if client number reply) (map record_in start) (map record_in rs) i (record_in old)
     (let long = length-map start record_in in omega arith) before (ap record_in at ∙ sym (get_or-map record_in rs i old (record_in old) (omega arith)))
-
-get_or_same : (rs : List PlainRecord) (i : ℕ) (a b : PlainRecord) → i < length rs → get_or rs i a ≡ get_or rs i b
-get_or_same [] i a b l = absurd (omega arith)
-get_or_same (x ∷ rs) zero a b l = refl
-get_or_same (x ∷ rs) (suc i) a b l = get_or_same rs i a b (omega arith)
-
-pub same_read : (rs : List PlainRecord) (i : ℕ) (a b : PlainRecord) → i < length rs → a ≡ get_or rs i a → b ≡ get_or rs i b → a ≡ b
-same_read rs i a b l f g = f ∙ get_or_same rs i a b l ∙ sym g
 
 -- it is the client's
 pub answered_here : (client number : ℕ) (reply : Reply) (rs start : List PlainRecord) (i : ℕ) (seen old e : PlainRecord) → i < length start → length rs ≡ length start
@@ -67,10 +56,10 @@ pushed_record client number reply rs e a b c none =
     map_push record_in rs e
     ∙ ap (λ (r : ClientRecord). map record_in rs ++ r ∷ []) (λ i. record { client = a i; latest = b i; replies = map reply_in (c i) })
     ∙ sym (ap (λ t. if t then map (answered_if client number (reply_in reply)) (map record_in rs) else map record_in rs ++ record { client = client; latest = number; replies = reply_in reply ∷ [] } ∷ [])
-    (sym (any-records client rs) ∙ none))
+    (sym (any-map (λ (r : ClientRecord). r.client == client) record_in rs) ∙ none))
 
 pub answered_records : (client number : ℕ) (reply : Reply) (rs : List PlainRecord) → list_any (λ (r : PlainRecord). r.client == client) rs ≡ true
     → map (λ r. answered_if client number reply r) (map record_in rs) ≡ with_reply client number reply (map record_in rs)
 answered_records client number reply rs some =
     sym (ap (λ t. if t then map (answered_if client number reply) (map record_in rs) else map record_in rs ++ record { client = client; latest = number; replies = reply ∷ [] } ∷ [])
-    (sym (any-records client rs) ∙ some))
+    (sym (any-map (λ (r : ClientRecord). r.client == client) record_in rs) ∙ some))

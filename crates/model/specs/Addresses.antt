@@ -1,7 +1,9 @@
 -- The table of virtual addresses, apart from what its entries say: which addresses are used, and which a new node gets.
-use Rattle.std.specs.Prelude.{suc, ◌≡◌, ◌↔◌, ◌⊎◌, ℕ, ◌+◌, ◌<◌, Bool, true, false, if◌then◌else◌, nat_lt, List, [], ◌∷◌, ◌++◌, length, drop, slice_get, slice_set, Option, Some, None, is_some, count_by}
+use Rattle.std.specs.Prelude.{suc, ◌≡◌, ◌↔◌, ◌⊎◌, ℕ, ◌+◌, ◌<◌, ◌==◌, Bool, true, false, if◌then◌else◌, nat_lt, List, [], ◌∷◌, ◌++◌, length, drop, slice_get, slice_set, Option, Some, None, is_some, count_by}
+use Rattle.model.specs.Operation.{Operation}
+use Rattle.model.specs.Operation.Operation.{Create, Replace, MakeDir, Rename, Remove}
 use Rattle.model.specs.Graph.{Graph}
-use Rattle.model.specs.Change.{IsReached}
+use Rattle.model.specs.Change.{Changes, IsReached}
 
 -- under each address where something begins, or nothing
 abbrev pub Table : Type 0
@@ -41,3 +43,11 @@ with_entry address start table = if nat_lt address (length table) then slice_set
 -- the table without an entry that was used: its address becomes unused, and the table does not get shorter
 abbrev pub without_entry : ℕ → Table → Table
 without_entry address table = slice_set table address None
+
+-- Which addresses are used after an operation that is answered 0: a new node's too, and that of a node that is gone no more.
+abbrev pub UsedAfter : (graph graph' : Graph) (op : Operation) (moment identity : ℕ) → Changes graph graph' op moment identity → Table → Table → Type 0
+UsedAfter graph graph' (Create path bytes) moment identity change table table' = (0 < change.address) × ((address : ℕ) → is_used table' address ≡ (if address == change.address then true else is_used table address))
+UsedAfter graph graph' (MakeDir path) moment identity change table table' = (0 < change.address) × ((address : ℕ) → is_used table' address ≡ (if address == change.address then true else is_used table address))
+UsedAfter graph graph' (Replace path bytes) moment identity change table table' = (address : ℕ) → is_used table' address ≡ is_used table address
+UsedAfter graph graph' (Rename from to) moment identity change table table' = (address : ℕ) → is_used table' address ≡ is_used table address
+UsedAfter graph graph' (Remove path) moment identity change table table' = (address : ℕ) → is_used table' address ≡ (if address == change.gone.address then false else is_used table address)

@@ -1,10 +1,11 @@
 -- The laws of virtual addresses.
-use Rattle.std.specs.Prelude.{◌≡◌, ℕ, ◌+◌, ◌<◌, ◌≤◌, max, true, false, Option, length}
+use Rattle.std.specs.Prelude.{◌≡◌, ℕ, ◌+◌, ◌<◌, ◌≤◌, max, ◌==◌, if◌then◌else◌, true, false, Option, length}
 use Rattle.std.specs.FinMap.{len}
 use Rattle.model.specs.Tree.{Tree, IsTree}
 use Rattle.model.specs.Graph.{Stored, MakesTree}
-use Rattle.model.specs.Change.{IsReached, stored_in}
-use Rattle.model.specs.Addresses.{Table, HoldsNodes, is_used, used_in, free_address, with_entry, without_entry}
+use Rattle.model.specs.Operation.{Operation, code_of}
+use Rattle.model.specs.Change.{Changes, IsReached, stored_in}
+use Rattle.model.specs.Addresses.{Table, HoldsNodes, UsedAfter, is_used, used_in, free_address, with_entry, without_entry}
 
 -- the file set and each node have an address, and nothing else has
 abbrev pub UsedAreNodes : Type 0
@@ -24,6 +25,7 @@ FreeIsFree = (graph : ℕ → Option Stored) (table : Table) → HoldsNodes (sto
 -- with a new node the table is as long as it was, or as the nodes then need
 pub record IsWith (table : Table) (nodes start : ℕ) : Type 0 where
   pub used : used_in (with_entry (free_address table) start table) ≡ used_in table + 1
+  pub each : (other : ℕ) → is_used (with_entry (free_address table) start table) other ≡ (if other == free_address table then true else is_used table other)
   pub long : length (with_entry (free_address table) start table) ≡ max (length table) (1 + (nodes + 1))
 
 abbrev pub NewEntries : Type 0
@@ -33,7 +35,13 @@ NewEntries = (table : Table) (nodes start : ℕ) → 2 ≤ length table → is_u
 pub record IsWithout (table : Table) (address : ℕ) : Type 0 where
   pub used : used_in (without_entry address table) + 1 ≡ used_in table
   pub long : length (without_entry address table) ≡ length table
-  pub unused : is_used (without_entry address table) address ≡ false
+  pub each : (other : ℕ) → is_used (without_entry address table) other ≡ (if other == address then false else is_used table other)
 
 abbrev pub GoneEntries : Type 0
 GoneEntries = (table : Table) (address : ℕ) → is_used table address ≡ true → IsWithout table address
+
+-- so the table goes on to hold the nodes
+abbrev pub EntriesFollow : Type 0
+EntriesFollow = (op : Operation) (moment identity : ℕ) (tree : Tree) (before after : ℕ → Option Stored) (table table' : Table) → IsTree tree → code_of op tree ≡ 0
+    → MakesTree (stored_in before) tree → HoldsNodes (stored_in before) table → (change : Changes (stored_in before) (stored_in after) op moment identity)
+    → UsedAfter (stored_in before) (stored_in after) op moment identity change table table' → HoldsNodes (stored_in after) table'

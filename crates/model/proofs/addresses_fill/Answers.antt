@@ -1,4 +1,5 @@
 use Rattle.model.proofs.Addresses.{used_are_nodes, free_is_free, new_entries, gone_entries}
+use Rattle.model.proofs.Entries.{entries_follow}
 use Rattle.model.proofs.addresses_fill.Goals as goal
 
 pub returns-clause-used : goal.returns-clause-used
@@ -12,3 +13,6 @@ returns-clause-new c table nodes start two set root many = new_entries table nod
 
 pub returns-clause-gone : goal.returns-clause-gone
 returns-clause-gone c table address used = gone_entries table address used
+
+pub returns-clause-follow : goal.returns-clause-follow
+returns-clause-follow c op moment identity tree before after table table' is e makes holds change used = entries_follow op moment identity tree before after table table' is e makes holds change used

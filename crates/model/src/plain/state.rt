@@ -1,6 +1,6 @@
 //! A volume's state, and one request after the other.
 
-ghost use Rattle.std.specs.Prelude.{◌≡◌, ◌+◌, ◌==◌, ◌&&◌, if◌then◌else◌, IfOk};
+ghost use Rattle.std.specs.Prelude.{◌≡◌, ◌≤◌, ◌+◌, ◌^◌, ◌⊎◌, ◌==◌, ◌&&◌, if◌then◌else◌, IfOk, IfErr};
 ghost use Rattle.std.specs.Option.{option_copied, option_map};
 ghost use Rattle.std.specs.FinMap.{get};
 ghost use Rattle.model.specs.Tree.{IsTree};
@@ -30,11 +30,15 @@ pub struct Request {
 pub enum Refusal {
     /// Memory was refused.
     Memory,
-    /// A count would have passed 64 bits.
+    /// The number of commits or of unique IDs would pass 64 bits.
     Exhausted,
 }
 
 impl From<AllocError> for Refusal {
+    ghost use Rattle.model.specs.declared.plain.state.Refusal.TheVariants.{Memory};
+
+    ghost from_gives = { λ _ refusal. refusal ≡ Memory };
+
     fn from(_error: AllocError) -> Refusal {
         Refusal::Memory
     }
@@ -98,6 +102,7 @@ impl State {
         ensures whole { IfOk result (λ pair. IsWhole pair.0) }
         ensures state { IfOk result (λ pair. state_in pair.0 ≡ after_one (state_in self) (request_in request)) }
         ensures reply { IfOk result (λ pair. reply_in pair.1 ≡ reply_to (state_in self) (request_in request)) }
+        ensures exhausted { IfErr result (λ refusal. refusal ≡ Refusal.Exhausted → (2 ^ 64 ≤ self.commits + 1) ⊎ (2 ^ 64 ≤ self.next_identity + 1)) }
     {
         let State {
             nodes,
@@ -154,6 +159,7 @@ fn carried_out(
     ensures apart { IfOk result (λ pair. AreApart pair.0.items) }
     ensures tree { IfOk result (λ pair. tree_in pair.0.items ≡ tree_after (operation_in operation) moment next_identity (tree_in nodes.items)) }
     ensures next { IfOk result (λ pair. pair.1 ≡ (if draws_identity (operation_in operation) && (code_of (operation_in operation) (tree_in nodes.items) == 0) then next_identity + 1 else next_identity)) }
+    ensures exhausted { IfErr result (λ refusal. refusal ≡ Refusal.Exhausted → 2 ^ 64 ≤ next_identity + 1) }
 {
     if !code.is_done() {
         return Ok((nodes, next_identity));

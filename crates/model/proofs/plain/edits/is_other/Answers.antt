@@ -1,6 +1,6 @@
 use Rattle.std.proofs.Common.{ap, not, ◌∙◌, string_bytes}
 use Rattle.std.specs.Str.{bytes_eq}
-use Rattle.model.proofs.PlainEdits.{any-map}
+use Rattle.model.proofs.Lists.{any-map}
 use Rattle.model.proofs.plain.edits.is_other.Goals as goal
 
 pub returns : goal.returns

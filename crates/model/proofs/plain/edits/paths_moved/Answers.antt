@@ -3,7 +3,8 @@ use Rattle.std.proofs.lemmas.List.{length-set}
 use Rattle.model.specs.Operation.{moved}
 use Rattle.model.specs.Plain.{names_in, path_in}
 use Rattle.model.specs.declared.plain.nodes.Entry.{Entry}
-use Rattle.model.proofs.PlainEdits.{moved_more, same_read}
+use Rattle.model.proofs.Lists.{same_read}
+use Rattle.model.proofs.PlainEdits.{moved_more}
 use Rattle.model.proofs.plain.edits.paths_moved.Goals as goal
 
 pub loop-i-preserved : goal.loop-i-preserved

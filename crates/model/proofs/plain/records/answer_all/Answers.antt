@@ -1,7 +1,7 @@
 use Rattle.std.proofs.Common.{◌≡◌, ◌<◌, ap, ◌∙◌, length, sym, rules}
 use Rattle.std.proofs.lemmas.List.{length-set}
 use Rattle.model.specs.Plain.{reply_in}
-use Rattle.model.proofs.PlainRecords.{same_read, answered_here, answered_past}
+use Rattle.model.proofs.PlainRecords.{answered_here, answered_past}
 use Rattle.model.proofs.plain.records.answer_all.Goals as goal
 use Rattle.model.proofs.plain.records.answer_all.Goals.{then-index-client+in_ok-answer, else-index-client}
 

@@ -3,7 +3,7 @@ use Rattle.std.specs.List.{list_any}
 use Rattle.model.specs.Session.{ClientRecord, with_reply, answered_if}
 use Rattle.model.specs.Plain.{reply_in, record_in}
 use Rattle.model.specs.declared.plain.records.ClientRecord.{ClientRecord as PlainRecord}
-use Rattle.model.proofs.PlainRecords.{any-records, pushed_record, answered_records}
+use Rattle.model.proofs.PlainRecords.{pushed_record, answered_records}
 use Rattle.model.proofs.plain.records.with_reply.Goals as goal
 
 pub returns-then-not-has_record : goal.returns-then-not-has_record
