@@ -1,4 +1,13 @@
-//! Requests, queries and answers, and the frames that carry them.
+//! Requests, queries and answers, and the frames that carry them (docs/PROTOCOL.md).
+//!
+//! A stream of bytes has one list of messages, however it comes in pieces. Each frame gives one message:
+//! the request or the query that its payload spells, or the payload's first fault from left to right. What
+//! can be said has one payload, and is read from it. An answer has one frame, and no answer's bytes begin
+//! another's. A request keeps its ranges by its type, a path the rules of its names.
+//!
+//! Where there is no memory the frame is used up and gives `NoMemory`, bytes that are fed are refused and the
+//! reader stays as it was, and an answer is written whole or not at all. What a request does to a tree, which
+//! answer it gets, and the streams themselves are left to others.
 #![tactic(auto)]
 
 mod answer;

@@ -123,12 +123,13 @@ fn several_frames_in_one_piece(rt: HostRuntime) -> Result<(), Fail> {
 }
 
 #[test]
-fn shorter_payloads(rt: HostRuntime) {
+fn shorter_payloads(rt: HostRuntime) -> Result<(), Fail> {
     for len in 0..payload().len() {
-        let (front, _) = payload().split_at(len);
+        let front = payload().get(..len).ok_or("a front")?;
         let message = read_payload(rt.alloc(), front);
         assert_eq!(rt; cause_of(&message), Some(53), "at {len}");
     }
+    Ok(())
 }
 
 /// What is answered to a kind with no field behind it.
