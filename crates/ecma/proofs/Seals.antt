@@ -1,11 +1,11 @@
 -- A sealed descriptor is the cells of its tag and then its body, and these are sealed: so there is one.
-use Rattle.std.proofs.Common.{◌≡◌, ℕ, ◌+◌, ◌-◌, ◌*◌, ◌/◌, ◌%◌, ◌^◌, ◌<◌, ◌≤◌, List, [], ◌∷◌, ◌++◌, length, take, drop, get_or, refl, sym, ap, subst, ◌∙◌, arith, inl, inr}
+use Rattle.std.proofs.Common.{◌≡◌, ℕ, ◌+◌, ◌^◌, ◌<◌, List, [], ◌∷◌, ◌++◌, length, drop, get_or, refl, sym, ap, subst, ◌∙◌, arith, inl, inr}
 use Rattle.std.specs.Int.{w16, w32, to_le_bytes}
 use Rattle.std.proofs.lemmas.Bool.{cases_lt}
-use Rattle.std.proofs.lemmas.List.{length-append, length-drop, get_or_append_left, get_or-drop, get_or_past}
+use Rattle.std.proofs.lemmas.List.{length-drop, get_or_append_left, get_or-drop, get_or_past}
 use Rattle.ecma.specs.Crc.{IsCrc, crc_of}
 use Rattle.ecma.specs.Descriptor.{IsDescriptor, padded}
-use Rattle.ecma.specs.Numbers.{u16_at, u32_at}
+use Rattle.ecma.specs.Numbers.{u16_at}
 use Rattle.ecma.specs.Tag.{Sealed, tag_cells, tag_sum}
 use Rattle.ecma.proofs.Pieces.{IsBytes, cut, u8_stands, u16_stands, u32_stands}
 use Rattle.ecma.proofs.Remainders.{IsCrc-unique, IsCrc-crc_of}
