@@ -1,14 +1,14 @@
 -- Fields that hold a spelling, zeros, and the count of the spelling's bytes.
-use Rattle.std.proofs.Common.{◌≡◌, ℕ, ◌+◌, ◌-◌, ◌<◌, ◌≤◌, true, ◌==◌, zero, suc, List, [], ◌∷◌, ◌++◌, length, get_or, take, drop, set, replicate, None, refl, sym, ap, ◌∙◌, ⊎_elim, inl, inr, append_assoc, arith}
+use Rattle.std.proofs.Common.{◌≡◌, ℕ, ◌+◌, ◌-◌, ◌<◌, ◌≤◌, true, ◌==◌, zero, suc, List, [], ◌∷◌, ◌++◌, length, get_or, take, drop, set, replicate, None, refl, sym, ap, ◌∙◌, ⊎_elim, append_assoc, arith}
 use Rattle.std.specs.List.{list_all}
 use Rattle.std.proofs.lemmas.Bool.{and_parts, cases_lt, eqb-true, leb-true, le-leb}
 use Rattle.std.proofs.lemmas.List.{length-append, length-replicate, length-take-le, length-drop, take-append-drop, take_at, drop_at, drop-drop, drop_more, drop_all, get_or_at, get_or-take, get_or_past, length-take, set-append_right, set_at, replicate_more, drop-replicate}
 use borrow.Rule.Slice.PartMut.{put_mid}
 use Rattle.osta.specs.FirstFault.{first_fault}
 use Rattle.osta.specs.Compressed.{compressed, expanded, spelling_faults, Named}
-use Rattle.osta.specs.Dstring.{field_of, dstring, Dstring, dstring_count, dstring_spelling, dstring_faults}
+use Rattle.osta.specs.Dstring.{field_of, Dstring, dstring_count, dstring_spelling, dstring_faults}
 use Rattle.osta.specs.Label.{dstring_text}
-use Rattle.osta.proofs.Rows.{all_hold, AllHold, faultless}
+use Rattle.osta.proofs.Rows.{all_hold, faultless}
 use Rattle.osta.proofs.Texts.{Named-expanded, faultless_from_Named, expanded_from_Named}
 
 -- ---- zeros

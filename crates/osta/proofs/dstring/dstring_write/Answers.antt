@@ -1,4 +1,4 @@
-use Rattle.std.proofs.Common.{◌≤◌, ◌-◌, length, sym, arith, rules}
+use Rattle.std.proofs.Common.{◌≤◌, ◌-◌, length, sym, arith}
 use Rattle.std.proofs.lemmas.Bool.{leb-true}
 use Rattle.osta.specs.Compressed.{compressed, writing_faults}
 use Rattle.osta.proofs.Rows.{all_hold}
