@@ -16,6 +16,7 @@ pub(crate) const WIDE: u8 = 16;
 /// has none (`Wide`) or memory is short.
 pub fn compress(text: &str, out: &mut Vec<u8>) -> Result<(), NameFault>
     ensures ok { OnOk result (out.new.items ≡ out.old.items ++ spec.compressed text.now) }
+    ensures spelled { OnOk result (spec.Named text.now (spec.compressed text.now)) }
     ensures err { OnErr result (out.new.items ≡ out.old.items) }
     ensures full { result ≡ Err NameFault.Memory → vec_capacity out.old < vec_len out.old + length (spec.compressed text.now) }
     ensures fault { IfErr result (λ fault. text_fault fault ≡ (if spec.is_spellable text.now then None else Some NameFault.Wide)) }
