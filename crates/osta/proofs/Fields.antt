@@ -1,14 +1,14 @@
 -- Fields that hold a spelling, zeros, and the count of the spelling's bytes.
-use Rattle.std.proofs.Common.{◌≡◌, ℕ, ◌+◌, ◌-◌, ◌<◌, ◌≤◌, true, ◌==◌, zero, suc, List, [], ◌∷◌, ◌++◌, length, get_or, take, drop, set, replicate, None, refl, sym, ap, ◌∙◌, ⊎_elim, inl, inr, append_assoc, arith}
+use Rattle.std.proofs.Common.{◌≡◌, ℕ, ◌+◌, ◌-◌, ◌<◌, ◌≤◌, true, ◌==◌, zero, suc, List, [], ◌∷◌, ◌++◌, length, get_or, take, drop, set, replicate, None, refl, sym, ap, ◌∙◌, ⊎_elim, append_assoc, arith}
 use Rattle.std.specs.List.{list_all}
 use Rattle.std.proofs.lemmas.Bool.{and_parts, cases_lt, eqb-true, leb-true, le-leb}
 use Rattle.std.proofs.lemmas.List.{length-append, length-replicate, length-take-le, length-drop, take-append-drop, take_at, drop_at, drop-drop, drop_more, drop_all, get_or_at, get_or-take, get_or_past, length-take, set-append_right, set_at, replicate_more, drop-replicate}
 use borrow.Rule.Slice.PartMut.{put_mid}
 use Rattle.osta.specs.FirstFault.{first_fault}
 use Rattle.osta.specs.Compressed.{compressed, expanded, spelling_faults, Named}
-use Rattle.osta.specs.Dstring.{field_of, dstring, Dstring, dstring_count, dstring_spelling, dstring_faults}
+use Rattle.osta.specs.Dstring.{field_of, Dstring, dstring_count, dstring_spelling, dstring_faults}
 use Rattle.osta.specs.Label.{dstring_text}
-use Rattle.osta.proofs.Rows.{all_hold, AllHold, faultless}
+use Rattle.osta.proofs.Rows.{all_hold, faultless}
 use Rattle.osta.proofs.Texts.{Named-expanded, faultless_from_Named, expanded_from_Named}
 
 -- ---- zeros
@@ -29,8 +29,8 @@ last_set k x =
 
 pub written : (n last : ℕ) (s : List ℕ) → n ≡ last + 1 → length s < n → set (s ++ drop (length s) (replicate n 0)) last (length s) ≡ field_of n s
 written n last s size room =
-    let k = last - length s in
-    let rest : drop (length s) (replicate n 0) ≡ replicate (k + 1) 0 =
+    let k : ℕ = last - length s in
+    let rest : drop (length s) (replicate {A = ℕ} n 0) ≡ replicate {A = ℕ} (k + 1) 0 =
     drop-replicate (length s) n 0 ∙ ap (λ (m : ℕ). replicate m 0) (omega arith) in
     let here : n - 1 - length s ≡ k = omega arith in
     ap (λ (xs : List ℕ). set (s ++ xs) last (length s)) rest
@@ -51,11 +51,11 @@ joined : (n id : ℕ) (front back : List ℕ) → length front + length back + 1
     ≡ (id ∷ (front ++ back)) ++ drop (length (id ∷ (front ++ back))) (replicate n 0)
 joined zero id front back room = absurd (omega arith)
 joined (suc m) id front back room =
-    let zeros = replicate m 0 in
+    let zeros : List ℕ = replicate m 0 in
     let k = 1 + length front - 1 in
     let j = 1 + length front + length back - (1 + length front) in
-    let first = id ∷ front in
-    let rest = drop k zeros in
+    let first : List ℕ = id ∷ front in
+    let rest : List ℕ = drop k zeros in
     let size : k + j ≡ length (front ++ back) = omega (arith, length-append front back) in
     ap (λ (xs : List ℕ). xs ++ (back ++ drop j (drop (1 + length front) (first ++ rest)))) (take_at first rest (1 + length front) (omega arith))
     ∙ (ap (λ (xs : List ℕ). first ++ (back ++ drop j xs)) (drop_at first rest (1 + length front) (omega arith))
@@ -84,7 +84,7 @@ length-field_of n s room =
 
 count_of : (n : ℕ) (s : List ℕ) → length s < n → get_or (field_of n s) (n - 1) 0 ≡ length s
 count_of n s room =
-    let zeros = replicate (n - 1 - length s) 0 in
+    let zeros : List ℕ = replicate (n - 1 - length s) 0 in
     ap (λ (xs : List ℕ). get_or xs (n - 1) 0) (sym (append_assoc s zeros (length s ∷ [])))
     ∙ get_or_at (s ++ zeros) (length s) [] 0 (n - 1) (omega (arith, length-append s zeros, length-replicate {A = ℕ} (n - 1 - length s) 0))
 
@@ -132,7 +132,7 @@ field_from_faultless field some none =
 pub faultless_from_field : (n : ℕ) (s : List ℕ) → length s < n → first_fault (spelling_faults s) ≡ None → first_fault (dstring_faults (field_of n s)) ≡ None
 faultless_from_field n s room none =
     let field = field_of n s in
-    let zeros = replicate (n - 1 - length s) 0 in
+    let zeros : List ℕ = replicate (n - 1 - length s) 0 in
     let size = length-field_of n s room in
     let count = dstring_count-field_of n s room in
     let inside : dstring_count field ≤ length field - 1 = omega (arith, size, count) in

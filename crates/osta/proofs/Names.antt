@@ -8,14 +8,14 @@ use Rattle.std.proofs.lemmas.List.Concat.{flat_map-append}
 use Rattle.std.proofs.lemmas.List.Folds.{list_all-append}
 use Rattle.std.proofs.lemmas.Str.{chars-encodes, chars-append, chars-IsAscii, IsUtf8-from_ascii}
 use Rattle.osta.specs.FirstFault.{first_fault}
-use Rattle.osta.specs.Compressed.{is_narrow, two_bytes, spelling, compressed, characters, expanded, spelling_faults, writing_faults, Named}
+use Rattle.osta.specs.Compressed.{is_narrow, two_bytes, spelling, compressed, characters, spelling_faults, writing_faults, Named}
 use Rattle.osta.specs.Dstring.{field_of, dstring, Dstring, dstring_count, dstring_spelling, dstring_faults}
 use Rattle.osta.specs.Name.{has_character, name_faults, IsName}
 use Rattle.osta.specs.Label.{label_faults, IsLabel, dstring_text, IsLabelDstring, IsLabelField}
 use Rattle.osta.proofs.Rows.{all_hold, faultless}
 use Rattle.osta.proofs.Spellings.{spelling_narrow, spelling_wide, bytes_narrow, read_back, characters-spelling, id_of}
 use Rattle.osta.proofs.Texts.{compressed-nil, some_compressed, Named-expanded, faultless_from_Named}
-use Rattle.osta.proofs.Fields.{fits_front, field_from_faultless, Dstring-named, Dstring-from_faultless, text_from_Dstring, spelling_from_Dstring}
+use Rattle.osta.proofs.Fields.{fits_front, field_from_faultless, Dstring-named, text_from_Dstring, spelling_from_Dstring}
 
 not_empty : (text : List ℕ) → (length text == 0) ≡ false → 0 < length text
 not_empty text told =

@@ -1,7 +1,7 @@
 -- The spelling of characters, and that it is read back.
-use Rattle.std.proofs.Common.{◌≡◌, ℕ, ◌+◌, ◌*◌, ◌/◌, ◌%◌, ◌<◌, Bool, true, false, not, ◌||◌, ◌==◌, suc, List, [], ◌∷◌, map, length, get_or, None, refl, sym, ap, ◌∙◌, subst, ⊎_elim, inl, inr, ◌⊎◌, arith}
+use Rattle.std.proofs.Common.{◌≡◌, ℕ, ◌+◌, ◌*◌, ◌/◌, ◌%◌, ◌<◌, Bool, true, false, ◌==◌, suc, List, [], ◌∷◌, map, length, get_or, None, refl, sym, ap, ◌∙◌, subst, ⊎_elim, inl, inr, ◌⊎◌, arith}
 use Rattle.std.specs.List.{list_all, flat_map}
-use Rattle.std.proofs.lemmas.Bool.{cases_Bool, and_parts, and_from, or_cases, or_right, not_from_false, not-true, ne_eqb, eq-eqb, eqb-true, eqb-false, cond-true, lt-ltb, ltb-true}
+use Rattle.std.proofs.lemmas.Bool.{cases_Bool, and_parts, and_from, or_cases, not_from_false, not-true, ne_eqb, eq-eqb, eqb-true, eqb-false, cond-true, lt-ltb, ltb-true}
 use lib.Utf8.{scalar, scalars, low_scalar}
 use Rattle.osta.specs.FirstFault.{first_fault}
 use Rattle.osta.specs.Compressed.{is_narrow, has_spelling, two_bytes, spelling, units, is_unit, unit_character, characters, spelling_faults}

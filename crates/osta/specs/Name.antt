@@ -1,5 +1,5 @@
 -- The names of files and directories.
-use Rattle.std.specs.Prelude.{◌≡◌, ℕ, Bool, not, ◌||◌, ◌==◌, List, [], ◌∷◌, length, None, codes}
+use Rattle.std.specs.Prelude.{◌≡◌, ℕ, Bool, not, ◌||◌, ◌==◌, List, ◌∷◌, length, None, codes}
 use Rattle.std.specs.List.{list_any}
 use Rattle.std.specs.Str.{chars, IsUtf8, bytes_eq}
 use Rattle.osta.specs.FirstFault.{first_fault}

@@ -19,6 +19,7 @@ pub fn dstring_write(text: &str, field: &mut [u8]) -> Result<(), NameFault>
     requires few { length field.old ≤ 256 }
     ensures fault { let n = length field.old in result_err result ≡ first_fault (writing_faults (n - 1) text.now) }
     ensures ok { OnOk result (field.new ≡ spec.dstring (length field.old) text.now) }
+    ensures dstring { OnOk result (spec.Dstring text.now (length field.old) field.new) }
     ensures err { OnErr result (field.new ≡ field.old) }
 {
     let last = field.len() - 1;

@@ -1,4 +1,4 @@
-ghost use Rattle.std.specs.Prelude.{◌≡◌, ℕ, List, ◌+◌, ◌*◌, ◌≤◌, ◌++◌, ◌∷◌, length, IsTrue, IsAscii, IfErr, OnOk, OnErr, None, Some, if◌then◌else◌};
+ghost use Rattle.std.specs.Prelude.{◌≡◌, ℕ, List, ◌+◌, ◌*◌, ◌≤◌, ◌<◌, ◌++◌, ◌∷◌, length, IsTrue, IsAscii, IfErr, OnOk, OnErr, None, Some, Err, vec_len, vec_capacity, if◌then◌else◌};
 ghost use Rattle.std.specs.List.{list_all, flat_map};
 ghost use Rattle.std.specs.Str.{chars};
 ghost use Rattle.osta.specs.Fault.{text_fault};
@@ -16,18 +16,18 @@ pub(crate) const WIDE: u8 = 16;
 /// has none (`Wide`) or memory is short.
 pub fn compress(text: &str, out: &mut Vec<u8>) -> Result<(), NameFault>
     ensures ok { OnOk result (out.new.items ≡ out.old.items ++ spec.compressed text.now) }
+    ensures spelled { OnOk result (spec.Named text.now (spec.compressed text.now)) }
     ensures err { OnErr result (out.new.items ≡ out.old.items) }
+    ensures full { result ≡ Err NameFault.Memory → vec_capacity out.old < vec_len out.old + length (spec.compressed text.now) }
     ensures fault { IfErr result (λ fault. text_fault fault ≡ (if spec.is_spellable text.now then None else Some NameFault.Wide)) }
 {
     if !is_spellable(text) {
         return Err(NameFault::Wide);
     }
-    let before = out.len();
     let len = compressed_len(text);
-    let Some(end) = before.checked_add(len) else {
-        return Err(NameFault::Memory);
-    };
-    out.resize(end, 0)?;
+    out.reserve(len)?;
+    let before = out.len();
+    out.resize(before + len, 0)?;
     write_spelling(text, &mut out[before..]);
     Ok(())
 }

@@ -1,12 +1,10 @@
-use Rattle.std.proofs.Common.{◌≡◌, ℕ, ◌+◌, ◌*◌, List, ◌∷◌, length, arith, ap, sym, ◌∙◌}
-use Rattle.std.specs.List.{flat_map}
-use Rattle.osta.specs.Compressed.{two_bytes}
+use Rattle.std.proofs.Common.{◌≡◌, ℕ, ◌+◌, List, ◌∷◌, length, arith, ap, sym, ◌∙◌}
 use Rattle.std.specs.Str.{chars}
 use Rattle.std.proofs.lemmas.List.{length_push, length-set, take_all}
 use Rattle.std.proofs.lemmas.List.FromFn.{length-enumerate_from}
 use Rattle.std.proofs.lemmas.Iterator.{YieldsList-from_chars}
 use Rattle.std.proofs.lemmas.Iterator.Consumers.{YieldsList-from_enumerate, YieldsList-at, YieldsList-turn, YieldsList-end}
-use Rattle.osta.proofs.Loops.{enumerate_turn, turn_narrow, turn_spelled, narrow_step, wide_step, high_byte, low_byte, first_cell}
+use Rattle.osta.proofs.Loops.{enumerate_turn, turn_narrow, narrow_step, first_cell}
 use Rattle.osta.proofs.writing.write_narrow.Goals as goal
 
 pub overflow_cast-into : goal.overflow_cast-into

@@ -1,9 +1,7 @@
-use Rattle.std.proofs.Common.{◌≡◌, ◌<◌, ◌+◌, ◌*◌, true, false, length, ap, sym, ◌∙◌, arith, T}
-use Rattle.std.specs.List.{list_all}
+use Rattle.std.proofs.Common.{◌<◌, length, ap, sym, ◌∙◌, arith}
 use Rattle.std.specs.Str.{chars}
 use Rattle.std.proofs.lemmas.Bool.{eqb-true, eqb-false}
 use Rattle.std.proofs.lemmas.List.{nil_from_length}
-use Rattle.osta.specs.Compressed.{is_narrow, compressed}
 use Rattle.osta.proofs.Spellings.{length-spelling_narrow, length-spelling_wide}
 use Rattle.osta.proofs.Texts.{compressed-nil, some_characters}
 use Rattle.osta.proofs.writing.write_spelling.Goals as goal

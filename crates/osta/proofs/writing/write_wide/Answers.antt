@@ -6,7 +6,7 @@ use Rattle.std.proofs.lemmas.List.{length_push, length-set, take_all}
 use Rattle.std.proofs.lemmas.List.FromFn.{length-enumerate_from}
 use Rattle.std.proofs.lemmas.Iterator.{YieldsList-from_chars}
 use Rattle.std.proofs.lemmas.Iterator.Consumers.{YieldsList-from_enumerate, YieldsList-at, YieldsList-turn, YieldsList-end}
-use Rattle.osta.proofs.Loops.{enumerate_turn, turn_narrow, turn_spelled, narrow_step, wide_step, high_byte, low_byte, first_cell}
+use Rattle.osta.proofs.Loops.{enumerate_turn, turn_spelled, wide_step, high_byte, low_byte, first_cell}
 use Rattle.osta.proofs.writing.write_wide.Goals as goal
 
 pub overflow_cast-c : goal.overflow_cast-c

@@ -1,7 +1,7 @@
-use Rattle.std.proofs.Common.{◌≡◌, ◌<◌, ℕ, ◌∷◌, ◌++◌, List, length, get_or, take, drop, sym, ap, ◌∙◌, arith}
+use Rattle.std.proofs.Common.{◌<◌, ℕ, ◌∷◌, ◌++◌, List, length, get_or, take, drop, sym, ap, ◌∙◌, arith}
 use Rattle.std.specs.List.{flat_map}
 use Rattle.osta.specs.Compressed.{compressed, two_bytes}
-use Rattle.osta.specs.Dstring.{field_of, dstring_spelling}
+use Rattle.osta.specs.Dstring.{field_of}
 use Rattle.osta.proofs.Names.{field_narrow, field_wide}
 use Rattle.osta.proofs.label.Label.dstring_128_behind.Goals as goal
 

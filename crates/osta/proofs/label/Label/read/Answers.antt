@@ -1,4 +1,4 @@
-use Rattle.std.proofs.Common.{◌≡◌, false, length, ap, sym, ◌∙◌, subst}
+use Rattle.std.proofs.Common.{ap, sym, ◌∙◌, subst}
 use Rattle.osta.specs.Label.{IsLabelField, dstring_text}
 use Rattle.osta.proofs.Names.{label_from, label_field, label_text}
 use Rattle.osta.proofs.label.Label.read.Goals as goal

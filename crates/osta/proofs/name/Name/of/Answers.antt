@@ -1,6 +1,4 @@
-use Rattle.std.proofs.Common.{◌≡◌, List, ℕ, None, sym, ap, ◌∙◌, subst, arith}
-use Rattle.std.specs.Prelude.{string_bytes}
-use Rattle.std.proofs.lemmas.Str.{IsUtf8-string_bytes}
+use Rattle.std.proofs.Common.{List, ℕ, sym, ap, ◌∙◌, subst, arith}
 use Rattle.osta.specs.FirstFault.{first_fault}
 use Rattle.osta.specs.Compressed.{Named}
 use Rattle.osta.specs.Name.{name_faults}
