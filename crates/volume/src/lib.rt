@@ -1,2 +1,19 @@
-//! The front of a volume: its blocks 0 to 256.
+//! The front of a volume: its blocks 0 to 256, which a format writes once and nothing changes (ECMA-167 part 3, UDF 2.01
+//! 2.2).
+//!
+//! `front_block` gives each block of the front for a label, a moment and a capacity; `front_blocks` gives all of them.
+//! `read_front` reads exactly such a front, and else tells the first byte that is not as it must be. Who cannot hold 257
+//! blocks reads the label, the moment and the capacity by `front_words`, and compares block by block by `first_difference`.
+//!
+//! What stands in the partition, and whether the capacity is that of the medium, is left to the crates above.
 #![tactic(auto)]
+
+mod descriptors;
+mod front;
+mod read;
+
+pub use front::{FRONT_BLOCKS, Front, front_block, front_blocks};
+pub use read::{VolumeFault, first_difference, front_words, read_front};
+
+#[cfg(test)]
+mod tests;

@@ -1,0 +1,7 @@
+use Rattle.std.proofs.Common.{List, ℕ, subst}
+use Rattle.ecma.specs.Descriptor.{IsDescriptor}
+use Rattle.volume.specs.Descriptors.{logical_fields}
+use Rattle.volume.proofs.descriptors.logical_volume.Goals as goal
+
+pub returns : goal.returns
+returns c = subst (λ (x : List ℕ). IsDescriptor 6 c.args.n (logical_fields x) c.descriptor_block.result) c.dstring_128-volume.ensures.value c.descriptor_block.ensures

@@ -1,0 +1,108 @@
+ghost use Rattle.std.specs.Prelude.{◌≡◌, ◌≤◌, ◌%◌, IfOk};
+ghost use Rattle.osta.specs.Dstring.{dstring};
+ghost use Rattle.volume.specs.Front.{Holds, IsFront, IsFrontBlock, recognition_content, sequence_content};
+ghost use Rattle.volume.specs.Front.Content.{Recognition};
+
+use crate::descriptors::{
+    anchor, implementation_use, integrity, logical_volume, partition, primary, terminating,
+    unallocated_space,
+};
+use ecma::{Block, Field, Timestamp, write_fields};
+use osta::Label;
+use std::alloc::{AllocError, Global};
+
+/// How many blocks the front has.
+pub const FRONT_BLOCKS: u32 = 257;
+
+/// What a format says of its volume, and its front tells.
+#[derive(Clone, Copy, Debug, PartialEq, Eq)]
+pub struct Front {
+    pub label: Label,
+    /// That of the format.
+    pub moment: Timestamp,
+    /// In blocks, from 512 to 450,000.
+    pub capacity: u32,
+}
+
+/// The block of the front at an address.
+pub fn front_block(label: &Label, moment: Timestamp, capacity: u32, n: u32) -> Block
+    requires low { 512 ≤ capacity }
+    requires high { capacity ≤ 450_000 }
+    requires within { n ≤ 256 }
+    ensures { IsFrontBlock label.now moment capacity n result }
+{
+    let stamp = moment.to_bytes();
+    let volume = label.dstring_32();
+    match n {
+        0..=31 => recognition_block(n),
+        32..=63 => sequence_block(label, volume, moment.moment(), stamp, capacity, n),
+        64 => integrity(stamp, capacity, n),
+        65 => terminating(n),
+        256 => anchor(n),
+        _ => [0; 2048],
+    }
+}
+
+/// All blocks of the front.
+pub fn front_blocks(
+    alloc: Global,
+    label: &Label,
+    moment: Timestamp,
+    capacity: u32,
+) -> Result<Vec<Block>, AllocError>
+    requires low { 512 ≤ capacity }
+    requires high { capacity ≤ 450_000 }
+    ensures { IfOk result (λ blocks. IsFront label.now moment capacity blocks.items) }
+{
+    let mut blocks = Vec::with_capacity(alloc, FRONT_BLOCKS as usize)?;
+    for n in 0..FRONT_BLOCKS {
+        blocks.push(front_block(label, moment, capacity, n))?;
+    }
+    Ok(blocks)
+}
+
+/// A block of the recognition sequence, or of the zeros around it.
+fn recognition_block(n: u32) -> Block
+    ensures { Holds n (recognition_content n) result }
+{
+    match n {
+        16 => recognition(b"BEA01"),
+        17 => recognition(b"NSR03"),
+        18 => recognition(b"TEA01"),
+        _ => [0; 2048],
+    }
+}
+
+/// A structure of the recognition sequence (ECMA-167 2/9.1), of version 1.
+fn recognition(identifier: &[u8; 5]) -> Block
+    ensures { Holds 0 (Recognition identifier.now) result }
+{
+    let mut block = [0; 2048];
+    let structure = [Field::U8(0), Field::Bytes(identifier), Field::U8(1)];
+    write_fields(&structure, &mut block);
+    block
+}
+
+/// A block of one of the two copies of the sequence.
+fn sequence_block(
+    label: &Label,
+    volume: [u8; 32],
+    moment: u64,
+    stamp: [u8; 12],
+    capacity: u32,
+    n: u32,
+) -> Block
+    requires volume { volume ≡ dstring 32 label.now }
+    requires capacity { 257 ≤ capacity }
+    ensures { Holds n (sequence_content label.now moment stamp capacity (n % 16)) result }
+{
+    match n % 16 {
+        0 => primary(label, volume, moment, stamp, n),
+        1 => implementation_use(label, n),
+        2 => partition(capacity, n),
+        3 => logical_volume(label, n),
+        4 => unallocated_space(n),
+        5 => terminating(n),
+        _ => [0; 2048],
+    }
+}

@@ -1,0 +1,132 @@
+ghost use Rattle.std.specs.Prelude.{◌≡◌, ◌<◌, ◌≤◌, ◌↔◌, ℕ, List, [], length, slice_index, slice_index_or, take, IsTrue, IfOk, IfErr, IfSome, IfNone};
+ghost use Rattle.ecma.specs.Tag.{Sealed};
+ghost use Rattle.ecma.specs.FirstFault.{IsFirst};
+ghost use Rattle.volume.specs.declared.read.VolumeFault.TheVariants.{Field};
+ghost use Rattle.volume.specs.Front.{IsFront, IsFrontBlock};
+ghost use Rattle.volume.specs.Reading.{word_rules, Tells, DiffersAt, DiffersFirst, IsTold, stamp_field};
+
+use crate::descriptors::{MAIN, PARTITION};
+use crate::front::{Front, front_block};
+use ecma::{Block, Timestamp, open_tag, u32_at};
+use osta::Label;
+
+/// Why blocks are no front.
+#[derive(Clone, Copy, Debug, PartialEq, Eq)]
+pub enum VolumeFault {
+    /// A field of this block, which begins at this byte, can not be read; or this byte is the first one that is not that of
+    /// the front.
+    Field { block: u32, at: u32 },
+}
+
+const PRIMARY: u32 = MAIN;
+
+const PARTITION_DESCRIPTOR: u32 = MAIN + 2;
+
+/// The front whose blocks these are. Of other blocks it tells the first fault: where the primary volume descriptor or the
+/// partition descriptor can not be read, that field; else the first byte that is not that of the front which they tell.
+pub fn read_front(blocks: &[Block]) -> Result<Front, VolumeFault>
+    requires { length blocks.now ≡ 257 }
+    ensures found { IfOk result (λ f. IsFront f.label f.moment f.capacity blocks.now) }
+    ensures only { (f : Front) → IsFront f.label f.moment f.capacity blocks.now → result ≡ Ok f }
+    ensures fault { IfErr result (IsTold blocks.now (slice_index_or blocks.now 32 []) (slice_index_or blocks.now 34 [])) }
+{
+    let front = match front_words(&blocks[32], &blocks[34]) {
+        Ok(front) => front,
+        Err(fault) => return Err(fault),
+    };
+    for (n, block) in blocks.iter().enumerate() {
+        if let Some(at) = first_difference(&front, n as u32, block) {
+            return Err(VolumeFault::Field {
+                block: n as u32,
+                at,
+            });
+        }
+    }
+    Ok(front)
+}
+
+/// The front that its primary volume descriptor, block 32, and its partition descriptor, block 34, tell.
+pub fn front_words(primary: &Block, partition: &Block) -> Result<Front, VolumeFault>
+    ensures tells { IfOk result (λ f. Tells f primary.now partition.now) }
+    ensures capacity { IfOk result (λ f. (512 ≤ f.capacity) × (f.capacity ≤ 450_000)) }
+    ensures fault { IfErr result (IsFirst (word_rules primary.now partition.now)) }
+{
+    if !has_tag(primary, 1, PRIMARY) {
+        return Err(fault(PRIMARY, 0));
+    }
+    let Some(label) = Label::of(&primary[24..56]) else {
+        return Err(fault(PRIMARY, 24));
+    };
+    let Some(moment) = Timestamp::read(&stamp(primary)) else {
+        return Err(fault(PRIMARY, 376));
+    };
+    if !has_tag(partition, 5, PARTITION_DESCRIPTOR) {
+        return Err(fault(PARTITION_DESCRIPTOR, 0));
+    }
+    let length = u32_at(partition, 192);
+    if !is_partition_length(length) {
+        return Err(fault(PARTITION_DESCRIPTOR, 192));
+    }
+    Ok(Front {
+        label,
+        moment,
+        capacity: length + PARTITION,
+    })
+}
+
+/// The first byte of a block that is not that of the front at this address.
+pub fn first_difference(front: &Front, n: u32, block: &Block) -> Option<u32>
+    requires low { 512 ≤ front.now.capacity }
+    requires high { front.now.capacity ≤ 450_000 }
+    requires within { n ≤ 256 }
+    ensures none { IfNone result (IsFrontBlock front.now.label front.now.moment front.now.capacity n block.now) }
+    ensures some { IfSome result (DiffersAt front.now n block.now) }
+    ensures only { IsFrontBlock front.now.label front.now.moment front.now.capacity n block.now → result ≡ None }
+{
+    let expected = front_block(&front.label, front.moment, front.capacity, n);
+    first_other(block, &expected)
+}
+
+/// The first byte in which the block is not the expected one.
+fn first_other(block: &Block, expected: &Block) -> Option<u32>
+    ensures none { IfNone result (block.now ≡ expected.now) }
+    ensures some { IfSome result (DiffersFirst block.now expected.now) }
+    ensures bytes { IfSome result (λ at. ((i : ℕ) → slice_index block.now i < 256) × ((i : ℕ) → slice_index expected.now i < 256)) }
+{
+    for (at, byte) in block.iter().enumerate() {
+        if *byte != expected[at] {
+            return Some(at as u32);
+        }
+    }
+    None
+}
+
+/// Whether a partition may have so many blocks: as many as one of a medium of 512 to 450,000 blocks.
+fn is_partition_length(length: u32) -> bool
+    ensures { IsTrue result ↔ ((255 ≤ length) × (length ≤ 449_743)) }
+{
+    255 <= length && length <= 449_743
+}
+
+fn fault(block: u32, at: u32) -> VolumeFault
+    ensures { result ≡ Field block at }
+{
+    VolumeFault::Field { block, at }
+}
+
+/// Whether the block begins with a descriptor of 512 bytes that has this identifier and location.
+fn has_tag(block: &Block, id: u16, loc: u32) -> bool
+    ensures { IsTrue result ↔ Sealed id loc (take 512 block.now) }
+{
+    let (descriptor, _) = block.split_at(512);
+    open_tag(descriptor, id, loc).is_ok()
+}
+
+/// The bytes of the timestamp of a primary volume descriptor.
+fn stamp(primary: &Block) -> [u8; 12]
+    ensures { result ≡ stamp_field primary.now }
+{
+    let mut stamp = [0; 12];
+    stamp.copy_from_slice(&primary[376..388]);
+    stamp
+}
