@@ -1,7 +1,13 @@
 pub mod Blocks
+pub mod Errors
+pub mod Zeros
 pub mod Tags
 pub mod Identifiers
 pub mod Splits
 pub mod Placing
 pub mod Reading
 pub mod Steps
+pub mod Entries
+pub mod Directories
+pub mod Refusals
+pub mod Filling

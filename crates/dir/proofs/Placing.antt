@@ -5,7 +5,7 @@ use Rattle.std.proofs.lemmas.Bool.{eqb-true, eq-eqb, leb-true, le-leb}
 use Rattle.std.proofs.lemmas.Bool.Decides.{nat_tests}
 use Rattle.std.proofs.lemmas.List.{append-nil, length-append}
 use Rattle.dir.specs.Identifier.{Identifier, rounded, plain_size, identifier}
-use Rattle.dir.specs.Layout.{fits, stays, laid, onward, Stands}
+use Rattle.dir.specs.Layout.{fits, stays, laid, onward, Stands, end_of}
 use Rattle.dir.specs.Split.{name_size}
 use Rattle.dir.proofs.Identifiers.{length-identifier, name_size-identifier}
 
@@ -57,10 +57,6 @@ pub onward-within : (number at : ℕ) (xs : List Identifier) → at < 2048 → o
 onward-within number at xs lt =
     let e : (at == 2048) ≡ false = grind (arith, nat_tests) in
     ap (λ (b : Bool). if b then laid (number + 1) 0 xs else laid number at xs) e
-
--- where an identifier ends, lengthened or not
-abbrev pub end_of : ℕ → Identifier → List Identifier → ℕ
-end_of at x rest = let end = at + plain_size (length x.name) in if stays rest (2048 - end) then end else 2048
 
 -- one identifier, and what comes behind it
 pub laid-put : (number at : ℕ) (x : Identifier) (rest : List Identifier) → at + plain_size (length x.name) ≤ 2048

@@ -52,7 +52,7 @@ identifier_read number at bytes behind fits h whole p =
     identifier_is number u (said_by bytes) bytes _ fits h.«sealed» body same
 
 -- what says the same is the same
-same_said : (x : Identifier) (name : List ℕ) (kind icb unique : ℕ) → name ≡ x.name → kind ≡ x.characteristics → icb ≡ x.icb → unique ≡ x.unique
+pub same_said : (x : Identifier) (name : List ℕ) (kind icb unique : ℕ) → name ≡ x.name → kind ≡ x.characteristics → icb ≡ x.icb → unique ≡ x.unique
     → record { name = name; characteristics = kind; icb = icb; unique = unique } ≡ x
 same_said x name kind icb unique n k i u =
     let start : Identifier = record { name = name; characteristics = kind; icb = icb; unique = unique } in

@@ -43,3 +43,7 @@ onward number at xs = if at == 2048 then laid (number + 1) 0 xs else laid number
 -- the first identifier may be put at a place of a block
 abbrev pub Stands : ℕ → List Identifier → Type 0
 Stands at xs = (at ≡ 0) ⊎ IsTrue (stays xs (2048 - at))
+
+-- where an identifier at a place ends, lengthened or not
+abbrev pub end_of : ℕ → Identifier → List Identifier → ℕ
+end_of at x rest = let end = at + plain_size (length x.name) in if stays rest (2048 - end) then end else 2048

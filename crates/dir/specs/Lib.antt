@@ -4,3 +4,6 @@ pub mod Layout
 pub mod Size
 pub mod Item
 pub mod Split
+pub mod Directory
+pub mod Laying
+pub mod Reads

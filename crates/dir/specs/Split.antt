@@ -8,6 +8,9 @@ use Rattle.dir.specs.Identifier.{Identifier, rounded, plain_size, use_of, head_o
 use Rattle.dir.specs.Kinds.{IsKind}
 use Rattle.dir.specs.Layout.{fits}
 
+abbrev pub AreBytes : List ℕ → Type 0
+AreBytes bytes = (i : ℕ) → slice_index bytes i < 256
+
 -- the bytes of the name and of the implementation use of the identifier at the front
 abbrev pub name_size : List ℕ → ℕ
 name_size bytes = slice_index bytes 19
@@ -62,10 +65,19 @@ pub record IsLengthened (at : ℕ) (bytes behind : List ℕ) : Type 0 where
   pub next : 38 ≤ length behind
   pub left : fits (plain_size (name_size behind)) (use_size bytes) ≡ false
 
+-- the implementation use is one that lengthens by as many bytes
+abbrev pub IsUse : List ℕ → Type 0
+IsUse bytes = take (use_size bytes) (drop 38 bytes) ≡ use_of (use_size bytes)
+
+-- behind the name there are zeros
+abbrev pub HasZeros : List ℕ → Type 0
+HasZeros bytes =
+    drop (38 + use_size bytes + name_size bytes) bytes ≡ replicate (length bytes - (38 + use_size bytes + name_size bytes)) 0
+
 -- implementation use and padding are those of the layout
 pub record IsPadded (at : ℕ) (bytes behind : List ℕ) : Type 0 where
-  pub filled : take (use_size bytes) (drop 38 bytes) ≡ use_of (use_size bytes)
-  pub padding : drop (38 + use_size bytes + name_size bytes) bytes ≡ replicate (length bytes - (38 + use_size bytes + name_size bytes)) 0
+  pub filled : IsUse bytes
+  pub padding : HasZeros bytes
   pub lengthened : (use_size bytes ≡ 0) ⊎ IsLengthened at bytes behind
 
 -- what an identifier can say

@@ -2,6 +2,7 @@
 
 ghost use Rattle.std.specs.Prelude.{⊤, ◌≡◌, [], ◌∷◌, codes};
 
+use crate::entry::Kind;
 use bitflags::{Flag, Flags, bitflag_items};
 
 /// What kind of file an identifier is of.
@@ -38,8 +39,26 @@ impl Flags for Characteristics {
 }
 
 impl Characteristics {
-    ghost use Rattle.std.specs.Prelude.{◌≡◌, ◌↔◌, IsSome, IfSome};
+    ghost use Rattle.std.specs.Prelude.{◌≡◌, ◌≢◌, ◌↔◌, IsSome, IfSome, IsTrue};
+    ghost use Rattle.dir.specs.Directory.{characteristics_of};
     ghost use Rattle.dir.specs.Kinds.{IsKind};
+
+    /// Those of the directory above.
+    pub(crate) fn of_parent() -> Characteristics
+        ensures { result.0 ≡ 0x0A }
+    {
+        Characteristics::DIRECTORY.union(Characteristics::PARENT)
+    }
+
+    /// Those of a name.
+    pub(crate) fn of(kind: Kind) -> Characteristics
+        ensures { result.0 ≡ characteristics_of kind }
+    {
+        match kind {
+            Kind::File => Characteristics::empty(),
+            Kind::Directory => Characteristics::DIRECTORY,
+        }
+    }
 
     /// The characteristics that the byte is, if they are those of a file, a directory or a parent.
     pub(crate) fn read(byte: u8) -> Option<Characteristics>
@@ -49,6 +68,26 @@ impl Characteristics {
         match byte {
             0x00 | 0x02 | 0x0A => Some(Characteristics(byte)),
             _ => None,
+        }
+    }
+
+    /// Whether they are those of the directory above.
+    pub(crate) fn is_parent(self) -> bool
+        ensures { IsTrue result ↔ (self.0 ≡ 0x0A) }
+    {
+        self == Characteristics::of_parent()
+    }
+
+    /// What a name with them is of.
+    pub(crate) fn kind(self) -> Kind
+        requires kind { IsKind self.0 }
+        requires name { self.0 ≢ 0x0A }
+        ensures { characteristics_of result ≡ self.0 }
+    {
+        if self.contains(Characteristics::DIRECTORY) {
+            Kind::Directory
+        } else {
+            Kind::File
         }
     }
 }

@@ -1,3 +1,8 @@
+ghost use Rattle.std.specs.Prelude.{◌≡◌};
+ghost use Rattle.dir.specs.declared.fault.DirFault.TheVariants.{Memory};
+
+use std::alloc::{AllocError, AllocFailed};
+
 /// Why blocks are not the data of a directory.
 #[derive(Clone, Copy, Debug, PartialEq, Eq)]
 pub enum DirFault {
@@ -32,5 +37,21 @@ impl DirFault {
             DirFault::End => 37,
             DirFault::Memory => 7,
         }
+    }
+}
+
+impl From<AllocError> for DirFault {
+    ghost from_gives = { λ _ e. e ≡ Memory };
+
+    fn from(_error: AllocError) -> DirFault {
+        DirFault::Memory
+    }
+}
+
+impl<T: Drop> From<AllocFailed<T>> for DirFault {
+    ghost from_gives = { λ _ e. e ≡ Memory };
+
+    fn from(_error: AllocFailed<T>) -> DirFault {
+        DirFault::Memory
     }
 }

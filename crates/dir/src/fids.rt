@@ -1,10 +1,13 @@
-ghost use Rattle.std.specs.Prelude.{◌+◌, ◌<◌, ◌^◌, length};
+ghost use Rattle.std.specs.Prelude.{◌≡◌, ◌↔◌, ◌+◌, ◌<◌, ◌^◌, IsTrue, EachIndex, slice_index, length};
 
 use crate::characteristics::Characteristics;
+use crate::entry::Entry;
 use crate::fault::DirFault;
-use crate::item::{FILE_IDENTIFIER, HEAD_SIZE, Item};
-use crate::size::{BLOCK_SIZE, fits, rounded};
+use crate::item::{DEVELOPER, FILE_IDENTIFIER, HEAD_SIZE, Item};
+use crate::size::{BLOCK_SIZE, fits, plain_size, rounded};
 use ecma::{Block, Field, LongAd, open_tag, stands_at, u16_at, u32_at};
+use osta::Name;
+use std::alloc::Global;
 
 /// A file identifier (ECMA-167 4/14.4) as it stands in a block.
 #[derive(Clone, Copy)]
@@ -86,6 +89,85 @@ impl<'a> Fid<'a> {
     }
 }
 
+impl Fid<'_> {
+    ghost use Rattle.std.specs.Prelude.{◌≡◌, ◌↔◌, ◌<◌, ◌≤◌, ◌+◌, IsTrue, length};
+    ghost use Rattle.dir.specs.Identifier.{use_of};
+    ghost use Rattle.dir.specs.Split.{IsWhole, IsPadded, IsLengthened, IsUse, HasZeros};
+
+    /// Whether implementation use and padding are as the layout has them, for an identifier at a
+    /// place of its block and the data behind it.
+    pub(crate) fn is_padded(&self, at: usize, behind: &[u8]) -> bool
+        requires whole { IsWhole self.now }
+        requires room { at + length self.now.bytes.now ≤ 2048 }
+        ensures { IsTrue result ↔ IsPadded at self.now.bytes.now behind.now }
+    {
+        if !self.has_zeros() {
+            return false;
+        }
+        if !self.has_use() {
+            return false;
+        }
+        if self.implementation_use.is_empty() {
+            return true;
+        }
+        self.is_lengthened(at, behind)
+    }
+
+    /// Whether the bytes behind the name are zeros.
+    fn has_zeros(&self) -> bool
+        requires { IsWhole self.now }
+        ensures { IsTrue result ↔ HasZeros self.now.bytes.now }
+    {
+        let name_end = HEAD_SIZE + self.implementation_use.len() + self.name.len();
+        let (_, padding) = self.bytes.split_at(name_end);
+        are_zeros(padding)
+    }
+
+    /// Whether the implementation use is the EntityID of this program and then zeros.
+    fn has_use(&self) -> bool
+        requires { IsWhole self.now }
+        ensures { IsTrue result ↔ IsUse self.now.bytes.now }
+    {
+        let size = self.implementation_use.len();
+        let id_size = size.min(32);
+        let (id, behind) = self.implementation_use.split_at(id_size);
+        if !are_zeros(behind) {
+            return false;
+        }
+        id == &DEVELOPER[..id_size]
+    }
+
+    /// Whether the implementation use reaches from a place to the block's end, and the identifier
+    /// behind it was not to be put into that block.
+    fn is_lengthened(&self, at: usize, behind: &[u8]) -> bool
+        requires whole { IsWhole self.now }
+        requires room { at + length self.now.bytes.now ≤ 2048 }
+        ensures { IsTrue result ↔ IsLengthened at self.now.bytes.now behind.now }
+    {
+        let size = self.implementation_use.len();
+        if size < 32 {
+            return false;
+        }
+        if size % 4 != 0 {
+            return false;
+        }
+        if at + self.bytes.len() != BLOCK_SIZE {
+            return false;
+        }
+        if behind.len() < HEAD_SIZE {
+            return false;
+        }
+        !fits(plain_size(usize::from(behind[19])), size)
+    }
+}
+
+/// Whether each byte is zero.
+pub(crate) fn are_zeros(bytes: &[u8]) -> bool
+    ensures { IsTrue result ↔ EachIndex bytes.now (λ k. slice_index bytes.now k ≡ 0) }
+{
+    bytes.iter().all(|byte| *byte == 0)
+}
+
 /// The file identifiers of a directory's data in order, up to the first that passes the data's end
 /// or its block's end. Only their lengths are looked at.
 #[derive(Drop)]
@@ -103,7 +185,7 @@ pub struct Fids<'a> {
 impl<'a> Fids<'a> {
     ghost use Rattle.std.specs.Prelude.{◌≡◌, ◌==◌, if◌then◌else◌, ◌+◌, ◌*◌, ◌^◌, ◌<◌, ◌≤◌, ◌↔◌, length, take, drop, IsOk, IfOk, OnOk, OnErr};
     ghost use Rattle.std.specs.List.{concat};
-    ghost use Rattle.dir.specs.Split.{IsSplit, Shows, size_of};
+    ghost use Rattle.dir.specs.Split.{AreBytes, IsSplit, Shows, size_of};
 
     /// The identifiers of `size` bytes of data in these blocks.
     pub fn new(blocks: &'a [Block], size: usize) -> Fids<'a>
@@ -111,10 +193,22 @@ impl<'a> Fids<'a> {
         requires count { length blocks.now < 2 ^ 40 }
         ensures data { result.data.now ≡ take size (concat blocks.now) }
         ensures length { length result.data.now ≡ size }
+        ensures bytes { AreBytes result.data.now }
         ensures at { result.at ≡ 0 }
         ensures index { result.index ≡ 0 }
     {
         let (data, _) = blocks.as_flattened().split_at(size);
+        Fids::over(data)
+    }
+
+    /// The identifiers of these bytes, which begin with a block.
+    fn over(data: &'a [u8]) -> Fids<'a>
+        requires { length data.now < 2 ^ 59 }
+        ensures data { result.data.now ≡ data.now }
+        ensures bytes { AreBytes result.data.now }
+        ensures at { result.at ≡ 0 }
+        ensures index { result.index ≡ 0 }
+    {
         Fids {
             data,
             at: 0,
@@ -160,6 +254,86 @@ impl<'a> Fids<'a> {
             }
         };
         Ok(Fid::new(bytes, use_size, name_size))
+    }
+}
+
+impl<'a> Fids<'a> {
+    ghost use Rattle.std.specs.Prelude.{◌≡◌, ◌≢◌, ◌+◌, ◌%◌, ◌^◌, ◌<◌, ◌≤◌, ◌↔◌, ℕ, Bool, true, false, List, ◌∷◌, length, IsTrue, IfOk, IfErr};
+    ghost use Rattle.dir.specs.Directory.{of_parent, of_name, IsEntry};
+    ghost use Rattle.dir.specs.Identifier.{Identifier};
+    ghost use Rattle.dir.specs.Item.{said};
+    ghost use Rattle.dir.specs.Layout.{laid, Stands};
+    ghost use Rattle.dir.specs.Reads.{Reads, IsInPlace, AreShort};
+    ghost use Rattle.dir.specs.Split.{AreBytes, Fits};
+    ghost use Rattle.dir.specs.declared.entry.Entry.{Entry};
+
+    /// Whether no data is left.
+    pub(crate) fn is_empty(&self) -> bool
+        ensures { IsTrue result ↔ (length self.now.data.now ≡ 0) }
+    {
+        self.data.is_empty()
+    }
+
+    /// Reads the next identifier, which is the first of the data or not. The data's first block
+    /// has the number `first`.
+    fn read(&mut self, first: u32, is_first: bool) -> Result<Item<'a>, DirFault>
+        requires first { first + self.old.index < 2 ^ 32 }
+        requires at { self.old.at % 4 ≡ 0 }
+        requires bytes { AreBytes self.old.data.now }
+        ensures ok { IfOk result (λ item. Reads is_first first self.old self.new (said item)) }
+        ensures name { IfOk result (λ item. length item.name.now ≤ 255) }
+        // What the layout has there is read.
+        ensures err { IfErr result (λ fault. (x : Identifier) (rest : List Identifier) → Fits x → IsInPlace is_first x → AreShort rest
+            → self.old.data.now ≡ laid (first + self.old.index) self.old.at (x ∷ rest) → Stands self.old.at (x ∷ rest) → ⊥) }
+    {
+        let at = self.at;
+        let number = first + self.index as u32;
+        let fid = self.split()?;
+        let Some(item) = fid.item(number) else {
+            return Err(DirFault::Tag);
+        };
+        if !item.is_in_place(is_first) {
+            return Err(DirFault::Parent);
+        }
+        if !fid.is_padded(at, self.data) {
+            return Err(DirFault::Pad);
+        }
+        Ok(item)
+    }
+
+    /// Reads the identifier of the directory above, the first of the data.
+    pub(crate) fn read_parent(&mut self, first: u32) -> Result<u32, DirFault>
+        requires first { first + self.old.index < 2 ^ 32 }
+        requires at { self.old.at % 4 ≡ 0 }
+        requires bytes { AreBytes self.old.data.now }
+        ensures ok { IfOk result (λ parent. Reads true first self.old self.new (of_parent parent)) }
+        ensures err { IfErr result (λ fault. (parent : ℕ) (rest : List Identifier) → parent < 2 ^ 32 → AreShort rest
+            → self.old.data.now ≡ laid (first + self.old.index) self.old.at (of_parent parent ∷ rest) → Stands self.old.at (of_parent parent ∷ rest) → ⊥) }
+    {
+        let item = self.read(first, true)?;
+        Ok(item.icb)
+    }
+
+    /// Reads the next name and what is said of it.
+    pub(crate) fn read_name(&mut self, alloc: Global, first: u32) -> Result<(Name, Entry), DirFault>
+        requires first { first + self.old.index < 2 ^ 32 }
+        requires at { self.old.at % 4 ≡ 0 }
+        requires bytes { AreBytes self.old.data.now }
+        ensures ok { IfOk result (λ r. Reads false first self.old self.new (of_name r.0 r.1)) }
+        ensures entry { IfOk result (λ r. IsEntry (r.0, r.1)) }
+        ensures err { IfErr result (λ fault. fault ≢ DirFault.Memory → (text : List ℕ) (e : Entry) (rest : List Identifier) → IsEntry (text, e) → AreShort rest
+            → self.old.data.now ≡ laid (first + self.old.index) self.old.at (of_name text e ∷ rest) → Stands self.old.at (of_name text e ∷ rest) → ⊥) }
+    {
+        let item = self.read(first, false)?;
+        let Some(name) = Name::of(alloc, item.name)? else {
+            return Err(DirFault::Name);
+        };
+        let entry = Entry {
+            kind: item.characteristics.kind(),
+            icb: item.icb,
+            unique: item.unique,
+        };
+        Ok((name, entry))
     }
 }
 

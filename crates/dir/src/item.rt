@@ -1,9 +1,11 @@
 //! One file identifier, as it is written.
 
 use crate::characteristics::Characteristics;
+use crate::entry::Entry;
 use crate::size;
 use bitflags::Flags;
 use ecma::{Field, LongAd, seal, write_fields};
+use osta::Name;
 
 pub(crate) const FILE_IDENTIFIER: u16 = 257;
 
@@ -23,6 +25,51 @@ pub(crate) struct Item<'a> {
     /// The virtual address of the entry.
     pub icb: u32,
     pub unique: u32,
+}
+
+impl<'a> Item<'a> {
+    ghost use Rattle.std.specs.Prelude.{◌≡◌, ◌≤◌, ◌↔◌, Bool, IsTrue, length};
+    ghost use Rattle.dir.specs.Directory as directory;
+    ghost use Rattle.dir.specs.Item.{said};
+    ghost use Rattle.dir.specs.Reads.{IsInPlace};
+
+    /// That of the directory above, by its virtual address.
+    pub(crate) fn of_parent(icb: u32) -> Item<'a>
+        ensures { said result ≡ directory.of_parent icb }
+    {
+        Item {
+            name: &[],
+            characteristics: Characteristics::of_parent(),
+            icb,
+            unique: 0,
+        }
+    }
+
+    /// That of a name.
+    pub(crate) fn of_name(name: &'a Name, entry: Entry) -> Item<'a>
+        ensures value { said result ≡ directory.of_name name.now entry }
+        ensures short { length result.name.now ≤ 255 }
+    {
+        Item {
+            name: name.compressed(),
+            characteristics: Characteristics::of(entry.kind),
+            icb: entry.icb,
+            unique: entry.unique,
+        }
+    }
+
+    /// Whether it is the parent's and says no more than an address, if it is the first of a
+    /// directory, and else whether it is not a parent's.
+    pub(crate) fn is_in_place(&self, is_first: bool) -> bool
+        ensures { IsTrue result ↔ IsInPlace is_first (said self.now) }
+    {
+        let is_parent = self.characteristics.is_parent();
+        if is_first {
+            is_parent && self.name.is_empty() && self.unique == 0
+        } else {
+            !is_parent
+        }
+    }
 }
 
 impl Item<'_> {

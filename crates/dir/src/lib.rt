@@ -2,11 +2,19 @@
 #![tactic(auto)]
 
 mod characteristics;
+mod entry;
 mod fault;
 mod fids;
 mod item;
+mod laying;
+mod read;
 mod size;
+mod whole;
 
+pub use entry::{Dir, Entry, Kind};
 pub use fault::DirFault;
 pub use fids::{Fid, Fids};
+pub use laying::Lay;
+pub use read::read_dir;
 pub use size::DataSize;
+pub use whole::lay;

@@ -1,0 +1,176 @@
+-- A directory that is laid block by block.
+use Rattle.std.proofs.Common.{◌≡◌, ℕ, suc, ◌+◌, ◌-◌, ◌*◌, ◌/◌, ◌<◌, ◌≤◌, List, [], ◌∷◌, ◌++◌, length, take, drop, replicate, map, Option, Some, None, true, false, zero, not, refl, subst, sym, ap, ◌∙◌, append_assoc, arith, inl, inr}
+use Rattle.std.specs.Prelude.{Bool, ◌⊎◌, slice_get, if◌then◌else◌}
+use Rattle.std.proofs.lemmas.Bool.{cases_lt}
+use Rattle.std.proofs.lemmas.List.{append-nil, take-append-drop, take_at, drop_at, take_all, drop-drop, drop-replicate, length-append, length-take, length-map}
+use Rattle.ecma.specs.Descriptor.{padded}
+use denote.Bor.{Bor}
+use Rattle.dir.specs.declared.entry.Dir.{Dir}
+use Rattle.dir.specs.declared.entry.Entry.{Entry}
+use Rattle.dir.specs.declared.laying.Lay.{Lay}
+use Rattle.dir.specs.Identifier.{Identifier, plain_size, identifier}
+use Rattle.dir.specs.Directory.{identifiers, identifiers_of, of_name}
+use Rattle.dir.specs.Layout.{fits, stays, laid, onward, blocks_of, blocked, identifier_blocks, Stands, end_of}
+use Rattle.dir.specs.Laying.{identifiers_left}
+use Rattle.dir.proofs.Identifiers.{length-identifier}
+use Rattle.dir.proofs.Placing.{plain_bounds, laid-put, laid-nil, onward-nil, onward-full, onward-within, stands_within, stands_next}
+
+pub drop_some : {X : Type 0} (xs : List X) (n : ℕ) (y : X) → slice_get xs n ≡ Some y → drop n xs ≡ y ∷ drop (suc n) xs
+drop_some [] n y e = absurd (cc)
+drop_some (x ∷ xs) zero y e = let same : x ≡ y = cc in ap (λ v. v ∷ xs) same
+drop_some (x ∷ xs) (suc n) y e = drop_some xs n y e
+
+pub drop_none : {X : Type 0} (xs : List X) (n : ℕ) → slice_get xs n ≡ None → drop n xs ≡ []
+drop_none [] zero e = refl
+drop_none [] (suc n) e = refl
+drop_none (x ∷ xs) zero e = absurd (cc)
+drop_none (x ∷ xs) (suc n) e = drop_none xs n e
+
+pub some_within : {X : Type 0} (xs : List X) (n : ℕ) (y : X) → slice_get xs n ≡ Some y → n < length xs
+some_within [] n y e = absurd (cc)
+some_within (x ∷ xs) zero y e = omega arith
+some_within (x ∷ xs) (suc n) y e = let less = some_within xs n y e in omega arith
+
+pub none_past : {X : Type 0} (xs : List X) (n : ℕ) → slice_get xs n ≡ None → length xs ≤ n
+none_past [] n e = omega arith
+none_past (x ∷ xs) zero e = absurd (cc)
+none_past (x ∷ xs) (suc n) e = let less = none_past xs n e in omega arith
+
+pub stays-some : (xs : List Identifier) (n left : ℕ) (y : Identifier) → slice_get xs n ≡ Some y → stays (drop n xs) left ≡ fits (plain_size (length y.name)) left
+stays-some xs n left y e = ap (λ (t : List Identifier). stays t left) (drop_some xs n y e)
+
+pub stays-none : (xs : List Identifier) (n left : ℕ) → slice_get xs n ≡ None → stays (drop n xs) left ≡ true
+stays-none xs n left e = ap (λ (t : List Identifier). stays t left) (drop_none xs n e)
+
+pub length-identifiers : (parent : ℕ) (entries : List (List ℕ × Entry)) → length (identifiers parent entries) ≡ length entries + 1
+length-identifiers parent entries = omega (arith, length-map entries (λ (e : List ℕ × Entry). of_name e.0 e.1))
+
+-- no identifiers take no blocks
+pub no_blocks : (number : ℕ) → identifier_blocks number [] ≡ []
+no_blocks number = ap (λ (t : List ℕ). blocked (blocks_of (length t)) t) (laid-nil number 0)
+
+full_block : (block bytes : List ℕ) → length block ≡ 2048 → blocked (blocks_of (length (block ++ bytes))) (block ++ bytes) ≡ block ∷ blocked (blocks_of (length bytes)) bytes
+full_block block bytes len =
+    let count : blocks_of (length (block ++ bytes)) ≡ suc (blocks_of (length bytes)) = omega (arith, length-append block bytes) in
+    let head : take 2048 (block ++ bytes) ≡ block = take_at block bytes 2048 len in
+    let tail : drop 2048 (block ++ bytes) ≡ bytes = drop_at block bytes 2048 len in
+    let whole : padded block ≡ block = ap (λ (n : ℕ). block ++ replicate (2048 - n) 0) len ∙ append-nil block in
+    ap (λ (n : ℕ). blocked n (block ++ bytes)) count
+    ∙ ap (λ (b : List ℕ). padded b ∷ blocked (blocks_of (length bytes)) (drop 2048 (block ++ bytes))) head
+    ∙ ap (λ (t : List ℕ). padded block ∷ blocked (blocks_of (length bytes)) t) tail
+    ∙ ap (λ (b : List ℕ). b ∷ blocked (blocks_of (length bytes)) bytes) whole
+
+last_block : (at : ℕ) (block : List ℕ) → length block ≡ 2048 → 0 < at → at ≤ 2048 → drop at block ≡ replicate (2048 - at) 0
+    → blocked (blocks_of (length (take at block))) (take at block) ≡ block ∷ []
+last_block at block len some few zeros =
+    let size : length (take at block) ≡ at = omega (arith, length-take at block) in
+    let count : blocks_of (length (take at block)) ≡ suc 0 = omega arith in
+    let all : take 2048 (take at block) ≡ take at block = take_all 2048 (take at block) (omega arith) in
+    let whole : padded (take at block) ≡ block =
+    ap (λ (n : ℕ). take at block ++ replicate (2048 - n) 0) size ∙ ap (λ (z : List ℕ). take at block ++ z) (sym zeros) ∙ take-append-drop at block in
+    ap (λ (n : ℕ). blocked n (take at block)) count ∙ ap (λ (b : List ℕ). padded b ∷ []) all ∙ ap (λ (b : List ℕ). b ∷ []) whole
+
+-- a block that is full, or the last, is the first of the blocks
+pub laid_block : (number at : ℕ) (xs rest : List Identifier) (block : List ℕ) → laid number 0 xs ≡ take at block ++ onward number at rest
+    → drop at block ≡ replicate (2048 - at) 0 → length block ≡ 2048 → at ≤ 2048 → 0 < at → (at ≡ 2048) ⊎ (rest ≡ [])
+    → identifier_blocks number xs ≡ block ∷ identifier_blocks (number + 1) rest
+laid_block number at xs rest block e zeros len few some over =
+    elim over [
+      | inl full ↦
+          let front : take at block ≡ block = take_all at block (omega arith) in
+          let whole : laid number 0 xs ≡ block ++ laid (number + 1) 0 rest =
+          e ∙ ap (λ (t : List ℕ). t ++ onward number at rest) front ∙ ap (λ (t : List ℕ). block ++ t) (onward-full number at rest full) in
+          ap (λ (t : List ℕ). blocked (blocks_of (length t)) t) whole ∙ full_block block (laid (number + 1) 0 rest) len
+      | inr none ↦
+          let whole : laid number 0 xs ≡ take at block =
+          e ∙ ap (λ (t : List ℕ). take at block ++ t) (ap (onward number at) none ∙ onward-nil number at) ∙ append-nil (take at block) in
+          ap (λ (t : List ℕ). blocked (blocks_of (length t)) t) whole ∙ last_block at block len some few zeros
+          ∙ ap (λ (t : List (List ℕ)). block ∷ t) (sym (ap (identifier_blocks (number + 1)) none ∙ no_blocks (number + 1)))
+    ]
+
+-- a block is filled up to a place: what was left at its start is what stands in it and what is still left
+pub record IsFilled (start here : Lay) (at : ℕ) (block : List ℕ) : Type 0 where
+  pub within : at ≤ 2048
+  pub dir : here.dir ≡ start.dir
+  pub number : here.number ≡ start.number
+  pub before : at ≡ 0 → here.next ≡ start.next
+  pub further : 0 < at → start.next < here.next
+  pub filled : laid start.number 0 (identifiers_left start) ≡ take at block ++ onward start.number at (identifiers_left here)
+  pub stood : at < 2048 → Stands at (identifiers_left here)
+  pub zeros : drop at block ≡ replicate (2048 - at) 0
+  pub size : length block ≡ 2048
+
+pub identifier_at : (parent : ℕ) (entries : List (List ℕ × Entry)) (index : ℕ) (text : List ℕ) (e : Entry) → (index ≡ 0 → ⊥)
+    → Some (text, e) ≡ slice_get entries (index - 1) → slice_get (identifiers parent entries) index ≡ Some (of_name text e)
+identifier_at parent entries zero text e some there = absurd (some refl)
+identifier_at parent entries (suc n) text e some there =
+    let step : suc n - 1 ≡ n = omega arith in
+    mapped entries n (there ∙ ap (slice_get entries) step)
+  where
+    mapped : (es : List (List ℕ × Entry)) (k : ℕ) → Some (text, e) ≡ slice_get es k
+        → slice_get (map (λ (p : List ℕ × Entry). of_name p.0 p.1) es) k ≡ Some (of_name text e)
+    mapped [] k q = absurd (cc)
+    mapped (p ∷ es) zero q = let same : (text, e) ≡ p = cc in ap (λ (r : List ℕ × Entry). Some (of_name r.0 r.1)) (sym same)
+    mapped (p ∷ es) (suc k) q = mapped es k q
+
+-- where an identifier that was put ends
+pub put_end : (at end behind : ℕ) (x : Identifier) (rest : List Identifier) (full : Bool) → end ≡ at + plain_size (length x.name)
+    → full ≡ not (stays rest (2048 - end)) → behind ≡ (if full then 2048 else end) → behind ≡ end_of at x rest
+put_end at end behind x rest full end-is full-is behind-is =
+    behind-is ∙ ap (λ (b : Bool). if b then 2048 else end) (full-is ∙ ap (λ (n : ℕ). not (stays rest (2048 - n))) end-is)
+    ∙ turned (stays rest (2048 - (at + plain_size (length x.name))))
+  where
+    turned : (b : Bool) → (if not b then 2048 else end) ≡ (if b then at + plain_size (length x.name) else 2048)
+    turned true = end-is
+    turned false = refl
+
+-- one identifier more is put
+pub filled_more : (start here new : Lay) (at end : ℕ) (block written : List ℕ) (x : Identifier) → IsFilled start here at block → at < 2048
+    → slice_get (identifiers_of here.dir.now) here.next ≡ Some x → length x.name ≤ 255
+    → new.dir ≡ here.dir → new.next ≡ here.next + 1 → new.number ≡ here.number
+    → end ≡ end_of at x (identifiers_left new) → end ≤ 2048 → at + plain_size (length x.name) ≤ end
+    → written ≡ take at block ++ (identifier here.number x (end - (at + plain_size (length x.name))) ++ drop end block)
+    → length written ≡ 2048 → IsFilled start new end written
+filled_more start here new at end block written x f inside there short dir next number end-is few onwards put len =
+    let ids = identifiers_of here.dir.now in
+    let rest = identifiers_left new in
+    let more = end - (at + plain_size (length x.name)) in
+    let one = identifier here.number x more in
+    let bounds = plain_bounds (length x.name) in
+    let next_is : new.next ≡ suc here.next = omega arith in
+    let same : rest ≡ drop (suc here.next) ids =
+    ap (λ (n : ℕ). drop n (identifiers_of new.dir.now)) next_is ∙ ap (λ (d : Bor Dir). drop (suc here.next) (identifiers_of d.now)) dir in
+    let left : identifiers_left here ≡ x ∷ rest = drop_some ids here.next x there ∙ ap (λ (t : List Identifier). x ∷ t) (sym same) in
+    let stood : Stands at (x ∷ rest) = subst (λ (t : List Identifier). Stands at t) left (f.stood inside) in
+    let room = stands_within at x rest short (omega arith) stood in
+    let sized : length block ≡ 2048 = f.size in
+    let at_size : length (take at block) ≡ at = omega (arith, length-take at block) in
+    let one_size : length one ≡ plain_size (length x.name) + more = length-identifier here.number more x in
+    let front : take end written ≡ take at block ++ one =
+    ap (take end) (put ∙ sym (append_assoc (take at block) one (drop end block)))
+    ∙ take_at (take at block ++ one) (drop end block) end (omega (arith, length-append (take at block) one)) in
+    let back : drop end written ≡ drop end block =
+    ap (drop end) (put ∙ sym (append_assoc (take at block) one (drop end block)))
+    ∙ drop_at (take at block ++ one) (drop end block) end (omega (arith, length-append (take at block) one)) in
+    let further : start.next < new.next =
+    elim (cases_lt 0 at) [ inl some ↦ let less = f.further some in omega arith | inr none ↦ let start_is = f.before (omega arith) in omega arith ] in
+    let end_more : end_of at x rest - (at + plain_size (length x.name)) ≡ more = omega arith in
+    record {
+      within = few;
+      dir = dir ∙ f.dir;
+      number = number ∙ f.number;
+      before = λ (e : end ≡ 0). absurd (omega arith);
+      further = λ (lt : 0 < end). further;
+      filled =
+          f.filled ∙ ap (λ (t : List ℕ). take at block ++ t) (ap (onward start.number at) left ∙ onward-within start.number at (x ∷ rest) inside
+          ∙ laid-put start.number at x rest room
+          ∙ ap (λ (m : ℕ). identifier start.number x m ++ onward start.number (end_of at x rest) rest) end_more
+          ∙ ap (λ (n : ℕ). identifier n x more ++ onward start.number (end_of at x rest) rest) (sym f.number)
+          ∙ ap (λ (n : ℕ). one ++ onward start.number n rest) (sym end-is))
+          ∙ sym (append_assoc (take at block) one (onward start.number end rest)) ∙ ap (λ (t : List ℕ). t ++ onward start.number end rest) (sym front);
+      stood = λ (lt : end < 2048). subst (λ (n : ℕ). Stands n rest) (sym end-is) (stands_next at x rest (omega arith));
+      zeros =
+          back ∙ ap (λ (n : ℕ). drop n block) (omega arith) ∙ sym (drop-drop (end - at) at block) ∙ ap (drop (end - at)) f.zeros
+          ∙ drop-replicate (end - at) (2048 - at) 0 ∙ ap (λ (n : ℕ). replicate n 0) (omega arith);
+      size = len;
+    }

@@ -1,0 +1,57 @@
+-- Directories: a parent, and names in stored order (ECMA-167 4/8.6).
+use Rattle.std.specs.Prelude.{◌≡◌, ℕ, ◌*◌, ◌-◌, ◌^◌, ◌<◌, ◌≤◌, nat_eq, List, [], ◌∷◌, ◌++◌, length, map, replicate}
+use Rattle.std.specs.Cmp.Lexicographic.{pointwise}
+use Rattle.std.specs.List.{All, IsDistinct, concat}
+use Rattle.std.specs.Map.{keys_of}
+use Rattle.osta.specs.Compressed.{compressed}
+use Rattle.osta.specs.Name.{IsName}
+use Rattle.dir.specs.declared.entry.Dir.{Dir}
+use Rattle.dir.specs.declared.entry.Entry.{Entry}
+use Rattle.dir.specs.declared.entry.Kind.{Kind}
+use Rattle.dir.specs.declared.entry.Kind.TheVariants.{File, Directory}
+use Rattle.dir.specs.Identifier.{Identifier}
+use Rattle.dir.specs.Layout.{laid, blocks_of, identifier_blocks}
+
+-- the file characteristics of a name
+abbrev pub characteristics_of : Kind → ℕ
+characteristics_of File = 0
+characteristics_of Directory = 2
+
+-- the identifier of the directory above
+abbrev pub of_parent : ℕ → Identifier
+of_parent icb = record { name = []; characteristics = 0x0A; icb = icb; unique = 0 }
+
+-- the identifier of a name
+abbrev pub of_name : List ℕ → Entry → Identifier
+of_name text e = record { name = compressed text; characteristics = characteristics_of e.kind; icb = e.icb; unique = e.unique }
+
+-- the identifiers of a directory in their order
+abbrev pub identifiers : ℕ → List (List ℕ × Entry) → List Identifier
+identifiers parent entries = of_parent parent ∷ map (λ e. of_name e.0 e.1) entries
+
+abbrev pub identifiers_of : Dir → List Identifier
+identifiers_of dir = identifiers dir.parent dir.entries.entries
+
+-- the blocks of a directory, the first having this number
+abbrev pub directory_blocks : Dir → ℕ → List (List ℕ)
+directory_blocks dir first = identifier_blocks first (identifiers_of dir)
+
+-- the information length of a directory
+abbrev pub directory_size : Dir → ℕ
+directory_size dir = length (laid 0 0 (identifiers_of dir))
+
+-- what a directory can say of a name
+pub record IsEntry (e : List ℕ × Entry) : Type 0 where
+  pub name : IsName e.0
+  pub icb : e.1.icb < 2 ^ 32
+  pub unique : e.1.unique < 2 ^ 32
+
+-- blocks are the data of the directory with this parent and these names: its identifiers as they are laid from the
+-- first block's number on, and zeros behind them
+pub record IsDirectory (parent : ℕ) (entries : List (List ℕ × Entry)) (first size : ℕ) (blocks : List (List ℕ)) : Type 0 where
+  pub parent_fits : parent < 2 ^ 32
+  pub few : length entries ≤ 512
+  pub named : All IsEntry entries
+  pub distinct : IsDistinct (pointwise nat_eq) (keys_of entries)
+  pub size_is : size ≡ length (laid first 0 (identifiers parent entries))
+  pub bytes : concat blocks ≡ laid first 0 (identifiers parent entries) ++ replicate (2048 * blocks_of size - size) 0

@@ -1,0 +1,29 @@
+//! Directories as values.
+
+use indexmap::IndexMap;
+use osta::Name;
+
+/// What a name is of.
+#[derive(Clone, Copy, Debug, PartialEq, Eq)]
+pub enum Kind {
+    File,
+    Directory,
+}
+
+/// What a directory says of a name.
+#[derive(Clone, Copy, Debug, PartialEq, Eq)]
+pub struct Entry {
+    pub kind: Kind,
+    /// The virtual address of its file entry.
+    pub icb: u32,
+    /// The unique ID of its file entry.
+    pub unique: u32,
+}
+
+/// A directory: the virtual address of the directory above it, and its names in stored order.
+#[derive(Drop)]
+pub struct Dir {
+    pub parent: u32,
+    /// At most 512 on a volume.
+    pub entries: IndexMap<Name, Entry>,
+}

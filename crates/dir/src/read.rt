@@ -1,0 +1,52 @@
+//! A directory from its blocks.
+
+ghost use Rattle.std.specs.Prelude.{◌≡◌, ◌≢◌, ◌+◌, ◌-◌, ◌*◌, ◌<◌, ◌≤◌, ◌↔◌, ℕ, List, length, drop, replicate, IsTrue, IfOk, IfErr};
+ghost use Rattle.std.specs.List.{concat};
+ghost use Rattle.dir.specs.Directory.{IsDirectory};
+ghost use Rattle.dir.specs.Layout.{blocks_of};
+ghost use Rattle.dir.specs.declared.entry.Entry.{Entry};
+
+use crate::entry::Dir;
+use crate::fault::DirFault;
+use crate::fids::{Fids, are_zeros};
+use crate::laying::MAX_NAMES;
+use ecma::Block;
+use indexmap::IndexMap;
+use std::alloc::Global;
+
+/// The directory whose data of `size` bytes the blocks are, the first of them having this number.
+pub fn read_dir(alloc: Global, blocks: &[Block], size: u32, first: u32) -> Result<Dir, DirFault>
+    requires some { 0 < size }
+    requires count { length blocks.now ≡ blocks_of size }
+    requires first { first ≤ 449_743 }
+    // What is read stands there.
+    ensures found { IfOk result (λ dir. IsDirectory dir.parent dir.entries.entries first size blocks.now) }
+    // What stands there is read, unless memory is short.
+    ensures only { IfErr result (λ fault. fault ≢ DirFault.Memory → (parent : ℕ) (entries : List (List ℕ × Entry)) → IsDirectory parent entries first size blocks.now → ⊥) }
+{
+    let mut fids = Fids::new(blocks, size as usize);
+    let parent = fids.read_parent(first)?;
+    let mut entries = IndexMap::new(alloc);
+    while !fids.is_empty() {
+        let (name, entry) = fids.read_name(alloc, first)?;
+        if entries.insert(name, entry)?.is_some() {
+            return Err(DirFault::Twice);
+        }
+    }
+    if entries.len() > MAX_NAMES {
+        return Err(DirFault::End);
+    }
+    if !ends_in_zeros(blocks, size as usize) {
+        return Err(DirFault::End);
+    }
+    Ok(Dir { parent, entries })
+}
+
+/// Whether the bytes of the blocks behind the data are zeros.
+fn ends_in_zeros(blocks: &[Block], size: usize) -> bool
+    requires { size ≤ 2048 * length blocks.now }
+    ensures { IsTrue result ↔ (drop size (concat blocks.now) ≡ replicate (2048 * length blocks.now - size) 0) }
+{
+    let (_, behind) = blocks.as_flattened().split_at(size);
+    are_zeros(behind)
+}
