@@ -33,8 +33,8 @@ module _ (moment identity : ℕ) (tree : Tree) (is : IsTree tree) where
   lists_added : (path : Path) (content : Content) → names_in content ≡ [] → MayAdd path tree → names_at (added path content moment identity tree) (parent_of path) ≡ names_at tree (parent_of path) ++ last_of path
   lists_added path content bare may = subst (λ p. names_at (added p content moment identity tree) (parent_of p) ≡ names_at tree (parent_of p) ++ last_of p) (sym end.2)
       (ap (names_at (added (end.0 ++ end.1 ∷ []) content moment identity tree)) (parent-push end.0 end.1)
-          ∙ Add.names_front end.0 end.1 content bare moment identity tree is there.short directory there.new
-          ∙ sym (λ i. names_at tree (parent-push end.0 end.1 i) ++ last-push end.0 end.1 i))
+      ∙ Add.names_front end.0 end.1 content bare moment identity tree is there.short directory there.new
+      ∙ sym (λ i. names_at tree (parent-push end.0 end.1 i) ++ last-push end.0 end.1 i))
     where
       end : (front : Path) × (name : Name) × (path ≡ front ++ name ∷ [])
       end = ends path may.named
@@ -48,8 +48,8 @@ module _ (moment identity : ℕ) (tree : Tree) (is : IsTree tree) where
   lists_removed : (path : Path) → MayRemove path tree → names_at (name_taken_out path moment (remove tree path)) (parent_of path) ≡ filter (is_other (last_of path)) (names_at tree (parent_of path))
   lists_removed path may = subst (λ p. names_at (name_taken_out p moment (remove tree p)) (parent_of p) ≡ filter (is_other (last_of p)) (names_at tree (parent_of p))) (sym end.2)
       (ap (names_at (name_taken_out (end.0 ++ end.1 ∷ []) moment (remove tree (end.0 ++ end.1 ∷ [])))) (parent-push end.0 end.1)
-          ∙ Remove.names_front end.0 end.1 moment tree is there.here there.empty
-          ∙ sym (λ i. filter (is_other (last-push end.0 end.1 i)) (names_at tree (parent-push end.0 end.1 i))))
+      ∙ Remove.names_front end.0 end.1 moment tree is there.here there.empty
+      ∙ sym (λ i. filter (is_other (last-push end.0 end.1 i)) (names_at tree (parent-push end.0 end.1 i))))
     where
       end : (front : Path) × (name : Name) × (path ≡ front ++ name ∷ [])
       end = ends path may.named
@@ -77,9 +77,9 @@ module _ (moment identity : ℕ) (tree : Tree) (is : IsTree tree) where
             ∙ Rename.names_beyond start.0 start.1 end.0 end.1 moment tree is there.here directory there.new into short
             ∙ ap (λ ns. ns ++ end.1 ∷ [])
             (Rename.names_without start.0 start.1 end.0 end.1 moment tree is there.here directory there.new into short end.0 (λ e. apart (parents (sym e)))
-                (Rename.beyond_not_from start.0 start.1 end.0 end.1 moment tree is there.here directory there.new into short)
-                (λ rest. Rename.never_to start.0 start.1 end.0 end.1 moment tree is there.here directory there.new into short end.0 rest
-                    (Rename.has_beyond start.0 start.1 end.0 end.1 moment tree is there.here directory there.new into short)))
+            (Rename.beyond_not_from start.0 start.1 end.0 end.1 moment tree is there.here directory there.new into short)
+            (λ rest. Rename.never_to start.0 start.1 end.0 end.1 moment tree is there.here directory there.new into short end.0 rest
+            (Rename.has_beyond start.0 start.1 end.0 end.1 moment tree is there.here directory there.new into short)))
             ∙ sym (λ i. names_at tree (parent-push end.0 end.1 i) ++ last-push end.0 end.1 i);
         moved = ap (get tree') (sym (append-nil (end.0 ++ end.1 ∷ [])))
             ∙ Rename.at_to start.0 start.1 end.0 end.1 moment tree is there.here directory there.new into short []
