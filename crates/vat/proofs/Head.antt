@@ -1,11 +1,11 @@
 -- What stands before the records.
-use Rattle.std.proofs.Common.{◌≡◌, ℕ, ◌+◌, ◌*◌, ◌<◌, ◌≤◌, ◌^◌, List, [], ◌∷◌, ◌++◌, length, take, drop, get_or, replicate, codes, refl, sym, ap, ◌∙◌, arith}
+use Rattle.std.proofs.Common.{◌≡◌, ℕ, ◌+◌, ◌*◌, ◌<◌, ◌^◌, List, [], ◌∷◌, ◌++◌, length, take, drop, get_or, replicate, codes, refl, sym, ap, ◌∙◌, arith}
 use Rattle.std.specs.Int.{w16, w32, to_le_bytes}
 use Rattle.std.specs.List.{concat}
-use Rattle.std.proofs.lemmas.List.{append-nil, drop_all, length-append, length-replicate, drop_at, take_at, drop-drop, get_or-drop}
+use Rattle.std.proofs.lemmas.List.{append-nil, drop_all, length-append, drop_at, take_at, drop-drop}
 use Rattle.ecma.specs.Field.{IsAt}
 use Rattle.ecma.specs.Numbers.{u16_at, u32_at}
-use Rattle.ecma.proofs.Pieces.{onto, concat_onto, IsBytes, cut, u16_stands, u32_stands}
+use Rattle.ecma.proofs.Pieces.{onto, IsBytes, cut, u16_stands, u32_stands}
 use Rattle.vat.specs.declared.table.Version.{Version}
 use Rattle.vat.specs.Version.{version_number, record_size}
 use Rattle.vat.specs.Table.{middle_parts, head_parts, use_size}

@@ -1,5 +1,5 @@
 -- A label in its field of 128 bytes.
-use Rattle.std.proofs.Common.{◌≡◌, ℕ, ◌<◌, List, length, sym, subst, ◌∙◌, inr, ap, arith}
+use Rattle.std.proofs.Common.{◌≡◌, ℕ, List, length, sym, subst, ◌∙◌, inr, ap, arith}
 use Rattle.std.specs.Prelude.{Bool, Option, Some, None, is_some, IfSome, IsTrue, ◌↔◌}
 use Rattle.osta.specs.Compressed.{compressed}
 use Rattle.osta.specs.Dstring.{dstring, Dstring}

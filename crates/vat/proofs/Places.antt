@@ -1,9 +1,9 @@
 -- At how many places data looks like the entry of a table.
-use Rattle.std.proofs.Common.{◌≡◌, ◌≢◌, ℕ, zero, suc, ◌+◌, ◌-◌, ◌*◌, ◌<◌, ◌≤◌, min, List, [], ◌∷◌, ◌++◌, length, take, drop, get_or, replicate, refl, sym, ap, subst, ◌∙◌, inl, inr, arith}
+use Rattle.std.proofs.Common.{◌≡◌, ◌≢◌, ℕ, zero, suc, ◌+◌, ◌-◌, ◌<◌, ◌≤◌, min, List, ◌++◌, length, take, drop, replicate, refl, sym, ap, subst, ◌∙◌, inl, inr, arith}
 use Rattle.std.specs.Prelude.{◌⊎◌}
 use Rattle.std.proofs.lemmas.Bool.{cases_lt, cases_eq}
 use Rattle.std.proofs.lemmas.List.{get_or_append_left, drop-replicate, take_all}
-use Rattle.ecma.specs.Numbers.{u16_at, u32_at}
+use Rattle.ecma.specs.Numbers.{u32_at}
 use Rattle.ecma.specs.Descriptor.{padded}
 use Rattle.icb.specs.Entry.{blocks_of}
 use Rattle.icb.specs.VatIcb.{IsVatIcb}

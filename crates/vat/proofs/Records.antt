@@ -2,12 +2,12 @@
 use Rattle.std.proofs.Common.{◌≡◌, ℕ, zero, suc, ◌+◌, ◌-◌, ◌*◌, ◌/◌, ◌%◌, ◌^◌, ◌<◌, ◌≤◌, Bool, false, eqb, List, [], ◌∷◌, ◌++◌, length, take, drop, get_or, replicate, sym, ap, subst, ◌∙◌, refl, arith}
 use Rattle.std.specs.Prelude.{IsTrue, ◌↔◌, Option, Some, None, IsSome, IfSome, IfNone, unwrap_or}
 use Rattle.std.specs.Str.{bytes_eq}
-use Rattle.std.specs.Int.{w16, w32, w64, to_le_bytes}
+use Rattle.std.specs.Int.{w64, to_le_bytes}
 use Rattle.std.specs.List.{concat, flat_map, AllByRecursion}
 use Rattle.std.proofs.lemmas.Bool.{ne_eqb}
 use Rattle.std.proofs.lemmas.List.{length-append, length-replicate, take_all, take_at, drop_at}
 use Rattle.std.proofs.lemmas.Slice.Eq.{bytes_eq-Decides}
-use Rattle.ecma.specs.Numbers.{u16_at, u32_at, u64_at}
+use Rattle.ecma.specs.Numbers.{u64_at}
 use Rattle.vat.specs.declared.record.Reply.{Reply}
 use Rattle.vat.specs.declared.record.Record.{Record}
 use Rattle.vat.specs.declared.table.Version.{Version}

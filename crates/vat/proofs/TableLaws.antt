@@ -1,27 +1,26 @@
 -- Bytes that keep the rules are the table that they say.
-use Rattle.std.proofs.Common.{◌≡◌, ◌≢◌, ℕ, zero, suc, ◌+◌, ◌-◌, ◌*◌, ◌/◌, ◌%◌, ◌^◌, ◌<◌, ◌≤◌, Bool, true, false, cond, eqb, List, [], ◌∷◌, ◌++◌, length, take, drop, get_or, map, Option, Some, None, refl, sym, ap, subst, ◌∙◌, inl, inr, arith}
-use Rattle.std.specs.Prelude.{IfSome, IsSome, IsNone, is_some, unwrap_or, ◌↔◌, ◌⊎◌, All, AllPairs, count_by, slice_get}
+use Rattle.std.proofs.Common.{◌≡◌, ◌≢◌, ℕ, ◌+◌, ◌-◌, ◌*◌, ◌%◌, ◌^◌, ◌<◌, ◌≤◌, Bool, true, false, cond, eqb, List, ◌++◌, length, take, drop, get_or, map, Option, Some, None, refl, sym, ap, subst, ◌∙◌, inl, inr, arith}
+use Rattle.std.specs.Prelude.{IfSome, IsSome, IsNone, is_some, unwrap_or, ◌↔◌, All, AllPairs, count_by, slice_get}
 use Rattle.std.specs.List.{concat, flat_map, AllByRecursion}
 use Rattle.std.proofs.lemmas.Bool.{eqb-true, cases_eq}
-use Rattle.std.proofs.lemmas.List.{take-append-drop, drop-drop, length-drop, length-take, length-map, get_or-map, get_or-drop, get_or-take, take_at, drop_at, length-append}
+use Rattle.std.proofs.lemmas.List.{take-append-drop, drop-drop, length-drop, length-take, length-map, get_or-map, get_or-drop}
 use Rattle.std.proofs.lemmas.List.Elements.{All-from_recursion}
-use Rattle.ecma.specs.FirstFault.{AllHold}
 use Rattle.ecma.specs.Numbers.{u16_at, u32_at, u64_at}
-use Rattle.ecma.proofs.Pieces.{onto, concat_onto, IsBytes}
+use Rattle.ecma.proofs.Pieces.{concat_onto, IsBytes}
 use Rattle.osta.specs.Dstring.{dstring}
 use Rattle.vat.specs.declared.record.Record.{Record}
 use Rattle.vat.specs.declared.table.Version.{Version}
 use Rattle.vat.specs.declared.table.Version.TheVariants.{One, Two}
 use Rattle.vat.specs.Version.{version_number, version_of, record_size}
 use Rattle.vat.specs.Record.{record_bytes, IsKept}
-use Rattle.vat.specs.Entry.{unused, entry_number, entry_of, entry_bytes, words}
-use Rattle.vat.specs.Table.{Table, Fits, IsTable, IsTableAt, table_bytes, head_parts, middle_parts, use_size}
-use Rattle.vat.specs.Rules.{table_rules, version_at, count_at, commits_at, record_size_at, numbers_at, label_field, record_place, record_text, HasHeader, HasRevisions, HasRecords, HasClients, AreEntries, HasCounts, Says}
+use Rattle.vat.specs.Entry.{unused, entry_number, entry_of, entry_bytes}
+use Rattle.vat.specs.Table.{Table, Fits, IsTableAt, table_bytes, head_parts, middle_parts, use_size}
+use Rattle.vat.specs.Rules.{version_at, count_at, commits_at, record_size_at, numbers_at, label_field, record_place, record_text, HasHeader, HasRevisions, HasRecords, HasClients, AreEntries, HasCounts, Says}
 use Rattle.vat.proofs.Labels.{length-label, field_is}
-use Rattle.vat.proofs.Areas.{piece_at, piece_within}
+use Rattle.vat.proofs.Areas.{piece_at}
 use Rattle.vat.proofs.Words.{u64_at-drop, u64_at-take, u32_at-fits}
-use Rattle.vat.proofs.Records.{records_sized, length-record, client_again}
-use Rattle.vat.proofs.Entries.{entry_number-entry_of, bytes_again, words_fit, entry_of-below, entry_of-used, entry_there, used_again}
+use Rattle.vat.proofs.Records.{records_sized, client_again}
+use Rattle.vat.proofs.Entries.{entry_number-entry_of, bytes_again, entry_of-below, entry_of-used, entry_there, used_again}
 use Rattle.vat.proofs.Head.{ReadsHead, head_again}
 
 IsBytes-drop : (n : ℕ) (bytes : List ℕ) → IsBytes bytes → IsBytes (drop n bytes)

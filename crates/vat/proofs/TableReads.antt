@@ -1,22 +1,22 @@
 -- A table keeps the rules, and its bytes say what it says.
-use Rattle.std.proofs.Common.{◌≡◌, ◌≢◌, ℕ, zero, suc, ◌+◌, ◌-◌, ◌*◌, ◌/◌, ◌%◌, ◌^◌, ◌<◌, ◌≤◌, Bool, true, false, cond, eqb, List, [], ◌∷◌, ◌++◌, length, take, drop, get_or, map, Option, Some, None, refl, sym, ap, subst, ◌∙◌, inl, inr, arith}
-use Rattle.std.specs.Prelude.{IfSome, IsSome, IsNone, is_some, unwrap_or, not, ◌==◌, ◌⊎◌, count_by, slice_get}
-use Rattle.std.specs.List.{concat, flat_map, AllByRecursion}
+use Rattle.std.proofs.Common.{◌≡◌, ◌≢◌, ℕ, zero, suc, ◌+◌, ◌-◌, ◌*◌, ◌^◌, ◌<◌, ◌≤◌, Bool, true, false, List, [], ◌∷◌, ◌++◌, length, take, drop, get_or, map, Option, Some, None, refl, sym, ap, subst, ◌∙◌, inl, inr, arith}
+use Rattle.std.specs.Prelude.{IfSome, IsSome, IsNone, is_some, unwrap_or, ◌⊎◌, slice_get}
+use Rattle.std.specs.List.{flat_map, AllByRecursion}
 use Rattle.std.proofs.lemmas.List.{drop-drop, length-map, get_or-map, take_at, drop_at, length-append}
 use Rattle.std.proofs.lemmas.List.Elements.{recursion_from_All}
 use Rattle.std.proofs.lemmas.List.Sums.{count_by-le-length}
 use Rattle.ecma.specs.FirstFault.{AllHold}
-use Rattle.ecma.specs.Numbers.{u16_at, u32_at, u64_at}
-use Rattle.ecma.proofs.Pieces.{onto, concat_onto}
+use Rattle.ecma.specs.Numbers.{u16_at, u64_at}
+use Rattle.ecma.proofs.Pieces.{concat_onto}
 use Rattle.osta.specs.Dstring.{dstring}
 use Rattle.vat.specs.declared.record.Record.{Record}
 use Rattle.vat.specs.declared.table.Version.{Version}
 use Rattle.vat.specs.declared.table.Version.TheVariants.{One, Two}
 use Rattle.vat.specs.Version.{version_number, version_of, record_size}
-use Rattle.vat.specs.Record.{record_bytes, IsKept, SpellsRecord}
+use Rattle.vat.specs.Record.{record_bytes, IsKept}
 use Rattle.vat.specs.Entry.{unused, entry_number, entry_of, entry_bytes, words}
-use Rattle.vat.specs.Table.{Table, Fits, IsTable, IsTableAt, table_bytes, head_bytes, head_parts, middle_parts, middle_of, use_size}
-use Rattle.vat.specs.Rules.{table_rules, version_at, count_at, commits_at, record_size_at, numbers_at, label_field, record_place, record_text, used_of, HasHeader, HasRevisions, HasRecords, HasClients, AreEntries, HasEntries, HasCounts, Says, SaysRecords}
+use Rattle.vat.specs.Table.{Table, Fits, IsTable, IsTableAt, head_bytes, head_parts, middle_of, use_size}
+use Rattle.vat.specs.Rules.{table_rules, version_at, count_at, commits_at, record_size_at, numbers_at, label_field, record_place, used_of, HasHeader, HasRecords, HasClients, HasEntries, HasCounts, Says, SaysRecords}
 use Rattle.vat.proofs.Labels.{length-label, field_told, one_label}
 use Rattle.vat.proofs.Areas.{length-pieces}
 use Rattle.vat.proofs.Records.{records_sized, same_records}

@@ -1,5 +1,5 @@
 -- What holds of tables, each the contract of a public function.
-use Rattle.std.specs.Prelude.{◌≡◌, ℕ, ◌+◌, ◌*◌, ◌<◌, ◌≤◌, List, length}
+use Rattle.std.specs.Prelude.{◌≡◌, ℕ, ◌+◌, ◌*◌, ◌≤◌, List, length}
 use Rattle.vat.specs.Version.{record_size}
 use Rattle.vat.specs.Table.{Table, Fits, IsTable, IsTableAt}
 

@@ -1,9 +1,9 @@
 -- Up to four replies in four places.
-use Rattle.std.specs.Prelude.{◌≡◌, ℕ, ◌-◌, ◌<◌, ◌≤◌, List, length, take, drop, replicate}
+use Rattle.std.specs.Prelude.{◌≡◌, ℕ, ◌-◌, ◌<◌, ◌≤◌, List, length, take}
 use Rattle.std.proofs.Common.{sym, ap, ◌∙◌, arith, length-take}
 use Rattle.vat.specs.declared.record.Reply.{Reply}
 use Rattle.vat.specs.declared.record.Replies.TheInside.{Inside}
-use Rattle.vat.specs.Reply.{nothing, filled}
+use Rattle.vat.specs.Reply.{filled}
 
 abbrev pub shown : Inside → List Reply
 shown r = take r.count r.kept

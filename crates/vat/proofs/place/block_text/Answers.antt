@@ -1,5 +1,4 @@
-use Rattle.std.proofs.Common.{◌≡◌, ◌*◌, ℕ, List, length, take, drop, refl, sym, ap, ◌∙◌, arith}
-use Rattle.std.proofs.lemmas.List.{take_all}
+use Rattle.std.proofs.Common.{◌*◌, length, take, drop, ap, ◌∙◌, arith}
 use Rattle.vat.proofs.Places.{take_front}
 use Rattle.vat.proofs.place.block_text.Goals as goal
 

@@ -1,4 +1,4 @@
-use Rattle.std.proofs.Common.{◌≡◌, refl, sym, ap, ◌∙◌, arith}
+use Rattle.std.proofs.Common.{arith}
 use Rattle.vat.proofs.Places.{elsewhere}
 use Rattle.vat.proofs.place.is_entry.Goals as goal
 

@@ -1,4 +1,4 @@
-use Rattle.std.proofs.Common.{◌≡◌, sym, ap, ◌∙◌, rules}
+use Rattle.std.proofs.Common.{sym, ap, ◌∙◌, rules}
 use denote.Enum.Bare.{same_true, true_same}
 use Rattle.icb.specs.Entry.{Fields, fields_of}
 use Rattle.icb.specs.contracts.entry.Kind.{the_type}

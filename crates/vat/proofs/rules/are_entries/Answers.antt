@@ -1,4 +1,4 @@
-use Rattle.std.proofs.Common.{◌≡◌, ◌≢◌, ℕ, ◌<◌, ◌≤◌, length, get_or, refl, sym, ap, ◌∙◌, inl, inr, below_more, arith}
+use Rattle.std.proofs.Common.{◌≡◌, ◌<◌, ◌≤◌, length, get_or, refl, sym, ◌∙◌, inl, inr, below_more, arith}
 use Rattle.std.specs.Prelude.{◌⊎◌}
 use Rattle.vat.specs.Entry.{words, unused}
 use Rattle.vat.proofs.Words.{length-words, get_or-words}

@@ -1,4 +1,4 @@
-use Rattle.std.proofs.Common.{◌≡◌, ℕ, sym, ap, ◌∙◌, below_more}
+use Rattle.std.proofs.Common.{◌≡◌, ap, ◌∙◌, below_more}
 use Rattle.std.specs.Prelude.{not}
 use Rattle.vat.specs.Version.{version_of}
 use Rattle.vat.specs.Record.{SpellsRecord}

@@ -1,6 +1,5 @@
-use Rattle.std.proofs.Common.{◌≡◌, List, [], length, sym, ap, subst, ◌∙◌, arith}
+use Rattle.std.proofs.Common.{◌≡◌, [], length, sym, ap, subst, ◌∙◌, arith}
 use Rattle.vat.specs.declared.record.Record.{Record}
-use Rattle.vat.specs.declared.record.Reply.{Reply}
 use Rattle.vat.specs.Reply.{replies_in}
 use Rattle.vat.specs.Rules.{places_in}
 use Rattle.vat.specs.Record.{IsKept, record_bytes}
