@@ -1,8 +1,8 @@
 -- A directory that is laid block by block.
-use Rattle.std.proofs.Common.{◌≡◌, ℕ, suc, ◌+◌, ◌-◌, ◌*◌, ◌/◌, ◌<◌, ◌≤◌, List, [], ◌∷◌, ◌++◌, length, take, drop, replicate, map, Option, Some, None, true, false, zero, not, refl, subst, sym, ap, ◌∙◌, append_assoc, arith, inl, inr}
+use Rattle.std.proofs.Common.{◌≡◌, ℕ, suc, ◌+◌, ◌-◌, ◌*◌, ◌/◌, ◌<◌, ◌≤◌, List, [], ◌∷◌, ◌++◌, length, take, drop, get_or, replicate, map, Option, Some, None, true, false, zero, not, refl, subst, sym, ap, ◌∙◌, append_assoc, arith, inl, inr}
 use Rattle.std.specs.Prelude.{Bool, ◌⊎◌, slice_get, if◌then◌else◌}
 use Rattle.std.proofs.lemmas.Bool.{cases_lt}
-use Rattle.std.proofs.lemmas.List.{append-nil, take-append-drop, take_at, drop_at, take_all, drop-drop, drop-replicate, length-append, length-take, length-map}
+use Rattle.std.proofs.lemmas.List.{append-nil, take-append-drop, take_at, drop_at, take_all, drop-drop, drop-replicate, get_or_append_left, get_or-take, length-append, length-take, length-map}
 use Rattle.ecma.specs.Descriptor.{padded}
 use denote.Bor.{Bor}
 use Rattle.dir.specs.declared.entry.Dir.{Dir}
@@ -12,7 +12,8 @@ use Rattle.dir.specs.Identifier.{Identifier, plain_size, identifier}
 use Rattle.dir.specs.Directory.{identifiers, identifiers_of, of_name}
 use Rattle.dir.specs.Layout.{fits, stays, laid, onward, blocks_of, blocked, identifier_blocks, Stands, end_of}
 use Rattle.dir.specs.Laying.{identifiers_left}
-use Rattle.dir.proofs.Identifiers.{length-identifier}
+use Rattle.ecma.specs.Numbers.{u16_at}
+use Rattle.dir.proofs.Identifiers.{length-identifier, tag-identifier}
 use Rattle.dir.proofs.Placing.{plain_bounds, laid-put, laid-nil, onward-nil, onward-full, onward-within, stands_within, stands_next}
 
 pub drop_some : {X : Type 0} (xs : List X) (n : ℕ) (y : X) → slice_get xs n ≡ Some y → drop n xs ≡ y ∷ drop (suc n) xs
@@ -95,6 +96,8 @@ pub record IsFilled (start here : Lay) (at : ℕ) (block : List ℕ) : Type 0 wh
   pub number : here.number ≡ start.number
   pub before : at ≡ 0 → here.next ≡ start.next
   pub further : 0 < at → start.next < here.next
+  pub long : 0 < at → 38 ≤ at
+  pub tagged : 0 < at → u16_at 0 block ≡ 257
   pub filled : laid start.number 0 (identifiers_left start) ≡ take at block ++ onward start.number at (identifiers_left here)
   pub stood : at < 2048 → Stands at (identifiers_left here)
   pub zeros : drop at block ≡ replicate (2048 - at) 0
@@ -154,6 +157,18 @@ filled_more start here new at end block written x f inside there short dir next 
     ∙ drop_at (take at block ++ one) (drop end block) end (omega (arith, length-append (take at block) one)) in
     let further : start.next < new.next =
     elim (cases_lt 0 at) [ inl some ↦ let less = f.further some in omega arith | inr none ↦ let start_is = f.before (omega arith) in omega arith ] in
+    let front_byte : (k : ℕ) → k < at → get_or written k 0 ≡ get_or block k 0 =
+    λ (k : ℕ) (lt : k < at).
+    ap (λ (t : List ℕ). get_or t k 0) put ∙ get_or_append_left (take at block) (one ++ drop end block) 0 k (omega arith) ∙ get_or-take at block k 0 lt in
+    let tagged : u16_at 0 written ≡ 257 = elim (cases_lt 0 at) [
+      | inl some ↦
+          let enough = f.long some in
+          let told = f.tagged some in
+          omega (arith, told, front_byte 0 (omega arith), front_byte 1 (omega arith))
+      | inr none ↦
+          let start_is : at ≡ 0 = omega arith in
+          ap (u16_at 0) (put ∙ ap (λ (n : ℕ). take n block ++ (one ++ drop end block)) start_is) ∙ tag-identifier here.number more x (drop end block)
+    ] in
     let end_more : end_of at x rest - (at + plain_size (length x.name)) ≡ more = omega arith in
     record {
       within = few;
@@ -161,6 +176,8 @@ filled_more start here new at end block written x f inside there short dir next 
       number = number ∙ f.number;
       before = λ (e : end ≡ 0). absurd (omega arith);
       further = λ (lt : 0 < end). further;
+      long = λ (lt : 0 < end). omega arith;
+      tagged = λ (lt : 0 < end). tagged;
       filled =
           f.filled ∙ ap (λ (t : List ℕ). take at block ++ t) (ap (onward start.number at) left ∙ onward-within start.number at (x ∷ rest) inside
           ∙ laid-put start.number at x rest room

@@ -8,7 +8,7 @@ use Rattle.dir.specs.Identifier.{Identifier, plain_size, developer, use_of, head
 use borrow.Rule.Slice.PartMut.{put_mid}
 use Rattle.dir.proofs.Blocks.{behind_tag}
 use Rattle.std.specs.Prelude.{slice_index}
-use Rattle.ecma.specs.Numbers.{u32_at}
+use Rattle.ecma.specs.Numbers.{u16_at, u32_at}
 use Rattle.dir.specs.Split.{name_size, use_size}
 use Rattle.dir.proofs.Tags.{sealed_is, is_sealed}
 
@@ -101,3 +101,7 @@ unfolding identifier
 tail-identifier number more x rest =
     let pad : List ℕ = replicate (plain_size (length x.name) - (38 + length x.name)) 0 in
     append_assoc (use_of more) (x.name ++ pad) rest ∙ ap (λ (t : List ℕ). use_of more ++ t) (append_assoc x.name pad rest)
+
+pub tag-identifier : (number more : ℕ) (x : Identifier) (rest : List ℕ) → u16_at 0 (identifier number x more ++ rest) ≡ 257
+unfolding identifier
+tag-identifier number more x rest = refl

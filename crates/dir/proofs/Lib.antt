@@ -11,3 +11,5 @@ pub mod Entries
 pub mod Directories
 pub mod Refusals
 pub mod Filling
+pub mod Sizes
+pub mod Once

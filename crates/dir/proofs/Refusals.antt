@@ -152,7 +152,7 @@ texts_refl : (a : List ℕ) → pointwise nat_eq a a ≡ true
 texts_refl [] = refl
 texts_refl (x ∷ xs) = and_from (nat_eq x x) (pointwise nat_eq xs xs) (eq-eqb x x refl) (texts_refl xs)
 
-one_name : (a b : List ℕ) → IsName a → IsName b → compressed a ≡ compressed b → a ≡ b
+pub one_name : (a b : List ℕ) → IsName a → IsName b → compressed a ≡ compressed b → a ≡ b
 one_name a b x y e = one_text a b (compressed a) (name_spelled a x) (subst (λ (t : List ℕ). Named b t) (sym e) (name_spelled b y))
 
 -- a name that was read and is there among the entries before is there twice

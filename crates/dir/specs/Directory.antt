@@ -11,6 +11,7 @@ use Rattle.dir.specs.declared.entry.Kind.{Kind}
 use Rattle.dir.specs.declared.entry.Kind.TheVariants.{File, Directory}
 use Rattle.dir.specs.Identifier.{Identifier}
 use Rattle.dir.specs.Layout.{laid, blocks_of, identifier_blocks}
+use Rattle.dir.specs.Split.{AreBytes}
 
 -- the file characteristics of a name
 abbrev pub characteristics_of : Kind → ℕ
@@ -55,3 +56,16 @@ pub record IsDirectory (parent : ℕ) (entries : List (List ℕ × Entry)) (firs
   pub distinct : IsDistinct (pointwise nat_eq) (keys_of entries)
   pub size_is : size ≡ length (laid first 0 (identifiers parent entries))
   pub bytes : concat blocks ≡ laid first 0 (identifiers parent entries) ++ replicate (2048 * blocks_of size - size) 0
+
+-- blocks are the data of one directory at most
+abbrev pub OneDirectory : Type 0
+OneDirectory =
+    (first size p q : ℕ) (es fs : List (List ℕ × Entry)) (blocks : List (List ℕ)) → first ≤ 449_743 → AreBytes (concat blocks)
+    → IsDirectory p es first size blocks → IsDirectory q fs first size blocks → (p ≡ q) × (es ≡ fs)
+
+-- the blocks of identifiers are the data of their directory
+abbrev pub LaidIsDirectory : Type 0
+LaidIsDirectory =
+    (parent first : ℕ) (entries : List (List ℕ × Entry)) → parent < 2 ^ 32 → length entries ≤ 512 → All IsEntry entries
+    → IsDistinct (pointwise nat_eq) (keys_of entries)
+    → IsDirectory parent entries first (length (laid first 0 (identifiers parent entries))) (identifier_blocks first (identifiers parent entries))

@@ -1,9 +1,10 @@
+pub mod Fault
 pub mod Identifier
 pub mod Kinds
 pub mod Layout
-pub mod Size
 pub mod Item
 pub mod Split
 pub mod Directory
 pub mod Laying
 pub mod Reads
+pub mod Size

@@ -1,8 +1,12 @@
 -- The size of a directory's data, from the lengths of its names.
-use Rattle.std.specs.Prelude.{ℕ, ◌+◌, ◌-◌, ◌*◌, if◌then◌else◌, List, fold}
+use Rattle.std.specs.Prelude.{◌≡◌, ℕ, ◌+◌, ◌-◌, ◌*◌, ◌/◌, ◌≤◌, if◌then◌else◌, List, [], ◌∷◌, fold, length, map}
+use Rattle.std.specs.List.{All}
+use Rattle.osta.specs.Compressed.{compressed}
+use Rattle.dir.specs.declared.entry.Entry.{Entry}
 use Rattle.dir.specs.declared.size.DataSize.{DataSize}
+use Rattle.dir.specs.Directory.{identifiers, IsEntry}
 use Rattle.dir.specs.Identifier.{plain_size}
-use Rattle.dir.specs.Layout.{fits}
+use Rattle.dir.specs.Layout.{fits, laid}
 
 -- where identifiers end: so many bytes of the block behind so many full blocks
 pub record End : Type 0 where
@@ -29,3 +33,22 @@ data_end lens = fold next_end parent_end lens
 
 abbrev pub end_bytes : End → ℕ
 end_bytes e = e.full * 2048 + e.used
+
+-- the lengths of the names of entries
+abbrev pub name_sizes : List (List ℕ × Entry) → List ℕ
+name_sizes entries = map (λ e. length (compressed e.0)) entries
+
+-- the bytes of unlengthened identifiers of names of these lengths
+abbrev pub plain_sizes : List ℕ → ℕ
+plain_sizes [] = 0
+plain_sizes (len ∷ lens) = plain_size len + plain_sizes lens
+
+-- the data of a directory ends where the lengths of its names say
+abbrev pub DataIsSized : Type 0
+DataIsSized =
+    (number parent : ℕ) (entries : List (List ℕ × Entry)) → All IsEntry entries
+    → length (laid number 0 (identifiers parent entries)) ≡ end_bytes (data_end (name_sizes entries))
+
+-- no more blocks are taken than the lengths of the identifiers allow: one that is left has 1,720 of their bytes at least
+abbrev pub BlocksAreFew : Type 0
+BlocksAreFew = (lens : List ℕ) → All (λ len. len ≤ 255) lens → (data_end lens).full + 1 ≤ 1 + (40 + plain_sizes lens) / 1720

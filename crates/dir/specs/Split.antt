@@ -1,9 +1,10 @@
 -- How the data of a directory splits into identifiers, by their lengths alone.
-use Rattle.std.specs.Prelude.{◌≡◌, ◌⊎◌, ℕ, ◌+◌, ◌-◌, ◌%◌, ◌^◌, ◌<◌, ◌≤◌, IsTrue, false, List, length, take, drop, replicate, slice_index}
+use Rattle.std.specs.Prelude.{◌≡◌, ◌⊎◌, ℕ, ◌+◌, ◌-◌, ◌%◌, ◌^◌, ◌<◌, ◌≤◌, ◌==◌, if◌then◌else◌, IsTrue, false, Option, MatchOption, List, length, take, drop, replicate, slice_index}
 use Rattle.ecma.specs.Field.{IsAt}
 use Rattle.ecma.specs.Numbers.{u16_at, u32_at}
 use Rattle.ecma.specs.Tag.{Sealed}
 use Rattle.dir.specs.declared.fids.Fid.{Fid}
+use Rattle.dir.specs.declared.fids.Fids.{Fids}
 use Rattle.dir.specs.Identifier.{Identifier, rounded, plain_size, use_of, head_of}
 use Rattle.dir.specs.Kinds.{IsKind}
 use Rattle.dir.specs.Layout.{fits}
@@ -86,3 +87,10 @@ pub record Fits (x : Identifier) : Type 0 where
   pub kind : IsKind x.characteristics
   pub icb : x.icb < 2 ^ 32
   pub unique : x.unique < 2 ^ 32
+
+-- one call of the iterator: none where no identifier stands at the front within the data and its block; else its slices,
+-- and what is left begins right behind it
+abbrev pub GivesNext : Fids → Option Fid → Fids → Type 0
+GivesNext old given new = MatchOption given (¬ IsSplit old.at old.«data».now × (new ≡ old)) (λ fid.
+    IsSplit old.at old.«data».now × Shows fid old.«data».now × (new.«data».now ≡ drop (size_of old.«data».now) old.«data».now)
+    × (new.at ≡ (if old.at + size_of old.«data».now == 2048 then 0 else old.at + size_of old.«data».now)))

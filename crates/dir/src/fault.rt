@@ -3,40 +3,39 @@ ghost use Rattle.dir.specs.declared.fault.DirFault.TheVariants.{Memory};
 
 use std::alloc::{AllocError, AllocFailed};
 
-/// Why blocks are not the data of a directory.
+/// Why blocks are not the data of a directory. Each fault has a number, which causes of refusals
+/// show.
 #[derive(Clone, Copy, Debug, PartialEq, Eq)]
 pub enum DirFault {
     /// An identifier's tag, or a field that says the same in each identifier.
-    Tag,
-    /// A parent that is not the first identifier or says more than an address, or a first one that is no parent.
-    Parent,
+    Tag = 31,
+    /// A parent that is not the first identifier or says more than an address, or a first one that
+    /// is no parent.
+    Parent = 32,
     /// Bytes that are no name, or not its one spelling.
-    Name,
+    Name = 33,
     /// A name that was there before.
-    Twice,
+    Twice = 34,
     /// An identifier past its block's end, or with 4 to 28 bytes behind it in the block.
-    Span,
+    Span = 35,
     /// Implementation use or padding that is not as the layout has it.
-    Pad,
-    /// An identifier past the size, bytes behind it that are not zeros, or more than 512 names.
-    End,
-    /// There was no memory.
-    Memory,
+    Pad = 36,
+    /// An identifier past the data's end, bytes behind the data that are not zeros, or more than
+    /// 512 names.
+    End = 37,
+    /// There is no memory.
+    Memory = 7,
 }
 
 impl DirFault {
-    /// The number of the fault: 31 to 37, and 7 for want of memory.
-    pub fn number(self) -> u8 {
-        match self {
-            DirFault::Tag => 31,
-            DirFault::Parent => 32,
-            DirFault::Name => 33,
-            DirFault::Twice => 34,
-            DirFault::Span => 35,
-            DirFault::Pad => 36,
-            DirFault::End => 37,
-            DirFault::Memory => 7,
-        }
+    ghost use Rattle.std.specs.Prelude.{◌≡◌};
+    ghost use Rattle.dir.specs.Fault.{dir_number};
+
+    /// The number of the fault.
+    pub fn number(self) -> u8
+        ensures { result ≡ dir_number self }
+    {
+        self as u8
     }
 }
 

@@ -202,15 +202,15 @@ impl<'a> Fids<'a> {
     }
 
     /// The identifiers of these bytes, which begin with a block.
-    fn over(data: &'a [u8]) -> Fids<'a>
-        requires { length data.now < 2 ^ 59 }
-        ensures data { result.data.now ≡ data.now }
+    fn over(bytes: &'a [u8]) -> Fids<'a>
+        requires { length bytes.now < 2 ^ 59 }
+        ensures data { result.data.now ≡ bytes.now }
         ensures bytes { AreBytes result.data.now }
         ensures at { result.at ≡ 0 }
         ensures index { result.index ≡ 0 }
     {
         Fids {
-            data,
+            data: bytes,
             at: 0,
             index: 0,
         }
@@ -340,12 +340,18 @@ impl<'a> Fids<'a> {
 impl<'a> Iterator for Fids<'a> {
     ghost use Rattle.std.specs.Prelude.{length};
     ghost use Rattle.std.specs.Iterator.{at_most};
+    ghost use Rattle.dir.specs.Split.{GivesNext};
 
     type Item = Fid<'a>;
+
+    ghost next_gives = { GivesNext };
 
     ghost remaining = { λ f. at_most (length f.data.now) };
 
     fn next(&mut self) -> Option<Fid<'a>> {
-        self.split().ok()
+        match self.split() {
+            Ok(fid) => Some(fid),
+            Err(_) => None,
+        }
     }
 }

@@ -8,10 +8,10 @@ use crate::size::{BLOCK_SIZE, fits, plain_size};
 use ecma::Block;
 
 /// The most names of a directory.
-pub(crate) const MAX_NAMES: usize = 512;
+pub const MAX_NAMES: usize = 512;
 
-/// The last block number of a partition, and so the last at which a directory can begin.
-pub(crate) const LAST_BLOCK: u32 = 449_743;
+/// The blocks of the largest partition.
+pub const MAX_BLOCKS: u32 = 449_743;
 
 /// The blocks of a directory in order, each made when it is asked for. It takes no memory.
 #[derive(Drop)]
@@ -29,6 +29,7 @@ pub struct Lay<'a> {
 impl<'a> Lay<'a> {
     ghost use Rattle.std.specs.Prelude.{◌≡◌, ◌≤◌, ◌-◌, ◌+◌, ◌++◌, [], ◌∷◌, length, take, drop, replicate, slice_get, Some, IfSome, MatchOption};
     ghost use Rattle.std.specs.Option.{option_map};
+    ghost use Rattle.ecma.specs.Numbers.{u16_at};
     ghost use Rattle.dir.specs.Directory.{directory_blocks, identifiers_of};
     ghost use Rattle.dir.specs.Item.{said};
     ghost use Rattle.dir.specs.Laying.{blocks_left, identifiers_left};
@@ -38,7 +39,7 @@ impl<'a> Lay<'a> {
     /// The blocks of a directory of at most 512 names, the first of them having this number.
     pub fn new(dir: &'a Dir, first: u32) -> Lay<'a>
         requires few { length dir.now.entries.entries ≤ MAX_NAMES }
-        requires first { first ≤ LAST_BLOCK }
+        requires first { first ≤ MAX_BLOCKS }
         ensures { blocks_left result ≡ directory_blocks dir.now first }
     {
         Lay {
@@ -50,7 +51,9 @@ impl<'a> Lay<'a> {
 
     /// The next block, or `None` behind the last.
     pub fn next_block(&mut self) -> Option<Block>
-        ensures { MatchOption result (blocks_left self.old ≡ []) (λ block. blocks_left self.old ≡ block ∷ blocks_left self.new) }
+        ensures next { MatchOption result (blocks_left self.old ≡ []) (λ block. blocks_left self.old ≡ block ∷ blocks_left self.new) }
+        // It begins with an identifier's tag, and so is no file entry.
+        ensures tag { IfSome result (λ block. u16_at 0 block ≡ 257) }
     {
         if self.next > self.dir.entries.len() {
             return None;

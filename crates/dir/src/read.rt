@@ -9,7 +9,7 @@ ghost use Rattle.dir.specs.declared.entry.Entry.{Entry};
 use crate::entry::Dir;
 use crate::fault::DirFault;
 use crate::fids::{Fids, are_zeros};
-use crate::laying::MAX_NAMES;
+use crate::laying::{MAX_BLOCKS, MAX_NAMES};
 use ecma::Block;
 use indexmap::IndexMap;
 use std::alloc::Global;
@@ -18,7 +18,7 @@ use std::alloc::Global;
 pub fn read_dir(alloc: Global, blocks: &[Block], size: u32, first: u32) -> Result<Dir, DirFault>
     requires some { 0 < size }
     requires count { length blocks.now ≡ blocks_of size }
-    requires first { first ≤ 449_743 }
+    requires first { first ≤ MAX_BLOCKS }
     // What is read stands there.
     ensures found { IfOk result (λ dir. IsDirectory dir.parent dir.entries.entries first size blocks.now) }
     // What stands there is read, unless memory is short.

@@ -54,7 +54,7 @@ impl DataSize {
     /// Adds a name behind the others, of `name_size` bytes in compressed form (1 to 255).
     pub fn add(&mut self, name_size: usize)
         requires short { name_size ≤ 255 }
-        requires room { self.old.full + 1 < 2 ^ 32 }
+        requires room { (end_of self.old).full + 1 < 2 ^ 32 }
         ensures { end_of self.new ≡ next_end (end_of self.old) name_size }
     {
         let size = plain_size(name_size);
@@ -75,8 +75,8 @@ impl DataSize {
 
     /// The blocks that the data takes.
     pub fn blocks(&self) -> u32
-        requires { self.now.full + 1 < 2 ^ 32 }
-        ensures { result ≡ self.now.full + 1 }
+        requires { (end_of self.now).full + 1 < 2 ^ 32 }
+        ensures { result ≡ (end_of self.now).full + 1 }
     {
         self.full + 1
     }

@@ -2,4 +2,4 @@ use Rattle.std.proofs.Common.{arith}
 use Rattle.dir.proofs.fids.Fids.over.Goals as goal
 
 pub returns-clause-bytes : goal.returns-clause-bytes
-returns-clause-bytes c = λ i. omega (arith, c.type_inv.«data» i)
+returns-clause-bytes c = λ i. omega (arith, c.type_inv.bytes i)

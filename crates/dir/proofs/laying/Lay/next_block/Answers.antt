@@ -14,8 +14,8 @@ use Rattle.dir.proofs.Filling.{drop_some, drop_none, none_past, length-identifie
 use Rattle.dir.proofs.laying.Lay.next_block.Goals as goal
 use Rattle.dir.proofs.laying.Lay.next_block.Goals.{else-loop-at-test, then-loop-at-test+in_default}
 
-pub returns-then-self-len : goal.returns-then-self-len
-returns-then-self-len c =
+pub returns-then-self-len-clause-next : goal.returns-then-self-len-clause-next
+returns-then-self-len-clause-next c =
     let self = c.args.self.now in
     let ids = identifiers_of self.dir.now in
     let many = length-identifiers self.dir.now.parent self.dir.now.entries.entries in
@@ -59,8 +59,8 @@ invariant_of-self c =
     let number = filled.number in
     record { few = c.loop-at.self.few; laid = c.loop-at.self.laid; numbers = omega (arith, c.args.self.now.numbers) }
 
-pub returns : goal.returns
-returns c =
+pub returns-clause-next : goal.returns-clause-next
+returns-clause-next c =
     let ids = identifiers_of c.loop-at.self.dir.now in
     let filled = c.loop-at.invariant in
     let same = ap (λ (d : Bor Dir). length d.now.entries.entries) filled.dir in
@@ -83,3 +83,22 @@ returns c =
     ] in
     laid_block start.number c.loop-at.at (identifiers_left start) (identifiers_left c.loop-at.self) c.loop-at.block filled.filled filled.zeros filled.size filled.within some over
     ∙ ap (λ (n : ℕ). c.loop-at.block ∷ identifier_blocks (n + 1) (identifiers_left c.loop-at.self)) (sym filled.number)
+
+pub returns-clause-tag : goal.returns-clause-tag
+returns-clause-tag c =
+    let ids = identifiers_of c.loop-at.self.dir.now in
+    let filled = c.loop-at.invariant in
+    let same = ap (λ (d : Bor Dir). length d.now.entries.entries) filled.dir in
+    let many = length-identifiers c.loop-at.self.dir.now.parent c.loop-at.self.dir.now.entries.entries in
+    let some : 0 < c.loop-at.at = elim c.loop-at-test.branch [
+      | else-loop-at-test w ↦ let full = w.loop-at-test.false in omega arith
+      | then-loop-at-test+in_default w ↦
+          elim (cases_lt 0 c.loop-at.at) [
+            | inl less ↦ less
+            | inr none ↦
+                let start = filled.before (omega arith) in
+                let past = none_past ids c.loop-at.self.next (sym w.in_default.ensures.value) in
+                absurd (omega (arith, c.len.ensures.len, c.if-self-len.false))
+          ]
+    ] in
+    filled.tagged some
