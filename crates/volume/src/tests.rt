@@ -78,3 +78,76 @@ fn a_front_is_read(rt: HostRuntime) -> Result<(), Fail> {
     assert_eq!(rt; front.capacity, 512);
     Ok(())
 }
+
+/// The first 512 bytes of a block, with zeros behind them.
+fn front_of(block: &Block) -> Block {
+    let mut front = [0; 2048];
+    front[..512].copy_from_slice(&block[..512]);
+    front
+}
+
+/// A descriptor of so many bytes in which some are changed, and which is sealed again.
+fn sealed_again(block: &Block, changes: &[(usize, u8)], end: usize, id: u16, loc: u32) -> Block
+    requires low { 16 ≤ end }
+    requires high { end ≤ 2048 }
+{
+    let mut changed = front_of(block);
+    for (at, byte) in changes {
+        if *at < changed.len() {
+            changed[*at] = *byte;
+        }
+    }
+    seal(id, loc, &mut changed[..end]);
+    changed
+}
+
+fn fault(block: u32, at: u32) -> Result<Front, VolumeFault> {
+    Err(VolumeFault::Field { block, at })
+}
+
+#[test]
+fn fields_that_can_not_be_read(rt: HostRuntime) -> Result<(), Fail> {
+    let Ok(label) = Label::read("DISC") else {
+        return Err("no label".into());
+    };
+    let moment = Timestamp::of(0).ok_or("the first moment")?;
+    let primary = front_block(&label, moment, 3_000, 32);
+    let partition = front_block(&label, moment, 3_000, 34);
+    assert_eq!(rt; front_words(&[0; 2048], &partition), fault(32, 0));
+    let other = sealed_again(&primary, &[(24, 9)], 512, 1, 32);
+    assert_eq!(rt; front_words(&other, &partition), fault(32, 24));
+    let other = sealed_again(&primary, &[(378, 0)], 512, 1, 32);
+    assert_eq!(rt; front_words(&other, &partition), fault(32, 376));
+    assert_eq!(rt; front_words(&primary, &primary), fault(34, 0));
+    // 254 and 449,744 blocks
+    let short = sealed_again(&partition, &[(192, 0xFE), (193, 0)], 512, 5, 34);
+    assert_eq!(rt; front_words(&primary, &short), fault(34, 192));
+    let long = sealed_again(
+        &partition,
+        &[(192, 0xD0), (193, 0xDC), (194, 6)],
+        512,
+        5,
+        34,
+    );
+    assert_eq!(rt; front_words(&primary, &long), fault(34, 192));
+    Ok(())
+}
+
+#[test]
+fn the_first_difference(rt: HostRuntime) -> Result<(), Fail> {
+    let Ok(label) = Label::read("DISC") else {
+        return Err("no label".into());
+    };
+    let moment = Timestamp::of(0).ok_or("the first moment")?;
+    let front = Front {
+        label,
+        moment,
+        capacity: 3_000,
+    };
+    let block = front_block(&label, moment, 3_000, 33);
+    assert_eq!(rt; first_difference(&front, 33, &block), None);
+    // a reserve copy differs in its checksum first, and a block that is not written in its first byte
+    assert_eq!(rt; first_difference(&front, 49, &block), Some(4));
+    assert_eq!(rt; first_difference(&front, 33, &[0; 2048]), Some(0));
+    Ok(())
+}
