@@ -1,18 +1,16 @@
 -- The data of a directory, read one identifier after another.
-use Rattle.std.proofs.Common.{◌≡◌, ℕ, ◌+◌, ◌-◌, ◌*◌, ◌/◌, ◌%◌, ◌^◌, ◌<◌, ◌≤◌, Bool, true, false, List, [], ◌∷◌, ◌++◌, length, take, drop, map, get_or, refl, sym, ap, subst, ◌∙◌, append_assoc, arith, inl, inr}
-use Rattle.std.specs.Prelude.{◌⊎◌, ◌==◌, slice_index, if◌then◌else◌}
-use Rattle.std.specs.List.{All, concat}
+use Rattle.std.proofs.Common.{◌≡◌, ℕ, ◌+◌, ◌-◌, ◌*◌, ◌%◌, ◌^◌, ◌<◌, ◌≤◌, Bool, true, false, List, [], ◌∷◌, ◌++◌, length, refl, sym, ap, subst, ◌∙◌, append_assoc, arith, inl, inr}
+use Rattle.std.specs.Prelude.{◌==◌, slice_index, if◌then◌else◌}
+use Rattle.std.specs.List.{All}
 use Rattle.std.proofs.lemmas.Bool.{cases_lt, eqb-true}
 use Rattle.std.proofs.lemmas.Bool.Decides.{nat_tests}
-use Rattle.std.proofs.lemmas.List.{append-nil, get_or-drop, get_or_at, length-append, length-drop, length-map, map-append}
-use Rattle.dir.specs.declared.entry.Entry.{Entry}
+use Rattle.std.proofs.lemmas.List.{get_or-drop, get_or_at, length-append, length-drop}
 use Rattle.dir.specs.declared.fids.Fids.{Fids}
-use Rattle.dir.specs.Directory.{of_parent, of_name, identifiers, IsEntry}
 use Rattle.dir.specs.Identifier.{Identifier, rounded}
 use Rattle.dir.specs.Layout.{laid, onward, Stands}
 use Rattle.dir.specs.Reads.{AreShort, Reads}
 use Rattle.dir.specs.Split.{AreBytes, Fits, size_of, use_size, name_size}
-use Rattle.dir.proofs.Placing.{fits_cases, laid-nil, length-laid, stands_within}
+use Rattle.dir.proofs.Placing.{fits_cases, laid-nil}
 use Rattle.dir.proofs.Steps.{read_stands, laid_found}
 
 -- what is left of a directory whose first identifiers are done

@@ -1,6 +1,5 @@
 -- What identifiers of directories can say.
-use Rattle.std.proofs.Common.{◌≡◌, ℕ, ◌^◌, ◌<◌, ◌≤◌, true, false, List, [], ◌∷◌, length, refl, sym, ap, subst, ◌∙◌, arith, inl, inr}
-use Rattle.osta.specs.Compressed.{compressed}
+use Rattle.std.proofs.Common.{◌≡◌, ℕ, ◌^◌, ◌<◌, true, false, List, [], refl, sym, arith, inl, inr}
 use Rattle.osta.proofs.Names.{name_few}
 use Rattle.dir.specs.declared.entry.Entry.{Entry}
 use Rattle.dir.specs.declared.entry.Kind.{Kind}

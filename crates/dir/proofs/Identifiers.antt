@@ -1,16 +1,16 @@
 -- One identifier: its size, its parts, and the bytes that are one.
-use Rattle.std.proofs.Common.{◌≡◌, ℕ, ◌+◌, ◌-◌, ◌*◌, ◌/◌, ◌%◌, ◌^◌, ◌<◌, ◌≤◌, min, List, [], ◌∷◌, ◌++◌, length, take, drop, replicate, get_or, refl, sym, ap, ◌∙◌, append_assoc, arith}
-use Rattle.std.proofs.lemmas.List.{append-nil, length-append, length-replicate, length-take, length-drop}
-use Rattle.ecma.specs.Crc.{crc_of}
-use Rattle.ecma.specs.Tag.{Sealed, tag_cells}
+use Rattle.std.proofs.Common.{◌≡◌, ℕ, ◌+◌, ◌-◌, ◌^◌, ◌<◌, min, List, [], ◌++◌, length, take, drop, replicate, refl, sym, ap, ◌∙◌, append_assoc, arith}
+use Rattle.std.proofs.lemmas.List.{append-nil, length-append, length-replicate, length-take}
+use Rattle.ecma.specs.Tag.{Sealed}
 use Rattle.ecma.proofs.Pieces.{IsBytes}
-use Rattle.dir.specs.Identifier.{Identifier, plain_size, developer, use_of, head_of, body_of, identifier}
+use Rattle.ecma.specs.EntityId.{developer}
+use Rattle.dir.specs.Identifier.{Identifier, plain_size, use_of, head_of, body_of, identifier}
 use borrow.Rule.Slice.PartMut.{put_mid}
 use Rattle.dir.proofs.Blocks.{behind_tag}
 use Rattle.std.specs.Prelude.{slice_index}
 use Rattle.ecma.specs.Numbers.{u16_at, u32_at}
 use Rattle.dir.specs.Split.{name_size, use_size}
-use Rattle.dir.proofs.Tags.{sealed_is, is_sealed}
+use Rattle.ecma.proofs.Seals.{sealed_is}
 
 pub length-use_of : (more : ℕ) → length (use_of more) ≡ more
 length-use_of more =

@@ -1,7 +1,6 @@
 pub mod Blocks
 pub mod Errors
 pub mod Zeros
-pub mod Tags
 pub mod Identifiers
 pub mod Splits
 pub mod Placing
@@ -13,3 +12,6 @@ pub mod Refusals
 pub mod Filling
 pub mod Sizes
 pub mod Once
+pub mod Begins
+pub mod Short
+pub mod Sized

@@ -10,7 +10,7 @@ use Rattle.std.proofs.lemmas.List.{append-nil, nil_from_length, get_or-drop, tak
 use Rattle.dir.specs.declared.entry.Entry.{Entry}
 use Rattle.dir.specs.declared.entry.Kind.{Kind}
 use Rattle.dir.specs.declared.entry.Kind.TheVariants.{File, Directory}
-use Rattle.dir.specs.Directory.{of_parent, of_name, characteristics_of, identifiers, IsEntry, IsDirectory}
+use Rattle.dir.specs.Directory.{of_parent, characteristics_of, identifiers, IsEntry, IsDirectory}
 use Rattle.dir.specs.Identifier.{Identifier, rounded}
 use Rattle.dir.specs.Layout.{laid, blocks_of, blocked, identifier_blocks, Stands}
 use Rattle.dir.specs.Split.{AreBytes, Fits, size_of, use_size, name_size}

@@ -1,16 +1,15 @@
 -- What the tests of an identifier's bytes say of them.
-use Rattle.std.proofs.Common.{◌≡◌, ℕ, ◌+◌, ◌-◌, ◌*◌, ◌/◌, ◌%◌, ◌^◌, ◌<◌, ◌≤◌, List, [], ◌∷◌, ◌++◌, length, take, drop, replicate, get_or, refl, sym, ap, subst, ◌∙◌, append_assoc, arith, inl, inr}
+use Rattle.std.proofs.Common.{◌≡◌, ℕ, ◌+◌, ◌-◌, ◌%◌, ◌^◌, ◌<◌, ◌≤◌, List, [], ◌++◌, length, take, drop, replicate, refl, sym, ap, subst, ◌∙◌, arith, inl, inr}
 use Rattle.std.specs.Prelude.{slice_index}
-use Rattle.std.proofs.lemmas.List.{append-nil, take-append-drop, drop-drop, drop_at, take_at, get_or-drop, length-drop, length-take-le, length-append, length-replicate}
-use Rattle.ecma.specs.Numbers.{u16_at, u32_at}
-use Rattle.ecma.specs.Crc.{crc_of}
-use Rattle.ecma.specs.Tag.{Sealed, tag_cells}
+use Rattle.std.proofs.lemmas.List.{append-nil, take-append-drop, drop-drop, drop_at, take_at, get_or-drop, length-drop, length-take-le}
+use Rattle.ecma.specs.Numbers.{u32_at}
+use Rattle.ecma.specs.Tag.{Sealed}
 use Rattle.ecma.proofs.Pieces.{IsBytes, cut}
 use Rattle.dir.specs.Identifier.{Identifier, rounded, plain_size, use_of, head_of, body_of, identifier}
 use Rattle.dir.specs.Kinds.{IsKind}
-use Rattle.dir.specs.Split.{name_size, use_size, size_of, said_by, HasHead, IsPadded, IsLengthened, Fits}
-use Rattle.dir.proofs.Tags.{is_sealed}
-use Rattle.dir.proofs.Identifiers.{identifier_is, length-use_of, length-body_of, length-identifier, name_size-identifier, use_size-identifier, kind-identifier, icb-identifier, unique-identifier, head-identifier, tail-identifier}
+use Rattle.dir.specs.Split.{name_size, use_size, size_of, said_by, HasHead, IsPadded, Fits}
+use Rattle.ecma.proofs.Seals.{is_sealed}
+use Rattle.dir.proofs.Identifiers.{identifier_is, length-use_of, length-body_of, name_size-identifier, use_size-identifier, kind-identifier, icb-identifier, unique-identifier, head-identifier, tail-identifier}
 
 -- the use of an identifier that is padded is a multiple of 4
 pub use_whole : (at : ℕ) (bytes behind : List ℕ) → IsPadded at bytes behind → use_size bytes % 4 ≡ 0

@@ -1,5 +1,5 @@
 -- The size of a directory's data, from the lengths of its names.
-use Rattle.std.proofs.Common.{◌≡◌, ℕ, suc, ◌+◌, ◌-◌, ◌*◌, ◌/◌, ◌<◌, ◌≤◌, Bool, true, false, List, [], ◌∷◌, ◌++◌, length, map, zero, refl, sym, ap, subst, ◌∙◌, arith, inl, inr}
+use Rattle.std.proofs.Common.{◌≡◌, ℕ, suc, ◌+◌, ◌-◌, ◌*◌, ◌/◌, ◌<◌, ◌≤◌, Bool, true, false, List, [], ◌∷◌, length, map, zero, refl, sym, ap, subst, ◌∙◌, arith, inl, inr}
 use Rattle.std.specs.Prelude.{fold, slice_index_or, if◌then◌else◌}
 use Rattle.std.specs.List.{All}
 use Rattle.std.proofs.lemmas.Bool.Decides.{nat_tests}
@@ -9,7 +9,7 @@ use Rattle.osta.proofs.Names.{name_few}
 use Rattle.dir.specs.declared.entry.Entry.{Entry}
 use Rattle.dir.specs.Directory.{of_parent, of_name, identifiers, IsEntry}
 use Rattle.dir.specs.Identifier.{Identifier, plain_size, identifier}
-use Rattle.dir.specs.Layout.{fits, stays, laid}
+use Rattle.dir.specs.Layout.{fits, laid}
 use Rattle.dir.specs.Size.{End, next_end, parent_end, data_end, end_bytes, plain_sizes, name_sizes}
 use Rattle.dir.proofs.Identifiers.{length-identifier}
 use Rattle.dir.proofs.Placing.{plain_bounds, fits_cases, laid-stays, laid-leaves, laid-nil}
@@ -61,7 +61,7 @@ laid_end number full at x (y ∷ r) short all room =
         omega (arith, rest, ap length (laid-leaves number at x (y ∷ r) e), length-append (identifier number x (2048 - end)) (laid (number + 1) 0 (y ∷ r)), length-identifier number (2048 - end) x)
         ∙ ap (λ (b : Bool). end_bytes (fold next_end (next b) (map (λ (z : Identifier). length z.name) r))) (sym e)
 
-fits_not : (size left : ℕ) → fits size left ≡ false → left < size + 32
+pub fits_not : (size left : ℕ) → fits size left ≡ false → left < size + 32
 fits_not size left e = grind (arith, nat_tests)
 
 -- a block that is left has 1,720 bytes of identifiers at least
@@ -99,9 +99,26 @@ lengths_same : (entries : List (List ℕ × Entry)) → map (λ (y : Identifier)
 lengths_same [] = refl
 lengths_same (e ∷ es) = ap (λ (t : List ℕ). length (compressed e.0) ∷ t) (lengths_same es)
 
--- the bytes of a directory's data
+-- the bytes of a directory's data, where its names are short
+pub data_sized_by : (number parent : ℕ) (entries : List (List ℕ × Entry))
+    → ((k : ℕ) (d : Identifier) → k < length (map (λ (e : List ℕ × Entry). of_name e.0 e.1) entries) → length (slice_index_or (map (λ (e : List ℕ × Entry). of_name e.0 e.1) entries) k d).name ≤ 255)
+    → length (laid number 0 (identifiers parent entries)) ≡ end_bytes (data_end (name_sizes entries))
+data_sized_by number parent entries short =
+    let sized = laid_end number 0 0 (of_parent parent) (map (λ (e : List ℕ × Entry). of_name e.0 e.1) entries) (omega arith) short (omega arith) in
+    omega (arith, sized) ∙ ap (λ (t : List ℕ). end_bytes (fold next_end parent_end t)) (lengths_same entries)
+
+-- the same where they are names
 pub data_sized : (number parent : ℕ) (entries : List (List ℕ × Entry)) → All IsEntry entries
     → length (laid number 0 (identifiers parent entries)) ≡ end_bytes (data_end (name_sizes entries))
-data_sized number parent entries all =
-    let sized = laid_end number 0 0 (of_parent parent) (map (λ (e : List ℕ × Entry). of_name e.0 e.1) entries) (omega arith) (names_short entries all) (omega arith) in
-    omega (arith, sized) ∙ ap (λ (t : List ℕ). end_bytes (fold next_end parent_end t)) (lengths_same entries)
+data_sized number parent entries all = data_sized_by number parent entries (names_short entries all)
+
+short_names : (entries : List (List ℕ × Entry)) → All (λ (e : List ℕ × Entry). length (compressed e.0) ≤ 255) entries → (k : ℕ) (d : Identifier) → k < length (map (λ (e : List ℕ × Entry). of_name e.0 e.1) entries)
+    → length (slice_index_or (map (λ (e : List ℕ × Entry). of_name e.0 e.1) entries) k d).name ≤ 255
+short_names [] all k d lt = absurd (omega arith)
+short_names (e ∷ es) all zero d lt = all 0 e (omega arith)
+short_names (e ∷ es) all (suc k) d lt = short_names es (λ j c less. all (suc j) c (omega arith)) k d (omega arith)
+
+-- the same where each name is spelled in 255 bytes at most
+pub data_sized_short : (number parent : ℕ) (entries : List (List ℕ × Entry)) → All (λ (e : List ℕ × Entry). length (compressed e.0) ≤ 255) entries
+    → length (laid number 0 (identifiers parent entries)) ≡ end_bytes (data_end (name_sizes entries))
+data_sized_short number parent entries all = data_sized_by number parent entries (short_names entries all)

@@ -2,7 +2,8 @@
 use Rattle.std.proofs.Common.{◌≡◌, ℕ, ◌+◌, ◌-◌, ◌≤◌, min, List, ◌++◌, length, take, drop, replicate, sym, ap, ◌∙◌, arith}
 use Rattle.std.proofs.lemmas.List.{drop-take, take-take, get_or-take, take_all, take_at, drop_at, take-append-drop, length-take, length-drop}
 use Rattle.dir.specs.declared.fids.Fid.{Fid}
-use Rattle.dir.specs.Identifier.{rounded, developer, use_of}
+use Rattle.dir.specs.Identifier.{rounded, use_of}
+use Rattle.ecma.specs.EntityId.{developer}
 use Rattle.std.specs.Prelude.{Bool, IsTrue, ◌↔◌, EachIndex, slice_index}
 use Rattle.std.specs.Str.{bytes_eq}
 use Rattle.std.proofs.lemmas.Slice.Eq.{bytes_eq-Decides}

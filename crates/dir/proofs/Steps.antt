@@ -1,14 +1,14 @@
 -- One identifier of the data is read: what was read stands there, and what stands there is read.
-use Rattle.std.proofs.Common.{◌≡◌, ℕ, ◌+◌, ◌-◌, ◌*◌, ◌/◌, ◌%◌, ◌^◌, ◌<◌, ◌≤◌, Bool, true, false, List, [], ◌∷◌, ◌++◌, length, take, drop, replicate, get_or, refl, sym, ap, subst, ◌∙◌, arith, inl, inr}
-use Rattle.std.specs.Prelude.{IsTrue, ◌⊎◌, ◌==◌, if◌then◌else◌}
+use Rattle.std.proofs.Common.{◌≡◌, ℕ, ◌+◌, ◌-◌, ◌%◌, ◌^◌, ◌<◌, ◌≤◌, Bool, true, false, List, [], ◌∷◌, ◌++◌, length, take, drop, replicate, refl, sym, ap, subst, ◌∙◌, arith, inl, inr}
+use Rattle.std.specs.Prelude.{IsTrue, ◌⊎◌, if◌then◌else◌}
 use Rattle.std.proofs.lemmas.Bool.{cases_lt}
-use Rattle.std.proofs.lemmas.List.{take-append-drop, take_at, drop_at, length-append, length-take, length-drop, get_or-take, get_or_past}
+use Rattle.std.proofs.lemmas.List.{take-append-drop, take_at, drop_at, length-append, length-take, get_or-take, get_or_past}
 use Rattle.ecma.proofs.Pieces.{IsBytes}
-use Rattle.dir.specs.Identifier.{Identifier, rounded, plain_size, use_of, identifier}
+use Rattle.dir.specs.Identifier.{Identifier, plain_size, use_of, identifier}
 use Rattle.dir.specs.Layout.{fits, stays, laid, onward, Stands, end_of}
 use Rattle.dir.specs.Split.{name_size, use_size, size_of, said_by, IsSplit, HasHead, IsPadded, IsLengthened, Fits}
 use Rattle.dir.proofs.Identifiers.{length-identifier, name_size-identifier, use_size-identifier}
-use Rattle.dir.proofs.Placing.{fits_cases, fits_exactly, fits_with, plain_bounds, laid-put, stands_within, stands_next, name_size-laid, length-laid, onward-nil, onward-full, onward-within}
+use Rattle.dir.proofs.Placing.{fits_cases, fits_exactly, fits_with, plain_bounds, laid-put, stands_within, stands_next, name_size-laid, length-laid, onward-nil, onward-full}
 use Rattle.dir.proofs.Reading.{use_whole, size_whole, length-said_by, identifier_read, said_by-identifier, HasHead-identifier, filled-identifier, padding-identifier}
 use Rattle.dir.proofs.Splits.{name_size-front, use_size-front}
 

@@ -1,5 +1,5 @@
 -- Zeros, one by one and all at once.
-use Rattle.std.proofs.Common.{◌≡◌, ℕ, ◌-◌, ◌*◌, ◌<◌, List, length, drop, replicate, get_or, refl, sym, ap, subst, ◌∙◌, arith}
+use Rattle.std.proofs.Common.{◌≡◌, ℕ, List, length, replicate, get_or, sym, ap, ◌∙◌, arith}
 use Rattle.std.specs.Prelude.{EachIndex, slice_index}
 use Rattle.std.proofs.lemmas.List.{ext_get_or, get_or-replicate, length-replicate}
 

@@ -3,6 +3,7 @@ use Rattle.std.specs.Prelude.{◌≡◌, ℕ, ◌*◌, ◌-◌, ◌^◌, ◌<◌
 use Rattle.std.specs.Cmp.Lexicographic.{pointwise}
 use Rattle.std.specs.List.{All, IsDistinct, concat}
 use Rattle.std.specs.Map.{keys_of}
+use Rattle.ecma.specs.Numbers.{u16_at}
 use Rattle.osta.specs.Compressed.{compressed}
 use Rattle.osta.specs.Name.{IsName}
 use Rattle.dir.specs.declared.entry.Dir.{Dir}
@@ -69,3 +70,9 @@ LaidIsDirectory =
     (parent first : ℕ) (entries : List (List ℕ × Entry)) → parent < 2 ^ 32 → length entries ≤ 512 → All IsEntry entries
     → IsDistinct (pointwise nat_eq) (keys_of entries)
     → IsDirectory parent entries first (length (laid first 0 (identifiers parent entries))) (identifier_blocks first (identifiers parent entries))
+
+-- a directory's data takes as many blocks as its size says, and each begins with the tag of an identifier
+abbrev pub BlocksBegin : Type 0
+BlocksBegin =
+    (parent first size : ℕ) (entries : List (List ℕ × Entry)) (blocks : List (List ℕ)) → All (λ block. length block ≡ 2048) blocks
+    → IsDirectory parent entries first size blocks → (length blocks ≡ blocks_of size) × All (λ block. u16_at 0 block ≡ 257) blocks

@@ -1,8 +1,9 @@
 -- File identifiers: ECMA-167 4/14.4, with the choices of UDF 2.01 2.3.4.
-use Rattle.std.specs.Prelude.{ℕ, ◌+◌, ◌-◌, ◌*◌, ◌/◌, min, List, [], ◌∷◌, ◌++◌, codes, length, take, replicate}
+use Rattle.std.specs.Prelude.{ℕ, ◌+◌, ◌-◌, ◌*◌, ◌/◌, min, List, [], ◌∷◌, ◌++◌, length, take, replicate}
 use Rattle.std.specs.Int.{w16, w32, to_le_bytes}
 use Rattle.std.specs.List.{concat}
 use Rattle.ecma.specs.Crc.{crc_of}
+use Rattle.ecma.specs.EntityId.{developer}
 use Rattle.ecma.specs.Tag.{tag_cells}
 
 -- what an identifier says: a compressed name, file characteristics, the virtual address of an entry and a unique ID
@@ -19,10 +20,6 @@ rounded size = (size + 3) / 4 * 4
 -- the bytes of an identifier with a name of so many bytes and no implementation use
 abbrev pub plain_size : ℕ → ℕ
 plain_size len = rounded (38 + len)
-
--- the EntityID of this program: flags, identifier and suffix
-abbrev pub developer : List ℕ
-developer = (0 ∷ codes "*udfburn") ++ replicate 23 0
 
 -- the implementation use that lengthens an identifier by so many bytes
 abbrev pub use_of : ℕ → List ℕ

@@ -4,7 +4,7 @@ use Rattle.std.specs.List.{All}
 use Rattle.osta.specs.Compressed.{compressed}
 use Rattle.dir.specs.declared.entry.Entry.{Entry}
 use Rattle.dir.specs.declared.size.DataSize.{DataSize}
-use Rattle.dir.specs.Directory.{identifiers, IsEntry}
+use Rattle.dir.specs.Directory.{identifiers, IsEntry, IsDirectory}
 use Rattle.dir.specs.Identifier.{plain_size}
 use Rattle.dir.specs.Layout.{fits, laid}
 
@@ -52,3 +52,9 @@ DataIsSized =
 -- no more blocks are taken than the lengths of the identifiers allow: one that is left has 1,720 of their bytes at least
 abbrev pub BlocksAreFew : Type 0
 BlocksAreFew = (lens : List ℕ) → All (λ len. len ≤ 255) lens → (data_end lens).full + 1 ≤ 1 + (40 + plain_sizes lens) / 1720
+
+-- so a directory takes no more
+abbrev pub DirectoriesAreShort : Type 0
+DirectoriesAreShort =
+    (parent first size : ℕ) (entries : List (List ℕ × Entry)) (blocks : List (List ℕ)) → All (λ block. length block ≡ 2048) blocks
+    → IsDirectory parent entries first size blocks → length blocks ≤ 1 + (40 + plain_sizes (name_sizes entries)) / 1720

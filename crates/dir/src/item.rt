@@ -12,7 +12,8 @@ pub(crate) const FILE_IDENTIFIER: u16 = 257;
 /// The bytes of an identifier in front of its implementation use.
 pub(crate) const HEAD_SIZE: usize = 38;
 
-/// The EntityID of this program, as it stands in an implementation use.
+/// The EntityID of this program, as it stands in an implementation use. It is a constant, since bytes of a local do not
+/// stand beside a name's in one table of fields.
 pub(crate) const DEVELOPER: [u8; 32] =
     *b"\x00*udfburn\0\0\0\0\0\0\0\0\0\0\0\0\0\0\0\0\0\0\0\0\0\0\0";
 

@@ -22,12 +22,13 @@ mod laws;
 mod laying;
 mod read;
 mod size;
+mod sizing;
 mod whole;
 
 pub use entry::{Dir, Entry, Kind};
 pub use fault::DirFault;
 pub use fids::{Fid, Fids};
-pub use laws::{blocks_are_few, data_is_sized, laid_is_directory, one_directory};
+pub use laws::{blocks_are_few, blocks_begin, data_is_sized, laid_is_directory, one_directory};
 pub use laying::{Lay, MAX_BLOCKS, MAX_NAMES};
 pub use read::read_dir;
 pub use size::DataSize;

@@ -37,11 +37,13 @@ pub(crate) fn fits(size: usize, left: usize) -> bool
 pub struct DataSize {
     full: u32,
     used: u32,
+    ghost some: { 0 < used },
     ghost in_block: { used ≤ 2048 },
 }
 
 impl DataSize {
     ghost use Rattle.std.specs.Prelude.{◌≡◌, ◌+◌, ◌<◌, ◌≤◌, ◌^◌};
+    ghost use Rattle.dir.specs.Layout.{blocks_of};
     ghost use Rattle.dir.specs.Size.{end_of, parent_end, next_end, end_bytes};
 
     /// The data of a directory without names.
@@ -76,7 +78,8 @@ impl DataSize {
     /// The blocks that the data takes.
     pub fn blocks(&self) -> u32
         requires { (end_of self.now).full + 1 < 2 ^ 32 }
-        ensures { result ≡ (end_of self.now).full + 1 }
+        ensures full { result ≡ (end_of self.now).full + 1 }
+        ensures size { result ≡ blocks_of (end_bytes (end_of self.now)) }
     {
         self.full + 1
     }

@@ -1,7 +1,7 @@
-ghost use Rattle.std.specs.Prelude.{◌<◌, ◌≤◌};
+ghost use Rattle.std.specs.Prelude.{◌+◌, ◌<◌, ◌≤◌};
 
 use super::*;
-use ecma::{Block, seal};
+use ecma::{Block, crc, seal};
 use indexmap::IndexMap;
 use osta::Name;
 use std::alloc::Global;
@@ -188,6 +188,192 @@ fn a_gap_of_32_and_none_stay(rt: HostRuntime) -> Result<(), Fail> {
     assert_eq!(rt; blocks.len(), 1);
     let read = read_dir(rt.alloc(), blocks.as_slice(), 2048, 6)?;
     assert_eq!(rt; read.entries.len(), 49);
+    Ok(())
+}
+
+/// The block with an identifier of it sealed again.
+fn sealed_again(block: Block, number: u32, from: usize, end: usize) -> Block
+    requires low { from + 16 ≤ end }
+    requires high { end ≤ 2048 }
+{
+    let mut block = block;
+    seal(257, number, &mut block[from..end]);
+    block
+}
+
+/// A block whose last identifier has 56 bytes from 1,960 on and is made one of 60.
+fn lengthened(block: &Block) -> Block {
+    let mut longer = *block;
+    longer[1979] = 22;
+    longer[2016..2020].copy_from_slice(b"rstu");
+    sealed_again(longer, 6, 1960, 2020)
+}
+
+#[test]
+fn a_gap_of_28_is_refused(rt: HostRuntime) -> Result<(), Fail> {
+    let dir = letters(rt.alloc(), "abcdefghijklmnopq")?;
+    let blocks = blocks_of(&rt, rt.alloc(), &dir)?;
+    assert_eq!(rt; blocks.len(), 1);
+    assert_eq!(rt; fault_of(rt.alloc(), &lengthened(&blocks[0]), 2020), 35);
+    Ok(())
+}
+
+/// A block that begins with an identifier of 60 bytes, which is made one of 56.
+fn shortened(block: &Block) -> Block {
+    let mut shorter = *block;
+    shorter[19] = 18;
+    shorter[56..60].copy_from_slice(&[0; 4]);
+    sealed_again(shorter, 7, 0, 56)
+}
+
+#[test]
+fn lengthened_without_need_is_refused(rt: HostRuntime) -> Result<(), Fail> {
+    let dir = letters(rt.alloc(), "abcdefghijklmnopqrstu")?;
+    let blocks = blocks_of(&rt, rt.alloc(), &dir)?;
+    assert_eq!(rt; blocks.len(), 2);
+    let shorter = [blocks[0], shortened(&blocks[1])];
+    let fault = match read_dir(rt.alloc(), &shorter, 2104, 6) {
+        Ok(_) => 0,
+        Err(fault) => fault.number(),
+    };
+    assert_eq!(rt; fault, 36);
+    Ok(())
+}
+
+#[test]
+fn slices(rt: HostRuntime) {
+    let block = worked();
+    let blocks = [block];
+    let mut fids = Fids::new(&blocks, 80);
+    assert!(rt; fids.next().is_some_and(|parent| parent.name.is_empty()));
+    assert!(rt;
+        fids.next()
+            .is_some_and(|a| a.name == &b"\x08a"[..] && a.icb == &NAME[20..36])
+    );
+    assert!(rt; fids.next().is_none());
+}
+
+/// A directory's data is of this size: `lay` and `Lay` give the same blocks, `DataSize` tells the size, and the
+/// blocks are read as the directory.
+fn check_data(rt: &impl Abort, alloc: Global, dir: &Dir, size: u32) -> Result<(), Fail> {
+    let blocks = blocks_of(rt, alloc, dir)?;
+    assert!(rt; dir.entries.len() <= 512);
+    let mut left = Lay::new(dir, 6);
+    for block in &blocks {
+        assert!(rt; left.next_block() == Some(*block));
+    }
+    assert!(rt; left.next_block().is_none());
+    let mut sum = DataSize::new();
+    for (name, _) in &dir.entries {
+        assert!(rt; sum.bytes() < 1_000_000 && name.compressed().len() <= 255);
+        sum.add(name.compressed().len());
+    }
+    assert_eq!(rt; sum.bytes(), u64::from(size));
+    assert!(rt; size > 0 && blocks.len() == (size as usize + 2047) / 2048);
+    assert_eq!(rt; sum.blocks() as usize, blocks.len());
+    let read = read_dir(alloc, &blocks, size, 6)?;
+    assert_eq!(rt; read.parent, dir.parent);
+    assert_eq!(rt; read.entries.len(), dir.entries.len());
+    for (there, here) in read.entries.iter().zip(dir.entries.iter()) {
+        assert!(rt; there.0.as_str() == here.0.as_str() && there.1 == here.1);
+    }
+    Ok(())
+}
+
+/// A text of so many letters that ends with the digits of a number.
+fn numbered(alloc: Global, number: usize, letters: usize) -> Result<String, Fail> {
+    let digits = format!(in alloc; "{number}")?;
+    let mut text = String::new(alloc);
+    for _ in digits.len()..letters {
+        text.push('x')?;
+    }
+    text.push_str(digits.as_str())?;
+    Ok(text)
+}
+
+/// A directory of 512 files, whose names have so many letters at least.
+fn full(alloc: Global, letters: usize) -> Result<Dir, Fail> {
+    let mut dir = empty(alloc);
+    for number in 0..512 {
+        let text = numbered(alloc, number, letters)?;
+        add(alloc, &mut dir, text.as_str())?;
+    }
+    Ok(dir)
+}
+
+/// The data of the root of a new volume, by the check of its block.
+#[test]
+fn data_of_a_format(rt: HostRuntime) -> Result<(), Fail> {
+    let dir = empty(rt.alloc());
+    assert!(rt; dir.entries.len() <= 512);
+    let blocks = lay(rt.alloc(), &dir, 1)?;
+    assert_eq!(rt; blocks.len(), 1);
+    assert_eq!(rt; crc(&blocks[0]), 0x0BB5);
+    Ok(())
+}
+
+#[test]
+fn no_name_and_one(rt: HostRuntime) -> Result<(), Fail> {
+    let mut dir = empty(rt.alloc());
+    check_data(&rt, rt.alloc(), &dir, 40)?;
+    add(rt.alloc(), &mut dir, "a")?;
+    check_data(&rt, rt.alloc(), &dir, 80)
+}
+
+#[test]
+fn as_many_names_as_there_can_be(rt: HostRuntime) -> Result<(), Fail> {
+    let short = full(rt.alloc(), 1)?;
+    assert_eq!(rt; short.entries.len(), 512);
+    check_data(&rt, rt.alloc(), &short, 23_276)?;
+    let long = full(rt.alloc(), 254)?;
+    assert_eq!(rt; long.entries.len(), 512);
+    check_data(&rt, rt.alloc(), &long, 174_672)
+}
+
+/// How many letters the name has that comes where 88 bytes of the block are left, and the size of the data. An identifier
+/// of 40 to 56 bytes leaves 32 at least, one of 88 leaves none, and each other begins the next block.
+const LAST_NAMES: [(usize, u32); 18] = [
+    (1, 2_000),
+    (2, 2_004),
+    (9, 2_008),
+    (10, 2_012),
+    (13, 2_012),
+    (14, 2_016),
+    (17, 2_016),
+    (18, 2_108),
+    (21, 2_108),
+    (22, 2_112),
+    (41, 2_128),
+    (42, 2_132),
+    (45, 2_132),
+    (46, 2_048),
+    (49, 2_048),
+    (50, 2_140),
+    (253, 2_340),
+    (254, 2_344),
+];
+
+#[test]
+fn names_around_each_boundary(rt: HostRuntime) -> Result<(), Fail> {
+    for (count, size) in LAST_NAMES {
+        let text = numbered(rt.alloc(), 0, count)?;
+        let dir = letters(rt.alloc(), text.as_str())?;
+        check_data(&rt, rt.alloc(), &dir, size)?;
+    }
+    Ok(())
+}
+
+#[test]
+fn a_name_behind_a_full_block(rt: HostRuntime) -> Result<(), Fail> {
+    let long = "abcdefghijklmnopqrstuvwxyzabcdefghijklmnopqrstuvw";
+    let mut dir = letters(rt.alloc(), long)?;
+    let blocks = blocks_of(&rt, rt.alloc(), &dir)?;
+    assert_eq!(rt; blocks.len(), 1);
+    add(rt.alloc(), &mut dir, "abcdefghijklmnopqrstu")?;
+    check_data(&rt, rt.alloc(), &dir, 2_108)?;
+    let again = blocks_of(&rt, rt.alloc(), &dir)?;
+    assert_eq!(rt; again.len(), 2);
+    assert!(rt; again[0] == blocks[0]);
     Ok(())
 }
 

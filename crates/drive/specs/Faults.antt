@@ -1,5 +1,5 @@
 -- What a fault that comes once does to the calls of a drive, and what is left of it.
-use Rattle.std.specs.Prelude.{ℕ, ◌-◌, nat_le, Bool, true, false, if◌then◌else◌, Option, Some, None}
+use Rattle.std.specs.Prelude.{ℕ, ◌-◌, nat_le, Bool, false, if◌then◌else◌, Option, Some, None}
 use Rattle.drive.specs.declared.fault.Fault.{Fault}
 use Rattle.drive.specs.declared.fault.Fault.TheVariants.{AfterBlocks, Next, Read}
 

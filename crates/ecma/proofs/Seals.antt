@@ -1,11 +1,11 @@
 -- A sealed descriptor is the cells of its tag and then its body, and these are sealed: so there is one.
-use Rattle.std.proofs.Common.{◌≡◌, ℕ, ◌+◌, ◌^◌, ◌<◌, List, [], ◌∷◌, ◌++◌, length, drop, get_or, refl, sym, ap, subst, ◌∙◌, arith, inl, inr}
+use Rattle.std.proofs.Common.{◌≡◌, ℕ, ◌+◌, ◌-◌, ◌^◌, ◌<◌, List, [], ◌∷◌, ◌++◌, length, drop, get_or, replicate, refl, sym, ap, subst, ◌∙◌, arith, inl, inr}
 use Rattle.std.specs.Int.{w16, w32, to_le_bytes}
 use Rattle.std.proofs.lemmas.Bool.{cases_lt}
 use Rattle.std.proofs.lemmas.List.{length-drop, get_or_append_left, get_or-drop, get_or_past}
 use Rattle.ecma.specs.Crc.{IsCrc, crc_of}
 use Rattle.ecma.specs.Descriptor.{IsDescriptor, padded}
-use Rattle.ecma.specs.Numbers.{u16_at}
+use Rattle.ecma.specs.Numbers.{u16_at, u32_at}
 use Rattle.ecma.specs.Tag.{Sealed, tag_cells, tag_sum}
 use Rattle.ecma.proofs.Pieces.{IsBytes, cut, u8_stands, u16_stands, u32_stands}
 use Rattle.ecma.proofs.Remainders.{IsCrc-unique, IsCrc-crc_of}
@@ -72,3 +72,16 @@ one_descriptor id loc body a b a-fits b-fits x y =
     let right : IsBytes y.descriptor = front_fits y.descriptor _ (rw y.whole at b-fits) in
     let same = one_seal id loc x.descriptor y.descriptor left right x.sealed y.sealed (x.fields ∙ sym y.fields) in
     x.whole ∙ ap padded same ∙ sym y.whole
+
+-- a byte of the tag stands in the block
+tag_byte : (id loc : ℕ) (body block : List ℕ) (d : IsDescriptor id loc body block) (i : ℕ) → i < 16 → get_or block i 0 ≡ get_or d.descriptor i 0
+tag_byte id loc body block d i low =
+    ap (λ (x : List ℕ). get_or x i 0) d.whole ∙ get_or_append_left d.descriptor (replicate (2048 - length d.descriptor) 0) 0 i (omega (arith, low, d.sealed.long))
+
+-- a descriptor begins with its identifier, and tells its location
+pub begins : (id loc : ℕ) (body block : List ℕ) → IsDescriptor id loc body block → u16_at 0 block ≡ id
+begins id loc body block d = omega (arith, tag_byte id loc body block d 0 (omega arith), tag_byte id loc body block d 1 (omega arith), d.sealed.identifier)
+
+pub located : (id loc : ℕ) (body block : List ℕ) → IsDescriptor id loc body block → u32_at 12 block ≡ loc
+located id loc body block d =
+    omega (arith, tag_byte id loc body block d 12 (omega arith), tag_byte id loc body block d 13 (omega arith), tag_byte id loc body block d 14 (omega arith), tag_byte id loc body block d 15 (omega arith), d.sealed.location)

@@ -1,5 +1,5 @@
 -- Where the label and the moment of a file set stand in its fields, and that a block says one file set.
-use Rattle.std.proofs.Common.{◌≡◌, ℕ, ◌+◌, ◌-◌, ◌<◌, ◌≤◌, List, [], ◌∷◌, ◌++◌, length, take, drop, get_or, replicate, refl, sym, ap, subst, ◌∙◌, Option, Some, None, IfSome, IfNone, Result, Ok, Err, IfOk, IfErr, Bool, true, inl, inr, arith}
+use Rattle.std.proofs.Common.{◌≡◌, ℕ, ◌-◌, List, [], ◌∷◌, ◌++◌, length, take, drop, replicate, refl, sym, ap, subst, ◌∙◌, Some, None, Result, Ok, Err, IfOk, IfErr, arith}
 use Rattle.std.specs.Prelude.{codes}
 use Rattle.std.specs.Int.{w16, w32, to_le_bytes}
 use Rattle.std.specs.List.{concat}
@@ -14,7 +14,7 @@ use Rattle.ecma.proofs.Faults.{no_fault}
 use Rattle.ecma.proofs.Pieces.{onto, concat_onto}
 use Rattle.ecma.proofs.Timestamps.{one_moment, one_spelling}
 use Rattle.osta.specs.Dstring.{dstring}
-use Rattle.osta.specs.Label.{IsLabel, IsLabelDstring}
+use Rattle.osta.specs.Label.{IsLabelDstring}
 use Rattle.icb.specs.declared.fault.IcbFault.{IcbFault}
 use Rattle.icb.specs.declared.set.FileSet.{FileSet}
 use Rattle.icb.specs.FileSet.{HasFields, IsFileSet, set_parts, set_rules}

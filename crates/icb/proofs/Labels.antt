@@ -1,5 +1,5 @@
 -- The fields of a label.
-use Rattle.std.proofs.Common.{◌≡◌, ℕ, ◌<◌, ◌≤◌, List, length, sym, ap, subst, ◌∙◌, inl, arith}
+use Rattle.std.proofs.Common.{◌≡◌, ℕ, ◌≤◌, List, length, sym, ap, subst, ◌∙◌, inl, arith}
 use Rattle.osta.specs.Compressed.{compressed}
 use Rattle.osta.specs.Dstring.{dstring, Dstring}
 use Rattle.osta.specs.Label.{IsLabel, IsLabelDstring, dstring_text}

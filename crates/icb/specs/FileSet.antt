@@ -1,5 +1,5 @@
 -- The file set descriptor (ECMA-167 4/14.1, UDF 2.01 2.3.2): its label and moment, and the bytes that say them.
-use Rattle.std.specs.Prelude.{◌≡◌, ℕ, ◌-◌, List, [], ◌∷◌, codes, take, drop, replicate}
+use Rattle.std.specs.Prelude.{◌≡◌, ℕ, List, [], ◌∷◌, codes, take, drop, replicate}
 use Rattle.std.specs.Int.{w16, w32, to_le_bytes}
 use Rattle.std.specs.List.{concat}
 use Rattle.ecma.specs.Charspec.{cs0}

@@ -1,9 +1,11 @@
 -- What blocks can not be at once, each the contract of a public function.
-use Rattle.std.specs.Prelude.{◌≡◌, ◌≢◌, ℕ, ◌^◌, ◌<◌, List}
+use Rattle.std.specs.Prelude.{◌≡◌, ◌≢◌, ℕ, ◌<◌, List, slice_index}
 use Rattle.ecma.specs.Numbers.{u16_at}
 use Rattle.ecma.specs.Descriptor.{IsDescriptor}
 use Rattle.icb.specs.declared.entry.Kind.TheVariants.{Vat}
+use Rattle.icb.specs.declared.set.FileSet.{FileSet}
 use Rattle.icb.specs.Entry.{Fields, IsEntry}
+use Rattle.icb.specs.FileSet.{IsFileSet}
 use Rattle.icb.specs.VatIcb.{IsVatIcb}
 
 -- a block is one entry at most, and at one location
@@ -21,3 +23,15 @@ EntriesBegin = (loc : ℕ) (block : List ℕ) → IsVatIcb block loc → u16_at 
 -- a descriptor of another identifier is none
 abbrev pub DescriptorsAreNone : Type 0
 DescriptorsAreNone = (id here there : ℕ) (body block : List ℕ) → IsDescriptor id here body block → id ≢ 261 → IsVatIcb block there → ⊥
+
+-- an entry with these fields has one block at a location
+abbrev pub OneBlock : Type 0
+OneBlock =
+    (e : Fields) (loc : ℕ) (a b : List ℕ) → ((i : ℕ) → slice_index a i < 256) → ((i : ℕ) → slice_index b i < 256)
+    → IsEntry e loc a → IsEntry e loc b → a ≡ b
+
+-- a file set has one block
+abbrev pub OneSet : Type 0
+OneSet =
+    (set : FileSet) (a b : List ℕ) → ((i : ℕ) → slice_index a i < 256) → ((i : ℕ) → slice_index b i < 256)
+    → IsFileSet set a → IsFileSet set b → a ≡ b

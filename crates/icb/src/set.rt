@@ -63,7 +63,7 @@ pub fn encode_fsd(set: &FileSet) -> Block
     )
 }
 
-/// The file set whose descriptor the block is.
+/// The file set whose descriptor the block is (ECMA-167 4/14.1).
 pub fn decode_fsd(block: &Block) -> Result<FileSet, IcbFault>
     // What is read stands there.
     ensures found { IfOk result (λ set. IsFileSet set block.now) }

@@ -61,18 +61,18 @@ module _ (formats : Formats) where
 
   module _ (exact : AreExact formats) where
     -- at most one state stood so many steps back
-    stood_one : (capacity volume : ℕ) (S T : State) (steps : ℕ) (B : Medium) → StoodBefore formats steps capacity volume B S → StoodBefore formats steps capacity volume B T → S ≡ T
-    stood_one capacity volume S T zero B s t = stands_one formats exact capacity volume B S T s t
-    stood_one capacity volume S T (suc steps) B (last, previous, is, below, at, commits, s) (last', previous', is', below', at', commits', t) =
+    stood_one : (capacity volume capacity' volume' : ℕ) (S T : State) (steps : ℕ) (B : Medium) → StoodBefore formats steps capacity volume B S → StoodBefore formats steps capacity' volume' B T → S ≡ T
+    stood_one capacity volume capacity' volume' S T zero B s t = stands_one formats exact capacity volume capacity' volume' B S T s t
+    stood_one capacity volume capacity' volume' S T (suc steps) B (last, previous, is, below, at, commits, s) (last', previous', is', below', at', commits', t) =
         let same : previous ≡ previous' = same_Some previous previous' (sym is ∙ ap (λ (u : Table_). u.previous) (last_table_one exact B last last') ∙ is') in
-        stood_one capacity volume S T steps (take (previous + 258) B) s (subst (λ n. StoodBefore formats steps capacity volume (take (n + 258) B) T) (sym same) t)
+        stood_one capacity volume capacity' volume' S T steps (take (previous + 258) B) s (subst (λ n. StoodBefore formats steps capacity' volume' (take (n + 258) B) T) (sym same) t)
 
     -- nor after a number of commits
-    pub past_one : (capacity volume : ℕ) (B : Medium) (k : ℕ) (S T : State) → Past formats capacity volume B k S → Past formats capacity volume B k T → S ≡ T
-    past_one capacity volume B k S T (last, steps, count, s) (last', steps', count', t) =
+    pub past_one : (capacity volume capacity' volume' : ℕ) (B : Medium) (k : ℕ) (S T : State) → Past formats capacity volume B k S → Past formats capacity' volume' B k T → S ≡ T
+    past_one capacity volume capacity' volume' B k S T (last, steps, count, s) (last', steps', count', t) =
         let table : last.table.commits ≡ last'.table.commits = ap (λ (u : Table_). u.commits) (last_table_one exact B last last') in
         let same : steps ≡ steps' = omega arith in
-        stood_one capacity volume S T steps B s (subst (λ n. StoodBefore formats n capacity volume B T) (sym same) t)
+        stood_one capacity volume capacity' volume' S T steps B s (subst (λ n. StoodBefore formats n capacity' volume' B T) (sym same) t)
 
     -- and there is none above the count
     pub past_within : (capacity volume : ℕ) (B : Medium) (k : ℕ) (S T : State) → Past formats capacity volume B k S → Stands formats capacity volume B T → k ≤ T.commits

@@ -1,1 +1,4 @@
+pub mod Blocks
+pub mod Held
+pub mod Nodes
 pub mod Tables

@@ -1,5 +1,5 @@
 -- How many failures of the drive a refusal stands for.
-use Rattle.std.specs.Prelude.{ℕ, ◌+◌, ◌-◌, ◌^◌, ◌<◌, ◌≤◌, Result, Ok, Err}
+use Rattle.std.specs.Prelude.{◌≡◌, ◌⊎◌, ℕ, ◌+◌, ◌-◌, ◌^◌, ◌<◌, ◌≤◌, Result, Ok, Err}
 use Rattle.recover.specs.declared.fault.StoreFault.{StoreFault}
 use Rattle.recover.specs.declared.fault.StoreFault.TheVariants.{NotBlank, Label, Small, Device, Memory, NotFormatted, Damaged, Full, Stopped, NoCommit, NotFound, IsDirectory, NotDirectory}
 
@@ -25,3 +25,7 @@ failures_of NotDirectory = 0
 abbrev pub devices : {T : Type 0} → Result T StoreFault → ℕ
 devices (Ok x) = 0
 devices (Err fault) = failures_of fault
+
+-- the drive failed, or memory was short
+abbrev pub IsShortage : StoreFault → Type 0
+IsShortage fault = (fault ≡ Device) ⊎ (fault ≡ Memory)

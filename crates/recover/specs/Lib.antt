@@ -1,1 +1,6 @@
+pub mod Blocks
 pub mod Faults
+pub mod Nodes
+pub mod State
+pub mod Tables
+pub mod Walk

@@ -1,5 +1,5 @@
 ghost use Rattle.std.specs.Prelude.{◌≡◌};
-ghost use Rattle.recover.specs.declared.fault.StoreFault.TheVariants.{Device, Memory};
+ghost use Rattle.recover.specs.declared.fault.StoreFault.TheVariants.{Damaged, Device, Memory};
 
 use drive::DriveFault;
 use std::alloc::{AllocError, AllocFailed};
@@ -68,4 +68,11 @@ impl<T: Drop> From<AllocFailed<T>> for StoreFault {
     fn from(_error: AllocFailed<T>) -> StoreFault {
         StoreFault::Memory
     }
+}
+
+/// The refusal of a structure by the address of its first block and the number of what is wrong with it.
+pub fn damaged(block: u32, cause: u8) -> StoreFault
+    ensures { result ≡ Damaged block cause }
+{
+    StoreFault::Damaged { block, cause }
 }

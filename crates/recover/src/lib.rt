@@ -1,16 +1,27 @@
-//! What lies on a medium, read back: the last table, the tables before it, and the blocks that they lead to.
+//! What lies on a medium, read back: the last table, the tables before it, and the state that stands where a table's entry
+//! does.
 //!
 //! Promised: each call reads alone, so that the drive's journal stays as it was; each refusal is one of `StoreFault`, and one
-//! of the drive is told only where the drive counted a failure. The last table's entry is looked for from the end.
+//! of the drive is told only where the drive counted a failure. On a drive whose reads are honest `last` finds the last entry
+//! of a table, from the end, and what is read is what the medium has; `state_at` looks at every node that a table leads to.
 //!
-//! Left to others: the tree that a table leads to, and whatever is written.
+//! Left to others: whatever is written, and what is asked of a state.
 #![tactic(auto)]
 
 pub mod cause;
+mod directory;
 mod fault;
 mod reading;
+mod state;
 mod table;
+mod walk;
 
-pub use fault::StoreFault;
+pub use directory::{Extent, link_count, read_directory};
+pub use fault::{StoreFault, damaged};
 pub use reading::{BLOCK_BYTES, PARTITION_START, block_count, read_block, read_blocks, read_bytes};
+pub use state::{State, state_at};
 pub use table::{TableEntry, before, last, lies_below, read_table, table_entry};
+pub use walk::{FIRST_UNIQUE, PATH_NAMES, ROOT_ADDRESS};
+
+#[cfg(test)]
+mod tests;

@@ -1,9 +1,11 @@
 //! Reads of structures by their addresses. No call writes.
 
-ghost use Rattle.std.specs.Prelude.{◌≡◌, ◌+◌, ◌<◌, ◌≤◌, ◌^◌, IsTrue, IfOk, Some, vec_len};
+ghost use Rattle.std.specs.Prelude.{◌≡◌, ◌+◌, ◌<◌, ◌≤◌, ◌^◌, IsTrue, IfOk, IfErr, Some, vec_len};
 ghost use Rattle.std.specs.Int.{div_ceil};
-ghost use Rattle.drive.specs.Journal.{next_of, last_at};
-ghost use Rattle.recover.specs.Faults.{Counts, devices};
+ghost use Rattle.drive.specs.Journal.{held, last_at, next_of};
+ghost use Rattle.recover.specs.declared.fault.StoreFault.TheVariants.{Device};
+ghost use Rattle.recover.specs.Blocks.{blocks_at, bytes_at};
+ghost use Rattle.recover.specs.Faults.{Counts, IsShortage, devices};
 
 use crate::fault::StoreFault;
 use drive::Drive;
@@ -27,6 +29,7 @@ pub fn block_count(size: u32) -> u32
 pub fn read_block<D: Drive>(drive: &mut D, at: u32) -> Result<Block, StoreFault>
     requires { at < next_of (D.journal drive.old) }
     ensures read { IfOk result (λ block. IsTrue (D.honest drive.new) → last_at (D.journal drive.old) at ≡ Some block) }
+    ensures device { IfErr result (λ fault. fault ≡ Device) }
     ensures journal { D.journal drive.new ≡ D.journal drive.old }
     ensures capacity { D.capacity drive.new ≡ D.capacity drive.old }
     ensures honest { IsTrue (D.honest drive.new) → IsTrue (D.honest drive.old) }
@@ -48,7 +51,9 @@ pub fn read_blocks<D: Drive>(
 ) -> Result<Vec<Block>, StoreFault>
     requires within { at + count ≤ next_of (D.journal drive.old) }
     requires fits { at + count < 2 ^ 32 }
+    ensures read { IfOk result (λ blocks. IsTrue (D.honest drive.new) → blocks.items ≡ blocks_at (held (D.journal drive.old)) at count) }
     ensures count { IfOk result (λ blocks. vec_len blocks ≡ count) }
+    ensures refused { IfErr result IsShortage }
     ensures journal { D.journal drive.new ≡ D.journal drive.old }
     ensures capacity { D.capacity drive.new ≡ D.capacity drive.old }
     ensures honest { IsTrue (D.honest drive.new) → IsTrue (D.honest drive.old) }
@@ -71,7 +76,9 @@ pub fn read_bytes<D: Drive>(
 ) -> Result<Vec<u8>, StoreFault>
     requires within { at + div_ceil size 2048 ≤ next_of (D.journal drive.old) }
     requires fits { at + div_ceil size 2048 < 2 ^ 32 }
+    ensures read { IfOk result (λ bytes. IsTrue (D.honest drive.new) → bytes.items ≡ bytes_at (held (D.journal drive.old)) at size) }
     ensures size { IfOk result (λ bytes. vec_len bytes ≡ size) }
+    ensures refused { IfErr result IsShortage }
     ensures journal { D.journal drive.new ≡ D.journal drive.old }
     ensures capacity { D.capacity drive.new ≡ D.capacity drive.old }
     ensures honest { IsTrue (D.honest drive.new) → IsTrue (D.honest drive.old) }

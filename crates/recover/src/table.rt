@@ -1,17 +1,21 @@
 //! The tables of a medium: the last one, and the one before each.
 
-ghost use Rattle.std.specs.Prelude.{◌≡◌, ℕ, ◌+◌, ◌-◌, ◌<◌, ◌≤◌, List, IsTrue, IfOk, IfSome};
+ghost use Rattle.std.specs.Prelude.{◌≡◌, ℕ, ◌+◌, ◌-◌, ◌<◌, ◌≤◌, ◌↔◌, List, IsTrue, IfOk, IfErr, IfSome, IfNone};
 ghost use Rattle.std.specs.Int.{div_ceil};
-ghost use Rattle.drive.specs.Journal.{next_of};
+ghost use Rattle.drive.specs.Journal.{held, next_of};
+ghost use Rattle.icb.specs.declared.entry.Kind.TheVariants as kinds;
+ghost use Rattle.icb.specs.Entry.{Fits, fields_of, place_of};
+ghost use Rattle.icb.specs.Entry.Place.{Extent};
 ghost use Rattle.vat.specs.Table.{IsTableAt, view};
 ghost use Rattle.recover.specs.Faults.{Counts, devices};
+ghost use Rattle.recover.specs.Tables.{HasDataBelow, IsBefore, IsEntryAt, IsEntryRefused, IsLast, IsTableRefused, data_of};
 
 use crate::cause::{CHAIN, RANGE};
-use crate::fault::StoreFault;
+use crate::fault::{StoreFault, damaged};
 use crate::reading::{PARTITION_START, block_count, read_block, read_bytes};
 use drive::Drive;
 use ecma::Timestamp;
-use icb::{Kind, Place, decode_fe};
+use icb::{FileEntry, Kind, Place, decode_fe};
 use std::alloc::Global;
 use vat::{Vat, VatFault, decode_vat, is_vat_icb};
 
@@ -28,6 +32,7 @@ pub struct TableEntry {
 /// The address of the last entry of a table, from the partition's start on. It looks from the end, and reads no more
 /// blocks than lie behind it.
 pub fn last<D: Drive>(drive: &mut D) -> Result<Option<u32>, StoreFault>
+    ensures last { IfOk result (λ found. IsTrue (D.honest drive.new) → IsLast (held (D.journal drive.old)) found) }
     ensures within { IfOk result (λ found. IfSome found (λ at. (257 ≤ at) × (at < next_of (D.journal drive.old)))) }
     ensures journal { D.journal drive.new ≡ D.journal drive.old }
     ensures capacity { D.capacity drive.new ≡ D.capacity drive.old }
@@ -52,7 +57,9 @@ pub fn last<D: Drive>(drive: &mut D) -> Result<Option<u32>, StoreFault>
 pub fn table_entry<D: Drive>(drive: &mut D, at: u32) -> Result<TableEntry, StoreFault>
     requires low { 257 ≤ at }
     requires within { at < next_of (D.journal drive.old) }
-    ensures below { IfOk result (λ e. e.first + 257 + div_ceil e.size 2048 ≤ at) }
+    ensures found { IfOk result (λ e. IsTrue (D.honest drive.new) → IsEntryAt (held (D.journal drive.old)) at e) }
+    ensures refused { IfErr result (λ fault. IsTrue (D.honest drive.new) → IsEntryRefused (held (D.journal drive.old)) at fault) }
+    ensures below { IfOk result (HasDataBelow at) }
     ensures journal { D.journal drive.new ≡ D.journal drive.old }
     ensures capacity { D.capacity drive.new ≡ D.capacity drive.old }
     ensures honest { IsTrue (D.honest drive.new) → IsTrue (D.honest drive.old) }
@@ -61,23 +68,35 @@ pub fn table_entry<D: Drive>(drive: &mut D, at: u32) -> Result<TableEntry, Store
     let block = read_block(drive, at)?;
     let entry = match decode_fe(&block, at - PARTITION_START) {
         Ok(entry) => entry,
-        Err(_) => return Err(no_table(at)),
+        Err(_) => return Err(damaged(at, CHAIN)),
     };
-    match (entry.kind, entry.place) {
-        (Kind::Vat, Place::Extent(first)) => {
-            if !lies_below(first, entry.size, at) {
-                return Err(StoreFault::Damaged {
-                    block: at,
-                    cause: RANGE,
-                });
-            }
-            Ok(TableEntry {
-                moment: entry.moment,
-                first,
-                size: entry.size,
-            })
-        }
-        _ => Err(no_table(at)),
+    let first = match data_start(&entry) {
+        Some(first) => first,
+        None => return Err(damaged(at, CHAIN)),
+    };
+    if !lies_below(first, entry.size, at) {
+        return Err(damaged(at, RANGE));
+    }
+    Ok(TableEntry {
+        moment: entry.moment,
+        first,
+        size: entry.size,
+    })
+}
+
+/// The number of the first block of a table's data, where the entry is that of a table.
+fn data_start(entry: &FileEntry<'_>) -> Option<u32>
+    requires { Fits (fields_of entry.now) }
+    ensures some { IfSome result (λ first. (entry.now.kind ≡ kinds.Vat) × (place_of entry.now.place ≡ Extent first)) }
+    ensures none { IfNone result (entry.now.kind ≡ kinds.Vat → ⊥) }
+{
+    if entry.kind != Kind::Vat {
+        return None;
+    }
+    match entry.place {
+        Place::Extent(first) => Some(first),
+        Place::None => None,
+        Place::Inside(_) => None,
     }
 }
 
@@ -90,8 +109,9 @@ pub fn read_table<D: Drive>(
 ) -> Result<Vat, StoreFault>
     requires low { 257 ≤ at }
     requires within { at < next_of (D.journal drive.old) }
-    requires below { entry.now.first + 257 + div_ceil entry.now.size 2048 ≤ at }
-    ensures table { IfOk result (λ vat. (bytes : List ℕ) × IsTableAt (at - 257) (view vat) bytes) }
+    requires below { HasDataBelow at entry.now }
+    ensures table { IfOk result (λ vat. (bytes : List ℕ) × (IsTrue (D.honest drive.new) → bytes ≡ data_of (held (D.journal drive.old)) entry.now) × IsTableAt (at - 257) (view vat) bytes) }
+    ensures refused { IfErr result (λ fault. IsTrue (D.honest drive.new) → IsTableRefused (at - 257) entry.now (data_of (held (D.journal drive.old)) entry.now) fault) }
     ensures previous { IfOk result (λ vat. IfSome vat.previous (λ number. number + 257 < at)) }
     ensures journal { D.journal drive.new ≡ D.journal drive.old }
     ensures capacity { D.capacity drive.new ≡ D.capacity drive.old }
@@ -103,28 +123,15 @@ pub fn read_table<D: Drive>(
     match decode_vat(alloc, &bytes, at - PARTITION_START) {
         Ok(vat) => Ok(vat),
         Err(VatFault::Memory) => Err(StoreFault::Memory),
-        Err(fault) => Err(StoreFault::Damaged {
-            block: start,
-            cause: fault.number(),
-        }),
+        Err(fault) => Err(damaged(start, fault.number())),
     }
 }
 
 /// Whether so many bytes from a block number on lie below an address.
 pub fn lies_below(first: u32, size: u32, at: u32) -> bool
-    ensures { IsTrue result → first + 257 + div_ceil size 2048 ≤ at }
+    ensures { IsTrue result ↔ (first + 257 + div_ceil size 2048 ≤ at) }
 {
     u64::from(first) + u64::from(PARTITION_START) + u64::from(block_count(size)) <= u64::from(at)
-}
-
-/// An address at which the chain wants the entry of a table, and none is.
-fn no_table(at: u32) -> StoreFault
-    ensures { result ≡ StoreFault.Damaged at CHAIN }
-{
-    StoreFault::Damaged {
-        block: at,
-        cause: CHAIN,
-    }
 }
 
 /// The address of the entry of the table before the one whose entry stands at `at`, by one step of the chain; none where
@@ -132,6 +139,7 @@ fn no_table(at: u32) -> StoreFault
 pub fn before<D: Drive>(alloc: Global, drive: &mut D, at: u32) -> Result<Option<u32>, StoreFault>
     requires low { 257 ≤ at }
     requires within { at < next_of (D.journal drive.old) }
+    ensures before { IfOk result (λ found. IsTrue (D.honest drive.new) → IsBefore (held (D.journal drive.old)) at found) }
     ensures below { IfOk result (λ found. IfSome found (λ earlier. (257 ≤ earlier) × (earlier < at))) }
     ensures journal { D.journal drive.new ≡ D.journal drive.old }
     ensures capacity { D.capacity drive.new ≡ D.capacity drive.old }
@@ -140,14 +148,15 @@ pub fn before<D: Drive>(alloc: Global, drive: &mut D, at: u32) -> Result<Option<
 {
     let entry = table_entry(drive, at)?;
     let vat = read_table(alloc, drive, at, &entry)?;
-    let Some(previous) = vat.previous else {
-        return Ok(None);
+    let previous = match vat.previous {
+        Some(previous) => previous,
+        None => return Ok(None),
     };
     let linked = previous + PARTITION_START;
     let earlier_entry = table_entry(drive, linked)?;
     let earlier = read_table(alloc, drive, linked, &earlier_entry)?;
     if vat.sessions.commits == 0 || earlier.sessions.commits != vat.sessions.commits - 1 {
-        return Err(no_table(linked));
+        return Err(damaged(linked, CHAIN));
     }
     Ok(Some(linked))
 }

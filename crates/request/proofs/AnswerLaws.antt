@@ -1,5 +1,5 @@
 -- No answer's bytes begin another's: what an answer says can be read from its bytes.
-use Rattle.std.proofs.Common.{◌≡◌, ℕ, zero, suc, ◌+◌, ◌*◌, ◌^◌, ◌<◌, ◌≤◌, cond, eqb, ltb, List, [], ◌∷◌, ◌++◌, length, take, drop, get_or, refl, sym, ap, subst, ◌∙◌, append_assoc, arith, length-append}
+use Rattle.std.proofs.Common.{◌≡◌, ℕ, zero, suc, ◌*◌, ◌^◌, ◌<◌, ◌≤◌, cond, eqb, ltb, List, [], ◌∷◌, ◌++◌, length, take, drop, get_or, refl, sym, ap, ◌∙◌, arith, length-append}
 use Rattle.std.specs.Prelude.{All}
 use Rattle.std.specs.List.{flat_map}
 use Rattle.std.specs.Int.{w16, w32, w64, to_le_bytes, from_le_bytes}
@@ -18,9 +18,8 @@ use Rattle.request.specs.declared.answer.Listed.{Listed}
 use Rattle.request.specs.declared.answer.Answer.{Answer}
 use Rattle.request.specs.declared.answer.Answer.TheVariants as answer
 use Rattle.request.specs.Numbers.{code_number, cause_number, kind_number}
-use Rattle.request.specs.Listing.{IsNamed, IsListing}
-use Rattle.request.specs.Frames.{frame}
-use Rattle.request.specs.Answers.{listed_field, names_field, answer_code, answer_body, answer_payload, answer_frame, IsAnswer}
+use Rattle.request.specs.Listing.{IsNamed}
+use Rattle.request.specs.Answers.{listed_field, answer_code, answer_body, answer_payload, answer_frame, IsAnswer}
 use Rattle.request.proofs.Names.{short_name}
 use Rattle.request.proofs.FrameLaws.{same_frames}
 

@@ -1,19 +1,17 @@
 -- Frames of a stream: one reading, however the stream was cut.
-use Rattle.std.proofs.Common.{◌≡◌, ℕ, suc, ◌+◌, ◌^◌, ◌<◌, ◌≤◌, List, [], ◌∷◌, ◌++◌, length, take, drop, Option, Some, None, Result, refl, sym, ap, subst, ◌∙◌, append_assoc, arith, inl, inr, ◌⊎◌, length-append}
+use Rattle.std.proofs.Common.{◌≡◌, ℕ, ◌+◌, ◌^◌, ◌<◌, ◌≤◌, List, [], ◌∷◌, ◌++◌, length, take, drop, Option, Some, None, Result, refl, sym, ap, subst, ◌∙◌, append_assoc, arith, inl, inr, ◌⊎◌, length-append}
 use Rattle.std.specs.Prelude.{IfSome}
 use Rattle.std.specs.List.{AllZip}
-use Rattle.std.specs.Int.{w32, to_le_bytes, from_le_bytes}
+use Rattle.std.specs.Int.{w32, from_le_bytes}
 use Rattle.std.proofs.lemmas.List.{take-append-le}
 use Rattle.std.proofs.lemmas.Nat.{from_le_bytes-to_le_bytes_4}
 use Rattle.std.proofs.Math.Seq.{take-append_seam, drop-append_seam}
 use Rattle.request.specs.declared.message.Cause.{Cause}
-use Rattle.request.specs.declared.message.Cause.TheVariants.{TooLong}
 use Rattle.request.specs.declared.message.Message.{Message}
-use Rattle.request.specs.declared.message.Message.TheVariants.{Malformed}
 use Rattle.request.specs.Spelling.{Said}
 use Rattle.request.specs.Reading.{said_at}
 use Rattle.request.specs.Payload.{told_by, Tells}
-use Rattle.request.specs.Frames.{frame, length_at, IsOverlong, IsPartial, Begins, FirstIs, fed, Takes, IsIdle, MessagesAre, Frames, Agree}
+use Rattle.request.specs.Frames.{frame, length_at, IsOverlong, IsPartial, Begins, FirstIs, fed, Takes, IsIdle, MessagesAre, Agree}
 
 length_of_frame : (payload rest : List ℕ) → length payload < 2 ^ 32 → length_at (frame payload ++ rest) ≡ length payload
 length_of_frame payload rest lt = from_le_bytes-to_le_bytes_4 (length payload) lt

@@ -1,5 +1,5 @@
 -- When bytes pass as a name.
-use Rattle.std.proofs.Common.{◌≡◌, ℕ, ◌*◌, ◌<◌, ◌≤◌, length-append, ◌&&◌, ◌||◌, not, lit<, [], ◌∷◌, get_or, Bool, true, false, cond, eqb, length, List, Option, Some, None, Result, Ok, Err, refl, sym, ap, subst, ◌∙◌, arith}
+use Rattle.std.proofs.Common.{◌≡◌, ℕ, ◌*◌, ◌<◌, ◌≤◌, length-append, ◌&&◌, ◌||◌, lit<, [], ◌∷◌, get_or, Bool, true, false, eqb, length, List, Option, Some, None, Ok, Err, refl, sym, ap, subst, ◌∙◌, arith}
 use Rattle.std.specs.Prelude.{is_none}
 use Rattle.std.specs.Str.{IsUtf8, is_utf8}
 use Rattle.std.specs.Prelude.{All}
@@ -11,7 +11,6 @@ use Rattle.std.proofs.lemmas.Str.Pattern.{NoCharPasses-char}
 use Rattle.std.proofs.lemmas.Str.{IsUtf8-from_is_utf8, is_utf8-from_IsUtf8, encodes-chars, length-encode, len_utf8_bounds}
 use lib.Utf8.{encode, encodes}
 use Rattle.osta.specs.declared.fault.NameFault.{NameFault}
-use Rattle.osta.specs.declared.fault.NameFault.TheVariants as name
 use Rattle.osta.specs.Fault.{text_fault}
 use Rattle.osta.specs.FirstFault.{first_fault}
 use Rattle.osta.specs.Name.{name_faults, IsName}
@@ -19,11 +18,8 @@ use Rattle.osta.specs.Compressed.{is_narrow, spelling}
 use Rattle.osta.proofs.Rows.{all_hold}
 use Rattle.osta.proofs.Names.{name_few}
 use Rattle.osta.proofs.Spellings.{length-spelling_narrow, length-spelling_wide}
-use Rattle.request.specs.declared.message.Cause.{Cause}
 use Rattle.request.specs.declared.message.Cause.TheVariants as cause
-use Rattle.request.specs.declared.payload.ReadError.{ReadError}
-use Rattle.request.specs.declared.payload.ReadError.TheVariants as errors
-use Rattle.request.specs.Reading.{is_name, tested_name, Fails}
+use Rattle.request.specs.Reading.{is_name, tested_name}
 
 and_parts : (a b : Bool) → (a && b) ≡ true → (a ≡ true) × (b ≡ true)
 and_parts true b e = (refl, e)

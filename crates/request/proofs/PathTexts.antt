@@ -1,5 +1,5 @@
 -- The text of a path, cut at its slashes.
-use Rattle.std.proofs.Common.{◌≡◌, ℕ, ◌<◌, ◌≤◌, Bool, true, false, cond, eqb, List, [], ◌∷◌, ◌++◌, length, get_or, Result, Ok, Err, refl, sym, ap, subst, ◌∙◌, arith}
+use Rattle.std.proofs.Common.{◌≡◌, ℕ, ◌<◌, Bool, true, false, eqb, List, [], ◌∷◌, ◌++◌, length, get_or, Result, Ok, Err, refl, sym, ap, subst, ◌∙◌, arith}
 use Rattle.std.specs.Prelude.{All, IfOk}
 use Rattle.std.specs.List.{flat_map, slice_split, onto_first}
 use Rattle.std.proofs.lemmas.Bool.{eqb-true}
@@ -12,7 +12,6 @@ use Rattle.osta.specs.declared.fault.NameFault.TheVariants as name
 use Rattle.osta.specs.Fault.{text_fault}
 use Rattle.osta.specs.FirstFault.{first_fault}
 use Rattle.osta.specs.Name.{name_faults, IsName}
-use Rattle.request.specs.declared.path.PathFault.{PathFault}
 use Rattle.request.specs.declared.path.PathFault.TheVariants as PathFaults
 use Rattle.request.specs.PathFault.{path_fault_of}
 use Rattle.request.specs.Path.{IsPath, step_text, path_text}

@@ -1,6 +1,6 @@
 -- Whole payloads: what is read is spelled so, and what is spelled so is read.
-use Rattle.std.proofs.Common.{◌≡◌, ℕ, zero, suc, ◌+◌, ◌^◌, ◌<◌, ◌≤◌, Bool, true, false, cond, eqb, ltb, List, [], ◌∷◌, ◌++◌, length, take, drop, Option, Some, None, Result, Ok, Err, refl, sym, ap, subst, ◌∙◌, append_assoc, arith}
-use Rattle.std.specs.Prelude.{IfSome, IfOk}
+use Rattle.std.proofs.Common.{◌≡◌, ℕ, zero, suc, ◌^◌, ◌<◌, Bool, true, false, cond, eqb, ltb, List, [], ◌∷◌, ◌++◌, length, Option, Some, None, Result, Ok, Err, refl, sym, ap, subst, ◌∙◌, append_assoc, arith}
+use Rattle.std.specs.Prelude.{IfSome}
 use Rattle.std.specs.Int.{w64, to_le_bytes}
 use Rattle.std.proofs.lemmas.Bool.{eqb-true, ltb-true, lt-ltb, ne_eqb}
 use Rattle.std.proofs.lemmas.List.{append-nil, nil_from_length}
@@ -10,8 +10,6 @@ use Rattle.request.specs.declared.message.Op.{Op}
 use Rattle.request.specs.declared.message.Op.TheVariants as op
 use Rattle.request.specs.declared.message.Query.{Query}
 use Rattle.request.specs.declared.message.Query.TheVariants as query
-use Rattle.request.specs.declared.message.Message.{Message}
-use Rattle.request.specs.declared.message.Message.TheVariants as message
 use Rattle.request.specs.declared.payload.Change.{Change}
 use Rattle.request.specs.declared.payload.Change.TheVariants as change
 use Rattle.request.specs.declared.payload.Question.{Question}
@@ -22,7 +20,7 @@ use Rattle.request.specs.Path.{IsPath}
 use Rattle.request.specs.Spelling.{Said, path_field, data_field, op_kind, op_fields, query_kind, query_path, payload_of, IsOp, IsChange, IsSaid}
 use Rattle.request.specs.Spelling.Said.{Changes, Asks}
 use Rattle.request.specs.Reading.{◌>>=◌, number_at, client_at, number_above_zero_at, moment_at, path_at, data_at, op_at, ended, change_at, asked, question_at, kind_of, kind_at, fields_at, said_at}
-use Rattle.request.specs.Payload.{said_by, told_by, Tells, IsSpelled}
+use Rattle.request.specs.Payload.{IsSpelled}
 use Rattle.request.proofs.Fields.{IsBytes, IsBytes-rest, bind_ok, guard_passed, guard_met, ok_is, Takes, Takes-then, wide64, number_takes, number_again}
 use Rattle.request.proofs.Paths.{path_takes, path_again, data_takes, data_again}
 

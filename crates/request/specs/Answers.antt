@@ -2,12 +2,6 @@
 use Rattle.std.specs.Prelude.{ℕ, ◌<◌, ◌≤◌, ◌^◌, List, [], ◌∷◌, ◌++◌, length}
 use Rattle.std.specs.List.{flat_map}
 use Rattle.std.specs.Int.{w16, w32, w64, to_le_bytes}
-use Rattle.request.specs.declared.message.Cause.{Cause}
-use Rattle.request.specs.declared.message.Cause.TheVariants as cause
-use Rattle.request.specs.declared.answer.Code.{Code}
-use Rattle.request.specs.declared.answer.Code.TheVariants as code
-use Rattle.request.specs.declared.answer.NodeKind.{NodeKind}
-use Rattle.request.specs.declared.answer.NodeKind.TheVariants as kind
 use Rattle.request.specs.declared.answer.Listed.{Listed}
 use Rattle.request.specs.declared.answer.NodeStatus.{NodeStatus}
 use Rattle.request.specs.declared.answer.Answer.{Answer}

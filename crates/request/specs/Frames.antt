@@ -1,9 +1,9 @@
 -- A stream of bytes as frames: the payload's length in four bytes, and the payload.
-use Rattle.std.specs.Prelude.{◌≡◌, ℕ, ◌+◌, ◌<◌, ◌≤◌, ◌⊎◌, List, [], ◌∷◌, ◌++◌, length, take, drop, Option, Some, None}
+use Rattle.std.specs.Prelude.{◌≡◌, ℕ, ◌+◌, ◌<◌, ◌≤◌, ◌⊎◌, List, [], ◌∷◌, ◌++◌, length, take, Option, Some, None}
 use Rattle.std.specs.Int.{w32, to_le_bytes, from_le_bytes}
 use Rattle.request.specs.declared.message.Cause.TheVariants.{TooLong}
 use Rattle.request.specs.declared.message.Message.{Message}
-use Rattle.request.specs.declared.message.Message.TheVariants.{Malformed, NoMemory}
+use Rattle.request.specs.declared.message.Message.TheVariants.{Malformed}
 use Rattle.request.specs.Payload.{Tells, told_by}
 
 abbrev pub frame : List ℕ → List ℕ

@@ -1,5 +1,5 @@
 -- The names in a directory.
-use Rattle.std.specs.Prelude.{ℕ, ◌≤◌, List, length, All}
+use Rattle.std.specs.Prelude.{◌≤◌, List, length, All}
 use Rattle.osta.specs.Name.{IsName}
 use Rattle.request.specs.declared.answer.Listed.{Listed}
 

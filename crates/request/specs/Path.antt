@@ -1,5 +1,5 @@
 -- Paths, and their texts.
-use Rattle.std.specs.Prelude.{ℕ, ◌≤◌, List, [], ◌∷◌, ◌++◌, length, All}
+use Rattle.std.specs.Prelude.{ℕ, ◌≤◌, List, [], ◌∷◌, length, All}
 use Rattle.std.specs.List.{flat_map}
 use Rattle.osta.specs.Name.{IsName}
 

@@ -1,6 +1,6 @@
 //! Messages out of a stream of bytes that comes in pieces.
 
-ghost use Rattle.std.specs.Prelude.{◌≡◌, ◌≤◌, ◌<◌, ◌-◌, ◌+◌, vec_len, length, drop, List, [], Some, None, OnOk, OnErr, IfSome, IfNone, MatchOption};
+ghost use Rattle.std.specs.Prelude.{◌≡◌, ◌≤◌, ◌<◌, ◌-◌, ◌+◌, vec_len, length, drop, List, [], Some, None, OnOk, OnErr, IfSome, IfNone, MatchOption, is_none};
 ghost use Rattle.request.specs.Frames.{length_at, fed, Takes, IsIdle};
 ghost use Rattle.request.specs.FirstFrame.{IsFirstFrame};
 
@@ -58,6 +58,13 @@ impl Frames {
             self.taken = 0;
         }
         self.bytes.extend_from_slice(piece)
+    }
+
+    /// Whether a frame was longer than any payload can be, so that nothing more is read.
+    pub fn is_over(&self) -> bool
+        ensures { result ≡ is_none self.now }
+    {
+        self.failed
     }
 
     /// The next message, once its frame is whole. A frame that is longer than any payload is told of as soon

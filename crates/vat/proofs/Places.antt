@@ -5,9 +5,9 @@ use Rattle.std.proofs.lemmas.Bool.{cases_lt, cases_eq}
 use Rattle.std.proofs.lemmas.List.{get_or_append_left, drop-replicate, take_all}
 use Rattle.ecma.specs.Numbers.{u32_at}
 use Rattle.ecma.specs.Descriptor.{padded}
+use Rattle.ecma.proofs.Seals.{located}
 use Rattle.icb.specs.Entry.{blocks_of}
 use Rattle.icb.specs.VatIcb.{IsVatIcb}
-use Rattle.icb.proofs.VatIcbs.{located}
 use Rattle.vat.specs.Imitation.{Imitates, data_block}
 
 -- a number in the front

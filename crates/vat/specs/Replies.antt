@@ -1,5 +1,5 @@
 -- Up to four replies in four places.
-use Rattle.std.specs.Prelude.{◌≡◌, ℕ, ◌-◌, ◌<◌, ◌≤◌, List, length, take}
+use Rattle.std.specs.Prelude.{◌≡◌, ℕ, ◌<◌, ◌≤◌, List, length, take}
 use Rattle.std.proofs.Common.{sym, ap, ◌∙◌, arith, length-take}
 use Rattle.vat.specs.declared.record.Reply.{Reply}
 use Rattle.vat.specs.declared.record.Replies.TheInside.{Inside}

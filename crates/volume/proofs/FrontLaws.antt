@@ -3,12 +3,11 @@ use Rattle.std.proofs.Common.{◌≡◌, ℕ, ◌+◌, ◌%◌, ◌<◌, ◌≤�
 use Rattle.std.proofs.Math.ListN.{get_or-append}
 use Rattle.std.proofs.Math.Seq.{get_or-append_seam}
 use Rattle.std.proofs.lemmas.Bool.{cases_lt, lt-ltb, le-ltb}
-use Rattle.ecma.specs.Timestamp.{IsMoment}
 use Rattle.ecma.proofs.Pieces.{IsBytes}
+use Rattle.ecma.proofs.Seals.{one_descriptor}
 use Rattle.ecma.proofs.Timestamps.{one_spelling}
 use Rattle.volume.specs.Front.{Content, Holds, IsFrontBlock, front_content, recognition_content, sequence_content, later_content}
 use Rattle.volume.specs.Front.Content.{Nothing, Recognition, Descriptor}
-use Rattle.volume.proofs.DescriptorLaws.{one_descriptor}
 
 pub content_low : (label : List ℕ) (moment : ℕ) (stamp : List ℕ) (capacity n : ℕ) → n < 32 → front_content label moment stamp capacity n ≡ recognition_content n
 content_low label moment stamp capacity n low =

@@ -1,4 +1,4 @@
-pub mod DescriptorLaws
 pub mod FrontLaws
 pub mod Digits
 pub mod ReadingLaws
+pub mod Begins

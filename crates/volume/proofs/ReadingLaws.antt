@@ -1,5 +1,5 @@
 -- What a front tells at the places that are read, and that blocks tell one front.
-use Rattle.std.proofs.Common.{◌≡◌, ℕ, ◌+◌, ◌-◌, ◌<◌, ◌≤◌, List, [], ◌∷◌, ◌++◌, length, take, drop, get_or, replicate, Option, Some, None, IfNone, IfSome, refl, sym, ap, subst, ◌∙◌, inl, arith}
+use Rattle.std.proofs.Common.{◌≡◌, ℕ, ◌+◌, ◌-◌, ◌≤◌, List, [], ◌∷◌, ◌++◌, length, take, drop, get_or, replicate, Option, Some, None, IfNone, IfSome, refl, sym, ap, subst, ◌∙◌, inl, arith}
 use Rattle.std.specs.Int.{w16, w32, to_le_bytes}
 use Rattle.std.specs.List.{concat}
 use Rattle.std.proofs.lemmas.List.{drop-drop, drop_at, get_or-drop, length-append, length-drop, take_at}
@@ -13,11 +13,11 @@ use Rattle.ecma.proofs.Descriptors.{laid_out}
 use Rattle.ecma.proofs.Pieces.{onto, IsBytes}
 use Rattle.ecma.proofs.Timestamps.{one_moment}
 use Rattle.osta.specs.Dstring.{dstring, Dstring}
-use Rattle.osta.specs.Label.{IsLabel, IsLabelDstring}
+use Rattle.osta.specs.Label.{IsLabelDstring}
 use Rattle.osta.proofs.Fields.{text_from_Dstring}
 use Rattle.osta.proofs.Names.{label_Dstring}
 use Rattle.volume.specs.declared.front.Front.{Front}
-use Rattle.volume.specs.Descriptors.{digits, partition_fields, primary_fields}
+use Rattle.volume.specs.Descriptors.{digits, partition_fields}
 use Rattle.volume.specs.Front.{IsFront, IsFrontBlock}
 use Rattle.volume.specs.Reading.{DiffersAt, DiffersFirst, Tells, label_field, stamp_field}
 use Rattle.volume.proofs.Digits.{length-label, length-set}

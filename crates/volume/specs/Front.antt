@@ -1,8 +1,9 @@
 -- The blocks of a volume before its partition: those at the addresses 0 to 256.
-use Rattle.std.specs.Prelude.{◌≡◌, ℕ, ◌+◌, ◌-◌, ◌%◌, ◌<◌, ◌≤◌, ◌==◌, nat_lt, if◌then◌else◌, List, [], ◌∷◌, ◌++◌, length, codes, replicate, slice_index_or}
+use Rattle.std.specs.Prelude.{◌≡◌, ◌≢◌, ℕ, ◌%◌, ◌<◌, ◌≤◌, ◌==◌, nat_lt, if◌then◌else◌, List, [], ◌∷◌, ◌++◌, length, codes, replicate, slice_index, slice_index_or}
 use Rattle.osta.specs.Dstring.{dstring}
 use Rattle.osta.specs.Label.{IsLabel}
 use Rattle.ecma.specs.Descriptor.{IsDescriptor, padded}
+use Rattle.ecma.specs.Numbers.{u16_at}
 use Rattle.ecma.specs.Timestamp.{IsMoment}
 use Rattle.volume.specs.Descriptors.{digits, primary_fields, anchor_fields, use_fields, partition_fields, logical_fields, unallocated_fields, terminating_fields, integrity_fields}
 
@@ -61,3 +62,13 @@ pub record IsFront (label : List ℕ) (moment capacity : ℕ) (blocks : List (Li
   pub high : capacity ≤ 450_000
   pub count : length blocks ≡ 257
   pub each : (n : ℕ) → n < 257 → IsFrontBlock label moment capacity n (slice_index_or blocks n [])
+
+-- no block of the front begins as a file entry does
+abbrev pub FrontIsNoEntry : Type 0
+FrontIsNoEntry = (label : List ℕ) (moment capacity n : ℕ) (block : List ℕ) → IsFrontBlock label moment capacity n block → u16_at 0 block ≢ 261
+
+-- one block can stand at each address of the front of a label, a moment and a capacity
+abbrev pub OneFront : Type 0
+OneFront =
+    (label : List ℕ) (moment capacity n : ℕ) (a b : List ℕ) → ((i : ℕ) → slice_index a i < 256) → ((i : ℕ) → slice_index b i < 256)
+    → IsFrontBlock label moment capacity n a → IsFrontBlock label moment capacity n b → a ≡ b

@@ -24,7 +24,7 @@ pub struct Front {
     pub capacity: u32,
 }
 
-/// The block of the front at an address.
+/// The block of the front at an address (ECMA-167 2/9.1 and 3/10, UDF 2.01 2.2).
 pub fn front_block(label: &Label, moment: Timestamp, capacity: u32, n: u32) -> Block
     requires low { 512 ≤ capacity }
     requires high { capacity ≤ 450_000 }

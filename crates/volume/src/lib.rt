@@ -10,9 +10,11 @@
 
 mod descriptors;
 mod front;
+mod laws;
 mod read;
 
 pub use front::{FRONT_BLOCKS, Front, front_block, front_blocks};
+pub use laws::{front_is_no_entry, one_front};
 pub use read::{VolumeFault, first_difference, front_words, read_front};
 
 #[cfg(test)]

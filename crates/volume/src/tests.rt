@@ -30,6 +30,8 @@ fn blocks_of_a_front(rt: HostRuntime) -> Result<(), Fail> {
         }
     }
     // the terminating descriptors
+    let tag = [8, 0, 3, 0, 0x22, 0, 1, 0, 0, 0, 0xF0, 1, 0x25, 0, 0, 0];
+    assert!(rt; front_block(&label, moment, 3_000, 37)[..16] == tag[..]);
     let tag = [8, 0, 3, 0, 0x32, 0, 1, 0, 0, 0, 0xF0, 1, 0x35, 0, 0, 0];
     assert!(rt; front_block(&label, moment, 3_000, 53)[..16] == tag[..]);
     let tag = [8, 0, 3, 0, 0x3E, 0, 1, 0, 0, 0, 0xF0, 1, 0x41, 0, 0, 0];

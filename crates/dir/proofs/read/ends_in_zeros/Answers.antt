@@ -1,6 +1,5 @@
 use Rattle.std.proofs.Common.{◌≡◌, ◌*◌, ◌-◌, length, drop, replicate, ap, ◌∙◌, sym, arith}
 use Rattle.std.specs.List.{concat}
-use Rattle.std.proofs.lemmas.List.{length-drop}
 use Rattle.std.proofs.lemmas.List.Concat.{concat_is}
 use Rattle.dir.proofs.Zeros.{zeros_from_each, each_from_zeros}
 use Rattle.dir.proofs.read.ends_in_zeros.Goals as goal

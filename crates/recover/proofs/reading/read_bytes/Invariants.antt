@@ -1,11 +1,14 @@
 use Rattle.std.proofs.Common.{◌≡◌, ◌*◌, IsTrue, vec_len}
 use Rattle.std.specs.Prelude.{min}
+use Rattle.drive.specs.Journal.{held}
 use Rattle.recover.specs.Faults.{Counts}
+use Rattle.recover.proofs.Blocks.{Gathered}
 use Rattle.recover.proofs.reading.read_bytes.Given as goal
 
 abbrev pub invariant-loop-i : goal.invariant-loop-i
 invariant-loop-i g l = record {
   size : vec_len l.bytes ≡ min l.size (l.i * 2048);
+  read : IsTrue (g.D.Drive.honest l.drive) → Gathered (held (g.D.Drive.journal l.fn.drive)) l.at l.i l.size l.bytes.items;
   journal : g.D.Drive.journal l.drive ≡ g.D.Drive.journal l.fn.drive;
   capacity : g.D.Drive.capacity l.drive ≡ g.D.Drive.capacity l.fn.drive;
   honest : IsTrue (g.D.Drive.honest l.drive) → IsTrue (g.D.Drive.honest l.fn.drive);

@@ -1,4 +1,4 @@
-use Rattle.std.proofs.Common.{◌≡◌, ℕ, ◌<◌, List, length, get_or, below_more, sym, ◌∙◌, arith}
+use Rattle.std.proofs.Common.{below_more, sym, ◌∙◌, arith}
 use Rattle.std.proofs.lemmas.Grind.{same_number_lists}
 use Rattle.volume.proofs.read.first_other.Goals as goal
 

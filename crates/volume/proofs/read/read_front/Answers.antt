@@ -1,4 +1,4 @@
-use Rattle.std.proofs.Common.{◌≡◌, ℕ, ◌<◌, List, [], get_or, below_more, refl, sym, ap, subst, inl, inr, arith, Result, Ok}
+use Rattle.std.proofs.Common.{[], get_or, below_more, refl, ap, subst, inl, inr, arith, Ok}
 use Rattle.ecma.proofs.Faults.{no_fault}
 use Rattle.volume.specs.declared.front.Front.{Front}
 use Rattle.volume.specs.Front.{IsFrontBlock}

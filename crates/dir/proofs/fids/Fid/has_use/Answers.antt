@@ -1,6 +1,5 @@
-use Rattle.std.proofs.Common.{◌≡◌, ◌-◌, ◌∙◌, length, drop, replicate, ap, sym}
+use Rattle.std.proofs.Common.{◌≡◌, ◌-◌, ◌∙◌, length, drop, replicate, ap}
 use Rattle.std.proofs.lemmas.List.{length-replicate}
-use Rattle.dir.specs.Identifier.{use_of}
 use Rattle.dir.proofs.Splits.{parts_from_use, use_tested, use_shown}
 use Rattle.dir.proofs.Zeros.{each_from_zeros}
 use Rattle.dir.proofs.fids.Fid.has_use.Goals as goal

@@ -1,4 +1,4 @@
-use Rattle.std.proofs.Common.{arith, ◌∙◌}
+use Rattle.std.proofs.Common.{◌∙◌}
 use Rattle.dir.proofs.Splits.{shows_front}
 use Rattle.dir.proofs.fids.Fids.split.Goals as goal
 

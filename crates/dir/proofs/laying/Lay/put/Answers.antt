@@ -1,4 +1,4 @@
-use Rattle.std.proofs.Common.{◌≡◌, ◌+◌, ◌-◌, ◌∙◌, ℕ, Bool, not, length, drop, ap, sym}
+use Rattle.std.proofs.Common.{◌≡◌, ◌+◌, ◌-◌, ◌∙◌, ℕ, Bool, not, drop, ap, sym}
 use Rattle.std.specs.Prelude.{if◌then◌else◌}
 use Rattle.dir.specs.Directory.{identifiers_of}
 use Rattle.dir.specs.Item.{said}

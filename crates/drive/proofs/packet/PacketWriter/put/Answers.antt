@@ -1,4 +1,4 @@
-use Rattle.std.proofs.Common.{◌≡◌, ◌∙◌, ap, List, ℕ, ◌++◌, ◌∷◌, []}
+use Rattle.std.proofs.Common.{◌∙◌, ap, ◌++◌, ◌∷◌, []}
 use Rattle.drive.specs.Waiting.{Waiting}
 use Rattle.drive.proofs.Packing.{takes_waiting, takes_alone}
 use Rattle.drive.proofs.packet.PacketWriter.put.Goals as goal

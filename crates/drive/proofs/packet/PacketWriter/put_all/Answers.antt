@@ -1,4 +1,4 @@
-use Rattle.std.proofs.Common.{[], ◌∙◌, take}
+use Rattle.std.proofs.Common.{[], ◌∙◌}
 use Rattle.std.proofs.lemmas.Result.{err_from_is_err_and}
 use Rattle.drive.proofs.Packing.{takes_next, stops_next}
 use Rattle.drive.proofs.packet.PacketWriter.put_all.Goals as goal

@@ -1,0 +1,6 @@
+pub mod Messages
+pub mod Delivering
+pub mod Pieces
+pub mod Rows
+pub mod Next
+pub mod Fronts

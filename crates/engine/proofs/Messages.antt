@@ -1,0 +1,264 @@
+-- What was answered and written so far, and then a message more.
+use Rattle.std.proofs.Common.{◌≡◌, ℕ, ◌+◌, ◌<◌, ◌≤◌, List, [], ◌∷◌, ◌++◌, length, take, Option, Some, None, refl, sym, ap, subst, ◌∙◌, append_assoc, arith, length-append, inl, inr, Bool, true, false, Result, Ok, Err, rules}
+use Rattle.std.specs.Prelude.{OnErr, OnOk, is_err, is_none}
+use Rattle.std.specs.List.{flat_map}
+use Rattle.std.specs.Io.KnownBytes.{Appends, Consumes, Keeps, IsAtEnd}
+use Rattle.std.proofs.lemmas.List.{append-nil}
+use Rattle.std.proofs.lemmas.Grind.{flat_map-append}
+use Rattle.std.proofs.Math.Seq.{take-append_seam, take-append-add, take-length}
+use Rattle.request.specs.declared.answer.Answer.{Answer}
+use Rattle.request.specs.declared.message.Message.{Message}
+use Rattle.request.specs.Answers.{answer_frame}
+use Rattle.request.specs.Frames.{Takes, IsIdle, MessagesAre, fed}
+use Rattle.request.proofs.FrameLaws.{feeding, taking}
+use Rattle.engine.specs.Situation.{Situation}
+use Rattle.engine.specs.Answered.{Answered}
+use Rattle.engine.specs.Streams.{PutsFront, TakesPiece}
+use Rattle.engine.specs.Served.{AllAnswered, AllTaken, frames_of, Answering, AnswersSome, Serving, ServesSome, ServesAll}
+
+-- one message more was answered
+pub answered_more : (messages : List Message) (answers : List Answer) (s t u : Situation) (m : Message) (a : Answer)
+    → AllAnswered messages s answers t → Answered m t a u → AllAnswered (messages ++ m ∷ []) s (answers ++ a ∷ []) u
+answered_more [] [] s t u m a h k = (u, subst (λ (x : Situation). Answered m x a u) h k, refl)
+answered_more [] (b ∷ answers) s t u m a h k = absurd h
+answered_more (n ∷ messages) [] s t u m a h k = absurd h
+answered_more (n ∷ messages) (b ∷ answers) s t u m a h k = (h.0, h.1, answered_more messages answers h.0 t u m a h.2 k)
+
+-- and then others
+pub answered_append : (messages : List Message) (answers : List Answer) (more : List Message) (others : List Answer) (s t u : Situation)
+    → AllAnswered messages s answers t → AllAnswered more t others u → AllAnswered (messages ++ more) s (answers ++ others) u
+answered_append [] [] more others s t u h k = subst (λ (x : Situation). AllAnswered more x others u) h k
+answered_append [] (b ∷ answers) more others s t u h k = absurd h
+answered_append (n ∷ messages) [] more others s t u h k = absurd h
+answered_append (n ∷ messages) (b ∷ answers) more others s t u h k = (h.0, h.1, answered_append messages answers more others h.0 t u h.2 k)
+
+-- one message more was taken
+pub taken_more : (messages : List Message) (reader between after : Option (List ℕ)) (m : Message)
+    → AllTaken reader messages between → Takes between m after → AllTaken reader (messages ++ m ∷ []) after
+taken_more [] reader between after m h k = (after, subst (λ (x : Option (List ℕ)). Takes x m after) h k, refl)
+taken_more (n ∷ messages) reader between after m h k = (h.0, h.1, taken_more messages h.0 between after m h.2 k)
+
+-- messages that are taken are the next ones of the stream
+pub messages_taken : (more messages : List Message) (bytes : List ℕ) (reader after : Option (List ℕ))
+    → MessagesAre bytes messages reader → AllTaken reader more after → MessagesAre bytes (messages ++ more) after
+messages_taken [] messages bytes reader after h k =
+    subst (λ (ms : List Message). MessagesAre bytes ms after) (sym (append-nil messages)) (subst (λ (x : Option (List ℕ)). MessagesAre bytes messages x) (sym k) h)
+messages_taken (n ∷ more) messages bytes reader after h k =
+    let one : MessagesAre bytes (messages ++ n ∷ []) k.0 = taking messages bytes reader k.0 n h k.1 in
+    subst (λ (ms : List Message). MessagesAre bytes ms after) (append_assoc messages (n ∷ []) more) (messages_taken more (messages ++ n ∷ []) bytes k.0 after one k.2)
+
+-- the frames of answers and of others
+pub frames_append : (answers others : List Answer) → frames_of (answers ++ others) ≡ frames_of answers ++ frames_of others
+frames_append answers others = flat_map-append answer_frame answers others
+
+-- what a writer holds grew by some bytes, and then by others
+pub appends_more : (a b c : Option (List ℕ)) (x y : List ℕ) → Appends a b x → Appends b c y → Appends a c (x ++ y)
+appends_more None b c x y h k = tt
+appends_more (Some xs) None c x y h k = absurd h
+appends_more (Some xs) (Some ys) None x y h k = absurd k
+appends_more (Some xs) (Some ys) (Some zs) x y h k = k ∙ ap (λ (l : List ℕ). l ++ y) h ∙ append_assoc xs x y
+
+-- some bytes, and then a front of others
+pub front_more : (a b c : Option (List ℕ)) (x y : List ℕ) → Appends a b x → PutsFront b c y → PutsFront a c (x ++ y)
+front_more a b c x y h k =
+    (length x + k.0, subst (λ (l : List ℕ). Appends a c l) (sym (take-append-add x y k.0)) (appends_more a b c x (take k.0 y) h k.1))
+
+-- some bytes are a front of them and more
+pub front_of : (a b : Option (List ℕ)) (x y : List ℕ) → Appends a b x → PutsFront a b (x ++ y)
+front_of a b x y h = (length x, subst (λ (l : List ℕ). Appends a b l) (sym (take-append_seam x y)) h)
+
+-- bytes were read, and then others
+pub consumes_more : (a b c : Option (List ℕ)) (x y : List ℕ) → Consumes a b x → Consumes b c y → Consumes a c (x ++ y)
+consumes_more None b c x y h k = tt
+consumes_more (Some xs) None c x y h k = absurd h
+consumes_more (Some xs) (Some ys) None x y h k = absurd k
+consumes_more (Some xs) (Some ys) (Some zs) x y h k = h ∙ ap (λ (l : List ℕ). x ++ l) k ∙ sym (append_assoc x y zs)
+
+-- how much a reader of frames has left to give
+abbrev pub left_of : Option (List ℕ) → ℕ
+left_of None = 0
+left_of (Some bytes) = length bytes + 1
+
+-- a message that is taken leaves less
+pub taken_less : (reader after : Option (List ℕ)) (m : Message) → Takes reader m after → left_of after < left_of reader
+taken_less None after m h = absurd h
+taken_less (Some bytes) None m h = omega arith
+taken_less (Some bytes) (Some rest) m h =
+    let long : length bytes ≡ 4 + (length h.0 + length rest) = ap length h.1.whole ∙ omega (arith, length-append h.0 rest) in
+    omega (arith, long)
+
+pub nothing_more : (a : Option (List ℕ)) → Appends a a []
+nothing_more None = tt
+nothing_more (Some xs) = sym (append-nil xs)
+
+pub nothing_read : (a : Option (List ℕ)) → Consumes a a []
+nothing_read None = tt
+nothing_read (Some xs) = refl
+
+-- a front of no bytes is written where none are
+pub no_front : (a b : Option (List ℕ)) (x : List ℕ) → Keeps a b → PutsFront a b x
+no_front None b x k = (0, tt)
+no_front (Some xs) None x k = absurd k
+no_front (Some xs) (Some ys) x k = (0, k ∙ sym (append-nil xs))
+
+-- no message was taken yet
+pub answering_none : (reader : Option (List ℕ)) (s : Situation) (o : Option (List ℕ)) → Answering reader reader s s o o
+answering_none reader s o = record { messages = []; answers = []; taken = refl; answered = refl; told = nothing_more o }
+
+-- one message more was taken and answered
+pub answering_more : (reader between after : Option (List ℕ)) (s t u : Situation) (o v w : Option (List ℕ)) (m : Message) (a : Answer)
+    → Answering reader between s t o v → Takes between m after → Answered m t a u → Appends v w (answer_frame a) → Answering reader after s u o w
+answering_more reader between after s t u o v w m a h takes answered told = record {
+  messages = h.messages ++ m ∷ [];
+  answers = h.answers ++ a ∷ [];
+  taken = taken_more h.messages reader between after m h.taken takes;
+  answered = answered_more h.messages h.answers s t u m a h.answered answered;
+  told = subst (λ (x : List ℕ). Appends o w x) (sym (flat_map-append answer_frame h.answers (a ∷ []) ∙ ap (λ (x : List ℕ). frames_of h.answers ++ x) (append-nil (answer_frame a))))
+      (appends_more o v w (frames_of h.answers) (answer_frame a) h.told told);
+}
+
+-- the same where a front of the answer's frame was written
+pub answering_some : (reader between after : Option (List ℕ)) (s t u : Situation) (o v w : Option (List ℕ)) (m : Message) (a : Answer)
+    → Answering reader between s t o v → Takes between m after → Answered m t a u → PutsFront v w (answer_frame a) → AnswersSome reader after s u o w
+answering_some reader between after s t u o v w m a h takes answered front = record {
+  messages = h.messages ++ m ∷ [];
+  answers = h.answers ++ a ∷ [];
+  taken = taken_more h.messages reader between after m h.taken takes;
+  answered = answered_more h.messages h.answers s t u m a h.answered answered;
+  front = subst (λ (x : List ℕ). PutsFront o w x) (sym (flat_map-append answer_frame h.answers (a ∷ []) ∙ ap (λ (x : List ℕ). frames_of h.answers ++ x) (append-nil (answer_frame a))))
+      (front_more o v w (frames_of h.answers) (answer_frame a) h.told front);
+}
+
+-- what was written whole is a front, also where the writer then kept what it held
+pub answering_kept : (reader after later : Option (List ℕ)) (s t : Situation) (o v w : Option (List ℕ)) → later ≡ after → Answering reader after s t o v → Keeps v w → AnswersSome reader later s t o w
+answering_kept reader after later s t o v w e h k = record {
+  messages = h.messages;
+  answers = h.answers;
+  taken = subst (λ (r : Option (List ℕ)). AllTaken reader h.messages r) (sym e) h.taken;
+  answered = h.answered;
+  front = subst (λ (x : List ℕ). PutsFront o w x) (append-nil (frames_of h.answers)) (front_more o v w (frames_of h.answers) [] h.told (no_front v w [] k));
+}
+
+-- and all of it is written where it kept that
+pub answering_flushed : (reader after : Option (List ℕ)) (s t : Situation) (o v w : Option (List ℕ)) → Answering reader after s t o v → Keeps v w → Answering reader after s t o w
+answering_flushed reader after s t o v w h k =
+    record { messages = h.messages; answers = h.answers; taken = h.taken; answered = h.answered; told = keeps_told o v w (frames_of h.answers) h.told k }
+  where
+    keeps_told : (a b c : Option (List ℕ)) (x : List ℕ) → Appends a b x → Keeps b c → Appends a c x
+    keeps_told None b c x h k = tt
+    keeps_told (Some xs) None c x h k = absurd h
+    keeps_told (Some xs) (Some ys) None x h k = absurd k
+    keeps_told (Some xs) (Some ys) (Some zs) x h k = k ∙ h
+
+-- nothing was read yet
+pub serving_none : (reader : Option (List ℕ)) (s : Situation) (i o : Option (List ℕ)) → reader ≡ Some [] → Serving reader s s i i o o
+serving_none reader s i o e = record { bytes = []; messages = []; answers = []; consumed = nothing_read i; messages_are = e; answered = refl; told = nothing_more o }
+
+-- a piece more was read, and the messages in it were answered
+pub serving_more : (reader between after : Option (List ℕ)) (s t u : Situation) (i l n o v w : Option (List ℕ)) (piece : List ℕ)
+    → Serving reader s t i l o v → TakesPiece l n piece → between ≡ fed reader piece → Answering between after t u v w → Serving after s u i n o w
+serving_more reader between after s t u i l n o v w piece h takes e more = record {
+  bytes = h.bytes ++ piece;
+  messages = h.messages ++ more.messages;
+  answers = h.answers ++ more.answers;
+  consumed = consumes_more i l n h.bytes piece h.consumed takes.consumed;
+  messages_are = messages_taken more.messages h.messages (h.bytes ++ piece) between after
+      (subst (λ (r : Option (List ℕ)). MessagesAre (h.bytes ++ piece) h.messages r) (sym e) (feeding h.messages h.bytes piece reader h.messages_are)) more.taken;
+  answered = answered_append h.messages h.answers more.messages more.answers s t u h.answered more.answered;
+  told = subst (λ (x : List ℕ). Appends o w x) (sym (frames_append h.answers more.answers)) (appends_more o v w (frames_of h.answers) (frames_of more.answers) h.told more.told);
+}
+
+-- the same where a front of their answers was written
+pub serving_some : (reader between after : Option (List ℕ)) (s t u : Situation) (i l n o v w : Option (List ℕ)) (piece : List ℕ)
+    → Serving reader s t i l o v → TakesPiece l n piece → between ≡ fed reader piece → AnswersSome between after t u v w → ServesSome s u i n o w
+serving_some reader between after s t u i l n o v w piece h takes e more = record {
+  bytes = h.bytes ++ piece;
+  messages = h.messages ++ more.messages;
+  answers = h.answers ++ more.answers;
+  reader = after;
+  consumed = consumes_more i l n h.bytes piece h.consumed takes.consumed;
+  messages_are = messages_taken more.messages h.messages (h.bytes ++ piece) between after
+      (subst (λ (r : Option (List ℕ)). MessagesAre (h.bytes ++ piece) h.messages r) (sym e) (feeding h.messages h.bytes piece reader h.messages_are)) more.taken;
+  answered = answered_append h.messages h.answers more.messages more.answers s t u h.answered more.answered;
+  front = subst (λ (x : List ℕ). PutsFront o w x) (sym (frames_append h.answers more.answers)) (front_more o v w (frames_of h.answers) (frames_of more.answers) h.told more.front);
+}
+
+whole_front : (a b : Option (List ℕ)) (x : List ℕ) → Appends a b x → PutsFront a b x
+whole_front a b x h = (length x, subst (λ (y : List ℕ). Appends a b y) (sym (take-length x)) h)
+
+-- a piece more was read, and nothing was made of it
+pub serving_read : (reader : Option (List ℕ)) (s t : Situation) (i l n o v : Option (List ℕ)) (piece : List ℕ)
+    → Serving reader s t i l o v → TakesPiece l n piece → ServesSome s t i n o v
+serving_read reader s t i l n o v piece h takes = record {
+  bytes = h.bytes ++ piece;
+  messages = h.messages;
+  answers = h.answers;
+  reader = fed reader piece;
+  consumed = consumes_more i l n h.bytes piece h.consumed takes.consumed;
+  messages_are = feeding h.messages h.bytes piece reader h.messages_are;
+  answered = h.answered;
+  front = whole_front o v (frames_of h.answers) h.told;
+}
+
+consumes_kept : (a b c : Option (List ℕ)) (x : List ℕ) → Consumes a b x → Keeps b c → Consumes a c x
+consumes_kept None b c x h k = tt
+consumes_kept (Some xs) None c x h k = absurd h
+consumes_kept (Some xs) (Some ys) None x h k = absurd k
+consumes_kept (Some xs) (Some ys) (Some zs) x h k = h ∙ ap (λ (y : List ℕ). x ++ y) (sym k)
+
+-- a read failed, and took nothing
+pub serving_kept : (reader : Option (List ℕ)) (s t : Situation) (i l n o v : Option (List ℕ)) → Serving reader s t i l o v → Keeps l n → ServesSome s t i n o v
+serving_kept reader s t i l n o v h k = record {
+  bytes = h.bytes;
+  messages = h.messages;
+  answers = h.answers;
+  reader = reader;
+  consumed = consumes_kept i l n h.bytes h.consumed k;
+  messages_are = h.messages_are;
+  answered = h.answered;
+  front = whole_front o v (frames_of h.answers) h.told;
+}
+
+kept_self : (a : Option (List ℕ)) → Keeps a a
+kept_self None = tt
+kept_self (Some xs) = refl
+
+-- no more is read
+pub serving_stops : (reader : Option (List ℕ)) (s t : Situation) (i l o v : Option (List ℕ)) → Serving reader s t i l o v → ServesSome s t i l o v
+serving_stops reader s t i l o v h = serving_kept reader s t i l l o v h (kept_self l)
+
+-- the stream is at its end
+pub serving_ends : (reader : Option (List ℕ)) (s t : Situation) (i l n o v : Option (List ℕ)) (piece : List ℕ)
+    → Serving reader s t i l o v → IsIdle reader → TakesPiece l n piece → piece ≡ [] → ServesAll s t i n o v
+serving_ends reader s t i l n o v piece h idle takes none = record {
+  reader = reader;
+  serving = record {
+    bytes = h.bytes;
+    messages = h.messages;
+    answers = h.answers;
+    consumed = subst (λ (x : List ℕ). Consumes i n x) (append-nil h.bytes)
+        (consumes_more i l n h.bytes [] h.consumed (subst (λ (x : List ℕ). Consumes l n x) none takes.consumed));
+    messages_are = h.messages_are;
+    answered = h.answered;
+    told = h.told;
+  };
+  idle = idle;
+  ends = inl (takes.end none);
+}
+
+-- what holds of an `Err` may be shown of any
+pub on_err : {T E : Type 0} (r : Result T E) (X : Type 0) → X → OnErr r X
+on_err (Ok v) X x = tt
+on_err (Err e) X x = x
+
+pub over : (reader : Option (List ℕ)) → is_none reader ≡ true → reader ≡ None
+over None h = refl
+over (Some bytes) h = let bad : ◌≡◌ {A = Bool} false true = h in absurd (search rules)
+
+pub on_ok : {T E : Type 0} (r : Result T E) (X : Type 0) → is_err r ≡ false → OnOk r X → X
+on_ok (Ok v) X e x = x
+on_ok (Err w) X e x = let bad : ◌≡◌ {A = Bool} true false = e in absurd (search rules)
+
+-- a buffer that was filled whole
+pub filled : (n : ℕ) (xs ys : List ℕ) → n ≡ length xs → take n (xs ++ ys) ≡ xs
+filled n xs ys e = ap (λ (m : ℕ). take m (xs ++ ys)) e ∙ take-append_seam xs ys

@@ -1,0 +1,54 @@
+-- A message that needed the store was answered.
+use Rattle.std.proofs.Common.{◌≡◌, ℕ, ◌+◌, ◌<◌, ◌≤◌, ◌++◌, List, Option, Some, None, Bool, false, IsTrue, refl, sym, ap, subst, ◌∙◌, inl, inr, arith}
+use Rattle.drive.specs.Journal.{Event}
+use Rattle.model.specs.Session.{Due}
+use Rattle.model.specs.Session.Due.{New}
+use Rattle.recover.specs.Faults.{Counts}
+use Rattle.request.specs.declared.answer.Answer.{Answer}
+use Rattle.request.specs.declared.message.Message.{Message}
+use Rattle.request.specs.declared.message.Message.TheVariants as message
+use Rattle.request.specs.declared.message.Request.{Request}
+use Rattle.request.specs.declared.message.Query.{Query}
+use Rattle.store.specs.declared.store.Store.{Store}
+use Rattle.engine.specs.Situation.{Situation, IsOpen, Follows, situation}
+use Rattle.engine.specs.Answered.{Answered, due_of, IsCommitted, IsDue, Opens, Row, faults}
+
+-- the same store beside a drive that was not called
+pub same_situation : {X : Type 0} (j : X → List Event) (f c : X → ℕ) (h : X → Bool) (s t : Option Store) (d e : X)
+    → s ≡ t → d ≡ e → situation s (j d) (f d) (c d) (h d) ≡ situation t (j e) (f e) (c e) (h e)
+same_situation j f c h s t d e p q =
+    ap (λ (x : Option Store). situation x (j d) (f d) (c d) (h d)) p ∙ ap (λ x. situation t (j x) (f x) (c x) (h x)) q
+
+-- The store was opened, and did not change the medium.
+pub record Opened (before during : Situation) (store : Store) : Type 0 where
+  pub opens : Opens before during store
+  pub capacity : during.capacity ≡ before.capacity
+  pub honest : IsTrue during.honest → IsTrue before.honest
+  pub failures : Counts 0 before.failures during.failures
+
+follows_behind : (before during after : Situation) (store : Store) → Opened before during store → Follows during after → Follows before after
+follows_behind before during after store o f = record {
+  ready = f.ready;
+  front = (f.front.0, f.front.1 ∙ ap (λ (J : List Event). J ++ f.front.0) o.opens.journal);
+  capacity = f.capacity ∙ o.capacity;
+  honest = λ h. o.honest (f.honest h);
+}
+
+counts_behind : (n f0 f1 f2 : ℕ) → Counts 0 f0 f1 → Counts n f1 f2 → Counts n f0 f2
+counts_behind n f0 f1 f2 a b = λ lt. let k : f1 + n ≤ f2 = b lt in let l : f0 + 0 ≤ f1 = a (omega (arith, k, lt)) in omega (arith, k, l)
+
+pub request_answered : (asked : Message) (request : Request) (before during after : Situation) (store : Store) (a : Answer) → asked ≡ message.Request request → Opened before during store
+    → IsDue (due_of store request.client request.number) during a after → Follows during after → Counts (faults a) during.failures after.failures
+    → Answered asked before a after
+request_answered asked request before during after store a e o due follows failures = record {
+  follows = follows_behind before during after store o follows;
+  failures = counts_behind (faults a) before.failures during.failures after.failures o.failures failures;
+  row = subst (λ (m : Message). Row m before a after) (sym e) (inr (during, store, o.opens, due));
+}
+
+-- what holds of a new request, where that is what is due
+pub committed_due : (due : Due) (before : Situation) (a : Answer) (after : Situation) → New ≡ due → IsCommitted before a after → IsDue due before a after
+committed_due due before a after e h = subst (λ (d : Due). IsDue d before a after) e h
+
+pub counts_as : (m n f g : ℕ) → m ≡ n → Counts n f g → Counts m f g
+counts_as m n f g e h = subst (λ (k : ℕ). Counts k f g) (sym e) h

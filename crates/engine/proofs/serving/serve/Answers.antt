@@ -1,0 +1,72 @@
+use Rattle.std.proofs.Common.{rules, ◌≡◌, ℕ, List, [], Option, Some, take, refl, sym, subst, ap, inl, inr, arith, ◌∙◌}
+use Rattle.request.specs.Frames.{IsIdle, fed}
+use Rattle.engine.proofs.Messages.{serving_none, serving_more, serving_some, serving_read, serving_kept, serving_stops, serving_ends, on_err, on_ok, over, filled}
+use Rattle.engine.proofs.serving.serve.Goals as goal
+
+pub returns-in-Err-clause-err : goal.returns-in-Err-clause-err
+returns-in-Err-clause-err g c = serving_stops (Some []) _ _ _ _ _ _ (serving_none _ _ _ _ refl)
+
+pub loop-init : goal.loop-init
+loop-init g c = record {
+  serving = serving_none _ _ _ _ c.new-frames.ensures;
+  idle = subst (λ (r : Option (List ℕ)). IsIdle r) (sym c.new-frames.ensures) (inl (omega arith));
+  ready = search rules;
+  room = search rules;
+}
+
+pub returns-in_err-count-clause-err : goal.returns-in_err-count-clause-err
+returns-in_err-count-clause-err g c =
+    on_err _ _ (serving_kept _ _ _ _ (g.R.Read.remaining c.loop.reader) _ _ _ c.loop.invariant.serving c.in_err-count.ensures.err)
+
+pub returns-then-count-eq0-clause-ok : goal.returns-then-count-eq0-clause-ok
+returns-then-count-eq0-clause-ok g c =
+    serving_ends c.loop.frames _ _ _ (g.R.Read.remaining c.loop.reader) _ _ _ _ c.loop.invariant.serving c.loop.invariant.idle
+    c.in_ok-count.ensures.ok (ap (λ (n : ℕ). take n c.read_piece.new.piece) c.if-count-eq0.true)
+
+pub returns-then-is_err-clause-err : goal.returns-then-is_err-clause-err
+returns-then-is_err-clause-err g c =
+    serving_read c.loop.frames _ _ _ (g.R.Read.remaining c.loop.reader) _ _ _ _ c.loop.invariant.serving c.in_ok-count.ensures.ok
+
+pub returns-in_err-answer_all-clause-err : goal.returns-in_err-answer_all-clause-err
+returns-in_err-answer_all-clause-err g c =
+    let piece = take c.in_ok-count.count c.read_piece.new.piece in
+    let fed_at = on_ok c.feed.result _ (search rules) c.feed.ensures.ok in
+    let fed_is : c.feed.new.self ≡ fed c.loop.frames piece = fed_at ∙ ap (λ (x : List ℕ). fed c.loop.frames x)
+    (c.split_at.ensures.front ∙ ap (λ (x : List ℕ). take c.in_ok-count.count x)
+    (c.deref.ensures.value ∙ filled c.loop.piece.len c.read_piece.new.piece _ (search rules))) in
+    on_err _ _
+    (serving_some c.loop.frames c.feed.new.self c.answer_all.new.frames _ _ _ _ (g.R.Read.remaining c.loop.reader) _ _ (g.W.Write.contents c.loop.writer) _ piece
+    c.loop.invariant.serving c.in_ok-count.ensures.ok fed_is c.in_err-answer_all.ensures.err)
+
+pub returns-then-is_over-clause-ok : goal.returns-then-is_over-clause-ok
+returns-then-is_over-clause-ok g c =
+    let piece = take c.in_ok-count.count c.read_piece.new.piece in
+    let fed_at = on_ok c.feed.result _ (search rules) c.feed.ensures.ok in
+    let fed_is : c.feed.new.self ≡ fed c.loop.frames piece = fed_at ∙ ap (λ (x : List ℕ). fed c.loop.frames x)
+    (c.split_at.ensures.front ∙ ap (λ (x : List ℕ). take c.in_ok-count.count x)
+    (c.deref.ensures.value ∙ filled c.loop.piece.len c.read_piece.new.piece _ (search rules))) in
+    record {
+      reader = c.answer_all.new.frames;
+      serving = serving_more c.loop.frames c.feed.new.self c.answer_all.new.frames _ _ _ _ (g.R.Read.remaining c.loop.reader) _ _ (g.W.Write.contents c.loop.writer) _ piece
+          c.loop.invariant.serving c.in_ok-count.ensures.ok fed_is (search rules);
+      idle = search rules;
+      ends = inr (over _ (search rules));
+    }
+
+pub loop-preserved : goal.loop-preserved
+loop-preserved g c =
+    let piece = take c.in_ok-count.count c.read_piece.new.piece in
+    let fed_at = on_ok c.feed.result _ (search rules) c.feed.ensures.ok in
+    let fed_is : c.feed.new.self ≡ fed c.loop.frames piece = fed_at ∙ ap (λ (x : List ℕ). fed c.loop.frames x)
+    (c.split_at.ensures.front ∙ ap (λ (x : List ℕ). take c.in_ok-count.count x)
+    (c.deref.ensures.value ∙ filled c.loop.piece.len c.read_piece.new.piece _ (search rules))) in
+    record {
+      serving = serving_more c.loop.frames c.feed.new.self c.answer_all.new.frames _ _ _ _ (g.R.Read.remaining c.loop.reader) _ _ (g.W.Write.contents c.loop.writer) _ piece
+          c.loop.invariant.serving c.in_ok-count.ensures.ok fed_is (search rules);
+      idle = search rules;
+      ready = c.answer_all.ensures.ready;
+      room = search rules;
+    }
+
+pub returns-clause-err : goal.returns-clause-err
+returns-clause-err g c = serving_stops c.loop.frames _ _ _ _ _ _ c.loop.invariant.serving

@@ -1,0 +1,86 @@
+-- Which answer a message gets, and what it leaves.
+use Rattle.std.specs.Prelude.{◌≡◌, ◌⊎◌, ℕ, false, List, length, map, IfSome}
+use Rattle.model.specs.Session.{Due, due_by, record_of}
+use Rattle.model.specs.Session.Due.{Repeat, Stale, Gap, ClientsFull, New}
+use Rattle.recover.specs.Faults.{Counts}
+use Rattle.request.specs.declared.answer.Answer.{Answer}
+use Rattle.request.specs.declared.answer.Answer.TheVariants as answer
+use Rattle.request.specs.declared.answer.Reply.{Reply}
+use Rattle.request.specs.declared.answer.Listed.{Listed}
+use Rattle.request.specs.declared.answer.NodeStatus.{NodeStatus}
+use Rattle.request.specs.declared.message.Message.{Message}
+use Rattle.request.specs.declared.message.Message.TheVariants as message
+use Rattle.request.specs.declared.message.Query.{Query}
+use Rattle.request.specs.declared.message.Query.TheVariants as query
+use Rattle.store.specs.declared.store.Store.{Store}
+use Rattle.store.specs.Sessions.{kept_of, reply_said}
+use Rattle.engine.specs.Situation.{Situation, IsOpen, Follows}
+
+-- how many failures of the drive an answer stands for
+abbrev pub faults : Answer → ℕ
+faults (answer.Reply reply) = 0
+faults (answer.Stale latest) = 0
+faults (answer.Gap latest) = 0
+faults answer.ClientsFull = 0
+faults answer.Full = 0
+faults answer.Fault = 1
+faults answer.Memory = 0
+faults (answer.Malformed cause) = 0
+faults answer.Damaged = 0
+faults answer.NotFound = 0
+faults answer.IsDirectory = 0
+faults answer.NotDirectory = 0
+faults (answer.Data bytes) = 0
+faults (answer.Names names) = 0
+faults (answer.Node status) = 0
+
+-- the drive failed, there was no memory, or the medium holds no sound volume
+abbrev pub MayFail : Answer → Type 0
+MayFail a = (a ≡ answer.Fault) ⊎ ((a ≡ answer.Memory) ⊎ (a ≡ answer.Damaged))
+
+-- what a query can be told
+abbrev pub IsTold : Query → Answer → Type 0
+IsTold (query.Get path) a = ((bytes : List ℕ) × (a ≡ answer.Data bytes)) ⊎ ((a ≡ answer.NotFound) ⊎ ((a ≡ answer.IsDirectory) ⊎ MayFail a))
+IsTold (query.List path) a = ((names : List Listed) × (a ≡ answer.Names names)) ⊎ ((a ≡ answer.NotFound) ⊎ ((a ≡ answer.NotDirectory) ⊎ MayFail a))
+IsTold (query.Stat path) a = ((status : NodeStatus) × (a ≡ answer.Node status)) ⊎ ((a ≡ answer.NotFound) ⊎ MayFail a)
+
+-- A new request is committed, or it is told why it may not be. Unless the store stopped, nothing was written then.
+abbrev pub IsCommitted : Situation → Answer → Situation → Type 0
+IsCommitted before a after = ((reply : Reply) × (a ≡ answer.Reply reply))
+    ⊎ (((a ≡ answer.Full) ⊎ MayFail a) × IfSome after.store (λ store. store.is_stopped ≡ false → after.journal ≡ before.journal))
+
+-- what is due for a number of a client, by the sessions that a store keeps
+abbrev pub due_of : Store → ℕ → ℕ → Due
+due_of store client number = due_by number (length store.vat.sessions.records.items) (record_of client (map kept_of store.vat.sessions.records.items))
+
+-- What a request gets where this is due. Where it is not new, nothing changes, and the drive is not called.
+abbrev pub IsDue : Due → Situation → Answer → Situation → Type 0
+IsDue (Repeat kept) before a after = (reply : Reply) × (a ≡ answer.Reply reply) × (reply_said reply ≡ kept) × (after ≡ before)
+IsDue (Stale latest) before a after = (a ≡ answer.Stale latest) × (after ≡ before)
+IsDue (Gap latest) before a after = (a ≡ answer.Gap latest) × (after ≡ before)
+IsDue ClientsFull before a after = (a ≡ answer.ClientsFull) × (after ≡ before)
+IsDue New before a after = IsCommitted before a after
+
+-- The store is open, or is opened, by which nothing is written.
+pub record Opens (before during : Situation) (store : Store) : Type 0 where
+  pub opened : IsOpen during store
+  pub journal : during.journal ≡ before.journal
+  pub stays : (kept : Store) → IsOpen before kept → during ≡ before
+
+-- The store was not open, and could not be opened. Nothing was written.
+abbrev pub IsRefused : Situation → Answer → Situation → Type 0
+IsRefused before a after = MayFail a × (after.journal ≡ before.journal) × ((store : Store) → IsOpen before store → ⊥)
+
+-- one row for each kind of message
+abbrev pub Row : Message → Situation → Answer → Situation → Type 0
+Row (message.Malformed cause) before a after = (a ≡ answer.Malformed cause) × (after ≡ before)
+Row message.NoMemory before a after = (a ≡ answer.Memory) × (after ≡ before)
+Row (message.Query asked) before a after = IsTold asked a × (after.journal ≡ before.journal)
+Row (message.Request request) before a after = IsRefused before a after
+    ⊎ ((during : Situation) × (store : Store) × Opens before during store × IsDue (due_of store request.client request.number) during a after)
+
+-- A message was answered.
+pub record Answered (asked : Message) (before : Situation) (a : Answer) (after : Situation) : Type 0 where
+  pub follows : Follows before after
+  pub failures : Counts (faults a) before.failures after.failures
+  pub row : Row asked before a after

@@ -1,0 +1,36 @@
+-- What an engine and its drive are between two messages.
+use Rattle.std.specs.Prelude.{◌≡◌, ℕ, ◌++◌, Bool, false, List, Option, Some, IfSome, IsTrue}
+use Rattle.drive.specs.Journal.{Event}
+use Rattle.store.specs.declared.store.Store.{Store}
+use Rattle.store.specs.Agrees.{Agrees}
+use Rattle.engine.specs.declared.engine.Engine.{Engine}
+
+pub record Situation : Type 0 where
+  pub store : Option Store
+  pub journal : List Event
+  pub failures : ℕ
+  pub capacity : ℕ
+  pub honest : Bool
+
+-- a store that is kept agrees with the drive
+abbrev pub IsReady : Situation → Type 0
+IsReady s = IfSome s.store (Agrees s.journal s.capacity)
+
+-- this store is kept, and did not stop
+abbrev pub IsOpen : Situation → Store → Type 0
+IsOpen s store = (s.store ≡ Some store) × (store.is_stopped ≡ false)
+
+-- Blocks alone came to the medium. It has room for as many as before, and it is no more honest.
+pub record Follows (before after : Situation) : Type 0 where
+  pub ready : IsReady after
+  pub front : (written : List Event) × (after.journal ≡ before.journal ++ written)
+  pub capacity : after.capacity ≡ before.capacity
+  pub honest : IsTrue after.honest → IsTrue before.honest
+
+-- a store, if one is kept, and what a drive shows
+abbrev pub situation : Option Store → List Event → ℕ → ℕ → Bool → Situation
+situation store journal failures capacity honest = record { store = store; journal = journal; failures = failures; capacity = capacity; honest = honest }
+
+-- an engine beside a drive
+abbrev pub seen : Engine → List Event → ℕ → ℕ → Bool → Situation
+seen engine journal failures capacity honest = situation engine.store journal failures capacity honest

@@ -1,0 +1,12 @@
+-- What was read from a stream and written to one, where its bytes are known.
+use Rattle.std.specs.Prelude.{◌≡◌, ℕ, List, [], length, take, Option}
+use Rattle.std.specs.Io.KnownBytes.{Appends, Consumes, IsAtEnd}
+
+-- these bytes were read, and there are none at the end alone
+pub record TakesPiece (before after : Option (List ℕ)) (piece : List ℕ) : Type 0 where
+  pub consumed : Consumes before after piece
+  pub end : piece ≡ [] → IsAtEnd after
+
+-- a front of these bytes was written
+abbrev pub PutsFront : Option (List ℕ) → Option (List ℕ) → List ℕ → Type 0
+PutsFront before after bytes = (count : ℕ) × Appends before after (take count bytes)

@@ -1,0 +1,144 @@
+//! One message, answered.
+
+ghost use Rattle.std.specs.Prelude.{◌≡◌, Some, None, Ok, Err, IsTrue, IfOk, IfErr, OnErr, false};
+ghost use Rattle.recover.specs.Faults.{Counts, devices, failures_of};
+ghost use Rattle.store.specs.Agrees.{Agrees};
+ghost use Rattle.engine.specs.Situation.{IsReady, Follows, seen, situation};
+ghost use Rattle.engine.specs.Answered.{Answered, due_of, IsDue, IsTold, MayFail, faults};
+
+use drive::Drive;
+use request::{Answer, Message, Query, Request};
+use std::alloc::Global;
+use store::{Due, Store, StoreFault};
+
+/// What answers messages. At first it knows of no volume.
+#[derive(Drop)]
+pub struct Engine {
+    store: Option<Store>,
+}
+
+impl Engine {
+    /// An engine that has seen no medium.
+    pub fn new() -> Engine
+        ensures { result.store ≡ None }
+    {
+        Engine { store: None }
+    }
+
+    /// The answer to a message. Where a write fails, the medium is opened again for the next message that needs it.
+    pub fn answer<D: Drive>(&mut self, alloc: Global, drive: &mut D, message: Message) -> Answer
+        requires { IsReady (seen self.old (D.journal drive.old) (D.failures drive.old) (D.capacity drive.old) (D.honest drive.old)) }
+        ensures { Answered message (seen self.old (D.journal drive.old) (D.failures drive.old) (D.capacity drive.old) (D.honest drive.old)) result
+            (seen self.new (D.journal drive.new) (D.failures drive.new) (D.capacity drive.new) (D.honest drive.new)) }
+    {
+        match message {
+            Message::Malformed(cause) => Answer::Malformed(cause),
+            Message::NoMemory => Answer::Memory,
+            Message::Request(request) => match self.take_open(alloc, drive) {
+                Ok(mut store) => {
+                    let answer = answer_request(&mut store, alloc, drive, &request);
+                    self.store = Some(store);
+                    answer
+                }
+                Err(fault) => failure(fault),
+            },
+            Message::Query(query) => match self.take_open(alloc, drive) {
+                Ok(mut store) => {
+                    let answer = answer_query(&mut store, alloc, drive, &query);
+                    self.store = Some(store);
+                    answer
+                }
+                Err(fault) => failure(fault),
+            },
+        }
+    }
+
+    /// Takes the store out: the one that is open, or one that is opened now.
+    fn take_open<D: Drive>(&mut self, alloc: Global, drive: &mut D) -> Result<Store, StoreFault>
+        requires { IsReady (seen self.old (D.journal drive.old) (D.failures drive.old) (D.capacity drive.old) (D.honest drive.old)) }
+        ensures agrees { IfOk result (Agrees (D.journal drive.new) (D.capacity drive.new)) }
+        ensures open { IfOk result (λ store. store.is_stopped ≡ false) }
+        ensures taken { self.new.store ≡ None }
+        ensures stays { (kept : _) → self.old.store ≡ Some kept → kept.is_stopped ≡ false → (result ≡ Ok kept) × (drive.new ≡ drive.old) }
+        ensures journal { D.journal drive.new ≡ D.journal drive.old }
+        ensures capacity { D.capacity drive.new ≡ D.capacity drive.old }
+        ensures honest { IsTrue (D.honest drive.new) → IsTrue (D.honest drive.old) }
+        ensures failures { Counts (devices result) (D.failures drive.old) (D.failures drive.new) }
+    {
+        match self.store.take() {
+            Some(store) if !store.stopped() => Ok(store),
+            _ => Store::open(alloc, drive),
+        }
+    }
+}
+
+/// The answer to a request, by what is due.
+#[tactic(auto, using(crate::proofs::Fronts::behind_written, crate::proofs::Fronts::behind_front))]
+fn answer_request<D: Drive>(
+    store: &mut Store,
+    alloc: Global,
+    drive: &mut D,
+    request: &Request,
+) -> Answer
+    requires { Agrees (D.journal drive.old) (D.capacity drive.old) store.old }
+    ensures due { IsDue (due_of store.old request.now.client request.now.number) (situation (Some store.old) (D.journal drive.old) (D.failures drive.old) (D.capacity drive.old) (D.honest drive.old)) result
+        (situation (Some store.new) (D.journal drive.new) (D.failures drive.new) (D.capacity drive.new) (D.honest drive.new)) }
+    ensures follows { Follows (situation (Some store.old) (D.journal drive.old) (D.failures drive.old) (D.capacity drive.old) (D.honest drive.old))
+        (situation (Some store.new) (D.journal drive.new) (D.failures drive.new) (D.capacity drive.new) (D.honest drive.new)) }
+    ensures failures { Counts (faults result) (D.failures drive.old) (D.failures drive.new) }
+{
+    match store.due(request.client, request.number) {
+        Due::Repeat(reply) => Answer::Reply(reply),
+        Due::Stale(latest) => Answer::Stale(latest),
+        Due::Gap(latest) => Answer::Gap(latest),
+        Due::ClientsFull => Answer::ClientsFull,
+        Due::New => match store.apply(alloc, drive, request) {
+            Ok(reply) => Answer::Reply(reply),
+            Err(StoreFault::Full) => Answer::Full,
+            Err(fault) => failure(fault),
+        },
+    }
+}
+
+/// The answer to a query.
+fn answer_query<D: Drive>(store: &mut Store, alloc: Global, drive: &mut D, query: &Query) -> Answer
+    requires { Agrees (D.journal drive.old) (D.capacity drive.old) store.old }
+    ensures told { IsTold query.now result }
+    ensures agrees { Agrees (D.journal drive.new) (D.capacity drive.new) store.new }
+    ensures journal { D.journal drive.new ≡ D.journal drive.old }
+    ensures capacity { D.capacity drive.new ≡ D.capacity drive.old }
+    ensures honest { IsTrue (D.honest drive.new) → IsTrue (D.honest drive.old) }
+    ensures failures { Counts (faults result) (D.failures drive.old) (D.failures drive.new) }
+{
+    match query {
+        Query::Get(path) => match store.get(alloc, drive, path) {
+            Ok(data) => Answer::Data(data),
+            Err(StoreFault::NotFound) => Answer::NotFound,
+            Err(StoreFault::IsDirectory) => Answer::IsDirectory,
+            Err(fault) => failure(fault),
+        },
+        Query::List(path) => match store.list(alloc, drive, path) {
+            Ok(listing) => Answer::Names(listing),
+            Err(StoreFault::NotFound) => Answer::NotFound,
+            Err(StoreFault::NotDirectory) => Answer::NotDirectory,
+            Err(fault) => failure(fault),
+        },
+        Query::Stat(path) => match store.stat(alloc, drive, path) {
+            Ok(status) => Answer::Node(status),
+            Err(StoreFault::NotFound) => Answer::NotFound,
+            Err(fault) => failure(fault),
+        },
+    }
+}
+
+/// The answer where the drive failed, where there was no memory, or where the medium holds no sound volume.
+fn failure(fault: StoreFault) -> Answer
+    ensures fails { MayFail result }
+    ensures device { faults result ≡ failures_of fault }
+{
+    match fault {
+        StoreFault::Device => Answer::Fault,
+        StoreFault::Memory => Answer::Memory,
+        _ => Answer::Damaged,
+    }
+}

@@ -1,0 +1,15 @@
+//! The answers: each message of a stream is answered in turn, and what is acknowledged is on the medium.
+//!
+//! An engine keeps a store while it can, and opens the medium again where a write failed. It keeps no drive: each call is
+//! lent it. Frames and their payloads are the layer below, sockets and words the one above.
+#![tactic(auto)]
+
+mod engine;
+mod runs;
+mod serving;
+mod streams;
+
+pub use engine::Engine;
+pub use runs::{Delivery, run};
+pub use serving::{ServeFault, serve};
+pub use streams::{put_all, read_piece};

@@ -1,0 +1,120 @@
+//! Messages from a stream, and answers to one.
+
+ghost use Rattle.std.specs.Prelude.{OnOk, OnErr};
+ghost use Rattle.std.specs.Io.KnownBytes.{Appends};
+ghost use Rattle.request.specs.Answers.{answer_frame};
+ghost use Rattle.request.specs.Frames.{IsIdle};
+ghost use Rattle.engine.specs.Streams.{PutsFront};
+ghost use Rattle.engine.specs.Situation.{IsReady, seen};
+ghost use Rattle.engine.specs.Served.{Answering, AnswersSome, ServesSome, ServesAll};
+
+use crate::engine::Engine;
+use crate::streams::{put_all, read_piece};
+use drive::Drive;
+use request::{Answer, Frames, encode_answer};
+use std::alloc::Global;
+use std::io::{Read, Write};
+use thiserror::Error;
+
+/// How many bytes are read at once.
+const PIECE_BYTES: usize = 65_536;
+
+/// Why a stream was left before its end. It is shown as its number and its name.
+#[derive(Clone, Copy, Debug, PartialEq, Eq, Error)]
+pub enum ServeFault {
+    #[error("91 Read")]
+    Read,
+    #[error("92 Write")]
+    Write,
+    #[error("93 Memory")]
+    Memory,
+}
+
+/// Answers the messages of a stream in turn, until it ends or a frame is too long. The answers to what was read are written
+/// before more is read.
+pub fn serve<R: Read, W: Write, D: Drive>(
+    alloc: Global,
+    reader: &mut R,
+    writer: &mut W,
+    engine: &mut Engine,
+    drive: &mut D,
+) -> Result<(), ServeFault>
+    requires { IsReady (seen engine.old (D.journal drive.old) (D.failures drive.old) (D.capacity drive.old) (D.honest drive.old)) }
+    ensures ok { OnOk result (ServesAll (seen engine.old (D.journal drive.old) (D.failures drive.old) (D.capacity drive.old) (D.honest drive.old))
+        (seen engine.new (D.journal drive.new) (D.failures drive.new) (D.capacity drive.new) (D.honest drive.new))
+        (R.remaining reader.old) (R.remaining reader.new) (W.contents writer.old) (W.contents writer.new)) }
+    ensures err { OnErr result (ServesSome (seen engine.old (D.journal drive.old) (D.failures drive.old) (D.capacity drive.old) (D.honest drive.old))
+        (seen engine.new (D.journal drive.new) (D.failures drive.new) (D.capacity drive.new) (D.honest drive.new))
+        (R.remaining reader.old) (R.remaining reader.new) (W.contents writer.old) (W.contents writer.new)) }
+    ensures ready { IsReady (seen engine.new (D.journal drive.new) (D.failures drive.new) (D.capacity drive.new) (D.honest drive.new)) }
+{
+    let mut piece = match vec![in alloc; 0u8; PIECE_BYTES] {
+        Ok(piece) => piece,
+        Err(_) => return Err(ServeFault::Memory),
+    };
+    let mut frames = Frames::new(alloc);
+    let mut answers = Vec::new(alloc);
+    for _ in 0..u64::MAX {
+        let count = read_piece(reader, &mut piece)?;
+        if count == 0 {
+            return Ok(());
+        }
+        let (bytes, _) = piece.split_at(count);
+        if frames.feed(bytes).is_err() {
+            return Err(ServeFault::Memory);
+        }
+        answer_all(alloc, &mut frames, &mut answers, writer, engine, drive)?;
+        if frames.is_over() {
+            return Ok(());
+        }
+    }
+    Err(ServeFault::Read)
+}
+
+/// Answers the messages that are whole.
+#[tactic(auto, using(crate::proofs::Messages::answering_none, crate::proofs::Messages::answering_more, crate::proofs::Messages::answering_some, crate::proofs::Messages::answering_kept, crate::proofs::Messages::answering_flushed, crate::proofs::Messages::taken_less))]
+fn answer_all<W: Write, D: Drive>(
+    alloc: Global,
+    frames: &mut Frames,
+    answers: &mut Vec<u8>,
+    writer: &mut W,
+    engine: &mut Engine,
+    drive: &mut D,
+) -> Result<(), ServeFault>
+    requires { IsReady (seen engine.old (D.journal drive.old) (D.failures drive.old) (D.capacity drive.old) (D.honest drive.old)) }
+    ensures ok { OnOk result (Answering frames.old frames.new
+        (seen engine.old (D.journal drive.old) (D.failures drive.old) (D.capacity drive.old) (D.honest drive.old))
+        (seen engine.new (D.journal drive.new) (D.failures drive.new) (D.capacity drive.new) (D.honest drive.new))
+        (W.contents writer.old) (W.contents writer.new)) }
+    ensures idle { OnOk result (IsIdle frames.new) }
+    ensures err { OnErr result (AnswersSome frames.old frames.new
+        (seen engine.old (D.journal drive.old) (D.failures drive.old) (D.capacity drive.old) (D.honest drive.old))
+        (seen engine.new (D.journal drive.new) (D.failures drive.new) (D.capacity drive.new) (D.honest drive.new))
+        (W.contents writer.old) (W.contents writer.new)) }
+    ensures ready { IsReady (seen engine.new (D.journal drive.new) (D.failures drive.new) (D.capacity drive.new) (D.honest drive.new)) }
+{
+    while let Some(message) = frames.take() {
+        let answer = engine.answer(alloc, drive, message);
+        write_answer(writer, answer, answers)?;
+    }
+    if writer.flush().is_err() {
+        return Err(ServeFault::Write);
+    }
+    Ok(())
+}
+
+/// Writes an answer's frame, which is made in the buffer. Where it fails, a front of it was written.
+fn write_answer<W: Write>(
+    writer: &mut W,
+    answer: Answer,
+    buffer: &mut Vec<u8>,
+) -> Result<(), ServeFault>
+    ensures ok { OnOk result (Appends (W.contents writer.old) (W.contents writer.new) (answer_frame answer)) }
+    ensures err { OnErr result (PutsFront (W.contents writer.old) (W.contents writer.new) (answer_frame answer)) }
+{
+    buffer.clear();
+    if encode_answer(&answer, buffer).is_err() {
+        return Err(ServeFault::Memory);
+    }
+    put_all(writer, buffer)
+}

@@ -1,0 +1,48 @@
+//! Reads and writes of whole pieces, by which it is known what was read and written wherever they fail.
+
+ghost use Rattle.std.specs.Prelude.{◌≡◌, ◌≤◌, ◌<◌, ℕ, length, take, IfOk, OnOk, OnErr};
+ghost use Rattle.std.specs.Io.KnownBytes.{Appends, Consumes, IsAtEnd, Keeps};
+ghost use Rattle.engine.specs.Streams.{TakesPiece, PutsFront};
+
+use crate::serving::ServeFault;
+use std::io::{ErrorKind, Read, Write};
+
+/// Reads the next bytes, of which there are none at the end of the stream. A read that a signal interrupts is tried again.
+pub fn read_piece<R: Read>(reader: &mut R, piece: &mut [u8]) -> Result<usize, ServeFault>
+    requires { 0 < length piece.old }
+    ensures bound { IfOk result (λ n. n ≤ length piece.new) }
+    ensures ok { IfOk result (λ n. TakesPiece (R.remaining reader.old) (R.remaining reader.new) (take n piece.new)) }
+    ensures err { OnErr result (Keeps (R.remaining reader.old) (R.remaining reader.new)) }
+{
+    for _ in 0..u64::MAX {
+        match reader.read(piece) {
+            Ok(count) => return Ok(count),
+            Err(error) if error.kind() == ErrorKind::Interrupted => {}
+            Err(_) => return Err(ServeFault::Read),
+        }
+    }
+    Err(ServeFault::Read)
+}
+
+/// Writes the bytes. Where it fails, a front of them was written.
+pub fn put_all<W: Write>(writer: &mut W, bytes: &[u8]) -> Result<(), ServeFault>
+    ensures ok { OnOk result (Appends (W.contents writer.old) (W.contents writer.new) bytes.now) }
+    ensures err { OnErr result (PutsFront (W.contents writer.old) (W.contents writer.new) bytes.now) }
+{
+    let mut rest = bytes;
+    for _ in 0..u64::MAX {
+        if rest.is_empty() {
+            return Ok(());
+        }
+        match writer.write(rest) {
+            Ok(0) => return Err(ServeFault::Write),
+            Ok(count) => {
+                let (_, later) = rest.split_at(count);
+                rest = later;
+            }
+            Err(error) if error.kind() == ErrorKind::Interrupted => {}
+            Err(_) => return Err(ServeFault::Write),
+        }
+    }
+    Err(ServeFault::Write)
+}

@@ -1,0 +1,23 @@
+-- Entries and file sets have one spelling.
+use Rattle.std.proofs.Common.{◌≡◌, ℕ, List, length, sym, ap, subst, ◌∙◌}
+use Rattle.std.specs.List.{concat}
+use Rattle.ecma.specs.Descriptor.{IsDescriptor}
+use Rattle.ecma.proofs.Seals.{one_descriptor}
+use Rattle.ecma.proofs.Timestamps as timestamps
+use Rattle.icb.specs.Entry.{entry_parts, file_type, permissions, flags_of, blocks_recorded, allocation}
+use Rattle.icb.specs.FileSet.{set_parts}
+use Rattle.icb.specs.Laws.{OneBlock, OneSet}
+
+pub one_block : OneBlock
+one_block e loc a b a-fits b-fits x y =
+    let stamp : x.laid.stamp ≡ y.laid.stamp = timestamps.one_spelling e.moment x.laid.stamp y.laid.stamp x.laid.moment y.laid.moment in
+    let behind : List ℕ = allocation e.size e.place in
+    let parts : List ℕ → List ℕ =
+    λ (s : List ℕ). concat (entry_parts (file_type e.kind) (flags_of e.place) (permissions e.kind) e.links e.size (blocks_recorded e.size e.place) s e.unique (length behind) behind) in
+    one_descriptor 261 loc (parts y.laid.stamp) a b a-fits b-fits (subst (λ (s : List ℕ). IsDescriptor 261 loc (parts s) a) stamp x.laid.whole) y.laid.whole
+
+pub one_set : OneSet
+one_set set a b a-fits b-fits x y =
+    let stamp : x.has.stamp ≡ y.has.stamp = timestamps.one_spelling set.moment x.has.stamp y.has.stamp x.has.moment y.has.moment in
+    let fields : x.fields ≡ y.fields = x.has.spelled ∙ ap (λ (s : List ℕ). concat (set_parts set.label s)) stamp ∙ sym y.has.spelled in
+    one_descriptor 256 0 y.fields a b a-fits b-fits (subst (λ (f : List ℕ). IsDescriptor 256 0 f a) fields x.whole) y.whole

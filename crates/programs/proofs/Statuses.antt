@@ -1,0 +1,27 @@
+-- A program that has a command's words does not end with the status of other words.
+use Rattle.std.proofs.Common.{◌≡◌, ◌↔◌, ◌≤◌, ℕ, List, Result, Ok, Err, sym, ◌∙◌, arith}
+use Rattle.std.specs.Prelude.{IfErr}
+use Rattle.words.specs.declared.command.Command.{Command}
+use Rattle.words.specs.declared.command.Command.TheVariants.{Format, Apply, List as Listing, Get, Send}
+use Rattle.words.specs.Commands.{Asks}
+use Rattle.programs.specs.Asked.{HasMoment}
+use Rattle.programs.specs.declared.fault.Fault.{Fault}
+use Rattle.programs.specs.Status.{status_of, IsRefusal}
+
+asked_status : {T : Type 0} (outcome : Result T Fault) → IfErr outcome IsRefusal → status_of outcome ≤ 1
+asked_status (Ok x) h = omega arith
+asked_status (Err fault) h = omega (arith, h)
+
+pub asked : {T : Type 0} (outcome : Result T Fault) (status : ℕ) (Is : Command → Type 0) (command : Command) → status ≡ status_of outcome
+    → IfErr outcome IsRefusal → Is command → (status ≡ 2) ↔ ((other : Command) → Is other → ⊥)
+asked outcome status Is command e h asks =
+    let low : status_of outcome ≤ 1 = asked_status outcome h in
+    (λ two. absurd (omega (arith, low, e, two)), λ none. absurd (none command asks))
+
+-- a command that was read has a moment in range, if it has one
+pub has_moment : (words : List (List ℕ)) (command : Command) → Asks words command → HasMoment command
+has_moment words (Format image label moment capacity) h = h.2.4
+has_moment words (Apply medium) h = tt
+has_moment words (Listing image path) h = tt
+has_moment words (Get image path) h = tt
+has_moment words (Send socket) h = tt

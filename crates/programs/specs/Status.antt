@@ -1,0 +1,19 @@
+-- The statuses with which the programs end.
+use Rattle.std.specs.Prelude.{◌≡◌, ℕ, Result, Ok, Err}
+use Rattle.programs.specs.declared.fault.Fault.{Fault}
+use Rattle.programs.specs.declared.fault.Fault.TheVariants.{Usage, Path, Socket, Store, Stream}
+
+abbrev pub fault_status : Fault → ℕ
+fault_status Usage = 2
+fault_status Path = 1
+fault_status Socket = 1
+fault_status (Store fault) = 1
+fault_status (Stream fault) = 1
+
+abbrev pub status_of : {T : Type 0} → Result T Fault → ℕ
+status_of (Ok x) = 0
+status_of (Err fault) = fault_status fault
+
+-- a program that has a command's words was refused
+abbrev pub IsRefusal : Fault → Type 0
+IsRefusal fault = fault_status fault ≡ 1

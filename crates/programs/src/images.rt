@@ -1,0 +1,36 @@
+//! The image files on which volumes lie.
+
+ghost use Rattle.std.specs.Prelude.{IfErr};
+ghost use Rattle.programs.specs.Status.{IsRefusal};
+
+use crate::fault::Fault;
+use drive::FileDrive;
+use std::fs::{File, Files};
+use store::StoreFault;
+
+/// The greatest capacity of a volume, in blocks.
+const GREATEST_CAPACITY: u32 = 450_000;
+
+/// The image at this path.
+pub(crate) fn open_image<R: Files<File = File>>(rt: &R, path: &str) -> Result<FileDrive, Fault>
+    ensures { IfErr result IsRefusal }
+{
+    match FileDrive::open(rt, path, GREATEST_CAPACITY) {
+        Ok(drive) => Ok(drive),
+        Err(_) => Err(Fault::Store(StoreFault::Device)),
+    }
+}
+
+/// The image at this path, of at most so many blocks, which is made where it is missing.
+pub(crate) fn create_image<R: Files<File = File>>(
+    rt: &R,
+    path: &str,
+    capacity: u32,
+) -> Result<FileDrive, Fault>
+    ensures { IfErr result IsRefusal }
+{
+    match FileDrive::create(rt, path, capacity) {
+        Ok(drive) => Ok(drive),
+        Err(_) => Err(Fault::Store(StoreFault::Device)),
+    }
+}

@@ -1,0 +1,104 @@
+//! The process of a program: its words and its standard streams.
+
+use crate::commands::command;
+use crate::daemons::daemon;
+use crate::fault::{Fault, report};
+use engine::ServeFault;
+use std::alloc::Global;
+use std::env;
+use std::env::Env;
+use std::fs::{File, Files};
+use std::io::{BufWriter, ErrorKind, Read, Write};
+use std::net::Net;
+use std::os::fd::AsFd;
+use std::process::ChildStdin;
+use store::StoreFault;
+
+/// `udfburn` on the words of the process and these streams. It answers the status.
+pub fn run_command<R, I, O, E>(rt: &R, input: &mut I, output: &O, errors: &mut E) -> u8
+where
+    R: Files<File = File> + Net + Env + AllocGlobal,
+    I: Read,
+    O: AsFd,
+    E: Write,
+{
+    match try_command(rt, input, output, errors) {
+        Ok(status) => status,
+        Err(fault) => report("udfburn", Err(fault), errors),
+    }
+}
+
+/// `udfburnd` on the words of the process. It answers the status.
+pub fn run_daemon<R, E>(rt: &R, errors: &mut E) -> u8
+where
+    R: Files<File = File> + Net + Env + AllocGlobal,
+    E: Write,
+{
+    match try_daemon(rt, errors) {
+        Ok(status) => status,
+        Err(fault) => report("udfburnd", Err(fault), errors),
+    }
+}
+
+fn try_command<R, I, O, E>(rt: &R, input: &mut I, output: &O, errors: &mut E) -> Result<u8, Fault>
+where
+    R: Files<File = File> + Net + Env + AllocGlobal,
+    I: Read,
+    O: AsFd,
+    E: Write,
+{
+    let words = own_words(rt)?;
+    let texts = texts(rt.alloc(), &words)?;
+    let mut writer = buffered(rt.alloc(), output)?;
+    Ok(command(rt, behind_name(&texts), input, &mut writer, errors))
+}
+
+fn try_daemon<R, E>(rt: &R, errors: &mut E) -> Result<u8, Fault>
+where
+    R: Files<File = File> + Net + Env + AllocGlobal,
+    E: Write,
+{
+    let words = own_words(rt)?;
+    let texts = texts(rt.alloc(), &words)?;
+    Ok(daemon(rt, &texts, errors))
+}
+
+/// The words of the process, of which the first is its name. Words that are no text are not those of a command.
+fn own_words<R: Env + AllocGlobal>(rt: &R) -> Result<Vec<String>, Fault> {
+    let words = match env::args(rt) {
+        Ok(words) => words,
+        Err(error) if error.kind() == ErrorKind::InvalidData => return Err(Fault::Usage),
+        Err(_) => return Err(Fault::Store(StoreFault::Memory)),
+    };
+    match words.collect(rt.alloc()) {
+        Ok(words) => Ok(words),
+        Err(_) => Err(Fault::Store(StoreFault::Memory)),
+    }
+}
+
+/// The words as texts.
+fn texts(alloc: Global, words: &[String]) -> Result<Vec<&str>, Fault> {
+    match words.iter().map(|word| word.as_str()).collect(alloc) {
+        Ok(texts) => Ok(texts),
+        Err(_) => Err(Fault::Store(StoreFault::Memory)),
+    }
+}
+
+/// The words behind the program's name.
+fn behind_name<'a, 'w>(words: &'a [&'w str]) -> &'a [&'w str] {
+    let (_, rest) = words.split_at(words.len().min(1));
+    rest
+}
+
+/// A buffered writer to a standard stream. Where nobody reads the stream any longer a write fails, as it would at a full
+/// disk, and no signal ends the process: what was committed is then still told apart from what was not.
+fn buffered<O: AsFd>(alloc: Global, output: &O) -> Result<BufWriter<ChildStdin>, Fault> {
+    let stream = match output.as_fd().try_clone_to_owned() {
+        Ok(stream) => stream,
+        Err(_) => return Err(Fault::Stream(ServeFault::Write)),
+    };
+    match BufWriter::new(alloc, ChildStdin::from(stream)) {
+        Ok(writer) => Ok(writer),
+        Err(_) => Err(Fault::Store(StoreFault::Memory)),
+    }
+}

@@ -1,0 +1,82 @@
+//! The client of the daemon: frames to its socket, and its answers back.
+
+ghost use Rattle.std.specs.Prelude.{IfErr, OnOk};
+ghost use Rattle.programs.specs.Status.{IsRefusal};
+ghost use Rattle.programs.specs.Copies.{CopiesAll};
+
+use crate::fault::Fault;
+use engine::{ServeFault, put_all, read_piece};
+use std::alloc::Global;
+use std::io::{Read, Write};
+use std::net::{Net, Shutdown};
+use std::os::unix::net::UnixStream;
+use store::StoreFault;
+
+/// How many bytes are copied at once.
+const PIECE_BYTES: usize = 65_536;
+
+/// Sends the input to the daemon at this socket, and copies its answers to the output.
+pub(crate) fn send<R: Net + AllocGlobal, I: Read, O: Write>(
+    rt: &R,
+    socket: &str,
+    input: &mut I,
+    output: &mut O,
+) -> Result<(), Fault>
+    ensures { IfErr result IsRefusal }
+{
+    let mut stream = match UnixStream::connect(rt, socket) {
+        Ok(stream) => stream,
+        Err(_) => return Err(Fault::Socket),
+    };
+    send_frames(rt.alloc(), &mut stream, input)?;
+    copy_answers(rt.alloc(), &mut stream, output)
+}
+
+/// Sends what the reader has, and ends the sending half of the stream.
+pub fn send_frames<I: Read>(
+    alloc: Global,
+    stream: &mut UnixStream,
+    reader: &mut I,
+) -> Result<(), Fault>
+    ensures { IfErr result IsRefusal }
+{
+    copy(alloc, reader, stream)?;
+    match stream.shutdown(Shutdown::Write) {
+        Ok(()) => Ok(()),
+        Err(_) => Err(Fault::Stream(ServeFault::Write)),
+    }
+}
+
+/// Copies what comes back, up to the end of the stream.
+pub fn copy_answers<O: Write>(
+    alloc: Global,
+    stream: &mut UnixStream,
+    writer: &mut O,
+) -> Result<(), Fault>
+    ensures { IfErr result IsRefusal }
+{
+    copy(alloc, stream, writer)
+}
+
+/// Copies what the reader has, in pieces.
+fn copy<I: Read, O: Write>(alloc: Global, reader: &mut I, writer: &mut O) -> Result<(), Fault>
+    ensures refusal { IfErr result IsRefusal }
+    ensures ok { OnOk result (CopiesAll (I.remaining reader.old) (I.remaining reader.new) (O.contents writer.old) (O.contents writer.new)) }
+{
+    let mut piece = match vec![in alloc; 0u8; PIECE_BYTES] {
+        Ok(piece) => piece,
+        Err(_) => return Err(Fault::Store(StoreFault::Memory)),
+    };
+    for _ in 0..u64::MAX {
+        let count = read_piece(reader, &mut piece)?;
+        if count == 0 {
+            return Ok(());
+        }
+        let (bytes, _) = piece.split_at(count);
+        put_all(writer, bytes)?;
+        if writer.flush().is_err() {
+            return Err(Fault::Stream(ServeFault::Write));
+        }
+    }
+    Err(Fault::Stream(ServeFault::Read))
+}

@@ -1,0 +1,21 @@
+-- What lies at an address of the medium that a journal leaves.
+use Rattle.std.proofs.Common.{◌≡◌, ℕ, zero, suc, ◌+◌, ◌<◌, List, [], ◌∷◌, length, Option, Some, refl, ap, ◌∙◌, arith}
+use Rattle.std.specs.Prelude.{slice_get, unwrap_or}
+use Rattle.drive.specs.Journal.{Event, held, last_at, next_of, table}
+
+length-table : (n : ℕ) (f : ℕ → List ℕ) → length (table n f) ≡ n
+length-table zero f = refl
+length-table (suc n) f = ap suc (length-table n (λ i. f (suc i)))
+
+get-table : (n i : ℕ) (f : ℕ → List ℕ) → i < n → slice_get (table n f) i ≡ Some (f i)
+get-table zero i f lt = absurd (omega arith)
+get-table (suc n) zero f lt = refl
+get-table (suc n) (suc i) f lt = get-table n i (λ j. f (suc j)) (omega arith)
+
+pub length-held : (J : List Event) → length (held J) ≡ next_of J
+length-held J = length-table (next_of J) (λ at. unwrap_or (last_at J at) [])
+
+-- what was written last
+pub held_at : (J : List Event) (at : ℕ) (block : List ℕ) → at < next_of J → last_at J at ≡ Some block → slice_get (held J) at ≡ Some block
+held_at J at block lt e =
+    get-table (next_of J) at (λ a. unwrap_or (last_at J a) []) lt ∙ ap (λ (o : Option (List ℕ)). Some (unwrap_or o [])) e

@@ -1,0 +1,11 @@
+use Rattle.std.proofs.Common.{◌≡◌, IsTrue}
+use Rattle.recover.specs.Faults.{Counts}
+use Rattle.recover.proofs.state.read_front.Given as goal
+
+abbrev pub invariant-loop-n : goal.invariant-loop-n
+invariant-loop-n g l = record {
+  journal : g.D.Drive.journal l.drive ≡ g.D.Drive.journal l.fn.drive;
+  capacity : g.D.Drive.capacity l.drive ≡ g.D.Drive.capacity l.fn.drive;
+  honest : IsTrue (g.D.Drive.honest l.drive) → IsTrue (g.D.Drive.honest l.fn.drive);
+  failures : Counts 0 (g.D.Drive.failures l.fn.drive) (g.D.Drive.failures l.drive);
+}

@@ -1,0 +1,32 @@
+-- What directories say of the nodes in them.
+use Rattle.std.specs.Prelude.{◌≡◌, ℕ, ◌+◌, ⊤, Bool, true, false, List, count_by}
+use Rattle.std.specs.Int.{div_ceil}
+use Rattle.std.specs.Map.{values_of}
+use Rattle.dir.specs.declared.entry.Entry.{Entry}
+use Rattle.dir.specs.declared.entry.Kind.{Kind}
+use Rattle.dir.specs.declared.entry.Kind.TheVariants.{File, Directory}
+use Rattle.dir.specs.Directory.{IsDirectory}
+use Rattle.recover.specs.declared.directory.Extent.{Extent}
+use Rattle.recover.specs.declared.fault.StoreFault.{StoreFault}
+use Rattle.recover.specs.declared.fault.StoreFault.TheVariants.{Device, Memory, Damaged}
+use Rattle.recover.specs.Blocks.{blocks_at}
+
+abbrev pub is_directory : Kind → Bool
+is_directory File = false
+is_directory Directory = true
+
+-- the links of a directory: one, and one for each directory in it
+abbrev pub links_of : List (List ℕ × Entry) → ℕ
+links_of entries = 1 + count_by (λ (entry : Entry). is_directory entry.kind) (values_of entries)
+
+-- the blocks of a node's bytes
+abbrev pub data_of : List (List ℕ) → Extent → List (List ℕ)
+data_of medium extent = blocks_at medium (extent.first + 257) (div_ceil extent.size 2048)
+
+-- why no directory was read from these blocks
+abbrev pub IsDirectoryRefused : Extent → List (List ℕ) → StoreFault → Type 0
+IsDirectoryRefused extent blocks Device = ⊤
+IsDirectoryRefused extent blocks Memory = ⊤
+IsDirectoryRefused extent blocks (Damaged block cause) =
+    (block ≡ extent.first + 257) × ((parent : ℕ) (entries : List (List ℕ × Entry)) → IsDirectory parent entries extent.first extent.size blocks → ⊥)
+IsDirectoryRefused extent blocks _ = ⊥

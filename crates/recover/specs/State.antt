@@ -1,0 +1,22 @@
+-- What is kept by a state that was read back from a medium.
+use Rattle.std.specs.Prelude.{◌≡◌, ℕ, ◌+◌, ◌-◌, ◌*◌, ◌<◌, ◌≤◌, List, length}
+use Rattle.vat.specs.declared.table.Vat.{Vat}
+use Rattle.vat.specs.Table.{IsTableAt, view}
+use Rattle.recover.specs.declared.state.State.{State}
+
+-- the table counts the root, and no more commits and unique IDs than the blocks below its entry leave room for
+pub record IsCounted (at : ℕ) (vat : Vat) : Type 0 where
+  pub root : 1 ≤ vat.directories
+  pub few_commits : 2 * vat.sessions.commits + 261 ≤ at
+  pub few_unique : vat.sessions.next_unique ≤ 16 + vat.sessions.commits
+
+-- the state of a table whose entry stands at this address, on a drive of this capacity
+pub record IsSound (at capacity : ℕ) (state : State) : Type 0 where
+  pub low : 512 ≤ state.capacity
+  pub high : state.capacity ≤ 450_000
+  pub fits : state.capacity ≤ capacity
+  pub bytes : List ℕ
+  pub table : IsTableAt (at - 257) (view state.vat) bytes
+  pub counted : IsCounted at state.vat
+  -- each node has an entry beside that of the file set
+  pub nodes : 1 + (state.vat.files + state.vat.directories) ≤ length state.vat.entries.items

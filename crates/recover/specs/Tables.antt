@@ -1,0 +1,76 @@
+-- The tables of a medium, and why none is read.
+use Rattle.std.specs.Prelude.{◌≡◌, ℕ, ◌+◌, ◌-◌, ◌<◌, ◌≤◌, ◌⊎◌, ⊤, List, Option, Some, None, slice_get}
+use Rattle.std.specs.Int.{div_ceil}
+use Rattle.ecma.specs.FirstFault.{IsFirst}
+use Rattle.icb.specs.declared.entry.Kind.TheVariants as kinds
+use Rattle.icb.specs.Entry.{Fields, IsEntry}
+use Rattle.icb.specs.Entry.Place.{Extent}
+use Rattle.icb.specs.VatIcb.{IsVatIcb}
+use Rattle.vat.specs.declared.fault.VatFault.{VatFault}
+use Rattle.vat.specs.Rules.{table_rules, number_of_fault}
+use Rattle.vat.specs.Table.{Table, IsTableAt}
+use Rattle.recover.specs.declared.fault.StoreFault.{StoreFault}
+use Rattle.recover.specs.declared.fault.StoreFault.TheVariants.{Device, Memory, Damaged}
+use Rattle.recover.specs.declared.table.TableEntry.{TableEntry}
+use Rattle.recover.specs.Blocks.{bytes_at}
+
+-- the block at this address of the partition is the entry of a table for its number
+pub record HasEntry (medium : List (List ℕ)) (at : ℕ) : Type 0 where
+  pub block : List ℕ
+  pub there : slice_get medium at ≡ Some block
+  pub is : IsVatIcb block (at - 257)
+
+-- none is, from this address on
+abbrev pub HasNoneFrom : List (List ℕ) → ℕ → Type 0
+HasNoneFrom medium from = (at : ℕ) → from ≤ at → HasEntry medium at → ⊥
+
+-- the address of the last entry of a table, if there is one
+abbrev pub IsLast : List (List ℕ) → Option ℕ → Type 0
+IsLast medium None = HasNoneFrom medium 257
+IsLast medium (Some at) = (257 ≤ at) × HasEntry medium at × HasNoneFrom medium (at + 1)
+
+-- what the entry of a table says
+abbrev pub table_fields : TableEntry → Fields
+table_fields e = record { kind = kinds.Vat; moment = e.moment; links = 0; unique = 0; size = e.size; place = Extent e.first }
+
+-- the block at this address is the entry of a table that says so
+pub record IsEntryAt (medium : List (List ℕ)) (at : ℕ) (entry : TableEntry) : Type 0 where
+  pub block : List ℕ
+  pub there : slice_get medium at ≡ Some block
+  pub is : IsEntry (table_fields entry) (at - 257) block
+
+-- the data of the table lie below an address
+abbrev pub HasDataBelow : ℕ → TableEntry → Type 0
+HasDataBelow at e = e.first + 257 + div_ceil e.size 2048 ≤ at
+
+abbrev pub data_of : List (List ℕ) → TableEntry → List ℕ
+data_of medium e = bytes_at medium (e.first + 257) e.size
+
+-- why an entry was not read: there is none, or its data do not lie below it
+abbrev pub IsEntryRefused : List (List ℕ) → ℕ → StoreFault → Type 0
+IsEntryRefused medium at Device = ⊤
+IsEntryRefused medium at (Damaged block cause) =
+    (block ≡ at) × (((cause ≡ 78) × (HasEntry medium at → ⊥)) ⊎ ((cause ≡ 72) × (e : TableEntry) × IsEntryAt medium at e × (HasDataBelow at e → ⊥)))
+IsEntryRefused medium at _ = ⊥
+
+-- why the table with this entry, at a block number, was not read from its data
+abbrev pub IsTableRefused : ℕ → TableEntry → List ℕ → StoreFault → Type 0
+IsTableRefused icb e bytes Device = ⊤
+IsTableRefused icb e bytes Memory = ⊤
+IsTableRefused icb e bytes (Damaged block cause) =
+    (block ≡ e.first + 257) × (fault : VatFault) × (cause ≡ number_of_fault fault) × IsFirst (table_rules icb bytes) fault
+IsTableRefused icb e bytes _ = ⊥
+
+-- the table whose entry stands at this address
+pub record HasTable (medium : List (List ℕ)) (at : ℕ) (table : Table) : Type 0 where
+  pub entry : TableEntry
+  pub is_entry : IsEntryAt medium at entry
+  pub below : HasDataBelow at entry
+  pub is : IsTableAt (at - 257) table (data_of medium entry)
+
+-- one step of the chain: none before the first table, else the entry that the table names, of the table with one commit less
+abbrev pub IsBefore : List (List ℕ) → ℕ → Option ℕ → Type 0
+IsBefore medium at None = (table : Table) × HasTable medium at table × (table.previous ≡ None)
+IsBefore medium at (Some earlier) =
+    (table : Table) × HasTable medium at table × (number : ℕ) × (table.previous ≡ Some number) × (earlier ≡ number + 257)
+    × (before : Table) × HasTable medium earlier before × (before.commits + 1 ≡ table.commits)

@@ -1,0 +1,59 @@
+//! Directories read back from a medium.
+
+ghost use Rattle.std.specs.Prelude.{◌≡◌, ◌+◌, ◌<◌, ◌≤◌, ◌^◌, ℕ, List, IsTrue, IfOk, IfErr, length};
+ghost use Rattle.std.specs.Int.{div_ceil};
+ghost use Rattle.drive.specs.Journal.{held, next_of};
+ghost use Rattle.dir.specs.Directory.{IsDirectory};
+ghost use Rattle.recover.specs.Faults.{Counts, devices};
+ghost use Rattle.recover.specs.Nodes.{IsDirectoryRefused, data_of, links_of};
+
+use crate::fault::{StoreFault, damaged};
+use crate::reading::{PARTITION_START, block_count, read_blocks};
+use dir::{Dir, DirFault, Kind, MAX_BLOCKS, MAX_NAMES, read_dir};
+use drive::Drive;
+use std::alloc::Global;
+
+/// Where the bytes of a node lie: the number of their first block, and how many there are.
+#[derive(Clone, Copy, Debug, PartialEq, Eq, Hash)]
+pub struct Extent {
+    pub first: u32,
+    pub size: u32,
+}
+
+/// The directory whose bytes lie there.
+pub fn read_directory<D: Drive>(
+    alloc: Global,
+    drive: &mut D,
+    extent: Extent,
+) -> Result<Dir, StoreFault>
+    requires some { 0 < extent.size }
+    requires first { extent.first ≤ MAX_BLOCKS }
+    requires within { extent.first + 257 + div_ceil extent.size 2048 ≤ next_of (D.journal drive.old) }
+    ensures directory { IfOk result (λ dir. (blocks : List (List ℕ)) × (IsTrue (D.honest drive.new) → blocks ≡ data_of (held (D.journal drive.old)) extent) × IsDirectory dir.parent dir.entries.entries extent.first extent.size blocks) }
+    ensures refused { IfErr result (λ fault. IsTrue (D.honest drive.new) → IsDirectoryRefused extent (data_of (held (D.journal drive.old)) extent) fault) }
+    ensures journal { D.journal drive.new ≡ D.journal drive.old }
+    ensures capacity { D.capacity drive.new ≡ D.capacity drive.old }
+    ensures honest { IsTrue (D.honest drive.new) → IsTrue (D.honest drive.old) }
+    ensures failures { Counts (devices result) (D.failures drive.old) (D.failures drive.new) }
+{
+    let at = extent.first + PARTITION_START;
+    let blocks = read_blocks(alloc, drive, at, block_count(extent.size))?;
+    match read_dir(alloc, &blocks, extent.size, extent.first) {
+        Ok(directory) => Ok(directory),
+        Err(DirFault::Memory) => Err(StoreFault::Memory),
+        Err(fault) => Err(damaged(at, fault.number())),
+    }
+}
+
+/// The links of a directory: one, and one for each directory in it.
+pub fn link_count(directory: &Dir) -> u16
+    requires few { length directory.now.entries.entries ≤ MAX_NAMES }
+    ensures { result ≡ links_of directory.now.entries.entries }
+{
+    let directories = directory
+        .entries
+        .values()
+        .filter(|entry| entry.kind == Kind::Directory)
+        .count();
+    1 + directories as u16
+}

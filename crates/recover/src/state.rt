@@ -1,0 +1,153 @@
+//! The state that stands where a table's entry does.
+
+ghost use Rattle.std.specs.Prelude.{◌≡◌, ◌<◌, ◌≤◌, IsTrue, IfOk, OnOk};
+ghost use Rattle.drive.specs.Journal.{next_of};
+ghost use Rattle.recover.specs.Faults.{Counts, devices};
+ghost use Rattle.recover.specs.State.{IsCounted, IsSound};
+
+use crate::cause;
+use crate::fault::{StoreFault, damaged};
+use crate::reading::{PARTITION_START, read_block};
+use crate::table::{read_table, table_entry};
+use crate::walk::{Named, Walk};
+use drive::Drive;
+use ecma::Timestamp;
+use icb::decode_fsd;
+use osta::Label;
+use std::alloc::Global;
+use vat::Vat;
+use volume::{FRONT_BLOCKS, Front, VolumeFault, first_difference, front_words};
+
+/// The address of the primary volume descriptor.
+const PRIMARY: u32 = 32;
+
+/// The address of the partition descriptor.
+const PARTITION: u32 = 34;
+
+/// The least address behind the blocks of a format and its last one's. Each commit writes two blocks at least.
+const FORMAT_BLOCKS: u64 = 261;
+
+/// What stands where the entry of a table does, but for the tree.
+#[derive(Drop)]
+pub struct State {
+    /// That of the request that the table committed, or of the format.
+    pub moment: Timestamp,
+    /// Of the volume, in blocks, from 512 to 450,000.
+    pub capacity: u32,
+    pub label: Label,
+    pub vat: Vat,
+}
+
+/// The state that stands on the blocks up to `at`, where a table's entry stands. Every node is looked at, and each
+/// directory is read once and let go.
+pub fn state_at<D: Drive>(alloc: Global, drive: &mut D, at: u32) -> Result<State, StoreFault>
+    requires low { 257 ≤ at }
+    requires within { at < next_of (D.journal drive.old) }
+    ensures sound { IfOk result (IsSound at (D.capacity drive.old)) }
+    ensures journal { D.journal drive.new ≡ D.journal drive.old }
+    ensures capacity { D.capacity drive.new ≡ D.capacity drive.old }
+    ensures honest { IsTrue (D.honest drive.new) → IsTrue (D.honest drive.old) }
+    ensures failures { Counts (devices result) (D.failures drive.old) (D.failures drive.new) }
+{
+    let entry = table_entry(drive, at)?;
+    let front = read_front(drive)?;
+    if front.capacity > drive.capacity() {
+        return Err(damaged(PARTITION, cause::RANGE));
+    }
+    let vat = read_table(alloc, drive, at, &entry)?;
+    let data_at = entry.first + PARTITION_START;
+    if vat.label != front.label {
+        return Err(damaged(data_at, cause::LABEL));
+    }
+    check_file_set(drive, &front, &vat, at, data_at)?;
+    check_tree(alloc, drive, &vat, at, data_at)?;
+    Ok(State {
+        moment: entry.moment,
+        capacity: front.capacity,
+        label: front.label,
+        vat,
+    })
+}
+
+/// Reads the front, block by block.
+fn read_front<D: Drive>(drive: &mut D) -> Result<Front, StoreFault>
+    requires within { 257 ≤ next_of (D.journal drive.old) }
+    ensures limits { IfOk result (λ front. (512 ≤ front.capacity) × (front.capacity ≤ 450_000)) }
+    ensures journal { D.journal drive.new ≡ D.journal drive.old }
+    ensures capacity { D.capacity drive.new ≡ D.capacity drive.old }
+    ensures honest { IsTrue (D.honest drive.new) → IsTrue (D.honest drive.old) }
+    ensures failures { Counts (devices result) (D.failures drive.old) (D.failures drive.new) }
+{
+    let primary = read_block(drive, PRIMARY)?;
+    let partition = read_block(drive, PARTITION)?;
+    let front = match front_words(&primary, &partition) {
+        Ok(front) => front,
+        Err(VolumeFault::Field { block, .. }) => return Err(damaged(block, cause::FRONT)),
+    };
+    for n in 0..FRONT_BLOCKS {
+        let block = read_block(drive, n)?;
+        if first_difference(&front, n, &block).is_some() {
+            return Err(damaged(n, cause::FRONT));
+        }
+    }
+    Ok(front)
+}
+
+/// The file set descriptor is at virtual address 0, and has the label and the moment of the format.
+fn check_file_set<D: Drive>(
+    drive: &mut D,
+    front: &Front,
+    vat: &Vat,
+    at: u32,
+    data_at: u32,
+) -> Result<(), StoreFault>
+    requires low { 257 ≤ at }
+    requires within { at < next_of (D.journal drive.old) }
+    ensures journal { D.journal drive.new ≡ D.journal drive.old }
+    ensures capacity { D.capacity drive.new ≡ D.capacity drive.old }
+    ensures honest { IsTrue (D.honest drive.new) → IsTrue (D.honest drive.old) }
+    ensures failures { Counts (devices result) (D.failures drive.old) (D.failures drive.new) }
+{
+    let number = match vat.entries.get(0) {
+        Some(Some(number)) if *number < at - PARTITION_START => *number,
+        _ => return Err(damaged(data_at, cause::RANGE)),
+    };
+    let set_at = number + PARTITION_START;
+    let block = read_block(drive, set_at)?;
+    let set = match decode_fsd(&block) {
+        Ok(set) => set,
+        Err(fault) => return Err(damaged(set_at, fault as u8)),
+    };
+    if set.label != front.label || set.moment != front.moment {
+        return Err(damaged(set_at, cause::LABEL));
+    }
+    Ok(())
+}
+
+/// The tree is whole, and is counted as the table says.
+fn check_tree<D: Drive>(
+    alloc: Global,
+    drive: &mut D,
+    vat: &Vat,
+    at: u32,
+    data_at: u32,
+) -> Result<(), StoreFault>
+    requires low { 257 ≤ at }
+    requires within { at < next_of (D.journal drive.old) }
+    ensures counts { OnOk result (IsCounted at vat.now) }
+    ensures journal { D.journal drive.new ≡ D.journal drive.old }
+    ensures capacity { D.capacity drive.new ≡ D.capacity drive.old }
+    ensures honest { IsTrue (D.honest drive.new) → IsTrue (D.honest drive.old) }
+    ensures failures { Counts (devices result) (D.failures drive.old) (D.failures drive.new) }
+{
+    let sessions = &vat.sessions;
+    let mut walk = Walk::new(alloc, at, &vat.entries, sessions.next_unique);
+    walk.visit(alloc, drive, Named::root(data_at))?;
+    let commits = u64::from(sessions.commits);
+    let is_counted = walk.files == vat.files && walk.directories == vat.directories;
+    let has_room = 2 * commits + FORMAT_BLOCKS <= u64::from(at);
+    if !is_counted || !has_room || u64::from(sessions.next_unique) > 16 + commits {
+        return Err(damaged(data_at, cause::COUNTS));
+    }
+    Ok(())
+}

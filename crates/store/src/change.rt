@@ -1,0 +1,517 @@
+//! What a request does to the nodes, before any place is chosen.
+
+ghost use Rattle.std.specs.Prelude.{◌≡◌, ◌<◌, ◌≤◌, IsTrue, IfOk, length};
+ghost use Rattle.drive.specs.Journal.{next_of};
+ghost use Rattle.recover.specs.Faults.{Counts, devices};
+ghost use Rattle.store.specs.Below.{AreBelow};
+ghost use Rattle.request.specs.declared.answer.Code.TheVariants.{Done};
+
+use crate::directories::{Content, Directories};
+use crate::nodes::{Node, Nodes};
+use dir::{Dir, Entry, Kind};
+use drive::Drive;
+use ecma::Timestamp;
+use indexmap::IndexMap;
+use osta::Name;
+use recover::StoreFault;
+use request::{Code, DIRECTORY_NAMES, FileData, Op, Request};
+use std::alloc::Global;
+
+/// The greatest number of names in a path of the tree.
+const PATH_NAMES: usize = 16;
+
+/// The most nodes of a tree, its root counted.
+const MAX_NODES: u32 = 4096;
+
+/// The state before a request: its nodes, how many they are, and the unique ID of the next one.
+#[derive(Clone, Copy, Debug)]
+pub(crate) struct Before<'s> {
+    pub nodes: Nodes<'s>,
+    pub node_count: u32,
+    pub next_unique: u32,
+}
+
+/// A file that is written.
+#[derive(Clone, Copy, Debug)]
+pub(crate) struct NewFile<'r> {
+    /// The virtual address of its entry.
+    pub address: u32,
+    pub unique: u32,
+    pub bytes: &'r FileData,
+}
+
+/// A directory that is written.
+#[derive(Drop)]
+pub(crate) struct NewDirectory {
+    pub address: u32,
+    pub unique: u32,
+    pub moment: Timestamp,
+    pub content: Content,
+}
+
+/// A node that is made.
+#[derive(Clone, Copy, Debug)]
+pub(crate) struct NewNode {
+    pub kind: Kind,
+    pub address: u32,
+}
+
+/// What a request does to the nodes. With another code than `Done` it does nothing.
+#[derive(Drop)]
+pub(crate) struct Change<'r> {
+    pub code: Code,
+    pub file: Option<NewFile<'r>>,
+    /// In the order in which they are written: three at most.
+    pub directories: Vec<NewDirectory>,
+    pub made: Option<NewNode>,
+    pub removed: Option<Node>,
+}
+
+/// What is put at a new path.
+#[derive(Clone, Copy, Debug)]
+enum Thing<'r> {
+    File(&'r FileData),
+    Directory,
+}
+
+impl<'r> Change<'r> {
+    /// Nothing is done.
+    fn refused(alloc: Global, code: Code) -> Change<'r> {
+        Change {
+            code,
+            file: None,
+            directories: Vec::new(alloc),
+            made: None,
+            removed: None,
+        }
+    }
+}
+
+impl Directories {
+    /// What a request does.
+    pub(crate) fn change<'r, D: Drive>(
+        &mut self,
+        alloc: Global,
+        drive: &mut D,
+        before: &Before<'_>,
+        request: &'r Request,
+        moment: Timestamp,
+    ) -> Result<Change<'r>, StoreFault>
+        requires below { AreBelow before.now.nodes.at before.now.nodes.entries.now }
+        requires within { before.now.nodes.at ≤ next_of (D.journal drive.old) }
+        ensures journal { D.journal drive.new ≡ D.journal drive.old }
+        ensures capacity { D.capacity drive.new ≡ D.capacity drive.old }
+        ensures honest { IsTrue (D.honest drive.new) → IsTrue (D.honest drive.old) }
+        ensures failures { Counts (devices result) (D.failures drive.old) (D.failures drive.new) }
+    {
+        match &request.op {
+            Op::Create { path, bytes } => {
+                self.add(
+                    alloc,
+                    drive,
+                    before,
+                    path.names(),
+                    Thing::File(bytes),
+                    moment,
+                )
+            }
+            Op::MakeDir { path } => {
+                self.add(alloc, drive, before, path.names(), Thing::Directory, moment)
+            }
+            Op::Replace { path, bytes } => {
+                self.replace(alloc, drive, before, path.names(), bytes)
+            }
+            Op::Rename { from, to } => {
+                self.rename(alloc, drive, before, from.names(), to.names(), moment)
+            }
+            Op::Remove { path } => self.remove(alloc, drive, before, path.names(), moment),
+        }
+    }
+
+    /// A new file or a new directory.
+    fn add<'r, D: Drive>(
+        &mut self,
+        alloc: Global,
+        drive: &mut D,
+        before: &Before<'_>,
+        names: &[Name],
+        thing: Thing<'r>,
+        moment: Timestamp,
+    ) -> Result<Change<'r>, StoreFault>
+        requires below { AreBelow before.now.nodes.at before.now.nodes.entries.now }
+        requires within { before.now.nodes.at ≤ next_of (D.journal drive.old) }
+        ensures journal { D.journal drive.new ≡ D.journal drive.old }
+        ensures capacity { D.capacity drive.new ≡ D.capacity drive.old }
+        ensures honest { IsTrue (D.honest drive.new) → IsTrue (D.honest drive.old) }
+        ensures failures { Counts (devices result) (D.failures drive.old) (D.failures drive.new) }
+    {
+        let Some((name, above)) = names.split_last() else {
+            return Ok(Change::refused(alloc, Code::Root));
+        };
+        if names.len() > PATH_NAMES {
+            return Ok(Change::refused(alloc, Code::TooDeep));
+        }
+        let Some(parent) = self.find_directory(alloc, drive, &before.nodes, above)? else {
+            return Ok(Change::refused(alloc, Code::NoParent));
+        };
+        let (placed, mut content) = self.open(alloc, drive, &before.nodes, parent.address)?;
+        let code = code_of_addition(before, &content, name);
+        if code != Code::Done {
+            self.keep(placed.extent, content);
+            return Ok(Change::refused(alloc, code));
+        }
+        let address = before.nodes.free_address();
+        let mut change = Change::refused(alloc, Code::Done);
+        let kind = change.put_new(alloc, before, parent, address, thing, moment)?;
+        content.add(
+            name.clone()?,
+            Entry {
+                kind,
+                icb: address,
+                unique: before.next_unique,
+            },
+        )?;
+        change.directories.push(written(parent, moment, content))?;
+        Ok(change)
+    }
+
+    /// Other bytes for a file.
+    fn replace<'r, D: Drive>(
+        &mut self,
+        alloc: Global,
+        drive: &mut D,
+        before: &Before<'_>,
+        names: &[Name],
+        bytes: &'r FileData,
+    ) -> Result<Change<'r>, StoreFault>
+        requires below { AreBelow before.now.nodes.at before.now.nodes.entries.now }
+        requires within { before.now.nodes.at ≤ next_of (D.journal drive.old) }
+        ensures journal { D.journal drive.new ≡ D.journal drive.old }
+        ensures capacity { D.capacity drive.new ≡ D.capacity drive.old }
+        ensures honest { IsTrue (D.honest drive.new) → IsTrue (D.honest drive.old) }
+        ensures failures { Counts (devices result) (D.failures drive.old) (D.failures drive.new) }
+    {
+        if names.is_empty() {
+            return Ok(Change::refused(alloc, Code::Root));
+        }
+        let Some(node) = self.find(alloc, drive, &before.nodes, names)? else {
+            return Ok(Change::refused(alloc, Code::NotFound));
+        };
+        if node.kind == Kind::Directory {
+            return Ok(Change::refused(alloc, Code::IsDirectory));
+        }
+        let mut change = Change::refused(alloc, Code::Done);
+        change.file = Some(NewFile {
+            address: node.address,
+            unique: node.unique,
+            bytes,
+        });
+        Ok(change)
+    }
+
+    /// A file or an empty directory goes.
+    fn remove<'r, D: Drive>(
+        &mut self,
+        alloc: Global,
+        drive: &mut D,
+        before: &Before<'_>,
+        names: &[Name],
+        moment: Timestamp,
+    ) -> Result<Change<'r>, StoreFault>
+        requires below { AreBelow before.now.nodes.at before.now.nodes.entries.now }
+        requires within { before.now.nodes.at ≤ next_of (D.journal drive.old) }
+        ensures journal { D.journal drive.new ≡ D.journal drive.old }
+        ensures capacity { D.capacity drive.new ≡ D.capacity drive.old }
+        ensures honest { IsTrue (D.honest drive.new) → IsTrue (D.honest drive.old) }
+        ensures failures { Counts (devices result) (D.failures drive.old) (D.failures drive.new) }
+    {
+        let Some((name, above)) = names.split_last() else {
+            return Ok(Change::refused(alloc, Code::Root));
+        };
+        let Some(node) = self.find(alloc, drive, &before.nodes, names)? else {
+            return Ok(Change::refused(alloc, Code::NotFound));
+        };
+        if self.has_names(alloc, drive, before, node)? {
+            return Ok(Change::refused(alloc, Code::NotEmpty));
+        }
+        let Some(parent) = self.find_directory(alloc, drive, &before.nodes, above)? else {
+            return Ok(Change::refused(alloc, Code::NotFound));
+        };
+        let (_, mut content) = self.open(alloc, drive, &before.nodes, parent.address)?;
+        content.remove(name);
+        let mut change = Change::refused(alloc, Code::Done);
+        change.directories.push(written(parent, moment, content))?;
+        change.removed = Some(node);
+        Ok(change)
+    }
+
+    /// Another path for a node and all below it.
+    fn rename<'r, D: Drive>(
+        &mut self,
+        alloc: Global,
+        drive: &mut D,
+        before: &Before<'_>,
+        from: &[Name],
+        to: &[Name],
+        moment: Timestamp,
+    ) -> Result<Change<'r>, StoreFault>
+        requires below { AreBelow before.now.nodes.at before.now.nodes.entries.now }
+        requires within { before.now.nodes.at ≤ next_of (D.journal drive.old) }
+        ensures journal { D.journal drive.new ≡ D.journal drive.old }
+        ensures capacity { D.capacity drive.new ≡ D.capacity drive.old }
+        ensures honest { IsTrue (D.honest drive.new) → IsTrue (D.honest drive.old) }
+        ensures failures { Counts (devices result) (D.failures drive.old) (D.failures drive.new) }
+    {
+        let (Some((old_name, above)), Some((new_name, beyond))) = (
+            from.split_last(),
+            to.split_last(),
+        ) else {
+            return Ok(Change::refused(alloc, Code::Root));
+        };
+        let Some(node) = self.find(alloc, drive, &before.nodes, from)? else {
+            return Ok(Change::refused(alloc, Code::NotFound));
+        };
+        if to.len() > from.len() && to.starts_with(from) {
+            return Ok(Change::refused(alloc, Code::IntoItself));
+        }
+        let Some(gains) = self.find_directory(alloc, drive, &before.nodes, beyond)? else {
+            return Ok(Change::refused(alloc, Code::NoParent));
+        };
+        if self.find(alloc, drive, &before.nodes, to)?.is_some() {
+            return Ok(Change::refused(alloc, Code::Exists));
+        }
+        if self.is_too_deep(alloc, drive, before, node, from.len(), to.len())? {
+            return Ok(Change::refused(alloc, Code::TooDeep));
+        }
+        let Some(loses) = self.find_directory(alloc, drive, &before.nodes, above)? else {
+            return Ok(Change::refused(alloc, Code::NotFound));
+        };
+        if loses.address == gains.address {
+            return self.rename_within(alloc, drive, before, loses, old_name, new_name, moment);
+        }
+        self.move_to(
+            alloc,
+            drive,
+            before,
+            node,
+            (loses, old_name),
+            (gains, new_name),
+            moment,
+        )
+    }
+
+    /// Whether the paths of what is moved would have too many names.
+    fn is_too_deep<D: Drive>(
+        &mut self,
+        alloc: Global,
+        drive: &mut D,
+        before: &Before<'_>,
+        node: Node,
+        names_before: usize,
+        names_behind: usize,
+    ) -> Result<bool, StoreFault>
+        requires below { AreBelow before.now.nodes.at before.now.nodes.entries.now }
+        requires within { before.now.nodes.at ≤ next_of (D.journal drive.old) }
+        ensures journal { D.journal drive.new ≡ D.journal drive.old }
+        ensures capacity { D.capacity drive.new ≡ D.capacity drive.old }
+        ensures honest { IsTrue (D.honest drive.new) → IsTrue (D.honest drive.old) }
+        ensures failures { Counts (devices result) (D.failures drive.old) (D.failures drive.new) }
+    {
+        if names_behind <= names_before {
+            return Ok(false);
+        }
+        if names_behind > PATH_NAMES {
+            return Ok(true);
+        }
+        if node.kind == Kind::File {
+            return Ok(false);
+        }
+        let left = PATH_NAMES as u32 + 1;
+        let height = self.height(alloc, drive, &before.nodes, node.address, left)?;
+        Ok(names_behind + height as usize > PATH_NAMES)
+    }
+
+    /// Another name in the same directory, behind all others.
+    fn rename_within<'r, D: Drive>(
+        &mut self,
+        alloc: Global,
+        drive: &mut D,
+        before: &Before<'_>,
+        parent: Node,
+        old_name: &Name,
+        new_name: &Name,
+        moment: Timestamp,
+    ) -> Result<Change<'r>, StoreFault>
+        requires below { AreBelow before.now.nodes.at before.now.nodes.entries.now }
+        requires within { before.now.nodes.at ≤ next_of (D.journal drive.old) }
+        ensures journal { D.journal drive.new ≡ D.journal drive.old }
+        ensures capacity { D.capacity drive.new ≡ D.capacity drive.old }
+        ensures honest { IsTrue (D.honest drive.new) → IsTrue (D.honest drive.old) }
+        ensures failures { Counts (devices result) (D.failures drive.old) (D.failures drive.new) }
+    {
+        let (_, mut content) = self.open(alloc, drive, &before.nodes, parent.address)?;
+        let mut change = Change::refused(alloc, Code::Done);
+        let Some(entry) = content.remove(old_name) else {
+            return Err(before.nodes.damaged());
+        };
+        content.add(new_name.clone()?, entry)?;
+        change.directories.push(written(parent, moment, content))?;
+        Ok(change)
+    }
+
+    /// From one directory to another.
+    fn move_to<'r, D: Drive>(
+        &mut self,
+        alloc: Global,
+        drive: &mut D,
+        before: &Before<'_>,
+        node: Node,
+        loses: (Node, &Name),
+        gains: (Node, &Name),
+        moment: Timestamp,
+    ) -> Result<Change<'r>, StoreFault>
+        requires below { AreBelow before.now.nodes.at before.now.nodes.entries.now }
+        requires within { before.now.nodes.at ≤ next_of (D.journal drive.old) }
+        ensures journal { D.journal drive.new ≡ D.journal drive.old }
+        ensures capacity { D.capacity drive.new ≡ D.capacity drive.old }
+        ensures honest { IsTrue (D.honest drive.new) → IsTrue (D.honest drive.old) }
+        ensures failures { Counts (devices result) (D.failures drive.old) (D.failures drive.new) }
+    {
+        let (target, mut gaining) = self.open(alloc, drive, &before.nodes, gains.0.address)?;
+        if gaining.dir.entries.len() >= DIRECTORY_NAMES {
+            self.keep(target.extent, gaining);
+            return Ok(Change::refused(alloc, Code::DirectoryFull));
+        }
+        let mut change = Change::refused(alloc, Code::Done);
+        self.set_parent(alloc, drive, before, node, gains.0.address, &mut change)?;
+        let (_, mut losing) = self.open(alloc, drive, &before.nodes, loses.0.address)?;
+        let Some(entry) = losing.remove(loses.1) else {
+            return Err(before.nodes.damaged());
+        };
+        gaining.add(gains.1.clone()?, entry)?;
+        change.directories.push(written(loses.0, moment, losing))?;
+        change.directories.push(written(gains.0, moment, gaining))?;
+        Ok(change)
+    }
+
+    /// Writes a directory that is moved with its new parent. Its moment stays. A file has none.
+    fn set_parent<'r, D: Drive>(
+        &mut self,
+        alloc: Global,
+        drive: &mut D,
+        before: &Before<'_>,
+        node: Node,
+        parent: u32,
+        change: &mut Change<'r>,
+    ) -> Result<(), StoreFault>
+        requires below { AreBelow before.now.nodes.at before.now.nodes.entries.now }
+        requires within { before.now.nodes.at ≤ next_of (D.journal drive.old) }
+        ensures journal { D.journal drive.new ≡ D.journal drive.old }
+        ensures capacity { D.capacity drive.new ≡ D.capacity drive.old }
+        ensures honest { IsTrue (D.honest drive.new) → IsTrue (D.honest drive.old) }
+        ensures failures { Counts (devices result) (D.failures drive.old) (D.failures drive.new) }
+    {
+        if node.kind == Kind::File {
+            return Ok(());
+        }
+        let (placed, mut content) = self.open(alloc, drive, &before.nodes, node.address)?;
+        content.dir.parent = parent;
+        change
+            .directories
+            .push(written(node, placed.moment, content))?;
+        Ok(())
+    }
+
+    /// Whether a node is a directory that has names.
+    fn has_names<D: Drive>(
+        &mut self,
+        alloc: Global,
+        drive: &mut D,
+        before: &Before<'_>,
+        node: Node,
+    ) -> Result<bool, StoreFault>
+        requires below { AreBelow before.now.nodes.at before.now.nodes.entries.now }
+        requires within { before.now.nodes.at ≤ next_of (D.journal drive.old) }
+        ensures journal { D.journal drive.new ≡ D.journal drive.old }
+        ensures capacity { D.capacity drive.new ≡ D.capacity drive.old }
+        ensures honest { IsTrue (D.honest drive.new) → IsTrue (D.honest drive.old) }
+        ensures failures { Counts (devices result) (D.failures drive.old) (D.failures drive.new) }
+    {
+        if node.kind == Kind::File {
+            return Ok(false);
+        }
+        let (placed, content) = self.open(alloc, drive, &before.nodes, node.address)?;
+        let has_names = !content.dir.entries.is_empty();
+        self.keep(placed.extent, content);
+        Ok(has_names)
+    }
+}
+
+impl<'r> Change<'r> {
+    /// Puts the node that is made among what is written, and says of what kind it is.
+    fn put_new(
+        &mut self,
+        alloc: Global,
+        before: &Before<'_>,
+        parent: Node,
+        address: u32,
+        thing: Thing<'r>,
+        moment: Timestamp,
+    ) -> Result<Kind, StoreFault>
+        ensures { devices result ≡ 0 }
+    {
+        let unique = before.next_unique;
+        let kind = match thing {
+            Thing::File(bytes) => {
+                self.file = Some(NewFile {
+                    address,
+                    unique,
+                    bytes,
+                });
+                Kind::File
+            }
+            Thing::Directory => {
+                self.directories.push(NewDirectory {
+                    address,
+                    unique,
+                    moment,
+                    content: Content {
+                        dir: Dir {
+                            parent: parent.address,
+                            entries: IndexMap::new(alloc),
+                        },
+                    },
+                })?;
+                Kind::Directory
+            }
+        };
+        self.made = Some(NewNode { kind, address });
+        Ok(kind)
+    }
+}
+
+/// Whether a name can be added to a directory.
+fn code_of_addition(before: &Before<'_>, content: &Content, name: &Name) -> Code
+    ensures { result ≡ Done → length content.now.dir.entries.entries < 512 }
+{
+    if content.dir.entries.contains_key(name) {
+        return Code::Exists;
+    }
+    if content.dir.entries.len() >= DIRECTORY_NAMES {
+        return Code::DirectoryFull;
+    }
+    if before.node_count >= MAX_NODES {
+        return Code::TooMany;
+    }
+    Code::Done
+}
+
+/// A directory with other names.
+fn written(node: Node, moment: Timestamp, content: Content) -> NewDirectory {
+    NewDirectory {
+        address: node.address,
+        unique: node.unique,
+        moment,
+        content,
+    }
+}

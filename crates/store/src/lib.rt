@@ -1,0 +1,23 @@
+//! A volume that is kept: it is formatted and opened, requests are committed to it, and queries answered from it.
+//!
+//! A store keeps the table, the sessions and a few directories, and no drive: each call is lent the one drive that nobody
+//! else writes. A commit is planned whole before its first block is written, and takes effect with its last.
+#![tactic(auto)]
+
+mod change;
+mod commit;
+mod directories;
+mod due;
+mod formatting;
+mod nodes;
+mod places;
+mod plan;
+mod query;
+mod store;
+mod table;
+mod write;
+
+pub use due::Due;
+pub use formatting::format;
+pub use recover::StoreFault;
+pub use store::Store;

@@ -1,0 +1,122 @@
+//! The nodes of a state, by their virtual addresses.
+
+ghost use Rattle.std.specs.Prelude.{◌≡◌, ◌+◌, ◌<◌, ◌≤◌, IsTrue, IfOk, length};
+ghost use Rattle.std.specs.Int.{div_ceil};
+ghost use Rattle.drive.specs.Journal.{next_of};
+ghost use Rattle.recover.specs.Faults.{Counts, devices, failures_of};
+ghost use Rattle.store.specs.Below.{AreBelow, IsUsed};
+
+use drive::Drive;
+use ecma::{Block, Timestamp};
+use icb::{FileEntry, Place, decode_fe};
+use recover::{
+    Extent, PARTITION_START, ROOT_ADDRESS, StoreFault, cause, damaged, lies_below, read_block,
+};
+
+/// A node, as the directory above it names it.
+#[derive(Clone, Copy, Debug)]
+pub(crate) struct Node {
+    pub kind: dir::Kind,
+    /// The virtual address of its entry.
+    pub address: u32,
+    pub unique: u32,
+}
+
+/// The root, which nothing names.
+pub(crate) const ROOT: Node = Node {
+    kind: dir::Kind::Directory,
+    address: ROOT_ADDRESS,
+    unique: 0,
+};
+
+/// Where a directory's data lie, and its moment.
+#[derive(Clone, Copy, Debug)]
+pub(crate) struct Placed {
+    pub extent: Extent,
+    pub moment: Timestamp,
+}
+
+/// Where the nodes of a state are: the block number of each virtual address, all below the address of the table's entry.
+#[derive(Clone, Copy, Debug)]
+pub(crate) struct Nodes<'a> {
+    pub at: u32,
+    pub entries: &'a [Option<u32>],
+    pub ghost few: { length entries.now ≤ 4097 },
+}
+
+impl Nodes<'_> {
+    /// The block of a node's entry, and its address.
+    pub(crate) fn entry_block<D: Drive>(
+        &self,
+        drive: &mut D,
+        address: u32,
+    ) -> Result<(Block, u32), StoreFault>
+        requires below { AreBelow self.now.at self.now.entries.now }
+        requires within { self.now.at ≤ next_of (D.journal drive.old) }
+        ensures used { IfOk result (λ _. IsUsed address self.now.entries.now) }
+        ensures journal { D.journal drive.new ≡ D.journal drive.old }
+        ensures capacity { D.capacity drive.new ≡ D.capacity drive.old }
+        ensures honest { IsTrue (D.honest drive.new) → IsTrue (D.honest drive.old) }
+        ensures failures { Counts (devices result) (D.failures drive.old) (D.failures drive.new) }
+    {
+        let table_at = self.at;
+        match self.entries.get(address as usize) {
+            Some(Some(number)) => {
+                let at = *number + PARTITION_START;
+                Ok((read_block(drive, at)?, at))
+            }
+            _ => Err(damaged(table_at, cause::RANGE)),
+        }
+    }
+
+    /// Where the data of a directory lie, by the virtual address of its entry.
+    pub(crate) fn directory<D: Drive>(
+        &self,
+        drive: &mut D,
+        address: u32,
+    ) -> Result<Placed, StoreFault>
+        requires below { AreBelow self.now.at self.now.entries.now }
+        requires within { self.now.at ≤ next_of (D.journal drive.old) }
+        ensures used { IfOk result (λ _. IsUsed address self.now.entries.now) }
+        ensures data { IfOk result (λ p. (0 < p.extent.size) × (p.extent.first ≤ 449_743) × (p.extent.first + 257 + div_ceil p.extent.size 2048 ≤ self.now.at)) }
+        ensures journal { D.journal drive.new ≡ D.journal drive.old }
+        ensures capacity { D.capacity drive.new ≡ D.capacity drive.old }
+        ensures honest { IsTrue (D.honest drive.new) → IsTrue (D.honest drive.old) }
+        ensures failures { Counts (devices result) (D.failures drive.old) (D.failures drive.new) }
+    {
+        let (block, at) = self.entry_block(drive, address)?;
+        let entry = match decode_fe(&block, address) {
+            Ok(entry) => entry,
+            Err(fault) => return Err(damaged(at, fault as u8)),
+        };
+        match entry.place {
+            Place::Extent(first) if lies_below(first, entry.size, self.at) => Ok(Placed {
+                extent: Extent {
+                    first,
+                    size: entry.size,
+                },
+                moment: entry.moment,
+            }),
+            _ => Err(damaged(at, cause::RANGE)),
+        }
+    }
+
+    /// The least unused virtual address from 2 on, else the next past the end.
+    pub(crate) fn free_address(&self) -> u32 {
+        let mut address = 2;
+        while address < self.entries.len() {
+            if self.entries[address].is_none() {
+                break;
+            }
+            address += 1;
+        }
+        address as u32
+    }
+
+    /// What the table leads to is not what was looked for.
+    pub(crate) fn damaged(&self) -> StoreFault
+        ensures { failures_of result ≡ 0 }
+    {
+        damaged(self.at, cause::IDENTITY)
+    }
+}

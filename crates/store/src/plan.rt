@@ -1,0 +1,264 @@
+//! A commit, planned whole: which blocks it writes, and where.
+
+ghost use Rattle.std.specs.Prelude.{◌≡◌, ℕ, ◌+◌, ◌*◌, ◌<◌, ◌≤◌, ◌^◌, IsTrue, IfOk, OnOk, length};
+ghost use Rattle.std.specs.Int.{div_ceil};
+ghost use Rattle.drive.specs.Journal.{next_of};
+ghost use Rattle.vat.specs.Table.{Fits, view};
+ghost use Rattle.recover.specs.Faults.{Counts, devices};
+ghost use Rattle.store.specs.Agrees.{Agrees, Keeps};
+ghost use Rattle.store.specs.Below.{AreBelow};
+ghost use Rattle.store.specs.Plan.{IsPlan, file_count, directories_count};
+ghost use Rattle.store.specs.TableChange.{IsNext};
+
+use crate::change::{Change, NewDirectory, NewFile};
+use crate::nodes::Node;
+use crate::places::{Numbers, PlacedDirectory, PlacedFile, outside_of};
+use crate::store::Store;
+use crate::table::{add_node, copied, keep_reply, place_node, remove_node};
+use crate::write::Writer;
+use dir::Dir;
+use drive::Drive;
+use ecma::Timestamp;
+use recover::{PARTITION_START, StoreFault, block_count, cause, damaged};
+use request::{Code, Reply, Request};
+use std::alloc::Global;
+use vat::{Vat, encode_vat};
+
+/// A block of directory data that another one follows is used up to this byte at least.
+const LEAST_USED: u64 = 1720;
+
+/// All that a commit writes, in order: the file, the directories, the table.
+#[derive(Drop)]
+pub(crate) struct Plan<'r> {
+    pub reply: Reply,
+    pub moment: Timestamp,
+    pub file: Option<PlacedFile<'r>>,
+    pub directories: Vec<PlacedDirectory>,
+    pub table: PlacedTable,
+    pub writer: Writer,
+}
+
+/// A table with its place.
+#[derive(Drop)]
+pub(crate) struct PlacedTable {
+    /// As it is kept when it is written.
+    pub vat: Vat,
+    pub bytes: Vec<u8>,
+    /// The number of the first block of its bytes.
+    pub first: u32,
+    /// The blocks of zeros before them.
+    pub gap: u32,
+    /// The address of its entry.
+    pub at: u32,
+}
+
+impl Store {
+    /// Plans a commit. All memory that it needs is taken here.
+    pub(crate) fn plan<'r, D: Drive>(
+        &self,
+        alloc: Global,
+        drive: &mut D,
+        request: &Request,
+        change: Change<'r>,
+        moment: Timestamp,
+    ) -> Result<Plan<'r>, StoreFault>
+        requires agrees { Agrees (D.journal drive.old) (D.capacity drive.old) self.now }
+        requires next { IsNext request.now.client request.now.number self.now.vat.sessions.records.items }
+        ensures plan { IfOk result (IsPlan (next_of (D.journal drive.old)) (D.capacity drive.old)) }
+        ensures reply { IfOk result (λ p. p.reply.commit ≡ self.now.vat.sessions.commits + 1) }
+        ensures journal { D.journal drive.new ≡ D.journal drive.old }
+        ensures capacity { D.capacity drive.new ≡ D.capacity drive.old }
+        ensures honest { IsTrue (D.honest drive.new) → IsTrue (D.honest drive.old) }
+        ensures failures { Counts (devices result) (D.failures drive.old) (D.failures drive.new) }
+    {
+        let next = match drive.next() {
+            Ok(next) => next,
+            Err(_) => return Err(StoreFault::Device),
+        };
+        let mut vat = self.next_table(alloc, request, &change)?;
+        if u64::from(next).saturating_add(need(&change, &vat)) > u64::from(self.capacity) {
+            return Err(StoreFault::Full);
+        }
+        let mut numbers = Numbers::new(next - PARTITION_START, self.capacity - PARTITION_START);
+        let reply = Reply {
+            code: change.code,
+            commit: vat.sessions.commits,
+        };
+        let file = place_file(&mut vat, &mut numbers, change.file, self.at)?;
+        let directories = place_directories(
+            alloc,
+            &mut vat,
+            &mut numbers,
+            change.directories,
+            self.at,
+        )?;
+        take_away(&mut vat, change.removed, self.at)?;
+        let table = place_table(alloc, vat, &mut numbers)?;
+        Ok(Plan {
+            reply,
+            moment,
+            file,
+            directories,
+            table,
+            writer: Writer::new(alloc, next)?,
+        })
+    }
+
+    /// The table of the next commit, with the request's reply and the node that is made, which is placed later.
+    fn next_table(
+        &self,
+        alloc: Global,
+        request: &Request,
+        change: &Change<'_>,
+    ) -> Result<Vat, StoreFault>
+        requires keeps { Keeps self.now.at self.now.vat }
+        requires next { IsNext request.now.client request.now.number self.now.vat.sessions.records.items }
+        ensures fits { IfOk result (λ vat. Fits (view vat)) }
+        ensures below { IfOk result (λ vat. AreBelow self.now.at vat.entries.items) }
+        ensures commits { IfOk result (λ vat. vat.sessions.commits ≡ self.now.vat.sessions.commits + 1) }
+        ensures unique { IfOk result (λ vat. vat.sessions.next_unique ≤ 16 + vat.sessions.commits) }
+        ensures device { devices result ≡ 0 }
+    {
+        let at = self.at;
+        let mut vat = copied(alloc, &self.vat)?;
+        keep_reply(
+            &mut vat,
+            at,
+            request.client,
+            request.number,
+            change.code.number(),
+        )?;
+        if let Some(made) = change.made {
+            if !add_node(&mut vat, made.kind, made.address, 0)? {
+                return Err(damaged(at, cause::IDENTITY));
+            }
+        }
+        Ok(vat)
+    }
+}
+
+/// The most blocks that a commit may take, from sizes alone.
+fn need(change: &Change<'_>, vat: &Vat) -> u64
+    requires { Fits (view vat.now) }
+{
+    let table = 196 + 48 * vat.sessions.records.len() as u64 + 4 * vat.entries.len() as u64;
+    let mut blocks = 2 * table.div_ceil(2048) + 1;
+    if let Some(file) = &change.file {
+        let outside = outside_of(file.bytes.as_slice());
+        blocks += 2 * u64::from(block_count(outside.len() as u32)) + 1;
+    }
+    for directory in &change.directories {
+        let size = identifiers_size(&directory.content.dir);
+        blocks = blocks.saturating_add(2 + size / LEAST_USED);
+    }
+    blocks
+}
+
+/// The bytes of a directory's identifiers, none of them lengthened.
+fn identifiers_size(directory: &Dir) -> u64 {
+    let mut size: u64 = 40;
+    for (name, _) in directory.entries.iter() {
+        let identifier = (38 + name.compressed().len() as u64).div_ceil(4) * 4;
+        size = size.saturating_add(identifier);
+    }
+    size
+}
+
+/// Places a file, if one is written. The table of the state before stands at `at`.
+fn place_file<'r>(
+    vat: &mut Vat,
+    numbers: &mut Numbers,
+    file: Option<NewFile<'r>>,
+    at: u32,
+) -> Result<Option<PlacedFile<'r>>, StoreFault>
+    requires fits { Fits (view vat.old) }
+    ensures fits { OnOk result (Fits (view vat.new)) }
+    ensures below { OnOk result (AreBelow (numbers.old.next + 257) vat.old.entries.items → AreBelow (numbers.new.next + 257) vat.new.entries.items) }
+    ensures commits { OnOk result (vat.new.sessions.commits ≡ vat.old.sessions.commits) }
+    ensures unique { OnOk result (vat.new.sessions.next_unique ≡ vat.old.sessions.next_unique) }
+    ensures count { IfOk result (λ placed. numbers.new.next ≡ numbers.old.next + file_count placed) }
+    ensures end { numbers.new.end ≡ numbers.old.end }
+    ensures device { devices result ≡ 0 }
+{
+    let Some(file) = file else {
+        return Ok(None);
+    };
+    let address = file.address;
+    let placed = numbers.place_file(file)?;
+    if !place_node(vat, address, placed.number) {
+        return Err(damaged(at, cause::IDENTITY));
+    }
+    Ok(Some(placed))
+}
+
+/// Places the directories that are written, in order. The table of the state before stands at `at`.
+fn place_directories(
+    alloc: Global,
+    vat: &mut Vat,
+    numbers: &mut Numbers,
+    directories: Vec<NewDirectory>,
+    at: u32,
+) -> Result<Vec<PlacedDirectory>, StoreFault>
+    requires fits { Fits (view vat.old) }
+    ensures fits { OnOk result (Fits (view vat.new)) }
+    ensures below { OnOk result (AreBelow (numbers.old.next + 257) vat.old.entries.items → AreBelow (numbers.new.next + 257) vat.new.entries.items) }
+    ensures commits { OnOk result (vat.new.sessions.commits ≡ vat.old.sessions.commits) }
+    ensures unique { OnOk result (vat.new.sessions.next_unique ≡ vat.old.sessions.next_unique) }
+    ensures count { IfOk result (λ placed. numbers.new.next ≡ numbers.old.next + directories_count placed.items) }
+    ensures end { numbers.new.end ≡ numbers.old.end }
+    ensures device { devices result ≡ 0 }
+{
+    let mut all = Vec::with_capacity(alloc, directories.len())?;
+    for directory in directories {
+        let address = directory.address;
+        let placed = numbers.place_directory(directory)?;
+        if !place_node(vat, address, placed.number) {
+            return Err(damaged(at, cause::IDENTITY));
+        }
+        all.push(placed)?;
+    }
+    Ok(all)
+}
+
+/// Takes a node away, if one goes. The table of the state before stands at `at`.
+fn take_away(vat: &mut Vat, removed: Option<Node>, at: u32) -> Result<(), StoreFault>
+    requires fits { Fits (view vat.old) }
+    ensures fits { OnOk result (Fits (view vat.new)) }
+    ensures below { OnOk result ((at : ℕ) → AreBelow at vat.old.entries.items → AreBelow at vat.new.entries.items) }
+    ensures commits { OnOk result (vat.new.sessions.commits ≡ vat.old.sessions.commits) }
+    ensures unique { OnOk result (vat.new.sessions.next_unique ≡ vat.old.sessions.next_unique) }
+    ensures device { devices result ≡ 0 }
+{
+    let Some(node) = removed else {
+        return Ok(());
+    };
+    if !remove_node(vat, node.kind, node.address) {
+        return Err(damaged(at, cause::COUNTS));
+    }
+    Ok(())
+}
+
+/// Places the table, behind all that it leads to.
+fn place_table(alloc: Global, vat: Vat, numbers: &mut Numbers) -> Result<PlacedTable, StoreFault>
+    requires fits { Fits (view vat) }
+    ensures vat { IfOk result (λ t. t.vat ≡ vat) }
+    ensures some { IfOk result (λ t. 0 < length t.bytes.items) }
+    ensures few { IfOk result (λ t. length t.bytes.items ≤ 1_048_576) }
+    ensures room { IfOk result (λ t. t.first + div_ceil (length t.bytes.items) 2048 ≤ 449_743) }
+    ensures at { IfOk result (λ t. t.at ≡ numbers.old.next + 257 + (t.gap + div_ceil (length t.bytes.items) 2048)) }
+    ensures within { IfOk result (λ t. t.at < numbers.old.end + 257) }
+    ensures device { devices result ≡ 0 }
+{
+    let bytes = encode_vat(alloc, &vat)?;
+    let start = numbers.next();
+    let first = numbers.place_bytes(&bytes)?;
+    let at = numbers.next() + PARTITION_START;
+    numbers.take(1)?;
+    Ok(PlacedTable {
+        vat,
+        bytes,
+        first,
+        gap: first - start,
+        at,
+    })
+}

@@ -1,0 +1,262 @@
+//! Questions about the tree. What the medium holds is not trusted: a structure that is no such structure is refused.
+
+ghost use Rattle.std.specs.Prelude.{◌≡◌, ◌<◌, ◌≤◌, IsTrue, IfOk, length, Err};
+ghost use Rattle.drive.specs.Journal.{next_of};
+ghost use Rattle.recover.specs.Faults.{Counts, devices};
+ghost use Rattle.recover.specs.declared.fault.StoreFault.TheVariants.{Stopped};
+ghost use Rattle.store.specs.Agrees.{Agrees};
+ghost use Rattle.store.specs.Below.{AreBelow};
+ghost use Rattle.store.specs.Queries.{SameVolume};
+
+use crate::directories::Content;
+use crate::nodes::{Node, Nodes};
+use crate::store::Store;
+use dir::Kind;
+use drive::Drive;
+use icb::{Place, decode_fe};
+use recover::{Extent, PARTITION_START, StoreFault, cause, damaged, lies_below, read_bytes};
+use request::{FileData, Listed, Listing, NodeKind, NodeStatus, Path};
+use std::alloc::Global;
+
+impl Store {
+    /// The bytes of a file.
+    pub fn get<D: Drive>(
+        &mut self,
+        alloc: Global,
+        drive: &mut D,
+        path: &Path,
+    ) -> Result<FileData, StoreFault>
+        requires agrees { Agrees (D.journal drive.old) (D.capacity drive.old) self.old }
+        ensures stopped { IsTrue self.old.is_stopped → result ≡ Err Stopped }
+        ensures same { SameVolume self.old self.new }
+        ensures agrees { Agrees (D.journal drive.new) (D.capacity drive.new) self.new }
+        ensures journal { D.journal drive.new ≡ D.journal drive.old }
+        ensures capacity { D.capacity drive.new ≡ D.capacity drive.old }
+        ensures honest { IsTrue (D.honest drive.new) → IsTrue (D.honest drive.old) }
+        ensures failures { Counts (devices result) (D.failures drive.old) (D.failures drive.new) }
+    {
+        let node = self.node(alloc, drive, path)?;
+        if node.kind == Kind::Directory {
+            return Err(StoreFault::IsDirectory);
+        }
+        let nodes = Nodes {
+            at: self.at,
+            entries: &self.vat.entries,
+        };
+        file_data(alloc, drive, &nodes, node.address)
+    }
+
+    /// The names in a directory, in their stored order.
+    pub fn list<D: Drive>(
+        &mut self,
+        alloc: Global,
+        drive: &mut D,
+        path: &Path,
+    ) -> Result<Listing, StoreFault>
+        requires agrees { Agrees (D.journal drive.old) (D.capacity drive.old) self.old }
+        ensures stopped { IsTrue self.old.is_stopped → result ≡ Err Stopped }
+        ensures same { SameVolume self.old self.new }
+        ensures agrees { Agrees (D.journal drive.new) (D.capacity drive.new) self.new }
+        ensures journal { D.journal drive.new ≡ D.journal drive.old }
+        ensures capacity { D.capacity drive.new ≡ D.capacity drive.old }
+        ensures honest { IsTrue (D.honest drive.new) → IsTrue (D.honest drive.old) }
+        ensures failures { Counts (devices result) (D.failures drive.old) (D.failures drive.new) }
+    {
+        let node = self.node(alloc, drive, path)?;
+        if node.kind == Kind::File {
+            return Err(StoreFault::NotDirectory);
+        }
+        let (extent, content) = self.content(alloc, drive, node.address)?;
+        let listing = listing_of(alloc, &content)?;
+        self.directories.keep(extent, content);
+        Ok(listing)
+    }
+
+    /// What is known of a file or a directory.
+    pub fn stat<D: Drive>(
+        &mut self,
+        alloc: Global,
+        drive: &mut D,
+        path: &Path,
+    ) -> Result<NodeStatus, StoreFault>
+        requires agrees { Agrees (D.journal drive.old) (D.capacity drive.old) self.old }
+        ensures stopped { IsTrue self.old.is_stopped → result ≡ Err Stopped }
+        ensures same { SameVolume self.old self.new }
+        ensures agrees { Agrees (D.journal drive.new) (D.capacity drive.new) self.new }
+        ensures journal { D.journal drive.new ≡ D.journal drive.old }
+        ensures capacity { D.capacity drive.new ≡ D.capacity drive.old }
+        ensures honest { IsTrue (D.honest drive.new) → IsTrue (D.honest drive.old) }
+        ensures failures { Counts (devices result) (D.failures drive.old) (D.failures drive.new) }
+    {
+        let node = self.node(alloc, drive, path)?;
+        let (moment, bytes) = self.moment_and_size(drive, node.address)?;
+        if node.kind == Kind::File {
+            return Ok(NodeStatus {
+                kind: NodeKind::File,
+                moment,
+                size: u64::from(bytes),
+            });
+        }
+        let size = self.name_count(alloc, drive, node.address)?;
+        Ok(NodeStatus {
+            kind: NodeKind::Directory,
+            moment,
+            size,
+        })
+    }
+
+    /// The node that a path leads to.
+    fn node<D: Drive>(
+        &mut self,
+        alloc: Global,
+        drive: &mut D,
+        path: &Path,
+    ) -> Result<Node, StoreFault>
+        requires agrees { Agrees (D.journal drive.old) (D.capacity drive.old) self.old }
+        ensures stopped { IsTrue self.old.is_stopped → result ≡ Err Stopped }
+        ensures same { SameVolume self.old self.new }
+        ensures agrees { Agrees (D.journal drive.new) (D.capacity drive.new) self.new }
+        ensures journal { D.journal drive.new ≡ D.journal drive.old }
+        ensures capacity { D.capacity drive.new ≡ D.capacity drive.old }
+        ensures honest { IsTrue (D.honest drive.new) → IsTrue (D.honest drive.old) }
+        ensures failures { Counts (devices result) (D.failures drive.old) (D.failures drive.new) }
+    {
+        if self.is_stopped {
+            return Err(StoreFault::Stopped);
+        }
+        let nodes = Nodes {
+            at: self.at,
+            entries: &self.vat.entries,
+        };
+        match self.directories.find(alloc, drive, &nodes, path.names())? {
+            Some(node) => Ok(node),
+            None => Err(StoreFault::NotFound),
+        }
+    }
+
+    /// A directory, which is not kept any longer, and where its data lie.
+    fn content<D: Drive>(
+        &mut self,
+        alloc: Global,
+        drive: &mut D,
+        address: u32,
+    ) -> Result<(Extent, Content), StoreFault>
+        requires agrees { Agrees (D.journal drive.old) (D.capacity drive.old) self.old }
+        ensures same { SameVolume self.old self.new }
+        ensures agrees { Agrees (D.journal drive.new) (D.capacity drive.new) self.new }
+        ensures journal { D.journal drive.new ≡ D.journal drive.old }
+        ensures capacity { D.capacity drive.new ≡ D.capacity drive.old }
+        ensures honest { IsTrue (D.honest drive.new) → IsTrue (D.honest drive.old) }
+        ensures failures { Counts (devices result) (D.failures drive.old) (D.failures drive.new) }
+    {
+        let nodes = Nodes {
+            at: self.at,
+            entries: &self.vat.entries,
+        };
+        let placed = nodes.directory(drive, address)?;
+        let content = self.directories.take(alloc, drive, placed.extent)?;
+        Ok((placed.extent, content))
+    }
+
+    /// How many names a directory has.
+    fn name_count<D: Drive>(
+        &mut self,
+        alloc: Global,
+        drive: &mut D,
+        address: u32,
+    ) -> Result<u64, StoreFault>
+        requires agrees { Agrees (D.journal drive.old) (D.capacity drive.old) self.old }
+        ensures same { SameVolume self.old self.new }
+        ensures agrees { Agrees (D.journal drive.new) (D.capacity drive.new) self.new }
+        ensures journal { D.journal drive.new ≡ D.journal drive.old }
+        ensures capacity { D.capacity drive.new ≡ D.capacity drive.old }
+        ensures honest { IsTrue (D.honest drive.new) → IsTrue (D.honest drive.old) }
+        ensures failures { Counts (devices result) (D.failures drive.old) (D.failures drive.new) }
+    {
+        let (extent, content) = self.content(alloc, drive, address)?;
+        let count = content.dir.entries.len() as u64;
+        self.directories.keep(extent, content);
+        Ok(count)
+    }
+
+    /// The moment of a node, in microseconds, and the bytes of its data.
+    fn moment_and_size<D: Drive>(
+        &self,
+        drive: &mut D,
+        address: u32,
+    ) -> Result<(u64, u32), StoreFault>
+        requires agrees { Agrees (D.journal drive.old) (D.capacity drive.old) self.now }
+        ensures journal { D.journal drive.new ≡ D.journal drive.old }
+        ensures capacity { D.capacity drive.new ≡ D.capacity drive.old }
+        ensures honest { IsTrue (D.honest drive.new) → IsTrue (D.honest drive.old) }
+        ensures failures { Counts (devices result) (D.failures drive.old) (D.failures drive.new) }
+    {
+        let nodes = Nodes {
+            at: self.at,
+            entries: &self.vat.entries,
+        };
+        let (block, at) = nodes.entry_block(drive, address)?;
+        match decode_fe(&block, address) {
+            Ok(entry) => Ok((entry.moment.moment(), entry.size)),
+            Err(fault) => Err(damaged(at, fault as u8)),
+        }
+    }
+}
+
+/// The bytes of the file whose entry has a virtual address.
+fn file_data<D: Drive>(
+    alloc: Global,
+    drive: &mut D,
+    nodes: &Nodes<'_>,
+    address: u32,
+) -> Result<FileData, StoreFault>
+    requires below { AreBelow nodes.now.at nodes.now.entries.now }
+    requires within { nodes.now.at ≤ next_of (D.journal drive.old) }
+    ensures journal { D.journal drive.new ≡ D.journal drive.old }
+    ensures capacity { D.capacity drive.new ≡ D.capacity drive.old }
+    ensures honest { IsTrue (D.honest drive.new) → IsTrue (D.honest drive.old) }
+    ensures failures { Counts (devices result) (D.failures drive.old) (D.failures drive.new) }
+{
+    let (block, at) = nodes.entry_block(drive, address)?;
+    let entry = match decode_fe(&block, address) {
+        Ok(entry) => entry,
+        Err(fault) => return Err(damaged(at, fault as u8)),
+    };
+    match entry.place {
+        Place::None => Ok(FileData::new(Vec::new(alloc))),
+        Place::Inside(bytes) => Ok(FileData::new(bytes.to_vec(alloc)?)),
+        Place::Extent(first) => {
+            if !lies_below(first, entry.size, nodes.at) {
+                return Err(damaged(at, cause::RANGE));
+            }
+            let bytes = read_bytes(alloc, drive, first + PARTITION_START, entry.size)?;
+            Ok(FileData::new(bytes))
+        }
+    }
+}
+
+/// The names of a directory, in their stored order.
+fn listing_of(alloc: Global, content: &Content) -> Result<Listing, StoreFault>
+    ensures failures { devices result ≡ 0 }
+    ensures count { IfOk result (λ listing. length listing ≡ length content.now.dir.entries.entries) }
+{
+    let entries = &content.dir.entries;
+    let mut listing = Listing::new(alloc);
+    for index in 0..entries.len() {
+        if let Some((name, entry)) = entries.get_index(index) {
+            listing.push(Listed {
+                kind: told(entry.kind),
+                name: name.clone()?,
+            })?;
+        }
+    }
+    Ok(listing)
+}
+
+/// A kind as it is told.
+fn told(kind: Kind) -> NodeKind {
+    match kind {
+        Kind::File => NodeKind::File,
+        Kind::Directory => NodeKind::Directory,
+    }
+}

@@ -1,0 +1,163 @@
+//! Blocks on their way to the drive, and how many of them are held.
+
+ghost use Rattle.std.specs.Prelude.{◌≡◌, ◌+◌, ◌<◌, ◌≤◌, ◌^◌, [], ◌++◌, length, is_err, IsTrue, IfOk, OnOk, OnErr};
+ghost use Rattle.std.specs.Int.{div_ceil};
+ghost use Rattle.drive.specs.Journal.{next_of, written, AddsFront, counted};
+ghost use Rattle.drive.specs.Waiting.{end_of};
+ghost use Rattle.dir.specs.Directory.{directory_blocks};
+ghost use Rattle.store.specs.Putting.{Puts, Fails};
+
+use dir::{Dir, Lay, MAX_BLOCKS, MAX_NAMES};
+use drive::{Drive, DriveFault, PacketWriter};
+use ecma::Block;
+use recover::block_count;
+use std::alloc::{AllocError, Global};
+
+const BLOCK_SIZE: usize = 2048;
+
+const ZEROS: Block = [0; BLOCK_SIZE];
+
+/// Takes blocks one by one, and counts those that are held at once.
+#[derive(Drop)]
+pub(crate) struct Writer {
+    packets: PacketWriter,
+    /// The blocks of the table's bytes, which are held all the while.
+    table_blocks: u32,
+    most_held: usize,
+}
+
+impl Writer {
+    /// A writer of blocks from this address on. No later call takes memory.
+    pub(crate) fn new(alloc: Global, at: u32) -> Result<Writer, AllocError>
+        ensures { IfOk result (λ w. w.packets ≡ record { at = at; blocks = [] }) }
+    {
+        Ok(Writer {
+            packets: PacketWriter::new(alloc, at)?,
+            table_blocks: 0,
+            most_held: 0,
+        })
+    }
+
+    /// Counts the blocks of a table among those that are held.
+    pub(crate) fn hold_table(&mut self, blocks: u32)
+        ensures { self.new.packets ≡ self.old.packets }
+    {
+        self.table_blocks = blocks;
+    }
+
+    /// The greatest number of encoded blocks that were held at once.
+    pub(crate) fn most_held(&self) -> usize
+        ensures { result ≡ self.now.most_held }
+    {
+        self.most_held
+    }
+
+    pub(crate) fn put<D: Drive>(&mut self, drive: &mut D, block: &Block) -> Result<(), DriveFault>
+        requires begins { self.old.packets.at ≤ next_of (D.journal drive.old) }
+        requires fits { end_of self.old.packets < D.capacity drive.old }
+        ensures ok { OnOk result (Puts 1 (D.journal drive.old) self.old.packets (D.journal drive.new) self.new.packets) }
+        ensures err { OnErr result (Fails 1 (D.journal drive.old) self.old.packets (D.journal drive.new)) }
+        ensures capacity { D.capacity drive.new ≡ D.capacity drive.old }
+        ensures failures { D.failures drive.new ≡ counted (is_err result) (D.failures drive.old) }
+        ensures honest { IsTrue (D.honest drive.new) → IsTrue (D.honest drive.old) }
+    {
+        let held = self.packets.waiting() + self.table_blocks as usize + 1;
+        self.most_held = self.most_held.max(held);
+        self.packets.put(drive, block)
+    }
+
+    /// So many blocks of zeros.
+    fn put_zeros<D: Drive>(&mut self, drive: &mut D, count: u32) -> Result<(), DriveFault>
+        requires begins { self.old.packets.at ≤ next_of (D.journal drive.old) }
+        requires fits { end_of self.old.packets + count ≤ D.capacity drive.old }
+        ensures ok { OnOk result (Puts count (D.journal drive.old) self.old.packets (D.journal drive.new) self.new.packets) }
+        ensures err { OnErr result (Fails count (D.journal drive.old) self.old.packets (D.journal drive.new)) }
+        ensures capacity { D.capacity drive.new ≡ D.capacity drive.old }
+        ensures failures { D.failures drive.new ≡ counted (is_err result) (D.failures drive.old) }
+        ensures honest { IsTrue (D.honest drive.new) → IsTrue (D.honest drive.old) }
+    {
+        for i in 0..count {
+            self.put(drive, &ZEROS)?;
+        }
+        Ok(())
+    }
+
+    /// Bytes, with zeros behind them in the last block.
+    fn put_data<D: Drive>(&mut self, drive: &mut D, bytes: &[u8]) -> Result<(), DriveFault>
+        requires begins { self.old.packets.at ≤ next_of (D.journal drive.old) }
+        requires size { length bytes.now < 2 ^ 32 }
+        requires fits { end_of self.old.packets + div_ceil (length bytes.now) 2048 ≤ D.capacity drive.old }
+        ensures ok { OnOk result (Puts (div_ceil (length bytes.now) 2048) (D.journal drive.old) self.old.packets (D.journal drive.new) self.new.packets) }
+        ensures err { OnErr result (Fails (div_ceil (length bytes.now) 2048) (D.journal drive.old) self.old.packets (D.journal drive.new)) }
+        ensures capacity { D.capacity drive.new ≡ D.capacity drive.old }
+        ensures failures { D.failures drive.new ≡ counted (is_err result) (D.failures drive.old) }
+        ensures honest { IsTrue (D.honest drive.new) → IsTrue (D.honest drive.old) }
+    {
+        for i in 0..block_count(bytes.len() as u32) {
+            let start = i as usize * BLOCK_SIZE;
+            let size = (bytes.len() - start).min(BLOCK_SIZE);
+            let mut block = ZEROS;
+            block[..size].copy_from_slice(&bytes[start..start + size]);
+            self.put(drive, &block)?;
+        }
+        Ok(())
+    }
+
+    /// Blocks of zeros, and then bytes.
+    pub(crate) fn put_bytes<D: Drive>(
+        &mut self,
+        drive: &mut D,
+        gap: u32,
+        bytes: &[u8],
+    ) -> Result<(), DriveFault>
+        requires begins { self.old.packets.at ≤ next_of (D.journal drive.old) }
+        requires size { length bytes.now < 2 ^ 32 }
+        requires fits { end_of self.old.packets + (gap + div_ceil (length bytes.now) 2048) ≤ D.capacity drive.old }
+        ensures ok { OnOk result (Puts (gap + div_ceil (length bytes.now) 2048) (D.journal drive.old) self.old.packets (D.journal drive.new) self.new.packets) }
+        ensures err { OnErr result (Fails (gap + div_ceil (length bytes.now) 2048) (D.journal drive.old) self.old.packets (D.journal drive.new)) }
+        ensures capacity { D.capacity drive.new ≡ D.capacity drive.old }
+        ensures failures { D.failures drive.new ≡ counted (is_err result) (D.failures drive.old) }
+        ensures honest { IsTrue (D.honest drive.new) → IsTrue (D.honest drive.old) }
+    {
+        self.put_zeros(drive, gap)?;
+        self.put_data(drive, bytes)?;
+        Ok(())
+    }
+
+    /// The data of a directory, from a block number on.
+    pub(crate) fn put_directory<D: Drive>(
+        &mut self,
+        drive: &mut D,
+        directory: &Dir,
+        first: u32,
+    ) -> Result<(), DriveFault>
+        requires few { length directory.now.entries.entries ≤ MAX_NAMES }
+        requires first { first ≤ MAX_BLOCKS }
+        requires begins { self.old.packets.at ≤ next_of (D.journal drive.old) }
+        requires fits { end_of self.old.packets + length (directory_blocks directory.now first) ≤ D.capacity drive.old }
+        ensures ok { OnOk result (Puts (length (directory_blocks directory.now first)) (D.journal drive.old) self.old.packets (D.journal drive.new) self.new.packets) }
+        ensures err { OnErr result (Fails (length (directory_blocks directory.now first)) (D.journal drive.old) self.old.packets (D.journal drive.new)) }
+        ensures capacity { D.capacity drive.new ≡ D.capacity drive.old }
+        ensures failures { D.failures drive.new ≡ counted (is_err result) (D.failures drive.old) }
+        ensures honest { IsTrue (D.honest drive.new) → IsTrue (D.honest drive.old) }
+    {
+        let mut lay = Lay::new(directory, first);
+        while let Some(block) = lay.next_block() {
+            self.put(drive, &block)?;
+        }
+        Ok(())
+    }
+
+    /// Writes the blocks that wait.
+    pub(crate) fn finish<D: Drive>(&mut self, drive: &mut D) -> Result<(), DriveFault>
+        requires begins { self.old.packets.at ≤ next_of (D.journal drive.old) }
+        requires fits { end_of self.old.packets ≤ D.capacity drive.old }
+        ensures ok { OnOk result (D.journal drive.new ≡ D.journal drive.old ++ written self.old.packets.at self.old.packets.blocks) }
+        ensures err { OnErr result (AddsFront (D.journal drive.old) self.old.packets.at self.old.packets.blocks (D.journal drive.new)) }
+        ensures capacity { D.capacity drive.new ≡ D.capacity drive.old }
+        ensures failures { D.failures drive.new ≡ counted (is_err result) (D.failures drive.old) }
+        ensures honest { IsTrue (D.honest drive.new) → IsTrue (D.honest drive.old) }
+    {
+        self.packets.finish(drive)
+    }
+}

@@ -1,0 +1,4 @@
+pub mod Words
+pub mod Formats
+pub mod Said
+pub mod NewVolume

@@ -1,0 +1,7 @@
+use Rattle.medium.proofs.OnJournals.{commit_advances}
+use Rattle.udf.specs.Udf.{udf}
+use Rattle.udf.proofs.Formats.{exact, bounded, distinct}
+use Rattle.udf.proofs.laws.commits_advance.Goals as goal
+
+pub returns : goal.returns
+returns c = λ capacity volume before behind S request blocks mark once stands plan front. commit_advances udf capacity volume exact bounded distinct before behind S request blocks mark once stands plan front

@@ -1,0 +1,99 @@
+-- What the laws of the medium say by these formats, each the contract of a public function.
+use Rattle.std.specs.Prelude.{◌≡◌, ◌↔◌, ◌⊎◌, ℕ, ◌+◌, ◌≤◌, List, [], ◌∷◌, ◌++◌, length, take}
+use Rattle.drive.specs.Journal.{Event, held, Once, AddsFront}
+use Rattle.model.specs.Session.{State, Request, after_one, formatted}
+use Rattle.model.specs.Laws.{IsSound}
+use Rattle.medium.specs.Formats.{Block}
+use Rattle.medium.specs.Volume.{Medium, NoneImitates, Stands, Past}
+use Rattle.medium.specs.Step.{CarriesOut, IsFormat}
+use Rattle.medium.specs.Plan.{IsPlanned}
+use Rattle.medium.specs.Commit.{need}
+use Rattle.medium.specs.Journal.{Advances, HoldsOnJournal}
+use Rattle.medium.specs.Runs.{Delivery, Answer, Runs, Holds}
+use Rattle.udf.specs.Udf.{udf, spelled}
+
+-- ---- what stands
+
+-- at most one state stands on a medium, whatever drive and volume it is read in
+abbrev pub OneStands : Type 0
+OneStands = (capacity volume other_capacity other_volume : ℕ) (medium : Medium) (S T : State) → Stands udf capacity volume medium S → Stands udf other_capacity other_volume medium T → S ≡ T
+
+-- it is sound
+abbrev pub StandingIsSound : Type 0
+StandingIsSound = (capacity volume : ℕ) (medium : Medium) (S : State) → Stands udf capacity volume medium S → IsSound S
+
+-- at most one state stood after a number of commits
+abbrev pub OnePast : Type 0
+OnePast = (capacity volume other_capacity other_volume : ℕ) (medium : Medium) (commits : ℕ) (S T : State) → Past udf capacity volume medium commits S → Past udf other_capacity other_volume medium commits T → S ≡ T
+
+-- and there is none above the count of the one that stands, which is itself the last
+abbrev pub PastIsWithin : Type 0
+PastIsWithin = (capacity volume : ℕ) (medium : Medium) (commits : ℕ) (S T : State) → Past udf capacity volume medium commits S → Stands udf capacity volume medium T → commits ≤ T.commits
+
+abbrev pub StandingIsLast : Type 0
+StandingIsLast = (capacity volume : ℕ) (medium : Medium) (S : State) → Stands udf capacity volume medium S → Past udf capacity volume medium S.commits S
+
+-- ---- blocks that imitate no table's entry
+
+-- what stands on a medium stands on the longer one, and nothing else does
+abbrev pub StandsAppended : Type 0
+StandsAppended =
+    (capacity volume : ℕ) (S : State) (medium blocks : Medium) → NoneImitates udf (length medium) blocks
+    → Stands udf capacity volume medium S ↔ Stands udf capacity volume (medium ++ blocks) S
+
+abbrev pub PastAppended : Type 0
+PastAppended =
+    (capacity volume : ℕ) (S : State) (medium blocks : Medium) → NoneImitates udf (length medium) blocks → (commits : ℕ)
+    → Past udf capacity volume medium commits S ↔ Past udf capacity volume (medium ++ blocks) commits S
+
+-- ---- commits
+
+-- the planned blocks of a request carry it out
+abbrev pub PlannedCarries : Type 0
+PlannedCarries =
+    (capacity volume : ℕ) (medium : Medium) (S : State) (stands : Stands udf capacity volume medium S) (request : Request) (blocks : List Block) (mark : Block)
+    → IsPlanned udf capacity volume medium S stands request blocks mark → CarriesOut udf capacity volume medium S stands request blocks mark
+
+-- they are no more than it may need
+abbrev pub PlannedShort : Type 0
+PlannedShort =
+    (capacity volume : ℕ) (medium : Medium) (S : State) (stands : Stands udf capacity volume medium S) (request : Request) (blocks : List Block) (mark : Block)
+    → IsPlanned udf capacity volume medium S stands request blocks mark → length (blocks ++ mark ∷ []) ≤ need spelled S request
+
+-- Whichever front of them was written: what stood stands on the journal, or all of them are there and the state after the request does.
+abbrev pub CommitAdvances : Type 0
+CommitAdvances =
+    (capacity volume : ℕ) (before behind : List Event) (S : State) (request : Request) (blocks : List Block) (mark : Block) → Once before
+    → (stands : Stands udf capacity volume (held before) S) → IsPlanned udf capacity volume (held before) S stands request blocks mark
+    → AddsFront before (length before) (blocks ++ mark ∷ []) behind
+    → Advances udf capacity volume before S behind S
+    ⊎ ((length behind ≡ length before + length (blocks ++ mark ∷ [])) × Advances udf capacity volume before S behind (after_one S request))
+
+-- ---- a format
+
+-- before its last block nothing stands, and then the new volume
+abbrev pub NothingBefore : Type 0
+NothingBefore =
+    (capacity volume : ℕ) (label : List ℕ) (moment : ℕ) (blocks : List Block) (mark : Block) → IsFormat udf capacity volume label moment blocks mark
+    → (k : ℕ) (S : State) → k ≤ 261 → Stands udf capacity volume (take k (blocks ++ mark ∷ [])) S → ⊥
+
+abbrev pub FormatStands : Type 0
+FormatStands =
+    (capacity volume : ℕ) (label : List ℕ) (moment : ℕ) (blocks : List Block) (mark : Block) → IsFormat udf capacity volume label moment blocks mark
+    → Stands udf capacity volume (blocks ++ mark ∷ []) (formatted moment)
+
+-- ---- runs
+
+-- a run leaves at each of its fronts the state after the first of its commits
+abbrev pub RunsHold : Type 0
+RunsHold =
+    (drive volume : ℕ) (S : State) (before behind : Medium) (deliveries : List Delivery) (answers : List Answer) (committed : List Request) (S' : State)
+    → Stands udf drive volume before S → Runs udf (need spelled) drive volume before S deliveries answers committed behind S'
+    → Holds udf (need spelled) drive volume S before behind deliveries answers
+
+-- and so on a drive's journal, each address once
+abbrev pub RunsHoldOnJournal : Type 0
+RunsHoldOnJournal =
+    (drive volume : ℕ) (S : State) (before behind : List Event) (deliveries : List Delivery) (answers : List Answer) → Once before → Once behind
+    → take (length before) behind ≡ before → Holds udf (need spelled) drive volume S (held before) (held behind) deliveries answers
+    → HoldsOnJournal udf (need spelled) drive volume S before behind deliveries answers

@@ -1,0 +1,5 @@
+pub mod Words
+pub mod Udf
+pub mod Said
+pub mod NewVolume
+pub mod Laws

@@ -1,0 +1,103 @@
+-- What the codecs read, in the words of the medium; nothing of it is lost but a table's version.
+use Rattle.std.specs.Prelude.{◌≡◌, ◌↔◌, ℕ, ◌+◌, ◌-◌, ◌<◌, ◌≤◌, Bool, true, false, List, map, length, slice_get, Some, All}
+use Rattle.model.specs.Graph.{Entry}
+use Rattle.model.specs.Session.{Reply, ClientRecord}
+use Rattle.medium.specs.Formats.{Block, Kind, Place, Fields, Table_}
+use Rattle.medium.specs.Formats.Kind.{Directory, File, Table}
+use Rattle.medium.specs.Formats.Place.{Nowhere, Extent, Inside}
+use Rattle.medium.specs.Volume.{partition_start, blocks_for, IsTableEntry}
+use Rattle.medium.specs.Plan.{packed, IsClearStart}
+use Rattle.icb.specs.declared.entry.Kind.{Kind as IcbKind}
+use Rattle.icb.specs.declared.entry.Kind.TheVariants as icb_kinds
+use Rattle.icb.specs.Entry.{Place as IcbPlace, Fields as IcbFields, IsEntry, blocks_of}
+use Rattle.icb.specs.Entry.Place.{Nowhere as IcbNowhere, Extent as IcbExtent, Inside as IcbInside}
+use Rattle.icb.specs.VatIcb.{IsVatIcb}
+use Rattle.dir.specs.declared.entry.Entry.{Entry as DirEntry}
+use Rattle.dir.specs.declared.entry.Kind.{Kind as DirKind}
+use Rattle.dir.specs.declared.entry.Kind.TheVariants as dir_kinds
+use Rattle.dir.specs.Directory.{IsDirectory}
+use Rattle.vat.specs.declared.record.Record.{Record as VatRecord}
+use Rattle.vat.specs.declared.record.Reply.{Reply as VatReply}
+use Rattle.vat.specs.Imitation.{data_block, Imitates}
+use Rattle.vat.specs.Table.{Table as VatTable, IsTableAt}
+use Rattle.udf.specs.Udf.{IsBlock, udf}
+
+-- ---- file entries
+
+abbrev pub said_kind : IcbKind → Kind
+said_kind icb_kinds.Directory = Directory
+said_kind icb_kinds.File = File
+said_kind icb_kinds.Vat = Table
+
+abbrev pub said_place : IcbPlace → Place
+said_place IcbNowhere = Nowhere
+said_place (IcbExtent first) = Extent first
+said_place (IcbInside bytes) = Inside bytes
+
+abbrev pub said_fields : IcbFields → Fields
+said_fields f = record { kind = said_kind f.kind; moment = f.moment; links = f.links; identity = f.unique; size = f.size; place = said_place f.place }
+
+-- ---- directories
+
+abbrev pub names_directory : DirKind → Bool
+names_directory dir_kinds.Directory = true
+names_directory dir_kinds.File = false
+
+abbrev pub said_entry : List ℕ × DirEntry → Entry
+said_entry e = record { name = e.0; is_directory = names_directory e.1.kind; address = e.1.icb; identity = e.1.unique }
+
+abbrev pub said_entries : List (List ℕ × DirEntry) → List Entry
+said_entries entries = map said_entry entries
+
+-- ---- tables
+
+abbrev pub said_reply : VatReply → Reply
+said_reply reply = record { code = reply.code; commit = reply.commit }
+
+abbrev pub said_record : VatRecord → ClientRecord
+said_record kept = record { client = kept.client; latest = kept.latest; replies = map said_reply kept.replies }
+
+abbrev pub said_table : VatTable → Table_
+said_table t = record {
+  label = t.label;
+  previous = t.previous;
+  files = t.files;
+  directories = t.directories;
+  next_identity = t.next_unique;
+  commits = t.commits;
+  records = map said_record t.records;
+  entries = t.entries;
+}
+
+-- ---- what is read stands there by these formats
+
+abbrev pub EntriesAgree : Type 0
+EntriesAgree = (fields : IcbFields) (block : Block) (location : ℕ) → IsEntry fields location block ↔ udf.IsEntry (said_fields fields) block location
+
+abbrev pub DirectoriesAgree : Type 0
+DirectoriesAgree =
+    (parent first size : ℕ) (entries : List (List ℕ × DirEntry)) (blocks : List Block) → All IsBlock blocks → first ≤ 449_743
+    → IsDirectory parent entries first size blocks ↔ udf.IsDirectory parent (said_entries entries) first size blocks
+
+abbrev pub TablesAgree : Type 0
+TablesAgree = (table : VatTable) (icb : ℕ) (bytes : List ℕ) → IsTableAt icb table bytes → udf.IsTable (said_table table) icb bytes
+
+-- how many blocks bytes take
+abbrev pub SizesAgree : Type 0
+SizesAgree = (size : ℕ) → blocks_for size ≡ blocks_of size
+
+-- ---- imitation
+
+-- a block imitates where it is the entry of a table at its block number
+abbrev pub ImitationAgrees : Type 0
+ImitationAgrees = (block : Block) (address : ℕ) → IsTableEntry udf block address ↔ ((257 ≤ address) × IsVatIcb block (address - partition_start))
+
+-- the blocks of data are those that are looked at
+abbrev pub DataAgrees : Type 0
+DataAgrees = (bytes : List ℕ) (i : ℕ) → i < blocks_of (length bytes) → slice_get (packed bytes) i ≡ Some (data_block bytes i)
+
+-- the least start at which data does not imitate is clear
+abbrev pub ClearStartsAgree : Type 0
+ClearStartsAgree =
+    (bytes : List ℕ) (from start : ℕ) → from ≤ start → start ≤ from + blocks_of (length bytes) → (Imitates bytes start → ⊥)
+    → ((earlier : ℕ) → from ≤ earlier → earlier < start → Imitates bytes earlier) → IsClearStart udf (packed bytes) from start

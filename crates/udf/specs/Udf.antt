@@ -1,0 +1,38 @@
+-- The byte formats of this profile: what blocks and bytes stand for by the codecs.
+use Rattle.std.specs.Prelude.{◌≡◌, ℕ, ◌<◌, ◌≤◌, List, length, slice_index, All}
+use Rattle.osta.specs.Compressed.{compressed}
+use Rattle.model.specs.Tree.{Name}
+use Rattle.model.specs.Graph.{Entry}
+use Rattle.medium.specs.Formats.{Block, Formats}
+use Rattle.icb.specs.Entry.{IsEntry}
+use Rattle.icb.specs.FileSet.{IsFileSet}
+use Rattle.dir.specs.Directory.{IsDirectory}
+use Rattle.vat.specs.Table.{IsTableAt}
+use Rattle.vat.specs.declared.table.Version.{Version}
+use Rattle.volume.specs.Front.{IsFront}
+use Rattle.udf.specs.Words.{fields_of, entries_of, table_of}
+
+-- what a medium has at each address: 2,048 bytes
+pub record IsBlock (block : Block) : Type 0 where
+  pub size : length block ≡ 2048
+  pub bytes : (i : ℕ) → slice_index block i < 256
+
+-- the blocks hold a directory, from a block number on that an extent can begin at
+pub record HoldsDirectory (parent : ℕ) (entries : List Entry) (first size : ℕ) (blocks : List Block) : Type 0 where
+  pub blocks_are : All IsBlock blocks
+  pub low : first ≤ 449_743
+  pub is : IsDirectory parent (entries_of entries) first size blocks
+
+-- A table may have its sessions in either version: what it says is the same.
+abbrev pub udf : Formats
+udf = record {
+  IsEntry = λ fields block location. IsEntry (fields_of fields) location block;
+  IsFileSet = λ label moment block. IsFileSet (record { label = label; moment = moment }) block;
+  IsDirectory = HoldsDirectory;
+  IsTable = λ table icb bytes. (version : Version) × IsTableAt icb (table_of version table) bytes;
+  IsFront = IsFront;
+}
+
+-- how many bytes a name takes as it is spelled
+abbrev pub spelled : Name → ℕ
+spelled name = length (compressed name)

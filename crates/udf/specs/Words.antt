@@ -1,0 +1,69 @@
+-- What the codecs say in the words of the medium: the same values, by the codecs' types.
+use Rattle.std.specs.Prelude.{ℕ, Bool, true, false, List, map}
+use Rattle.model.specs.Graph.{Entry}
+use Rattle.model.specs.Session.{Reply, ClientRecord}
+use Rattle.medium.specs.Formats.{Kind, Place, Fields, Table_}
+use Rattle.medium.specs.Formats.Kind.{Directory, File, Table}
+use Rattle.medium.specs.Formats.Place.{Nowhere, Extent, Inside}
+use Rattle.icb.specs.declared.entry.Kind.{Kind as IcbKind}
+use Rattle.icb.specs.declared.entry.Kind.TheVariants as icb_kinds
+use Rattle.icb.specs.Entry.{Place as IcbPlace, Fields as IcbFields}
+use Rattle.icb.specs.Entry.Place.{Nowhere as IcbNowhere, Extent as IcbExtent, Inside as IcbInside}
+use Rattle.dir.specs.declared.entry.Entry.{Entry as DirEntry}
+use Rattle.dir.specs.declared.entry.Kind.{Kind as DirKind}
+use Rattle.dir.specs.declared.entry.Kind.TheVariants as dir_kinds
+use Rattle.vat.specs.declared.record.Record.{Record as VatRecord}
+use Rattle.vat.specs.declared.record.Reply.{Reply as VatReply}
+use Rattle.vat.specs.declared.table.Version.{Version}
+use Rattle.vat.specs.Table.{Table as VatTable}
+
+-- ---- file entries
+
+abbrev pub kind_of : Kind → IcbKind
+kind_of Directory = icb_kinds.Directory
+kind_of File = icb_kinds.File
+kind_of Table = icb_kinds.Vat
+
+abbrev pub place_of : Place → IcbPlace
+place_of Nowhere = IcbNowhere
+place_of (Extent first) = IcbExtent first
+place_of (Inside bytes) = IcbInside bytes
+
+abbrev pub fields_of : Fields → IcbFields
+fields_of f = record { kind = kind_of f.kind; moment = f.moment; links = f.links; unique = f.identity; size = f.size; place = place_of f.place }
+
+-- ---- directories
+
+-- what a name is of
+abbrev pub name_kind : Bool → DirKind
+name_kind true = dir_kinds.Directory
+name_kind false = dir_kinds.File
+
+-- a name, and what its identifier says of it
+abbrev pub entry_of : Entry → List ℕ × DirEntry
+entry_of e = (e.name, record { kind = name_kind e.is_directory; icb = e.address; unique = e.identity })
+
+abbrev pub entries_of : List Entry → List (List ℕ × DirEntry)
+entries_of entries = map entry_of entries
+
+-- ---- tables
+
+abbrev pub reply_of : Reply → VatReply
+reply_of reply = record { code = reply.code; commit = reply.commit }
+
+abbrev pub record_of : ClientRecord → VatRecord
+record_of kept = record { client = kept.client; latest = kept.latest; replies = map reply_of kept.replies }
+
+-- a table with its sessions in a version
+abbrev pub table_of : Version → Table_ → VatTable
+table_of version t = record {
+  label = t.label;
+  previous = t.previous;
+  files = t.files;
+  directories = t.directories;
+  version = version;
+  next_unique = t.next_identity;
+  commits = t.commits;
+  records = map record_of t.records;
+  entries = t.entries;
+}

@@ -1,0 +1,90 @@
+//! What holds of these formats, and of every medium by them. Nothing here runs: each function's contract is a law.
+
+ghost use Rattle.medium.specs.Formats.{AreExact, AreBounded, AreDistinct, AreShort};
+ghost use Rattle.udf.specs.Udf.{udf, spelled};
+ghost use Rattle.udf.specs.Said.{EntriesAgree, DirectoriesAgree, TablesAgree, SizesAgree, ImitationAgrees, DataAgrees, ClearStartsAgree};
+ghost use Rattle.udf.specs.NewVolume.{NewVolumesAreFormats};
+ghost use Rattle.udf.specs.Laws.{OneStands, StandingIsSound, OnePast, PastIsWithin, StandingIsLast, StandsAppended, PastAppended, PlannedCarries, PlannedShort, CommitAdvances, NothingBefore, FormatStands, RunsHold, RunsHoldOnJournal};
+
+/// A block is one file entry at most at its location, blocks are the data of one directory, bytes are one table.
+pub fn formats_are_exact()
+    ensures { AreExact udf }
+{}
+
+/// A directory has at most 512 names, a table at most 4,097 entries, and each node has one.
+pub fn formats_are_bounded()
+    ensures { AreBounded udf }
+{}
+
+/// No directory's block, file set or block of zeros is a file entry, and no entry is of two kinds.
+pub fn formats_are_distinct()
+    ensures { AreDistinct udf }
+{}
+
+/// A directory takes no more blocks than follow from the lengths of its names as they are spelled.
+pub fn formats_are_short()
+    ensures { AreShort udf spelled }
+{}
+
+/// What the codecs read stands there by these formats, in the words of the medium.
+pub fn codecs_agree()
+    ensures entries { EntriesAgree }
+    ensures directories { DirectoriesAgree }
+    ensures tables { TablesAgree }
+    ensures sizes { SizesAgree }
+{}
+
+/// A block imitates where `vat` says so, and data in blocks and its clear starts are those of the medium's plans.
+pub fn imitation_agrees()
+    ensures imitates { ImitationAgrees }
+    ensures data { DataAgrees }
+    ensures clear { ClearStartsAgree }
+{}
+
+/// At most one state stands on a medium, and it is sound.
+pub fn one_state_stands()
+    ensures one { OneStands }
+    ensures sound { StandingIsSound }
+{}
+
+/// At most one state stood after a number of commits; the one that stands is the last of them.
+pub fn one_state_stood()
+    ensures one { OnePast }
+    ensures within { PastIsWithin }
+    ensures last { StandingIsLast }
+{}
+
+/// Blocks of which none imitates a table's entry change neither what stands nor what stood.
+pub fn blocks_are_appended()
+    ensures stands { StandsAppended }
+    ensures past { PastAppended }
+{}
+
+/// The planned blocks of a request carry it out, and are no more than it may need.
+pub fn planned_blocks_carry()
+    ensures carries { PlannedCarries }
+    ensures short { PlannedShort }
+{}
+
+/// At each front of a commit on a drive's journal the old state stands, and the state after the request with its last
+/// block alone.
+pub fn commits_advance()
+    ensures { CommitAdvances }
+{}
+
+/// The new volume stands with the last block of a format, and nothing does before.
+pub fn formats_stand()
+    ensures before { NothingBefore }
+    ensures stands { FormatStands }
+{}
+
+/// What the encoders give of a label, a moment and a capacity is a format.
+pub fn new_volumes_are_formats()
+    ensures { NewVolumesAreFormats }
+{}
+
+/// A run leaves at each of its fronts, on a medium and on a drive's journal, the state after the first of its commits.
+pub fn runs_hold()
+    ensures medium { RunsHold }
+    ensures journal { RunsHoldOnJournal }
+{}

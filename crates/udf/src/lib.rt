@@ -1,0 +1,17 @@
+//! The byte formats of this profile of UDF as those that `medium`'s laws ask for, and the laws by them.
+//!
+//! Nothing here runs. `specs/Udf` puts the codecs' relations together: a file entry and the file set of `icb`, a directory
+//! of `dir`, a table of `vat`, a front of `volume`, each in the words of `model` and `medium`. The laws say that these
+//! formats are exact, bounded, distinct and short, and what then holds of every medium and of every commit. `specs/Said`
+//! says what the codecs read in the same words.
+//!
+//! Which calls write these blocks, and which read them back, is left to the crates above.
+#![tactic(auto)]
+
+mod laws;
+
+pub use laws::{
+    blocks_are_appended, codecs_agree, commits_advance, formats_are_bounded, formats_are_distinct,
+    formats_are_exact, formats_are_short, formats_stand, imitation_agrees, new_volumes_are_formats,
+    one_state_stands, one_state_stood, planned_blocks_carry, runs_hold,
+};

@@ -1,0 +1,11 @@
+//! The program `udfburn`: `programs::command` on the words and the streams of the process.
+#![tactic(auto)]
+
+use programs::run_command;
+use std::process::ExitCode;
+
+fn main(rt: HostRuntime) -> ExitCode {
+    let mut input = rt.stdin();
+    let mut errors = rt.stderr();
+    ExitCode::from(run_command(&rt, &mut input, &rt.stdout(), &mut errors))
+}

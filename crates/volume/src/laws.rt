@@ -1,0 +1,13 @@
+//! What holds of each front. Nothing here runs: each contract is a law about the definitions.
+
+ghost use Rattle.volume.specs.Front.{FrontIsNoEntry, OneFront};
+
+/// No block of a front begins as a file entry does, so that none is taken for the entry of a table.
+pub fn front_is_no_entry()
+    ensures { FrontIsNoEntry }
+{}
+
+/// A label, a moment and a capacity have one front.
+pub fn one_front()
+    ensures { OneFront }
+{}

@@ -1,0 +1,41 @@
+-- The words of each command of `udfburn`.
+use Rattle.std.specs.Prelude.{◌≡◌, ℕ, ◌≤◌, ◌<◌, List, [], ◌∷◌, ◌++◌, codes}
+use Rattle.words.specs.Number.{Says}
+use Rattle.words.specs.declared.command.Command.{Command}
+use Rattle.words.specs.declared.command.Command.TheVariants.{Format, Apply, List as Listing, Get, Send}
+use Rattle.words.specs.declared.command.Medium.{Medium}
+use Rattle.words.specs.declared.command.Medium.TheVariants.{Image, Memory}
+
+-- a capacity that a volume may have, in blocks
+abbrev pub IsCapacity : ℕ → Type 0
+IsCapacity n = (512 ≤ n) × (n ≤ 450000)
+
+-- `IMAGE`, or `mem:` and a capacity
+abbrev pub Names : List ℕ → Medium → Type 0
+Names word (Image path) = (word ≡ path.now) × ((rest : List ℕ) → word ≡ codes "mem:" ++ rest → ⊥)
+Names word (Memory capacity) = (digits : List ℕ) × (word ≡ codes "mem:" ++ digits) × Says digits capacity × IsCapacity capacity
+
+-- what stands behind `apply`
+abbrev pub AsksApply : List (List ℕ) → Command → Type 0
+AsksApply words (Format image label moment capacity) = ⊥
+AsksApply words (Apply medium) = (word : List ℕ) × (words ≡ word ∷ []) × Names word medium
+AsksApply words (Listing image path) = ⊥
+AsksApply words (Get image path) = ⊥
+AsksApply words (Send socket) = ⊥
+
+-- what stands behind `format`
+abbrev pub AsksFormat : List (List ℕ) → Command → Type 0
+AsksFormat words (Format image label moment capacity) = (first second : List ℕ) × (words ≡ image.now ∷ label.now ∷ first ∷ second ∷ [])
+    × Says first moment × (moment < 4102444800000000) × Says second capacity × IsCapacity capacity
+AsksFormat words (Apply medium) = ⊥
+AsksFormat words (Listing image path) = ⊥
+AsksFormat words (Get image path) = ⊥
+AsksFormat words (Send socket) = ⊥
+
+-- the words, by position
+abbrev pub Asks : List (List ℕ) → Command → Type 0
+Asks words (Format image label moment capacity) = (rest : List (List ℕ)) × (words ≡ codes "format" ∷ rest) × AsksFormat rest (Format image label moment capacity)
+Asks words (Apply medium) = (rest : List (List ℕ)) × (words ≡ codes "apply" ∷ rest) × AsksApply rest (Apply medium)
+Asks words (Listing image path) = words ≡ codes "ls" ∷ image.now ∷ path.now ∷ []
+Asks words (Get image path) = words ≡ codes "get" ∷ image.now ∷ path.now ∷ []
+Asks words (Send socket) = words ≡ codes "send" ∷ socket.now ∷ []
