@@ -3,23 +3,20 @@
 use crate::commands::command;
 use crate::daemons::daemon;
 use crate::fault::{Fault, report};
-use engine::ServeFault;
 use std::alloc::Global;
 use std::env;
 use std::env::Env;
 use std::fs::{File, Files};
 use std::io::{BufWriter, ErrorKind, Read, Write};
 use std::net::Net;
-use std::os::fd::AsFd;
-use std::process::ChildStdin;
 use store::StoreFault;
 
 /// `udfburn` on the words of the process and these streams. It answers the status.
-pub fn run_command<R, I, O, E>(rt: &R, input: &mut I, output: &O, errors: &mut E) -> u8
+pub fn run_command<R, I, O, E>(rt: &R, input: &mut I, output: &mut O, errors: &mut E) -> u8
 where
     R: Files<File = File> + Net + Env + AllocGlobal,
     I: Read,
-    O: AsFd,
+    O: Write,
     E: Write,
 {
     match try_command(rt, input, output, errors) {
@@ -40,11 +37,16 @@ where
     }
 }
 
-fn try_command<R, I, O, E>(rt: &R, input: &mut I, output: &O, errors: &mut E) -> Result<u8, Fault>
+fn try_command<R, I, O, E>(
+    rt: &R,
+    input: &mut I,
+    output: &mut O,
+    errors: &mut E,
+) -> Result<u8, Fault>
 where
     R: Files<File = File> + Net + Env + AllocGlobal,
     I: Read,
-    O: AsFd,
+    O: Write,
     E: Write,
 {
     let words = own_words(rt)?;
@@ -90,14 +92,9 @@ fn behind_name<'a, 'w>(words: &'a [&'w str]) -> &'a [&'w str] {
     rest
 }
 
-/// A buffered writer to a standard stream. Where nobody reads the stream any longer a write fails, as it would at a full
-/// disk, and no signal ends the process: what was committed is then still told apart from what was not.
-fn buffered<O: AsFd>(alloc: Global, output: &O) -> Result<BufWriter<ChildStdin>, Fault> {
-    let stream = match output.as_fd().try_clone_to_owned() {
-        Ok(stream) => stream,
-        Err(_) => return Err(Fault::Stream(ServeFault::Write)),
-    };
-    match BufWriter::new(alloc, ChildStdin::from(stream)) {
+/// A writer that gathers what is written to a stream.
+fn buffered<O: Write>(alloc: Global, output: &mut O) -> Result<BufWriter<&mut O>, Fault> {
+    match BufWriter::new(alloc, output) {
         Ok(writer) => Ok(writer),
         Err(_) => Err(Fault::Store(StoreFault::Memory)),
     }
