@@ -107,15 +107,42 @@ const FORMATTED: Numbers = Numbers {
     commits: 0,
 };
 
-/// The block of a table's data, on a volume with this label.
+/// The records of clients, as a version of the sessions has them.
+#[derive(Clone, Copy)]
+struct Records<'a> {
+    version: u8,
+    count: u8,
+    bytes: &'a [u8],
+}
+
+/// The block of a table's data without records, on a volume with this label.
 fn table_block(
     alloc: Global,
     label: &[u8; 4],
     numbers: Numbers,
     entries: &[u32],
 ) -> Result<Block, Fail> {
+    let none = Records {
+        version: 2,
+        count: 0,
+        bytes: &[],
+    };
+    table_with(alloc, label, numbers, none, entries)
+}
+
+/// The block of a table's data.
+fn table_with(
+    alloc: Global,
+    label: &[u8; 4],
+    numbers: Numbers,
+    records: Records<'_>,
+    entries: &[u32],
+) -> Result<Block, Fail> {
+    let used = 44 + records.bytes.len().min(1_000) as u16;
     let mut bytes = Vec::new(alloc);
-    bytes.extend_from_slice(&[196, 0, 44, 0, 8])?;
+    bytes.extend_from_slice(&(152 + used).to_le_bytes())?;
+    bytes.extend_from_slice(&used.to_le_bytes())?;
+    bytes.push(8)?;
     bytes.extend_from_slice(label)?;
     bytes.extend_from_slice(&[0; 122])?;
     bytes.push(5)?;
@@ -125,9 +152,10 @@ fn table_block(
     bytes.extend_from_slice(&[1, 2, 1, 2, 1, 2, 0, 0])?;
     bytes.extend_from_slice(b"\x00*udfburn sessions")?;
     bytes.extend_from_slice(&[0; 14])?;
-    bytes.extend_from_slice(&[2, 0, 0, 0])?;
+    bytes.extend_from_slice(&[records.version, 0, records.count, 0])?;
     bytes.extend_from_slice(&numbers.next_unique.to_le_bytes())?;
     bytes.extend_from_slice(&numbers.commits.to_le_bytes())?;
+    bytes.extend_from_slice(records.bytes)?;
     for number in entries {
         bytes.extend_from_slice(&number.to_le_bytes())?;
     }
@@ -320,7 +348,7 @@ fn what_was_written_stands(rt: HostRuntime) -> Result<(), Fail> {
 fn a_changed_bit_gives_the_table_before(rt: HostRuntime) -> Result<(), Fail> {
     let alloc = rt.alloc();
     let drive = volume_after(&rt, alloc, &created(&rt, alloc)?)?;
-    for byte in [0, 4, 12, 27, 34, 56, 100, 180, 191, 192, 2047] {
+    for byte in 0..2048 {
         let mut other = changed(alloc, &drive, 266, byte)?;
         assert!(rt; last(&mut other) == Ok(Some(261)));
     }
@@ -628,5 +656,95 @@ fn unique_ids_are_looked_at(rt: HostRuntime) -> Result<(), Fail> {
     let mut drive = volume_after(&rt, alloc, &blocks)?;
     let seen = damage(alloc, &mut drive)?;
     assert!(rt; seen == Some((263, cause::IDENTITY)));
+    Ok(())
+}
+
+#[test]
+fn sessions_of_the_first_version_are_read(rt: HostRuntime) -> Result<(), Fail> {
+    let alloc = rt.alloc();
+    let mut record = Vec::new(alloc);
+    record.extend_from_slice(&7_u64.to_le_bytes())?;
+    record.extend_from_slice(&1_u64.to_le_bytes())?;
+    record.extend_from_slice(&[0, 0, 0, 0, 1, 0, 0, 0])?;
+    let records = Records {
+        version: 1,
+        count: 1,
+        bytes: &record,
+    };
+    let mut blocks = created(&rt, alloc)?;
+    blocks[3] = table_with(alloc, b"DISC", USED, records, &[0, 7, 5])?;
+    blocks[4] = entry_of_table(232, 8, 9)?;
+    let mut drive = volume_after(&rt, alloc, &blocks)?;
+    let state = state_of(alloc, &mut drive, 266)??;
+    assert!(rt; state.vat.sessions.records.len() == 1);
+    let kept = &state.vat.sessions.records[0];
+    assert!(rt; kept.client == 7 && kept.latest == 1);
+    let replies = kept.replies.as_slice();
+    assert!(rt; replies.len() == 1);
+    assert!(rt; replies[0].code == 0 && replies[0].commit == 1);
+    Ok(())
+}
+
+#[test]
+fn a_small_file_in_a_block_of_its_own_is_read(rt: HostRuntime) -> Result<(), Fail> {
+    let alloc = rt.alloc();
+    let entry = FileEntry {
+        kind: icb::Kind::File,
+        moment: moment()?,
+        links: 1,
+        unique: 16,
+        size: 5,
+        place: Place::Extent(5),
+    };
+    let mut data = [0; 2048];
+    data[..5].copy_from_slice(b"hello");
+    let blocks = [
+        data,
+        encode_fe(&entry, 2),
+        directory(&rt, alloc, 7, 1, &[("a", dir::Kind::File, 2, 16)])?,
+        root_entry(1, 80, 7)?,
+        table_block(alloc, b"DISC", USED, &[0, 8, 6])?,
+        entry_of_table(208, 9, 10)?,
+    ];
+    let mut drive = volume_after(&rt, alloc, &blocks)?;
+    let state = state_of(alloc, &mut drive, 267)??;
+    assert!(rt; state.vat.entries[..] == [Some(0), Some(8), Some(6)]);
+    Ok(())
+}
+
+/// What a commit writes that gives the file `a` of `created` the name `b`, at the addresses 267 to 270.
+fn renamed(rt: &impl Abort, alloc: Global) -> Result<[Block; 4], Fail> {
+    let numbers = Numbers {
+        previous: 9,
+        commits: 2,
+        ..USED
+    };
+    Ok([
+        directory(rt, alloc, 10, 1, &[("b", dir::Kind::File, 2, 16)])?,
+        root_entry(1, 80, 10)?,
+        table_block(alloc, b"DISC", numbers, &[0, 11, 5])?,
+        entry_of_table(208, 12, 13)?,
+    ])
+}
+
+#[test]
+fn a_cut_leaves_the_state_before_it(rt: HostRuntime) -> Result<(), Fail> {
+    let alloc = rt.alloc();
+    let blocks = renamed(&rt, alloc)?;
+    for cut in 0..4 {
+        let mut drive = volume_after(&rt, alloc, &created(&rt, alloc)?)?;
+        for block in &blocks[..cut] {
+            add(&mut drive, block)?;
+        }
+        assert!(rt; last(&mut drive) == Ok(Some(266)));
+        assert!(rt; state_of(alloc, &mut drive, 266)??.vat.sessions.commits == 1);
+    }
+    let mut drive = volume_after(&rt, alloc, &created(&rt, alloc)?)?;
+    for block in &blocks {
+        add(&mut drive, block)?;
+    }
+    assert!(rt; last(&mut drive) == Ok(Some(270)));
+    assert!(rt; state_of(alloc, &mut drive, 270)??.vat.sessions.commits == 2);
+    assert!(rt; step(alloc, &mut drive, 270)? == Ok(Some(266)));
     Ok(())
 }
