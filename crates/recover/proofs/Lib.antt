@@ -1,4 +1,6 @@
 pub mod Blocks
+pub mod Fronts
 pub mod Held
 pub mod Nodes
+pub mod Sets
 pub mod Tables
