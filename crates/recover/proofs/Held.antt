@@ -1,7 +1,8 @@
 -- What lies at an address of the medium that a journal leaves.
-use Rattle.std.proofs.Common.{◌≡◌, ℕ, zero, suc, ◌+◌, ◌<◌, List, [], ◌∷◌, length, Option, Some, refl, ap, ◌∙◌, arith}
-use Rattle.std.specs.Prelude.{slice_get, unwrap_or}
+use Rattle.std.proofs.Common.{◌≡◌, ℕ, zero, suc, ◌<◌, List, [], length, Option, Some, refl, ap, ◌∙◌, arith}
+use Rattle.std.specs.Prelude.{slice_get, unwrap_or, take}
 use Rattle.drive.specs.Journal.{Event, held, last_at, next_of, table}
+use Rattle.model.proofs.Lists.{get-take}
 
 length-table : (n : ℕ) (f : ℕ → List ℕ) → length (table n f) ≡ n
 length-table zero f = refl
@@ -19,3 +20,7 @@ length-held J = length-table (next_of J) (λ at. unwrap_or (last_at J at) [])
 pub held_at : (J : List Event) (at : ℕ) (block : List ℕ) → at < next_of J → last_at J at ≡ Some block → slice_get (held J) at ≡ Some block
 held_at J at block lt e =
     get-table (next_of J) at (λ a. unwrap_or (last_at J a) []) lt ∙ ap (λ (o : Option (List ℕ)). Some (unwrap_or o [])) e
+
+-- and so below an address behind it
+pub held_below : (J : List Event) (n at : ℕ) (block : List ℕ) → at < n → at < next_of J → last_at J at ≡ Some block → slice_get (take n (held J)) at ≡ Some block
+held_below J n at block below lt e = get-take n (held J) at below ∙ held_at J at block lt e

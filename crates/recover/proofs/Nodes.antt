@@ -1,5 +1,5 @@
 -- What the entry of a node says of the place of its bytes.
-use Rattle.std.proofs.Common.{◌≡◌, ℕ, ◌+◌, ◌<◌, ◌≤◌, subst, arith}
+use Rattle.std.proofs.Common.{◌≡◌, ℕ, ◌+◌, ◌≤◌, subst, arith}
 use Rattle.std.specs.Int.{div_ceil}
 use Rattle.icb.specs.declared.entry.Kind.{Kind}
 use Rattle.icb.specs.declared.entry.Place as source

@@ -1,5 +1,6 @@
 pub mod Blocks
 pub mod Faults
+pub mod Forest
 pub mod Nodes
 pub mod State
 pub mod Tables

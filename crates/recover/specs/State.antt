@@ -1,5 +1,6 @@
 -- What is kept by a state that was read back from a medium.
-use Rattle.std.specs.Prelude.{◌≡◌, ℕ, ◌+◌, ◌-◌, ◌*◌, ◌<◌, ◌≤◌, List, length}
+use Rattle.std.specs.Prelude.{◌≡◌, ℕ, ◌+◌, ◌-◌, ◌*◌, ◌≤◌, List, length, Option, Some, slice_get}
+use Rattle.icb.specs.FileSet.{IsFileSet}
 use Rattle.vat.specs.declared.table.Vat.{Vat}
 use Rattle.vat.specs.Table.{IsTableAt, view}
 use Rattle.recover.specs.declared.state.State.{State}
@@ -20,3 +21,11 @@ pub record IsSound (at capacity : ℕ) (state : State) : Type 0 where
   pub counted : IsCounted at state.vat
   -- each node has an entry beside that of the file set
   pub nodes : 1 + (state.vat.files + state.vat.directories) ≤ length state.vat.entries.items
+
+-- the file set descriptor has virtual address 0, and this label and moment
+pub record HasFileSet (medium : List (List ℕ)) (entries : List (Option ℕ)) (label : List ℕ) (moment : ℕ) : Type 0 where
+  pub number : ℕ
+  pub used : slice_get entries 0 ≡ Some (Some number)
+  pub block : List ℕ
+  pub there : slice_get medium (number + 257) ≡ Some block
+  pub is : IsFileSet (record { label = label; moment = moment }) block

@@ -1,5 +1,5 @@
 -- The tables of a medium, and why none is read.
-use Rattle.std.specs.Prelude.{◌≡◌, ℕ, ◌+◌, ◌-◌, ◌<◌, ◌≤◌, ◌⊎◌, ⊤, List, Option, Some, None, slice_get}
+use Rattle.std.specs.Prelude.{◌≡◌, ℕ, ◌+◌, ◌-◌, ◌≤◌, ◌⊎◌, ⊤, List, Option, Some, None, slice_get}
 use Rattle.std.specs.Int.{div_ceil}
 use Rattle.ecma.specs.FirstFault.{IsFirst}
 use Rattle.icb.specs.declared.entry.Kind.TheVariants as kinds

@@ -1,9 +1,10 @@
 //! The state that stands where a table's entry does.
 
-ghost use Rattle.std.specs.Prelude.{◌≡◌, ◌<◌, ◌≤◌, IsTrue, IfOk, OnOk};
-ghost use Rattle.drive.specs.Journal.{next_of};
+ghost use Rattle.std.specs.Prelude.{◌≡◌, ◌<◌, ◌≤◌, IsTrue, IfOk, OnOk, take};
+ghost use Rattle.drive.specs.Journal.{held, next_of};
+ghost use Rattle.volume.specs.Front.{IsFront};
 ghost use Rattle.recover.specs.Faults.{Counts, devices};
-ghost use Rattle.recover.specs.State.{IsCounted, IsSound};
+ghost use Rattle.recover.specs.State.{HasFileSet, IsCounted, IsSound};
 
 use crate::cause;
 use crate::fault::{StoreFault, damaged};
@@ -12,7 +13,7 @@ use crate::table::{read_table, table_entry};
 use crate::walk::{Named, Walk};
 use drive::Drive;
 use ecma::Timestamp;
-use icb::decode_fsd;
+use icb::{FileSet, decode_fsd};
 use osta::Label;
 use std::alloc::Global;
 use vat::Vat;
@@ -72,6 +73,7 @@ pub fn state_at<D: Drive>(alloc: Global, drive: &mut D, at: u32) -> Result<State
 /// Reads the front, block by block.
 fn read_front<D: Drive>(drive: &mut D) -> Result<Front, StoreFault>
     requires within { 257 ≤ next_of (D.journal drive.old) }
+    ensures front { IfOk result (λ front. IsTrue (D.honest drive.new) → IsFront front.label front.moment front.capacity (take 257 (held (D.journal drive.old)))) }
     ensures limits { IfOk result (λ front. (512 ≤ front.capacity) × (front.capacity ≤ 450_000)) }
     ensures journal { D.journal drive.new ≡ D.journal drive.old }
     ensures capacity { D.capacity drive.new ≡ D.capacity drive.old }
@@ -86,8 +88,9 @@ fn read_front<D: Drive>(drive: &mut D) -> Result<Front, StoreFault>
     };
     for n in 0..FRONT_BLOCKS {
         let block = read_block(drive, n)?;
-        if first_difference(&front, n, &block).is_some() {
-            return Err(damaged(n, cause::FRONT));
+        match first_difference(&front, n, &block) {
+            Some(_) => return Err(damaged(n, cause::FRONT)),
+            None => {}
         }
     }
     Ok(front)
@@ -103,6 +106,7 @@ fn check_file_set<D: Drive>(
 ) -> Result<(), StoreFault>
     requires low { 257 ≤ at }
     requires within { at < next_of (D.journal drive.old) }
+    ensures set { OnOk result (IsTrue (D.honest drive.new) → HasFileSet (take at (held (D.journal drive.old))) vat.now.entries.items front.now.label front.now.moment) }
     ensures journal { D.journal drive.new ≡ D.journal drive.old }
     ensures capacity { D.capacity drive.new ≡ D.capacity drive.old }
     ensures honest { IsTrue (D.honest drive.new) → IsTrue (D.honest drive.old) }
@@ -118,7 +122,11 @@ fn check_file_set<D: Drive>(
         Ok(set) => set,
         Err(fault) => return Err(damaged(set_at, fault as u8)),
     };
-    if set.label != front.label || set.moment != front.moment {
+    let expected = FileSet {
+        label: front.label,
+        moment: front.moment,
+    };
+    if set != expected {
         return Err(damaged(set_at, cause::LABEL));
     }
     Ok(())

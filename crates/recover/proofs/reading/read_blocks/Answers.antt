@@ -1,5 +1,4 @@
-use Rattle.std.proofs.Common.{◌≡◌, ◌+◌, ◌<◌, Some, ◌∙◌, arith, rules}
-use Rattle.std.specs.Prelude.{slice_get}
+use Rattle.std.proofs.Common.{◌+◌, ◌<◌, ◌∙◌, arith, rules}
 use Rattle.drive.specs.Journal.{held, next_of}
 use Rattle.recover.proofs.Blocks.{blocks_more}
 use Rattle.recover.proofs.Held.{held_at}

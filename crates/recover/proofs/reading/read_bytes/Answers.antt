@@ -1,5 +1,5 @@
-use Rattle.std.proofs.Common.{◌≡◌, ◌+◌, ◌-◌, ◌*◌, ◌<◌, ◌≤◌, ◌++◌, length, List, ℕ, take, Some, refl, sym, subst, ◌∙◌, arith, rules}
-use Rattle.std.specs.Prelude.{slice_get, min}
+use Rattle.std.proofs.Common.{◌≡◌, ◌+◌, ◌-◌, ◌*◌, ◌<◌, ◌≤◌, ◌++◌, length, List, ℕ, take, refl, sym, subst, ◌∙◌, arith, rules}
+use Rattle.std.specs.Prelude.{min}
 use Rattle.drive.specs.Journal.{held, next_of}
 use Rattle.recover.proofs.Blocks.{Gathered, bytes_more, gathered_none}
 use Rattle.recover.proofs.Held.{held_at}

@@ -1,9 +1,12 @@
 use Rattle.std.proofs.Common.{◌≡◌, IsTrue}
+use Rattle.drive.specs.Journal.{held}
 use Rattle.recover.specs.Faults.{Counts}
+use Rattle.recover.proofs.Fronts.{BeginsFront}
 use Rattle.recover.proofs.state.read_front.Given as goal
 
 abbrev pub invariant-loop-n : goal.invariant-loop-n
 invariant-loop-n g l = record {
+  seen : IsTrue (g.D.Drive.honest l.drive) → BeginsFront l.front.label l.front.moment l.front.capacity l.n (held (g.D.Drive.journal l.fn.drive));
   journal : g.D.Drive.journal l.drive ≡ g.D.Drive.journal l.fn.drive;
   capacity : g.D.Drive.capacity l.drive ≡ g.D.Drive.capacity l.fn.drive;
   honest : IsTrue (g.D.Drive.honest l.drive) → IsTrue (g.D.Drive.honest l.fn.drive);

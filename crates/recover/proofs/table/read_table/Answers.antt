@@ -1,5 +1,4 @@
 use Rattle.std.proofs.Common.{◌≡◌, ◌∙◌, rules}
-use Rattle.drive.specs.Journal.{held}
 use Rattle.vat.specs.declared.fault.VatFault.TheVariants as vat_faults
 use Rattle.recover.proofs.Tables.{below_entry, table_refused}
 use Rattle.recover.proofs.table.read_table.Goals as goal
