@@ -1,7 +1,11 @@
 pub mod BelowLemmas
 pub mod EntryChanges
+pub mod FreeAddresses
+pub mod NextTables
 pub mod NodeChanges
 pub mod Plans
 pub mod Puttings
 pub mod RecordChanges
+pub mod SaidRecords
 pub mod Sessions
+pub mod TableEntries
