@@ -1,5 +1,5 @@
 -- The first unused entry of a table, looked for from an index on.
-use Rattle.std.proofs.Common.{◌≡◌, ℕ, zero, suc, ◌+◌, ◌<◌, ◌≤◌, List, [], ◌∷◌, length, drop, get_or, refl, sym, ap, ◌∙◌, arith}
+use Rattle.std.proofs.Common.{◌≡◌, ℕ, zero, suc, ◌+◌, ◌<◌, ◌≤◌, List, [], ◌∷◌, length, drop, get_or, refl, sym, ap, arith}
 use Rattle.std.specs.Prelude.{Option, Some, None, is_some, true, false}
 use Rattle.std.proofs.lemmas.Bool.{true≢false}
 use Rattle.model.specs.Addresses.{used_first, free_address}

@@ -1,15 +1,15 @@
 -- The changes of a request make the table that its plan asks for.
-use Rattle.std.proofs.Common.{◌≡◌, ◌⊎◌, inl, inr, ℕ, zero, suc, ◌+◌, ◌-◌, ◌<◌, ◌≤◌, ◌==◌, cond, ◌&&◌, Bool, true, false, List, [], ◌∷◌, ◌++◌, length, take, map, slice_get, refl, sym, ap, ◌∙◌, subst, arith, eq-eqb}
+use Rattle.std.proofs.Common.{◌≡◌, ◌⊎◌, inl, inr, ℕ, ◌+◌, ◌-◌, ◌<◌, ◌≤◌, ◌==◌, cond, ◌&&◌, Bool, true, false, List, [], ◌∷◌, ◌++◌, length, take, map, refl, sym, ap, ◌∙◌, subst, arith, eq-eqb}
 use Rattle.std.specs.Prelude.{Option, Some, None, if◌then◌else◌}
 use Rattle.std.proofs.lemmas.Bool.{ne_eqb}
 use Rattle.std.proofs.lemmas.List.{length-take-le}
 use Rattle.std.proofs.lemmas.Option.{slice_get_within}
 use Rattle.dir.specs.declared.entry.Kind.{Kind}
 use Rattle.dir.specs.declared.entry.Kind.TheVariants.{File, Directory}
-use Rattle.model.specs.Tree.{Path, Tree, Content, parent_of, files_of, directories_of, is_directory_at}
-use Rattle.model.specs.Operation.{Operation, code_of, done, tree_after, files_gone, directories_gone}
+use Rattle.model.specs.Tree.{Path, Tree, parent_of, files_of, directories_of, is_directory_at}
+use Rattle.model.specs.Operation.{Operation, code_of, done}
 use Rattle.model.specs.Operation.Operation.{Create, Replace, MakeDir, Rename, Remove}
-use Rattle.model.specs.Session.{State, Request, ClientRecord, after_one, with_reply, draws_identity}
+use Rattle.model.specs.Session.{State, Request, after_one, with_reply, draws_identity}
 use Rattle.model.specs.Addresses.{free_address}
 use Rattle.model.specs.Graph.{Graph, Reach, is_directory}
 use Rattle.model.specs.Change.{Found}
@@ -17,9 +17,9 @@ use Rattle.model.proofs.Operations.{counted}
 use Rattle.model.proofs.Codes.{may_remove}
 use Rattle.medium.specs.Formats.{Table_}
 use Rattle.medium.specs.Volume.{Medium, Stands, graph_of}
-use Rattle.medium.specs.Plan.{Writing, Written, Plans, PlansAddition, PlansReplacement, PlansRemoval, PlansRenaming, PlansMove, turned, entries_after}
+use Rattle.medium.specs.Plan.{Writing, Written, Plans, PlansRenaming, PlansMove, entries_after}
 use Rattle.medium.proofs.Commits.{reached_used}
-use Rattle.medium.proofs.Planned.{zero_or, tree_done, tree_refused, moved_reach}
+use Rattle.medium.proofs.Planned.{zero_or, tree_done, tree_refused}
 use Rattle.medium.proofs.Tables.{least_within}
 use Rattle.udf.specs.Udf.{udf}
 use Rattle.udf.specs.Said.{said_record, said_table}
@@ -29,9 +29,9 @@ use Rattle.vat.specs.Table.{Table}
 use Rattle.store.specs.declared.change.NewNode.{NewNode}
 use Rattle.store.specs.declared.nodes.Node.{Node}
 use Rattle.store.specs.TableChange.{with_entry, with_nodes, committed, added, removed}
-use Rattle.store.specs.NextTable.{all_placed, next_table, made_by, Takes, Changes, planned_table, NextTablesFollow}
+use Rattle.store.specs.NextTable.{next_table, made_by, Takes, Changes, planned_table, NextTablesFollow}
 use Rattle.store.proofs.SaidRecords.{said_with_reply}
-use Rattle.store.proofs.TableEntries.{all_entries, placed_alone, AreWithin, IsNone, entries_written, entries_unused, entries_made}
+use Rattle.store.proofs.TableEntries.{all_entries, placed_alone, AreWithin, entries_written, entries_unused, entries_made}
 
 -- ---- a request's table, by the tree behind it
 
@@ -57,7 +57,7 @@ module _ (S : State) (r : Request) (at : ℕ) (t : Table) (commits : t.commits �
   abbrev base : Table
   base = committed at r.client r.number (code_of r.operation S.tree) t
 
-  records_are : map said_record base.records ≡ (after_one S r).records
+  pub records_are : map said_record base.records ≡ (after_one S r).records
   records_are =
       said_with_reply r.client r.number (record { code = code_of r.operation S.tree; commit = t.commits + 1 }) t.records
       ∙ (λ i. with_reply r.client r.number (record { code = code_of r.operation S.tree; commit = commits i + 1 }) (records i))
@@ -128,46 +128,46 @@ module _ (S : State) (r : Request) (at : ℕ) (t : Table) (commits : t.commits �
 
 -- ---- by the operation
 
-three_within : (size : ℕ) (b : Bool) (x y z : Writing) → x.address < size → y.address < size → z.address < size → AreWithin size (map (λ n. n.address) ((if b then x ∷ [] else []) ++ y ∷ z ∷ []))
+pub three_within : (size : ℕ) (b : Bool) (x y z : Writing) → x.address < size → y.address < size → z.address < size → AreWithin size (map (λ n. n.address) ((if b then x ∷ [] else []) ++ y ∷ z ∷ []))
 three_within size true x y z p q s = (p, (q, (s, tt)))
 three_within size false x y z p q s = (q, (s, tt))
 
 module _ (capacity volume : ℕ) (medium : Medium) (S : State) (stands : Stands udf capacity volume medium S) (r : Request) (t : Table) (is : said_table t ≡ stands.tells.table) where
-  abbrev graph : Graph
+  abbrev pub graph : Graph
   graph = graph_of udf (take stands.at medium) stands.tells.table.entries
 
-  abbrev free : ℕ
+  abbrev pub free : ℕ
   free = free_address stands.tells.table.entries
 
-  commits : t.commits ≡ S.commits
+  pub commits : t.commits ≡ S.commits
   commits = ap (λ (b : Table_). b.commits) is ∙ stands.tells.commits
 
-  records : map said_record t.records ≡ S.records
+  pub records : map said_record t.records ≡ S.records
   records = ap (λ (b : Table_). b.records) is ∙ stands.tells.records
 
   next_is : t.next_unique ≡ S.next_identity
   next_is = ap (λ (b : Table_). b.next_identity) is ∙ stands.tells.next_identity
 
-  files : t.files ≡ files_of S.tree
+  pub files : t.files ≡ files_of S.tree
   files = ap (λ (b : Table_). b.files) is ∙ stands.tells.files
 
-  directories : t.directories ≡ directories_of S.tree
+  pub directories : t.directories ≡ directories_of S.tree
   directories = ap (λ (b : Table_). b.directories) is ∙ stands.tells.directories
 
-  entries_are : t.entries ≡ stands.tells.table.entries
+  pub entries_are : t.entries ≡ stands.tells.table.entries
   entries_are = ap (λ (b : Table_). b.entries) is
 
-  long : length t.entries ≡ length stands.tells.table.entries
+  pub long : length t.entries ≡ length stands.tells.table.entries
   long = ap (λ (es : List (Option ℕ)). length es) entries_are
 
   -- what is stored lies within the table
-  stored_within : (address : ℕ) (s : _) → graph address s → address < length t.entries
+  pub stored_within : (address : ℕ) (s : _) → graph address s → address < length t.entries
   stored_within address s there = omega (arith, long, slice_get_within stands.tells.table.entries address (Some there.number) there.used)
 
-  within : (path : Path) (f : Found graph path) → f.address < length t.entries
+  pub within : (path : Path) (f : Found graph path) → f.address < length t.entries
   within path f = stored_within f.address f.stored f.is
 
-  free_within : free ≤ length t.entries
+  pub free_within : free ≤ length t.entries
   free_within =
       let root = reached_used udf capacity volume exact medium S stands 1 ([], refl) in
       let two : 1 < length stands.tells.table.entries = slice_get_within stands.tells.table.entries 1 (Some root.0) root.1 in
@@ -177,19 +177,19 @@ module _ (capacity volume : ℕ) (medium : Medium) (S : State) (stands : Stands 
   wanted tree next written unused = asked S r stands.at t commits records tree next written unused
 
   abbrev made_table : Option NewNode → List Written → Option Node → Table_
-  made_table made written gone = said_table (next_table stands.at r.client r.number (code_of r.operation S.tree) made written gone t)
+  made_table made written taken = said_table (next_table stands.at r.client r.number (code_of r.operation S.tree) made written taken t)
 
   abbrev behind : Operation → Tree
   behind op = done op r.moment S.next_identity S.tree
 
   -- the same node made and gone
-  by_these : (made made' : Option NewNode) (gone gone' : Option Node) (written : List Written) (u : Table_) → made ≡ made' → gone ≡ gone' → made_table made' written gone' ≡ u → made_table made written gone ≡ u
-  by_these made made' gone gone' written u m g e = ap (λ (x : Option NewNode). made_table x written gone) m ∙ ap (λ (x : Option Node). made_table made' written x) g ∙ e
+  by_these : (made made' : Option NewNode) (taken taken' : Option Node) (written : List Written) (u : Table_) → made ≡ made' → taken ≡ taken' → made_table made' written taken' ≡ u → made_table made written taken ≡ u
+  by_these made made' taken taken' written u m g e = ap (λ (x : Option NewNode). made_table x written taken) m ∙ ap (λ (x : Option Node). made_table made' written x) g ∙ e
 
   unused_none : (written : List Written) (unused : List ℕ) (xs : List (Option ℕ)) → unused ≡ [] → xs ≡ entries_after t.entries written [] → xs ≡ entries_after t.entries written unused
   unused_none written unused xs none e = e ∙ ap (λ (us : List ℕ). entries_after t.entries written us) (sym none)
 
-  addresses_by : (written : List Written) (nodes these : List Writing) → map (λ w. w.address) written ≡ map (λ n. n.address) nodes → nodes ≡ these → map (λ w. w.address) written ≡ map (λ n. n.address) these
+  pub addresses_by : (written : List Written) (nodes these : List Writing) → map (λ w. w.address) written ≡ map (λ n. n.address) nodes → nodes ≡ these → map (λ w. w.address) written ≡ map (λ n. n.address) these
   addresses_by written nodes these e same = e ∙ ap (λ (ns : List Writing). map (λ n. n.address) ns) same
 
   -- where no node is made and none goes
@@ -205,44 +205,44 @@ module _ (capacity volume : ℕ) (medium : Medium) (S : State) (stands : Stands 
       subst (λ (ns : List Writing). AreWithin (length t.entries) (map (λ n. n.address) ns)) (sym plan.nodes_are)
       (three_within (length t.entries) (is_directory plan.stored) _ _ _ (stored_within plan.moved.address plan.stored plan.there) (within (parent_of from) plan.above) (within (parent_of to) plan.beyond))
 
-  rename_within : (from to : Path) (nodes : List Writing) → PlansRenaming graph from to r.moment nodes ⊎ PlansMove graph from to r.moment nodes → AreWithin (length t.entries) (map (λ n. n.address) nodes)
+  pub rename_within : (from to : Path) (nodes : List Writing) → PlansRenaming graph from to r.moment nodes ⊎ PlansMove graph from to r.moment nodes → AreWithin (length t.entries) (map (λ n. n.address) nodes)
   rename_within from to nodes (inl plan) = subst (λ (ns : List Writing). AreWithin (length t.entries) (map (λ n. n.address) ns)) (sym plan.nodes_are) (within (parent_of from) plan.above, tt)
   rename_within from to nodes (inr plan) = move_within from to nodes plan
 
   -- what goes is not the directory above it
-  apart_above : (path : Path) (above : Found graph (parent_of path)) (node : Found graph path) → 0 < length path → node.address ≡ above.address → ⊥
+  pub apart_above : (path : Path) (above : Found graph (parent_of path)) (node : Found graph path) → 0 < length path → node.address ≡ above.address → ⊥
   apart_above path above node named e =
       let same : path ≡ parent_of path = stands.tells.makes.one_path path (parent_of path) above.address (subst (λ (a : ℕ). Reach graph path a) e node.reach) above.reach in
       omega (arith, named, ap (λ (p : Path). length p) same, length-take-le (length path - 1) path (omega arith))
 
-  follows : (op : Operation) (nodes : List Writing) (unused : List ℕ) (written : List Written) (made : Option NewNode) (gone : Option Node) → code_of op S.tree ≡ 0
-      → map (λ w. w.address) written ≡ map (λ n. n.address) nodes → Plans graph free op r.moment S.next_identity nodes unused → made ≡ made_by op free → Takes op S.tree unused gone
-      → made_table made written gone ≡ wanted (behind op) (drawn (draws_identity op) S.next_identity) written unused
-  follows (Create path bytes) nodes unused written made gone e addresses (plan, none) m g =
+  follows : (op : Operation) (nodes : List Writing) (unused : List ℕ) (written : List Written) (made : Option NewNode) (taken : Option Node) → code_of op S.tree ≡ 0
+      → map (λ w. w.address) written ≡ map (λ n. n.address) nodes → Plans graph free op r.moment S.next_identity nodes unused → made ≡ made_by op free → Takes op S.tree unused taken
+      → made_table made written taken ≡ wanted (behind op) (drawn (draws_identity op) S.next_identity) written unused
+  follows (Create path bytes) nodes unused written made taken e addresses (plan, none) m g =
       let c = counted (Create path bytes) r.moment S.next_identity S.tree stands.tells.tree e in
-      by_these made _ gone None written _ m g
+      by_these made _ taken None written _ m g
       (with_file S r stands.at t commits records (behind (Create path bytes)) free written unused (omega (arith, c.files, files)) (omega (arith, c.directories, directories)) (omega (arith, next_is))
       (unused_none written unused _ none (entries_made written free (plan.above.address ∷ []) (addresses_by written nodes _ addresses plan.nodes_are) t.entries free_within (within (parent_of path) plan.above, tt))))
-  follows (MakeDir path) nodes unused written made gone e addresses (plan, none) m g =
+  follows (MakeDir path) nodes unused written made taken e addresses (plan, none) m g =
       let c = counted (MakeDir path) r.moment S.next_identity S.tree stands.tells.tree e in
-      by_these made _ gone None written _ m g
+      by_these made _ taken None written _ m g
       (with_directory S r stands.at t commits records (behind (MakeDir path)) free written unused (omega (arith, c.files, files)) (omega (arith, c.directories, directories)) (omega (arith, next_is))
       (unused_none written unused _ none (entries_made written free (plan.above.address ∷ []) (addresses_by written nodes _ addresses plan.nodes_are) t.entries free_within (within (parent_of path) plan.above, tt))))
-  follows (Replace path bytes) nodes unused written made gone e addresses (plan, none) m g =
+  follows (Replace path bytes) nodes unused written made taken e addresses (plan, none) m g =
       let c = counted (Replace path bytes) r.moment S.next_identity S.tree stands.tells.tree e in
-      by_these made None gone None written _ m g
+      by_these made None taken None written _ m g
       (plain (Replace path bytes) nodes unused written e (omega (arith, c.files)) (omega (arith, c.directories)) addresses none
       (subst (λ (ns : List Writing). AreWithin (length t.entries) (map (λ n. n.address) ns)) (sym plan.nodes_are) (within path plan.file, tt)))
-  follows (Rename from to) nodes unused written made gone e addresses (plan, none) m g =
+  follows (Rename from to) nodes unused written made taken e addresses (plan, none) m g =
       let c = counted (Rename from to) r.moment S.next_identity S.tree stands.tells.tree e in
-      by_these made None gone None written _ m g
+      by_these made None taken None written _ m g
       (plain (Rename from to) nodes unused written e (omega (arith, c.files)) (omega (arith, c.directories)) addresses none (rename_within from to nodes plan))
-  follows (Remove path) nodes unused written made gone e addresses plan m (node, g, u, kind) =
+  follows (Remove path) nodes unused written made taken e addresses plan m (node, g, u, kind) =
       let c = counted (Remove path) r.moment S.next_identity S.tree stands.tells.tree e in
       let may = may_remove path S.tree e in
       let same : plan.node.address ≡ node.address = head_same (sym plan.gone_is ∙ u) in
       let there : node.address < length t.entries = omega (arith, within path plan.node, same) in
-      by_these made None gone (Some node) written _ m g
+      by_these made None taken (Some node) written _ m g
       (without_node S r stands.at t commits records (behind (Remove path)) (is_directory_at S.tree path) node written unused kind
       (removed_files (is_directory_at S.tree path) (files_of (behind (Remove path))) c.files) (c.directories ∙ sum_zero directories) next_is
       (entries_unused written (plan.above.address ∷ []) (addresses_by written nodes _ addresses plan.nodes_are) t.entries node.address there (within (parent_of path) plan.above, tt)
@@ -270,24 +270,24 @@ module _ (capacity volume : ℕ) (medium : Medium) (S : State) (stands : Stands 
   as_planned tree next written unused e n =
       (λ i. wanted (sym e i) (n i) written unused) ∙ ap (λ (b : Table_). planned_table S r stands.at b written unused) is
 
-  pub next_follows : (nodes : List Writing) (unused : List ℕ) (written : List Written) (made : Option NewNode) (gone : Option Node) → Changes capacity volume medium S stands r nodes unused written made gone
-      → made_table made written gone ≡ planned written unused
-  next_follows nodes unused written made gone h = elim (zero_or (code_of r.operation S.tree)) [ inl e ↦ when_done e | inr other ↦ when_refused other ]
+  pub next_follows : (nodes : List Writing) (unused : List ℕ) (written : List Written) (made : Option NewNode) (taken : Option Node) → Changes capacity volume medium S stands r nodes unused written made taken
+      → made_table made written taken ≡ planned written unused
+  next_follows nodes unused written made taken h = elim (zero_or (code_of r.operation S.tree)) [ inl e ↦ when_done e | inr other ↦ when_refused other ]
     where
-      when_done : code_of r.operation S.tree ≡ 0 → made_table made written gone ≡ planned written unused
+      when_done : code_of r.operation S.tree ≡ 0 → made_table made written taken ≡ planned written unused
       when_done e =
           let d = h.done e in
-          follows r.operation nodes unused written made gone e h.addresses d.0 d.1 d.2
+          follows r.operation nodes unused written made taken e h.addresses d.0 d.1 d.2
           ∙ as_planned (behind r.operation) (drawn (draws_identity r.operation) S.next_identity) written unused (tree_done r.operation r.moment S.next_identity S.tree e) (next_done S r e)
 
-      when_refused : (code_of r.operation S.tree ≡ 0 → ⊥) → made_table made written gone ≡ planned written unused
+      when_refused : (code_of r.operation S.tree ≡ 0 → ⊥) → made_table made written taken ≡ planned written unused
       when_refused other =
           let d = h.refused other in
           let none : written ≡ [] = none_written written (h.addresses ∙ ap (λ (ns : List Writing). map (λ n. n.address) ns) d.0) in
-          by_these made None gone None written _ d.2 d.3
+          by_these made None taken None written _ d.2 d.3
           (plainly S r stands.at t commits records S.tree written unused files directories next_is
           ((λ i. all_entries (none i) t.entries) ∙ (λ i. entries_after t.entries (sym none i) (sym d.1 i))))
           ∙ as_planned S.tree S.next_identity written unused (tree_refused r.operation r.moment S.next_identity S.tree other) (next_refused S r other)
 
 pub next_tables_follow : NextTablesFollow
-next_tables_follow capacity volume medium S stands r nodes unused written made gone t is h = next_follows capacity volume medium S stands r t is nodes unused written made gone h
+next_tables_follow capacity volume medium S stands r nodes unused written made taken t is h = next_follows capacity volume medium S stands r t is nodes unused written made taken h

@@ -1,9 +1,9 @@
 -- A table's entries as the store changes them are those that a plan asks for.
-use Rattle.std.proofs.Common.{◌≡◌, ◌⊎◌, inl, inr, ℕ, zero, suc, ◌+◌, ◌<◌, ◌≤◌, ◌==◌, cond, Bool, true, false, List, [], ◌∷◌, ◌++◌, length, take, drop, map, slice_get, slice_set, refl, sym, ap, ◌∙◌, subst, arith, eq-eqb, length-append}
-use Rattle.std.specs.Prelude.{Option, Some, None, max}
+use Rattle.std.proofs.Common.{◌≡◌, ◌⊎◌, inl, inr, ℕ, zero, suc, ◌+◌, ◌<◌, ◌≤◌, ◌==◌, cond, Bool, true, false, List, [], ◌∷◌, ◌++◌, length, take, drop, map, slice_set, refl, sym, ap, ◌∙◌, subst, arith, eq-eqb, length-append}
+use Rattle.std.specs.Prelude.{Option, Some, None}
 use Rattle.std.proofs.lemmas.Bool.{ne_eqb, eqb-true, eqb-false}
 use Rattle.vat.specs.Table.{Table}
-use Rattle.medium.specs.Plan.{Written, with_written, without_all, entries_after}
+use Rattle.medium.specs.Plan.{Written, with_written, entries_after}
 use Rattle.medium.specs.Plan as plan
 use Rattle.medium.proofs.Tables.{length_inside, length_at_end}
 use Rattle.store.specs.TableChange.{with_entry, with_nodes, placed}
@@ -56,7 +56,7 @@ at_end xs e = ap (λ (b : Bool). cond b (xs ++ e ∷ []) (slice_set xs (length x
 pushed_long : (xs : List Entry) (e : Entry) → length xs < length (xs ++ e ∷ [])
 pushed_long xs e = omega (arith, length-append xs (e ∷ []))
 
-below_or_at : (a b : ℕ) → a ≤ b → (a < b) ⊎ (a ≡ b)
+pub below_or_at : (a b : ℕ) → a ≤ b → (a < b) ⊎ (a ≡ b)
 below_or_at a b le = grind arith
 
 -- the last of two at one address counts

@@ -1,5 +1,6 @@
 pub mod Agrees
 pub mod Below
+pub mod Need
 pub mod NextTable
 pub mod Outside
 pub mod Plan
