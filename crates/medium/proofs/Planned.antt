@@ -282,7 +282,7 @@ module _ (formats : Formats) (capacity volume : ℕ) (exact : AreExact formats) 
       let whole_path : parent_of path ++ e.name ∷ [] ≡ path = ap (λ (ns : Path). parent_of path ++ ns) (sym last) ∙ take-append-drop (length path - 1) path in
       subst (λ p. Reach graph p e.address) whole_path (reach_more graph (parent_of path) 1 above.address e.name e.address above.reach (above.stored, above.is, e, contains, refl, refl))
 
-  above_zero : (a : ℕ) → IsReached graph a → 1 ≤ a
+  pub above_zero : (a : ℕ) → IsReached graph a → 1 ≤ a
   above_zero zero reached = absurd (not_zero reached)
   above_zero (suc a) reached = omega arith
 

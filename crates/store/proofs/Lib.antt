@@ -1,7 +1,14 @@
 pub mod BelowLemmas
+pub mod ChangesTaken
 pub mod EntryChanges
+pub mod FreeAddresses
+pub mod NextSizes
+pub mod NextTables
 pub mod NodeChanges
 pub mod Plans
 pub mod Puttings
+pub mod Reckoning
 pub mod RecordChanges
+pub mod SaidRecords
 pub mod Sessions
+pub mod TableEntries

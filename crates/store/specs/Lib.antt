@@ -1,5 +1,7 @@
 pub mod Agrees
 pub mod Below
+pub mod Need
+pub mod NextTable
 pub mod Outside
 pub mod Plan
 pub mod Putting

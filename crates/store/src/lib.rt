@@ -9,6 +9,7 @@ mod commit;
 mod directories;
 mod due;
 mod formatting;
+mod laws;
 mod nodes;
 mod places;
 mod plan;
@@ -19,5 +20,6 @@ mod write;
 
 pub use due::Due;
 pub use formatting::format;
+pub use laws::{need_is_reckoned, next_tables_follow};
 pub use recover::StoreFault;
 pub use store::Store;
