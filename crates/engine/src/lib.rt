@@ -8,6 +8,8 @@ mod engine;
 mod runs;
 mod serving;
 mod streams;
+#[cfg(test)]
+mod tests;
 
 pub use engine::Engine;
 pub use runs::{Delivery, run};
