@@ -11,6 +11,8 @@ mod fault;
 mod images;
 mod process;
 mod sending;
+#[cfg(test)]
+mod tests;
 
 pub use commands::command;
 pub use daemons::{daemon, serve_one};

@@ -1,0 +1,6 @@
+//! The programs on words, streams, files and sockets.
+
+mod asking;
+mod commands;
+mod daemons;
+mod streams;

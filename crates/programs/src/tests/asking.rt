@@ -1,0 +1,65 @@
+//! Programs that are run, and what they told.
+
+use crate::{command, daemon};
+use std::alloc::Global;
+use std::fs;
+use std::test::Fail;
+
+/// A request to make the file `/a` with the bytes `hello`, of client 7 under number 1.
+pub(crate) const CREATE: [u8; 42] =
+    *b"\x26\0\0\0\x01\x07\0\0\0\0\0\0\0\x01\0\0\0\0\0\0\0\0\0\0\0\0\0\0\0\x01\x01\0a\x05\0\0\0hello";
+
+/// A request to make the directory `/d`, of client 7 under number 2.
+pub(crate) const MAKE: [u8; 33] =
+    *b"\x1d\0\0\0\x03\x07\0\0\0\0\0\0\0\x02\0\0\0\0\0\0\0\0\0\0\0\0\0\0\0\x01\x01\0d";
+
+/// What a program told, and its status.
+#[derive(Drop)]
+pub(crate) struct Told {
+    pub status: u8,
+    pub output: Vec<u8>,
+    pub errors: Vec<u8>,
+}
+
+impl Told {
+    /// Whether it is this.
+    pub(crate) fn is(&self, status: u8, output: &[u8], errors: &[u8]) -> bool {
+        self.status == status
+            && self.output.as_slice() == output
+            && self.errors.as_slice() == errors
+    }
+}
+
+/// Runs `udfburn` on these words and this input.
+pub(crate) fn run(rt: &HostRuntime, words: &[&str], input: &[u8]) -> Told {
+    let mut reader = input;
+    let mut output = Vec::new(rt.alloc());
+    let mut errors = Vec::new(rt.alloc());
+    let status = command(rt, words, &mut reader, &mut output, &mut errors);
+    Told {
+        status,
+        output,
+        errors,
+    }
+}
+
+/// Runs `udfburnd` on these words.
+pub(crate) fn run_daemon(rt: &HostRuntime, words: &[&str]) -> Told {
+    let mut errors = Vec::new(rt.alloc());
+    let status = daemon(rt, words, &mut errors);
+    Told {
+        status,
+        output: Vec::new(rt.alloc()),
+        errors,
+    }
+}
+
+/// A new image of 3,000 blocks at this path, in the place of one that is there.
+pub(crate) fn formatted(rt: &HostRuntime, image: &str) -> Result<(), Fail> {
+    let _ = fs::remove_file(rt, image);
+    if run(rt, &["format", image, "DISC", "0", "3000"], b"").is(0, b"formatted\n", b"") {
+        Ok(())
+    } else {
+        Err(Fail::new("no format"))
+    }
+}

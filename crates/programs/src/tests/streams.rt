@@ -1,0 +1,123 @@
+//! Streams of `udfburn` that fail, and that come byte by byte.
+
+use super::asking::{CREATE, Told, formatted, run};
+use crate::command;
+use std::io::{Error, ErrorKind, Read, Write};
+use std::test::Fail;
+use std::{fs, io};
+
+/// A reader that gives its bytes one by one, and then fails.
+#[derive(Drop)]
+struct Single<'a>(&'a [u8]);
+
+impl Read for Single<'_> {
+    fn read(&mut self, buf: &mut [u8]) -> io::Result<usize> {
+        match (self.0.split_first(), buf.split_first_mut()) {
+            (Some((byte, rest)), Some((into, _))) => {
+                *into = *byte;
+                self.0 = rest;
+                Ok(1)
+            }
+            _ => Err(Error::from(ErrorKind::Other)),
+        }
+    }
+}
+
+/// A writer that has room for so many bytes.
+#[derive(Drop)]
+struct Room {
+    bytes: Vec<u8>,
+    left: usize,
+}
+
+impl Write for Room {
+    fn write(&mut self, buf: &[u8]) -> io::Result<usize> {
+        let count = buf.len().min(self.left);
+        if count == 0 || self.bytes.extend_from_slice(&buf[..count]).is_err() {
+            return Err(Error::from(ErrorKind::Other));
+        }
+        self.left -= count;
+        Ok(count)
+    }
+
+    fn flush(&mut self) -> io::Result<()> {
+        Ok(())
+    }
+}
+
+#[test]
+fn an_input_that_fails(rt: HostRuntime) -> Result<(), Fail> {
+    let mut reader = Single(&CREATE);
+    let mut output = Vec::new(rt.alloc());
+    let mut errors = Vec::new(rt.alloc());
+    let status = command(
+        &rt,
+        &["apply", "mem:3000"],
+        &mut reader,
+        &mut output,
+        &mut errors,
+    );
+    let told = Told {
+        status,
+        output,
+        errors,
+    };
+    // What came was answered before more was waited for.
+    assert!(rt; told.is(1, &[6, 0, 0, 0, 0, 0, 1, 0, 0, 0], b"udfburn: 91 Read\n"));
+    Ok(())
+}
+
+#[test]
+fn an_output_that_fails(rt: HostRuntime) -> Result<(), Fail> {
+    let image = "output.img";
+    let line = b"udfburn: 92 Write\n";
+    let rows: [(&[&str], &[u8], usize); 4] = [
+        (&["apply", image], &CREATE, 9),
+        (&["apply", image], &CREATE, 0),
+        (&["ls", image, "/"], b"", 3),
+        (&["get", image, "/a"], b"", 4),
+    ];
+    formatted(&rt, image)?;
+    for (words, input, left) in rows {
+        let mut reader = input;
+        let mut errors = Vec::new(rt.alloc());
+        let mut writer = Room {
+            bytes: Vec::new(rt.alloc()),
+            left,
+        };
+        let status = command(&rt, words, &mut reader, &mut writer, &mut errors);
+        assert_eq!(rt; status, 1);
+        assert_eq!(rt; writer.bytes.len(), left);
+        assert_eq!(rt; errors.as_slice(), line.as_slice());
+        // The request was committed once, though its answer was not told.
+        assert_eq!(rt; fs::read(&rt, image)?.len(), 267 * 2048);
+    }
+    fs::remove_file(&rt, image)?;
+    Ok(())
+}
+
+#[test]
+fn an_image_that_is_cut(rt: HostRuntime) -> Result<(), Fail> {
+    let image = "cut.img";
+    formatted(&rt, image)?;
+    let told = run(&rt, &["apply", image], &CREATE);
+    assert!(rt; told.is(0, &[6, 0, 0, 0, 0, 0, 1, 0, 0, 0], b""));
+    let whole = fs::read(&rt, image)?;
+    // The last commit loses its last block, some of its blocks, and a part of a block.
+    for size in [266 * 2048, 263 * 2048, 263 * 2048 + 77] {
+        fs::write(&rt, image, whole.get(..size).ok_or("a short image")?)?;
+        let told = run(&rt, &["ls", image, "/"], b"");
+        assert!(rt; told.is(0, b"", b""));
+        let told = run(&rt, &["get", image, "/a"], b"");
+        assert!(rt; told.is(1, b"", b"udfburn: 96 NotFound\n"));
+        for _ in 0..2 {
+            let told = run(&rt, &["apply", image], &CREATE);
+            assert!(rt; told.is(0, &[6, 0, 0, 0, 0, 0, 1, 0, 0, 0], b""));
+            assert_eq!(rt; fs::read(&rt, image)?.len(), (size / 2048 + 5) * 2048);
+        }
+        let told = run(&rt, &["get", image, "/a"], b"");
+        assert!(rt; told.is(0, b"hello", b""));
+    }
+    fs::remove_file(&rt, image)?;
+    Ok(())
+}
