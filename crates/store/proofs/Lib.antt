@@ -1,5 +1,7 @@
 pub mod BelowLemmas
 pub mod EntryChanges
+pub mod FormatJournals
+pub mod NewVolumes
 pub mod NodeChanges
 pub mod Plans
 pub mod Puttings
