@@ -1,7 +1,9 @@
 pub mod BelowLemmas
 pub mod ChangesTaken
 pub mod EntryChanges
+pub mod FormatJournals
 pub mod FreeAddresses
+pub mod NewVolumes
 pub mod NextSizes
 pub mod NextTables
 pub mod NodeChanges

@@ -1,6 +1,7 @@
 pub mod Agrees
 pub mod Below
 pub mod Need
+pub mod NewVolume
 pub mod NextTable
 pub mod Outside
 pub mod Plan

@@ -1,12 +1,22 @@
 //! A new volume.
 
-ghost use Rattle.std.specs.Prelude.{◌≡◌, ◌↔◌, ◌+◌, ◌<◌, ◌≤◌, ◌++◌, ℕ, List, Err, IsTrue, IsSome, IsNone, IfOk, IfSome, OnOk, OnErr, is_err, length, vec_len};
-ghost use Rattle.drive.specs.Journal.{AddsFront, counted, next_of, written};
+ghost use Rattle.std.specs.Prelude.{◌≡◌, ◌↔◌, ℕ, ◌<◌, ◌≤◌, ◌∷◌, [], Ok, Err, IsTrue, None, IsSome, IsNone, IfOk, IfErr, IfSome, OnOk, is_err, length, slice_index};
+ghost use Rattle.drive.specs.Journal.{counted, held, next_of};
+ghost use Rattle.dir.specs.Directory.{identifiers};
+ghost use Rattle.dir.specs.Layout.{identifier_blocks};
+ghost use Rattle.ecma.specs.Descriptor.{padded};
+ghost use Rattle.icb.specs.Entry.{IsEntry};
 ghost use Rattle.osta.specs.FirstFault.{first_fault};
 ghost use Rattle.osta.specs.Label.{IsLabel, label_faults};
 ghost use Rattle.recover.specs.Faults.{Counts, devices};
 ghost use Rattle.recover.specs.declared.fault.StoreFault.TheVariants as fault;
+ghost use Rattle.store.specs.NewVolume.{words_of, words_on, IsBlockAt, IsSeen, IsBegun, AreBlocks, IsFormatted, IsRefused};
+ghost use Rattle.udf.specs.Udf.{IsBlock};
+ghost use Rattle.udf.specs.NewVolume as udf;
+ghost use Rattle.udf.specs.NewVolume.{root_fields, table_fields};
+ghost use Rattle.vat.specs.Table.{table_bytes};
 
+use crate::parts::Parts;
 use dir::{Dir, Lay};
 use drive::{Drive, DriveFault, write_packets};
 use ecma::{Block, Timestamp};
@@ -34,20 +44,6 @@ const FIRST_TABLE: u32 = 204;
 /// The block number of the first table's entry.
 const TABLE_ENTRY: u32 = 4;
 
-/// What the blocks of a format are made from.
-#[derive(Drop)]
-struct Parts {
-    label: Label,
-    moment: Timestamp,
-    capacity: u32,
-    /// The block of the root, which has no names.
-    root: Block,
-    table: Vec<u8>,
-    ghost low: { 512 ≤ capacity },
-    ghost high: { capacity ≤ 450_000 },
-    ghost size: { vec_len table ≡ 204 },
-}
-
 /// Writes a new volume on a blank drive, or the rest of one that the same words began. The moment is in microseconds from
 /// 1970-01-01 UTC. A drive is refused that has other blocks, or more.
 pub fn format<D: Drive>(
@@ -57,10 +53,10 @@ pub fn format<D: Drive>(
     moment: u64,
 ) -> Result<(), StoreFault>
     requires moment { moment < 4_102_444_800_000_000 }
+    ensures ok { OnOk result (IsFormatted (D.capacity drive.old) (words_on (D.capacity drive.old) label.now moment) (D.journal drive.old) (D.journal drive.new) (D.honest drive.new)) }
+    ensures err { IfErr result (IsRefused (D.capacity drive.old) (words_on (D.capacity drive.old) label.now moment) (D.journal drive.old) (D.journal drive.new) (D.honest drive.new)) }
     ensures label { (result ≡ Err fault.Label) ↔ IsSome (first_fault (label_faults label.now)) }
     ensures small { (result ≡ Err fault.Small) ↔ (IsNone (first_fault (label_faults label.now)) × (D.capacity drive.old < 512)) }
-    ensures ok { OnOk result ((blocks : List (List ℕ)) × (next_of (D.journal drive.old) + length blocks ≡ 262) × (D.journal drive.new ≡ D.journal drive.old ++ written (next_of (D.journal drive.old)) blocks)) }
-    ensures err { OnErr result ((blocks : List (List ℕ)) × AddsFront (D.journal drive.old) (next_of (D.journal drive.old)) blocks (D.journal drive.new)) }
     ensures capacity { D.capacity drive.new ≡ D.capacity drive.old }
     ensures honest { IsTrue (D.honest drive.new) → IsTrue (D.honest drive.old) }
     ensures failures { Counts (devices result) (D.failures drive.old) (D.failures drive.new) }
@@ -78,7 +74,7 @@ pub fn format<D: Drive>(
         return Err(StoreFault::Memory);
     };
     let next = match begun(drive, &parts) {
-        Ok(Some(next)) => next,
+        Ok(Some(count)) => count,
         Ok(None) => return Err(StoreFault::NotBlank),
         Err(_) => return Err(StoreFault::Device),
     };
@@ -101,23 +97,33 @@ fn parts_of(
     requires label { IsLabel label }
     requires low { 512 ≤ capacity }
     requires high { capacity ≤ 450_000 }
+    ensures { IfOk result (λ parts. words_of parts ≡ record { volume = capacity; label = label; moment = moment }) }
+{
+    Ok(Parts {
+        label,
+        moment,
+        capacity,
+        root: root_names(alloc),
+        table: first_table(alloc, label)?,
+    })
+}
+
+/// The one block of a root without names.
+fn root_names(alloc: Global) -> Block
+    ensures { result ∷ [] ≡ identifier_blocks 1 (identifiers 1 []) }
 {
     let root = Dir {
         parent: ROOT_ADDRESS,
         entries: IndexMap::new(alloc),
     };
-    Ok(Parts {
-        label,
-        moment,
-        capacity,
-        root: Lay::new(&root, 1).next_block().unwrap_or([0; 2048]),
-        table: first_table(alloc, label)?,
-    })
+    Lay::new(&root, 1).next_block().unwrap()
 }
 
 /// How many blocks of a format a drive has, and nothing else; none where it has another block.
 fn begun<D: Drive>(drive: &mut D, parts: &Parts) -> Result<Option<u32>, DriveFault>
     ensures next { IfOk result (λ found. IfSome found (λ next. (next ≡ next_of (D.journal drive.old)) × (next ≤ 262))) }
+    ensures seen { IfOk result (λ found. IfSome found (IsSeen (words_of parts.now) (D.journal drive.old) (D.honest drive.new))) }
+    ensures other { result ≡ Ok None → IsTrue (D.honest drive.new) → IsBegun (words_of parts.now) (held (D.journal drive.old)) → ⊥ }
     ensures journal { D.journal drive.new ≡ D.journal drive.old }
     ensures capacity { D.capacity drive.new ≡ D.capacity drive.old }
     ensures honest { IsTrue (D.honest drive.new) → IsTrue (D.honest drive.old) }
@@ -136,7 +142,9 @@ fn begun<D: Drive>(drive: &mut D, parts: &Parts) -> Result<Option<u32>, DriveFau
             Ok(()) => {}
             Err(fault) => return Err(fault),
         }
-        if block != format_block(parts, n) {
+        let expected = format_block(parts, n);
+        known(&expected);
+        if block != expected {
             return Ok(None);
         }
     }
@@ -146,17 +154,34 @@ fn begun<D: Drive>(drive: &mut D, parts: &Parts) -> Result<Option<u32>, DriveFau
 /// The blocks of a format from an address on.
 fn rest(alloc: Global, parts: &Parts, next: u32) -> Result<Vec<Block>, AllocError>
     requires { next ≤ 262 }
-    ensures { IfOk result (λ blocks. next + vec_len blocks ≡ 262) }
+    ensures { IfOk result (λ blocks. AreBlocks (words_of parts.now) next 262 blocks.items) }
 {
     let mut blocks = Vec::new(alloc);
     for n in next..FORMAT_BLOCKS {
-        blocks.push(format_block(parts, n))?;
+        let block = format_block(parts, n);
+        known(&block);
+        blocks.push(block)?;
     }
     Ok(blocks)
 }
 
+/// Does nothing: what it ensures holds of each block.
+fn known(block: &Block)
+    ensures { IsBlock block.now }
+{
+    are_bytes(block);
+}
+
+/// Does nothing: what it ensures holds of all bytes.
+fn are_bytes(bytes: &[u8])
+    ensures { (i : ℕ) → slice_index bytes.now i < 256 }
+{}
+
 /// The block that a format writes at an address.
-fn format_block(parts: &Parts, n: u32) -> Block {
+fn format_block(parts: &Parts, n: u32) -> Block
+    requires { n < 262 }
+    ensures { IsBlockAt (words_of parts.now) n result }
+{
     if n < FRONT_BLOCKS {
         return front_block(&parts.label, parts.moment, parts.capacity, n);
     }
@@ -173,7 +198,9 @@ fn format_block(parts: &Parts, n: u32) -> Block {
 }
 
 /// The block of the entry of a root without names.
-fn root_block(moment: Timestamp) -> Block {
+fn root_block(moment: Timestamp) -> Block
+    ensures { IsEntry (root_fields moment) 1 result }
+{
     let entry = FileEntry {
         kind: Kind::Directory,
         moment,
@@ -186,7 +213,9 @@ fn root_block(moment: Timestamp) -> Block {
 }
 
 /// The block of the first table's entry.
-fn table_entry_block(moment: Timestamp) -> Block {
+fn table_entry_block(moment: Timestamp) -> Block
+    ensures { IsEntry (table_fields moment) 4 result }
+{
     let entry = FileEntry {
         kind: Kind::Vat,
         moment,
@@ -201,6 +230,7 @@ fn table_entry_block(moment: Timestamp) -> Block {
 /// The block of the first table.
 fn table_block(table: &[u8]) -> Block
     requires { length table.now ≤ 2048 }
+    ensures { result ≡ padded table.now }
 {
     let mut block = [0; 2048];
     block[..table.len()].copy_from_slice(table);
@@ -210,7 +240,7 @@ fn table_block(table: &[u8]) -> Block
 /// The bytes of the table of a volume with its root alone.
 fn first_table(alloc: Global, label: Label) -> Result<Vec<u8>, AllocError>
     requires { IsLabel label }
-    ensures { IfOk result (λ bytes. vec_len bytes ≡ 204) }
+    ensures { IfOk result (λ bytes. bytes.items ≡ table_bytes (udf.first_table label)) }
 {
     let vat = Vat {
         label,

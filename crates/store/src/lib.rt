@@ -11,6 +11,7 @@ mod due;
 mod formatting;
 mod laws;
 mod nodes;
+mod parts;
 mod places;
 mod plan;
 mod query;

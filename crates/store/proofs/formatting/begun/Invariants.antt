@@ -1,8 +1,11 @@
 use Rattle.std.proofs.Common.{◌≡◌, IsTrue}
+use Rattle.store.specs.NewVolume.{words_of, IsSeen}
 use Rattle.store.proofs.formatting.begun.Given as goal
 
+-- the blocks so far are those of the format
 abbrev pub invariant-loop-n : goal.invariant-loop-n
 invariant-loop-n g l = record {
+  seen : IsSeen (words_of l.parts) (g.D.Drive.journal l.fn.drive) (g.D.Drive.honest l.drive) l.n;
   journal : g.D.Drive.journal l.drive ≡ g.D.Drive.journal l.fn.drive;
   capacity : g.D.Drive.capacity l.drive ≡ g.D.Drive.capacity l.fn.drive;
   honest : IsTrue (g.D.Drive.honest l.drive) → IsTrue (g.D.Drive.honest l.fn.drive);
