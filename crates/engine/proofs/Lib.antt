@@ -1,3 +1,5 @@
+pub mod Holding
+pub mod Calling
 pub mod Messages
 pub mod Delivering
 pub mod Pieces

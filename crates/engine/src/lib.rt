@@ -5,6 +5,7 @@
 #![tactic(auto)]
 
 mod engine;
+mod laws;
 mod runs;
 mod serving;
 mod streams;
@@ -12,6 +13,7 @@ mod streams;
 mod tests;
 
 pub use engine::Engine;
+pub use laws::{calls_are_steps, steps_hold};
 pub use runs::{Delivery, run};
 pub use serving::{ServeFault, serve};
 pub use streams::{put_all, read_piece};

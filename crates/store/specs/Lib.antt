@@ -1,5 +1,7 @@
 pub mod Agrees
+pub mod Asked
 pub mod Below
+pub mod Calls
 pub mod Need
 pub mod NewVolume
 pub mod NextTable

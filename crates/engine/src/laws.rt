@@ -1,0 +1,15 @@
+//! What holds of an engine's steps. Nothing here runs: each function's contract is a law.
+
+ghost use Rattle.engine.specs.Called.{CallsAreSteps, RestartsAreSteps};
+ghost use Rattle.engine.specs.Steps.{StepsHold};
+
+/// On an honest drive what an engine makes of its store's calls is a step that the medium's runs allow.
+pub fn calls_are_steps()
+    ensures messages { CallsAreSteps }
+    ensures restarts { RestartsAreSteps }
+{}
+
+/// Such steps leave at each front of the journal the state after the first of the requests that were committed.
+pub fn steps_hold()
+    ensures { StepsHold }
+{}
