@@ -2,7 +2,7 @@
 use Rattle.std.proofs.Common.{◌≡◌, ◌↔◌, ◌≤◌, ℕ, List, Result, Ok, Err, sym, ◌∙◌, arith}
 use Rattle.std.specs.Prelude.{IfErr}
 use Rattle.words.specs.declared.command.Command.{Command}
-use Rattle.words.specs.declared.command.Command.TheVariants.{Format, Apply, List as Listing, Get, Send}
+use Rattle.words.specs.declared.command.Command.TheVariants.{Format, Apply, List as Listing, Get, Log, Check, Send}
 use Rattle.words.specs.Commands.{Asks}
 use Rattle.programs.specs.Asked.{HasMoment}
 use Rattle.programs.specs.declared.fault.Fault.{Fault}
@@ -24,4 +24,6 @@ has_moment words (Format image label moment capacity) h = h.2.4
 has_moment words (Apply medium) h = tt
 has_moment words (Listing image path) h = tt
 has_moment words (Get image path) h = tt
+has_moment words (Log image) h = tt
+has_moment words (Check image) h = tt
 has_moment words (Send socket) h = tt

@@ -15,7 +15,7 @@ use std::alloc::Global;
 use std::fs::{File, Files};
 use std::io::{Read, Write};
 use std::net::Net;
-use store::{Store, format};
+use store::{Commit, Store, format};
 use words::{Command, Medium, read_command};
 
 /// The label of a volume in memory.
@@ -91,6 +91,14 @@ where
             let mut drive = open_image(rt, image)?;
             get(alloc, &mut drive, &path, output)
         }
+        Command::Log { image } => {
+            let mut drive = open_image(rt, image)?;
+            log(alloc, &mut drive, output)
+        }
+        Command::Check { image } => {
+            let mut drive = open_image(rt, image)?;
+            check(alloc, &mut drive, output)
+        }
         Command::Send { socket } => send(rt, socket, input, output),
     }
 }
@@ -145,6 +153,39 @@ fn get<D: Drive, O: Write>(
     let mut store = Store::open(alloc, drive)?;
     let data = store.get(alloc, drive, path)?;
     put(output, data.as_slice())
+}
+
+/// The commits, the newest first, each in a line: its number, the address of its table's entry, and how many files and
+/// directories the tree had behind it.
+fn log<D: Drive, O: Write>(alloc: Global, drive: &mut D, output: &mut O) -> Result<(), Fault>
+    ensures { IfErr result IsRefusal }
+{
+    let store = Store::open(alloc, drive)?;
+    let commits = store.history(alloc, drive)?;
+    for told in &commits {
+        let Commit {
+            commit,
+            at,
+            files,
+            directories,
+        } = *told;
+        if writeln!(output, "{commit} {at} {files} {directories}").is_err() {
+            return Err(Fault::Stream(ServeFault::Write));
+        }
+    }
+    put(output, b"")
+}
+
+/// How many commits there are, where the state after each of them stands.
+fn check<D: Drive, O: Write>(alloc: Global, drive: &mut D, output: &mut O) -> Result<(), Fault>
+    ensures { IfErr result IsRefusal }
+{
+    let store = Store::open(alloc, drive)?;
+    let commits = store.check(alloc, drive)?;
+    if writeln!(output, "sound {commits}").is_err() {
+        return Err(Fault::Stream(ServeFault::Write));
+    }
+    put(output, b"")
 }
 
 /// Writes the bytes, and all that waits in a buffer.

@@ -3,4 +3,5 @@
 mod asking;
 mod commands;
 mod daemons;
+mod history;
 mod streams;

@@ -180,9 +180,9 @@ apart_listed graph (Seen n a s b r) above w d = (
   ]),
   apart-append (map (longer n) (listed b)) (listed r) (apart-longer n (listed b) (apart_listed graph b a w.2 (subst (λ es. IsDistinct bytes_eq (map (λ (e : Entry). e.name) es)) (sym w.1) w.0.distinct)))
       (apart_listed graph r above w.3 d.1) (λ p m k c e.
-        let (x, inside, is) = map_contains (longer n) (listed b) (p, m) c in
-        let (i, t, at, same) = listed_at r p k e in
-        beside_other x.0 i t (subst (λ q. At r q i t) (sym (ap (λ (z : Path × Node). z.0) is)) at)),
+      let (x, inside, is) = map_contains (longer n) (listed b) (p, m) c in
+      let (i, t, at, same) = listed_at r p k e in
+      beside_other x.0 i t (subst (λ q. At r q i t) (sym (ap (λ (z : Path × Node). z.0) is)) at)),
 )
   where
     beside_other : (q : Path) (i : ℕ) (t : Stored) → At r (n ∷ q) i t → ⊥

@@ -68,6 +68,18 @@ pub record HasTable (medium : List (List ℕ)) (at : ℕ) (table : Table) : Type
   pub below : HasDataBelow at entry
   pub is : IsTableAt (at - 257) table (data_of medium entry)
 
+-- why no table was read whose entry stands at this address
+abbrev pub IsAtRefused : List (List ℕ) → ℕ → StoreFault → Type 0
+IsAtRefused medium at fault =
+    IsEntryRefused medium at fault
+    ⊎ ((e : TableEntry) × IsEntryAt medium at e × HasDataBelow at e × IsTableRefused (at - 257) e (data_of medium e) fault)
+
+-- why a link to this address, from a table of so many commits, leads to no table: none is there, or not that of one commit less
+abbrev pub IsLinkRefused : List (List ℕ) → ℕ → ℕ → StoreFault → Type 0
+IsLinkRefused medium at commits fault =
+    IsAtRefused medium at fault
+    ⊎ ((fault ≡ Damaged at 78) × (table : Table) × HasTable medium at table × (table.commits + 1 ≡ commits → ⊥))
+
 -- one step of the chain: none before the first table, else the entry that the table names, of the table with one commit less
 abbrev pub IsBefore : List (List ℕ) → ℕ → Option ℕ → Type 0
 IsBefore medium at None = (table : Table) × HasTable medium at table × (table.previous ≡ None)

@@ -20,7 +20,7 @@ pub use directory::{Extent, link_count, read_directory};
 pub use fault::{StoreFault, damaged};
 pub use reading::{BLOCK_BYTES, PARTITION_START, block_count, read_block, read_blocks, read_bytes};
 pub use state::{State, state_at};
-pub use table::{TableEntry, before, last, lies_below, read_table, table_entry};
+pub use table::{TableEntry, before, last, lies_below, linked, read_table, table_at, table_entry};
 pub use walk::{FIRST_UNIQUE, PATH_NAMES, ROOT_ADDRESS};
 
 #[cfg(test)]

@@ -1,6 +1,6 @@
 //! The tables of a medium: the last one, and the one before each.
 
-ghost use Rattle.std.specs.Prelude.{◌≡◌, ℕ, ◌+◌, ◌-◌, ◌<◌, ◌≤◌, ◌↔◌, List, IsTrue, IfOk, IfErr, IfSome, IfNone};
+ghost use Rattle.std.specs.Prelude.{◌≡◌, ℕ, ◌+◌, ◌-◌, ◌^◌, ◌<◌, ◌≤◌, ◌↔◌, List, IsTrue, IsNone, IfOk, IfErr, IfSome, IfNone};
 ghost use Rattle.std.specs.Int.{div_ceil};
 ghost use Rattle.drive.specs.Journal.{held, next_of};
 ghost use Rattle.icb.specs.declared.entry.Kind.TheVariants as kinds;
@@ -8,7 +8,7 @@ ghost use Rattle.icb.specs.Entry.{Fits, fields_of, place_of};
 ghost use Rattle.icb.specs.Entry.Place.{Extent};
 ghost use Rattle.vat.specs.Table.{IsTableAt, view};
 ghost use Rattle.recover.specs.Faults.{Counts, devices};
-ghost use Rattle.recover.specs.Tables.{HasDataBelow, IsBefore, IsEntryAt, IsEntryRefused, IsLast, IsTableRefused, data_of};
+ghost use Rattle.recover.specs.Tables.{HasDataBelow, IsBefore, IsEntryAt, IsEntryRefused, IsLast, IsTableRefused, HasTable, IsAtRefused, IsLinkRefused, data_of};
 
 use crate::cause::{CHAIN, RANGE};
 use crate::fault::{StoreFault, damaged};
@@ -134,6 +134,52 @@ pub fn lies_below(first: u32, size: u32, at: u32) -> bool
     u64::from(first) + u64::from(PARTITION_START) + u64::from(block_count(size)) <= u64::from(at)
 }
 
+/// The table whose entry stands at an address, by its entry and its data.
+pub fn table_at<D: Drive>(alloc: Global, drive: &mut D, at: u32) -> Result<Vat, StoreFault>
+    requires low { 257 ≤ at }
+    requires within { at < next_of (D.journal drive.old) }
+    ensures table { IfOk result (λ vat. IsTrue (D.honest drive.new) → HasTable (held (D.journal drive.old)) at (view vat)) }
+    ensures refused { IfErr result (λ fault. IsTrue (D.honest drive.new) → IsAtRefused (held (D.journal drive.old)) at fault) }
+    ensures previous { IfOk result (λ vat. IfSome vat.previous (λ number. number + 257 < at)) }
+    ensures first { IfOk result (λ vat. IsNone vat.previous ↔ (vat.sessions.commits ≡ 0)) }
+    ensures journal { D.journal drive.new ≡ D.journal drive.old }
+    ensures capacity { D.capacity drive.new ≡ D.capacity drive.old }
+    ensures honest { IsTrue (D.honest drive.new) → IsTrue (D.honest drive.old) }
+    ensures failures { Counts (devices result) (D.failures drive.old) (D.failures drive.new) }
+{
+    let entry = table_entry(drive, at)?;
+    let vat = read_table(alloc, drive, at, &entry)?;
+    Ok(vat)
+}
+
+/// The table that a link leads to, from the table of so many commits: the one with one commit less, whose entry has this
+/// block number.
+pub fn linked<D: Drive>(
+    alloc: Global,
+    drive: &mut D,
+    number: u32,
+    commits: u32,
+) -> Result<Vat, StoreFault>
+    requires within { number + 257 < next_of (D.journal drive.old) }
+    requires fits { number + 257 < 2 ^ 32 }
+    ensures table { IfOk result (λ vat. IsTrue (D.honest drive.new) → HasTable (held (D.journal drive.old)) (number + 257) (view vat)) }
+    ensures commits { IfOk result (λ vat. vat.sessions.commits + 1 ≡ commits) }
+    ensures refused { IfErr result (λ fault. IsTrue (D.honest drive.new) → IsLinkRefused (held (D.journal drive.old)) (number + 257) commits fault) }
+    ensures previous { IfOk result (λ vat. IfSome vat.previous (λ earlier. earlier < number)) }
+    ensures first { IfOk result (λ vat. IsNone vat.previous ↔ (vat.sessions.commits ≡ 0)) }
+    ensures journal { D.journal drive.new ≡ D.journal drive.old }
+    ensures capacity { D.capacity drive.new ≡ D.capacity drive.old }
+    ensures honest { IsTrue (D.honest drive.new) → IsTrue (D.honest drive.old) }
+    ensures failures { Counts (devices result) (D.failures drive.old) (D.failures drive.new) }
+{
+    let at = number + PARTITION_START;
+    let vat = table_at(alloc, drive, at)?;
+    if u64::from(vat.sessions.commits) + 1 != u64::from(commits) {
+        return Err(damaged(at, CHAIN));
+    }
+    Ok(vat)
+}
+
 /// The address of the entry of the table before the one whose entry stands at `at`, by one step of the chain; none where
 /// no request was committed.
 pub fn before<D: Drive>(alloc: Global, drive: &mut D, at: u32) -> Result<Option<u32>, StoreFault>
@@ -146,17 +192,11 @@ pub fn before<D: Drive>(alloc: Global, drive: &mut D, at: u32) -> Result<Option<
     ensures honest { IsTrue (D.honest drive.new) → IsTrue (D.honest drive.old) }
     ensures failures { Counts (devices result) (D.failures drive.old) (D.failures drive.new) }
 {
-    let entry = table_entry(drive, at)?;
-    let vat = read_table(alloc, drive, at, &entry)?;
-    let previous = match vat.previous {
-        Some(previous) => previous,
+    let vat = table_at(alloc, drive, at)?;
+    let number = match vat.previous {
+        Some(number) => number,
         None => return Ok(None),
     };
-    let linked = previous + PARTITION_START;
-    let earlier_entry = table_entry(drive, linked)?;
-    let earlier = read_table(alloc, drive, linked, &earlier_entry)?;
-    if vat.sessions.commits == 0 || earlier.sessions.commits != vat.sessions.commits - 1 {
-        return Err(damaged(linked, CHAIN));
-    }
-    Ok(Some(linked))
+    linked(alloc, drive, number, vat.sessions.commits)?;
+    Ok(Some(number + PARTITION_START))
 }

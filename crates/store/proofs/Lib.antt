@@ -3,6 +3,7 @@ pub mod ChangesTaken
 pub mod EntryChanges
 pub mod FormatJournals
 pub mod FreeAddresses
+pub mod Histories
 pub mod NewVolumes
 pub mod NextSizes
 pub mod NextTables

@@ -2,6 +2,7 @@ pub mod Agrees
 pub mod Asked
 pub mod Below
 pub mod Calls
+pub mod History
 pub mod Need
 pub mod NewVolume
 pub mod NextTable

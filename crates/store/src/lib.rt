@@ -9,6 +9,7 @@ mod commit;
 mod directories;
 mod due;
 mod formatting;
+mod history;
 mod laws;
 mod nodes;
 mod parts;
@@ -21,6 +22,7 @@ mod write;
 
 pub use due::Due;
 pub use formatting::format;
+pub use history::{Commit, Snapshot};
 pub use laws::{need_is_reckoned, next_tables_follow};
 pub use recover::StoreFault;
 pub use store::Store;

@@ -2,7 +2,7 @@
 use Rattle.std.proofs.Common.{◌≡◌, ℕ, List, [], ◌∷◌, Option, Some, None, ap, subst, sym, ◌∙◌, arith, get_or, drop, codes}
 use Rattle.std.specs.Prelude.{IfSome, IfNone}
 use Rattle.words.specs.declared.command.Command.{Command}
-use Rattle.words.specs.declared.command.Command.TheVariants.{Format, Apply, List as Listing, Get, Send}
+use Rattle.words.specs.declared.command.Command.TheVariants.{Format, Apply, List as Listing, Get, Log, Check, Send}
 use Rattle.words.specs.Number.{Says}
 use Rattle.words.specs.Commands.{Asks, AsksFormat, AsksApply, IsCapacity}
 
@@ -16,6 +16,8 @@ format_found words rest (Some (Format image label moment capacity)) e h = (rest,
 format_found words rest (Some (Apply medium)) e h = absurd h
 format_found words rest (Some (Listing image path)) e h = absurd h
 format_found words rest (Some (Get image path)) e h = absurd h
+format_found words rest (Some (Log image)) e h = absurd h
+format_found words rest (Some (Check image)) e h = absurd h
 format_found words rest (Some (Send socket)) e h = absurd h
 
 format_alone : (words rest : List (List ℕ)) (command : Command) → words ≡ codes "format" ∷ rest → Asks words command → AsksFormat rest command
@@ -24,6 +26,8 @@ format_alone words rest (Format image label moment capacity) e asks =
 format_alone words rest (Apply medium) e asks = let bad : ◌≡◌ {A = ℕ} 97 102 = ap first_byte (sym asks.1 ∙ e) in absurd (omega arith)
 format_alone words rest (Listing image path) e asks = let bad : ◌≡◌ {A = ℕ} 108 102 = ap first_byte (sym asks ∙ e) in absurd (omega arith)
 format_alone words rest (Get image path) e asks = let bad : ◌≡◌ {A = ℕ} 103 102 = ap first_byte (sym asks ∙ e) in absurd (omega arith)
+format_alone words rest (Log image) e asks = let bad : ◌≡◌ {A = ℕ} 108 102 = ap first_byte (sym asks ∙ e) in absurd (omega arith)
+format_alone words rest (Check image) e asks = let bad : ◌≡◌ {A = ℕ} 99 102 = ap first_byte (sym asks ∙ e) in absurd (omega arith)
 format_alone words rest (Send socket) e asks = let bad : ◌≡◌ {A = ℕ} 115 102 = ap first_byte (sym asks ∙ e) in absurd (omega arith)
 
 pub format_only : (words rest : List (List ℕ)) (read : Option Command) → words ≡ codes "format" ∷ rest
@@ -37,6 +41,8 @@ apply_found words rest (Some (Format image label moment capacity)) e h = absurd 
 apply_found words rest (Some (Apply medium)) e h = (rest, e, h)
 apply_found words rest (Some (Listing image path)) e h = absurd h
 apply_found words rest (Some (Get image path)) e h = absurd h
+apply_found words rest (Some (Log image)) e h = absurd h
+apply_found words rest (Some (Check image)) e h = absurd h
 apply_found words rest (Some (Send socket)) e h = absurd h
 
 apply_alone : (words rest : List (List ℕ)) (command : Command) → words ≡ codes "apply" ∷ rest → Asks words command → AsksApply rest command
@@ -44,6 +50,8 @@ apply_alone words rest (Format image label moment capacity) e asks = let bad : �
 apply_alone words rest (Apply medium) e asks = subst (λ (x : List (List ℕ)). AsksApply x (Apply medium)) (ap (drop 1) (sym asks.1 ∙ e)) asks.2
 apply_alone words rest (Listing image path) e asks = let bad : ◌≡◌ {A = ℕ} 108 97 = ap first_byte (sym asks ∙ e) in absurd (omega arith)
 apply_alone words rest (Get image path) e asks = let bad : ◌≡◌ {A = ℕ} 103 97 = ap first_byte (sym asks ∙ e) in absurd (omega arith)
+apply_alone words rest (Log image) e asks = let bad : ◌≡◌ {A = ℕ} 108 97 = ap first_byte (sym asks ∙ e) in absurd (omega arith)
+apply_alone words rest (Check image) e asks = let bad : ◌≡◌ {A = ℕ} 99 97 = ap first_byte (sym asks ∙ e) in absurd (omega arith)
 apply_alone words rest (Send socket) e asks = let bad : ◌≡◌ {A = ℕ} 115 97 = ap first_byte (sym asks ∙ e) in absurd (omega arith)
 
 pub apply_only : (words rest : List (List ℕ)) (read : Option Command) → words ≡ codes "apply" ∷ rest
@@ -64,4 +72,6 @@ no_format words word None e h = λ command asks. unread command asks
     unread (Apply medium) asks = asks
     unread (Listing image path) asks = asks
     unread (Get image path) asks = asks
+    unread (Log image) asks = asks
+    unread (Check image) asks = asks
     unread (Send socket) asks = asks

@@ -2,7 +2,7 @@
 use Rattle.std.specs.Prelude.{◌≡◌, ℕ, ◌≤◌, ◌<◌, List, [], ◌∷◌, ◌++◌, codes}
 use Rattle.words.specs.Number.{Says}
 use Rattle.words.specs.declared.command.Command.{Command}
-use Rattle.words.specs.declared.command.Command.TheVariants.{Format, Apply, List as Listing, Get, Send}
+use Rattle.words.specs.declared.command.Command.TheVariants.{Format, Apply, List as Listing, Get, Log, Check, Send}
 use Rattle.words.specs.declared.command.Medium.{Medium}
 use Rattle.words.specs.declared.command.Medium.TheVariants.{Image, Memory}
 
@@ -21,6 +21,8 @@ AsksApply words (Format image label moment capacity) = ⊥
 AsksApply words (Apply medium) = (word : List ℕ) × (words ≡ word ∷ []) × Names word medium
 AsksApply words (Listing image path) = ⊥
 AsksApply words (Get image path) = ⊥
+AsksApply words (Log image) = ⊥
+AsksApply words (Check image) = ⊥
 AsksApply words (Send socket) = ⊥
 
 -- what stands behind `format`
@@ -30,6 +32,8 @@ AsksFormat words (Format image label moment capacity) = (first second : List ℕ
 AsksFormat words (Apply medium) = ⊥
 AsksFormat words (Listing image path) = ⊥
 AsksFormat words (Get image path) = ⊥
+AsksFormat words (Log image) = ⊥
+AsksFormat words (Check image) = ⊥
 AsksFormat words (Send socket) = ⊥
 
 -- the words, by position
@@ -38,4 +42,6 @@ Asks words (Format image label moment capacity) = (rest : List (List ℕ)) × (w
 Asks words (Apply medium) = (rest : List (List ℕ)) × (words ≡ codes "apply" ∷ rest) × AsksApply rest (Apply medium)
 Asks words (Listing image path) = words ≡ codes "ls" ∷ image.now ∷ path.now ∷ []
 Asks words (Get image path) = words ≡ codes "get" ∷ image.now ∷ path.now ∷ []
+Asks words (Log image) = words ≡ codes "log" ∷ image.now ∷ []
+Asks words (Check image) = words ≡ codes "check" ∷ image.now ∷ []
 Asks words (Send socket) = words ≡ codes "send" ∷ socket.now ∷ []

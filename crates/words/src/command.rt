@@ -47,6 +47,14 @@ pub enum Command<'w> {
         image: &'w str,
         path: &'w str,
     },
+    /// All commits of the volume on an image.
+    Log {
+        image: &'w str,
+    },
+    /// Whether the state after each commit stands.
+    Check {
+        image: &'w str,
+    },
     /// The standard input for a daemon, and its answers.
     Send {
         socket: &'w str,
@@ -70,6 +78,14 @@ pub fn read_command<'w>(words: &[&'w str]) -> Option<Command<'w>>
         "get" => {
             let (image, path) = two(rest)?;
             Some(Command::Get { image, path })
+        }
+        "log" => {
+            let image = one(rest)?;
+            Some(Command::Log { image })
+        }
+        "check" => {
+            let image = one(rest)?;
+            Some(Command::Check { image })
         }
         "send" => {
             let socket = one(rest)?;

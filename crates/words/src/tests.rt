@@ -23,12 +23,14 @@ fn words_of_the_command(rt: HostRuntime) {
         path: "x",
     });
     assert!(rt; read_command(&["get", "i", "x"]) == get);
+    assert!(rt; read_command(&["log", "i"]) == Some(Command::Log { image: "i" }));
+    assert!(rt; read_command(&["check", "i"]) == Some(Command::Check { image: "i" }));
     assert!(rt; read_command(&["send", "s"]) == Some(Command::Send { socket: "s" }));
 }
 
 #[test]
 fn other_words_of_the_command(rt: HostRuntime) {
-    let rows: [&[&str]; 17] = [
+    let rows: [&[&str]; 19] = [
         &[],
         &["apply"],
         &["apply", "i", "j"],
@@ -45,6 +47,8 @@ fn other_words_of_the_command(rt: HostRuntime) {
         &["format", "i", "DISC", "0"],
         &["ls", "i"],
         &["get", "i", "/", "/"],
+        &["log"],
+        &["check", "i", "0"],
         &["send"],
     ];
     for words in rows {

@@ -1,0 +1,18 @@
+use Rattle.std.proofs.Common.{◌≡◌, ◌+◌, ◌∙◌, ◌<◌, ℕ, slice_index_or, length, arith}
+use Rattle.recover.specs.Faults.{Counts}
+use Rattle.recover.specs.State.{IsSound}
+use Rattle.recover.specs.declared.state.State.{State}
+use Rattle.store.specs.declared.history.Commit.{Commit}
+use Rattle.store.proofs.Histories.{one_more}
+use Rattle.store.proofs.history.check_states.Goals as goal
+
+pub loop-i-preserved : goal.loop-i-preserved
+loop-i-preserved g c = record {
+  sound = one_more (λ (m : Commit). (state : State) × IsSound m.at (g.D.Drive.capacity c.args.drive.now) state) c.args.commits.now c.loop-i.i _ c.loop-i.invariant.sound
+      (let there : c.loop-i.i < length c.args.commits.now = omega (arith, c.loop-i-test.true) in there)
+      (c.in_ok-state_at.field-0, rw c.loop-i.invariant.capacity at c.in_ok-state_at.ensures.sound);
+  journal = c.state_at.ensures.journal ∙ c.loop-i.invariant.journal;
+  capacity = c.state_at.ensures.capacity ∙ c.loop-i.invariant.capacity;
+  honest = λ h. c.loop-i.invariant.honest (c.state_at.ensures.honest h);
+  failures = (let failures : Counts 0 (g.D.Drive.failures c.args.drive.now) (g.D.Drive.failures c.state_at.new.drive) = λ few. omega (arith, c.in_ok-state_at.ensures.failures, c.loop-i.invariant.failures) in failures);
+}

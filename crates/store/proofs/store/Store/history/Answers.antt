@@ -1,0 +1,54 @@
+use Rattle.std.proofs.Common.{◌≡◌, ◌+◌, ◌<◌, ◌≤◌, ◌^◌, ◌∙◌, arith}
+use Rattle.drive.specs.Journal.{held, next_of}
+use Rattle.vat.specs.Table.{view}
+use Rattle.recover.specs.Faults.{Counts}
+use Rattle.store.proofs.Histories.{begins, ends, first_within, goes_on, link_below, more_within, next_below, no_link}
+use Rattle.store.proofs.store.Store.history.Goals as goal
+
+pub loop-vat-init : goal.loop-vat-init
+loop-vat-init g c = record {
+  found = λ h. begins (held (g.D.Drive.journal c.args.drive.now)) c.args.self.now.at (view c.in_ok-vat.vat) _ _ _ (c.in_ok-vat.ensures.table h)
+      c.new-commits.ensures.items c.of.ensures c.in_ok-push.ensures.items;
+  within = first_within (next_of (g.D.Drive.journal c.args.drive.now)) c.args.self.now.at (view c.in_ok-vat.vat) _ _ _ (omega (arith, c.requires.agrees.keeps.low)) c.requires.agrees.on
+      c.new-commits.ensures.items c.of.ensures c.in_ok-push.ensures.items;
+  fits = (let fits : c.args.self.now.at < 2 ^ 32 = omega arith in fits);
+  link = c.in_ok-vat.ensures.previous;
+  first = c.in_ok-vat.ensures.first;
+  journal = c.table_at.ensures.journal;
+  capacity = c.table_at.ensures.capacity;
+  honest = c.table_at.ensures.honest;
+  failures = (let failures : Counts 0 (g.D.Drive.failures c.args.drive.now) (g.D.Drive.failures c.table_at.new.drive) = λ few. omega (arith, c.in_ok-vat.ensures.failures) in failures);
+}
+
+pub linked-requires-clause-fits : goal.linked-requires-clause-fits
+linked-requires-clause-fits g c =
+    let below = link_below _ _ _ c.in-Some.is c.loop-vat.invariant.link in
+    let fits : c.in-Some.number + 257 < 4294967296 = omega (arith, below, c.loop-vat.invariant.fits) in fits
+
+pub overflow_add-number : goal.overflow_add-number
+overflow_add-number g c = omega (arith, link_below _ _ _ c.in-Some.is c.loop-vat.invariant.link, c.loop-vat.invariant.fits)
+
+pub loop-vat-preserved : goal.loop-vat-preserved
+loop-vat-preserved g c =
+    let below = link_below _ _ _ c.in-Some.is c.loop-vat.invariant.link in record {
+      found = λ h. goes_on (held (g.D.Drive.journal c.args.drive.now)) c.args.self.now.at c.in-Some.number (view c.loop-vat.vat) (view c.in_ok-vat-2.vat) _ _ _
+          (c.loop-vat.invariant.found (c.linked.ensures.honest h)) c.in-Some.is (rw c.loop-vat.invariant.journal at (c.in_ok-vat-2.ensures.table h))
+          c.in_ok-vat-2.ensures.commits c.of-in-Some.ensures c.in_ok-push-2.ensures.items;
+      within = more_within (next_of (g.D.Drive.journal c.args.drive.now)) (c.in-Some.number + 257) (view c.in_ok-vat-2.vat) _ _ _ c.loop-vat.invariant.within
+          (omega arith) (omega (arith, below, c.requires.agrees.on)) c.of-in-Some.ensures c.in_ok-push-2.ensures.items;
+      fits = c.loop-vat.invariant.fits;
+      link = next_below _ c.in-Some.number _ c.in_ok-vat-2.ensures.previous below;
+      first = c.in_ok-vat-2.ensures.first;
+      journal = c.linked.ensures.journal ∙ c.loop-vat.invariant.journal;
+      capacity = c.linked.ensures.capacity ∙ c.loop-vat.invariant.capacity;
+      honest = λ h. c.loop-vat.invariant.honest (c.linked.ensures.honest h);
+      failures = (let failures : Counts 0 (g.D.Drive.failures c.args.drive.now) (g.D.Drive.failures c.linked.new.drive) = λ few. omega (arith, c.in_ok-vat-2.ensures.failures, c.loop-vat.invariant.failures) in failures);
+    }
+
+pub returns-in_err-push-2-clause-honest : goal.returns-in_err-push-2-clause-honest
+returns-in_err-push-2-clause-honest g c = λ h. c.loop-vat.invariant.honest (c.linked.ensures.honest h)
+
+pub returns-clause-history : goal.returns-clause-history
+returns-clause-history g c = λ h.
+    ends (held (g.D.Drive.journal c.args.drive.now)) c.args.self.now.at (view c.loop-vat.vat) c.loop-vat.commits.items (c.loop-vat.invariant.found h)
+    (no_link _ c.in_default.not-Some) c.loop-vat.invariant.first

@@ -1,0 +1,23 @@
+use Rattle.std.proofs.Common.{◌≡◌, ◌+◌, ◌<◌, ◌≤◌, ◌^◌, ◌↔◌, ℕ, All, IsTrue, IsNone, IfSome}
+use Rattle.drive.specs.Journal.{held, next_of}
+use Rattle.vat.specs.Table.{view}
+use Rattle.recover.specs.Faults.{Counts}
+use Rattle.store.specs.declared.history.Commit.{Commit}
+use Rattle.store.proofs.Histories.{GoesOn}
+use Rattle.store.proofs.store.Store.history.Given as goal
+
+abbrev pub invariant-loop-vat : goal.invariant-loop-vat
+invariant-loop-vat g l = record {
+  found : IsTrue (g.D.Drive.honest l.drive) → GoesOn (held (g.D.Drive.journal l.fn.drive)) l.fn.self.at (view l.vat) l.commits.items;
+  within : All (λ (c : Commit). (257 ≤ c.at) × (c.at < next_of (g.D.Drive.journal l.fn.drive))) l.commits.items;
+  fits : l.fn.self.at < 2 ^ 32;
+  link : IfSome l.vat.previous (λ number. number + 257 < l.fn.self.at);
+  first : IsNone l.vat.previous ↔ (l.vat.sessions.commits ≡ 0);
+  journal : g.D.Drive.journal l.drive ≡ g.D.Drive.journal l.fn.drive;
+  capacity : g.D.Drive.capacity l.drive ≡ g.D.Drive.capacity l.fn.drive;
+  honest : IsTrue (g.D.Drive.honest l.drive) → IsTrue (g.D.Drive.honest l.fn.drive);
+  failures : Counts 0 (g.D.Drive.failures l.fn.drive) (g.D.Drive.failures l.drive);
+}
+
+abbrev pub decreases-loop-vat : goal.decreases-loop-vat
+decreases-loop-vat g l = l.vat.sessions.commits

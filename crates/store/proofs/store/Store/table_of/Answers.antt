@@ -1,0 +1,57 @@
+use Rattle.std.proofs.Common.{◌≡◌, ◌+◌, ◌<◌, ◌≤◌, ◌^◌, ◌∙◌, refl, suc, arith}
+use Rattle.drive.specs.Journal.{held, next_of}
+use Rattle.vat.specs.Table.{view}
+use Rattle.recover.specs.Faults.{Counts}
+use Rattle.store.proofs.Histories.{link_below, next_behind, one_before}
+use Rattle.store.proofs.store.Store.table_of.Goals as goal
+
+pub loop-vat-init : goal.loop-vat-init
+loop-vat-init g c = record {
+  leads = λ h. (0, refl);
+  table = c.in_ok-vat.ensures.table;
+  low = (let low : 257 ≤ c.args.self.now.at = omega (arith, c.requires.agrees.keeps.low) in low);
+  high = c.requires.agrees.on;
+  fits = (let fits : c.args.self.now.at < 2 ^ 32 = omega arith in fits);
+  link = c.in_ok-vat.ensures.previous;
+  journal = c.table_at.ensures.journal;
+  capacity = c.table_at.ensures.capacity;
+  honest = c.table_at.ensures.honest;
+  failures = (let failures : Counts 0 (g.D.Drive.failures c.args.drive.now) (g.D.Drive.failures c.table_at.new.drive) = λ few. omega (arith, c.in_ok-vat.ensures.failures) in failures);
+}
+
+pub linked-requires-clause-fits : goal.linked-requires-clause-fits
+linked-requires-clause-fits g c =
+    let below = link_below _ _ _ c.in-Some.is c.loop-vat.invariant.link in
+    let fits : c.in-Some.number + 257 < 4294967296 = omega (arith, below, c.loop-vat.invariant.fits) in fits
+
+pub overflow_add-at : goal.overflow_add-at
+overflow_add-at g c = omega (arith, link_below _ _ _ c.in-Some.is c.loop-vat.invariant.link, c.loop-vat.invariant.fits)
+
+pub loop-vat-preserved : goal.loop-vat-preserved
+loop-vat-preserved g c =
+    let below = link_below _ _ _ c.in-Some.is c.loop-vat.invariant.link in record {
+      leads = λ h.
+          let before = c.loop-vat.invariant.leads (c.linked.ensures.honest h) in (
+            suc before.0,
+            (
+              c.loop-vat.at,
+              before.1,
+              one_before (held (g.D.Drive.journal c.args.drive.now)) c.loop-vat.at c.in-Some.number (view c.loop-vat.vat) (view c.in_ok-vat-2.vat)
+                  (c.loop-vat.invariant.table (c.linked.ensures.honest h)) c.in-Some.is (rw c.loop-vat.invariant.journal at (c.in_ok-vat-2.ensures.table h)) c.in_ok-vat-2.ensures.commits,
+            ),
+          );
+      table = λ h. rw c.loop-vat.invariant.journal at (c.in_ok-vat-2.ensures.table h);
+      low = (let low : 257 ≤ c.in-Some.number + 257 = omega arith in low);
+      high = (let high : c.in-Some.number + 257 < next_of (g.D.Drive.journal c.args.drive.now) = omega (arith, below, c.loop-vat.invariant.high) in high);
+      fits = (let fits : c.in-Some.number + 257 < 2 ^ 32 = omega (arith, below, c.loop-vat.invariant.fits) in fits);
+      link = next_behind _ c.in-Some.number c.in_ok-vat-2.ensures.previous;
+      journal = c.linked.ensures.journal ∙ c.loop-vat.invariant.journal;
+      capacity = c.linked.ensures.capacity ∙ c.loop-vat.invariant.capacity;
+      honest = λ h. c.loop-vat.invariant.honest (c.linked.ensures.honest h);
+      failures = (let failures : Counts 0 (g.D.Drive.failures c.args.drive.now) (g.D.Drive.failures c.linked.new.drive) = λ few. omega (arith, c.in_ok-vat-2.ensures.failures, c.loop-vat.invariant.failures) in failures);
+    }
+
+pub returns-clause-table : goal.returns-clause-table
+returns-clause-table g c = λ h.
+    let leads = c.loop-vat.invariant.leads h in
+    record { steps = leads.0; leads = leads.1; table = c.loop-vat.invariant.table h; commits_are = c.loop-vat-test.false }

@@ -1,0 +1,24 @@
+use Rattle.std.proofs.Common.{◌≡◌, ◌+◌, ◌<◌, ◌≤◌, ◌^◌, ℕ, IsTrue, IfSome}
+use Rattle.drive.specs.Journal.{held, next_of}
+use Rattle.vat.specs.Table.{view}
+use Rattle.recover.specs.Faults.{Counts}
+use Rattle.recover.specs.Tables.{HasTable}
+use Rattle.store.specs.History.{Leads}
+use Rattle.store.proofs.store.Store.table_of.Given as goal
+
+abbrev pub invariant-loop-vat : goal.invariant-loop-vat
+invariant-loop-vat g l = record {
+  leads : IsTrue (g.D.Drive.honest l.drive) → (steps : ℕ) × Leads (held (g.D.Drive.journal l.fn.drive)) l.fn.self.at steps l.at;
+  table : IsTrue (g.D.Drive.honest l.drive) → HasTable (held (g.D.Drive.journal l.fn.drive)) l.at (view l.vat);
+  low : 257 ≤ l.at;
+  high : l.at < next_of (g.D.Drive.journal l.fn.drive);
+  fits : l.at < 2 ^ 32;
+  link : IfSome l.vat.previous (λ number. number + 257 < l.at);
+  journal : g.D.Drive.journal l.drive ≡ g.D.Drive.journal l.fn.drive;
+  capacity : g.D.Drive.capacity l.drive ≡ g.D.Drive.capacity l.fn.drive;
+  honest : IsTrue (g.D.Drive.honest l.drive) → IsTrue (g.D.Drive.honest l.fn.drive);
+  failures : Counts 0 (g.D.Drive.failures l.fn.drive) (g.D.Drive.failures l.drive);
+}
+
+abbrev pub decreases-loop-vat : goal.decreases-loop-vat
+decreases-loop-vat g l = l.vat.sessions.commits

@@ -1,0 +1,34 @@
+-- The commits of a volume, as its chain of tables tells of them.
+use Rattle.std.specs.Prelude.{◌≡◌, ℕ, zero, suc, ◌+◌, List, [], ◌∷◌, Option, Some, None}
+use Rattle.vat.specs.Table.{Table, view}
+use Rattle.vat.specs.declared.table.Vat.{Vat}
+use Rattle.recover.specs.Tables.{HasTable, IsBefore}
+use Rattle.store.specs.declared.history.Commit.{Commit}
+
+-- what is told of the commit whose table's entry stands at an address
+abbrev pub told_of : ℕ → Table → Commit
+told_of at table = record { commit = table.commits; at = at; files = table.files; directories = table.directories }
+
+-- the commits below a table with this link and so many commits, the newest first, down to the format
+abbrev pub IsChain : List (List ℕ) → Option ℕ → ℕ → List Commit → Type 0
+IsChain medium link commits [] = (link ≡ None) × (commits ≡ 0)
+IsChain medium link commits (c ∷ earlier) =
+    (number : ℕ) × (link ≡ Some number) × (table : Table) × HasTable medium (number + 257) table × (table.commits + 1 ≡ commits)
+    × (c ≡ told_of (number + 257) table) × IsChain medium table.previous table.commits earlier
+
+-- all commits from the one whose table's entry stands at an address down to the format
+abbrev pub IsHistory : List (List ℕ) → ℕ → List Commit → Type 0
+IsHistory medium at commits = (table : Table) × HasTable medium at table × (earlier : List Commit) × (commits ≡ told_of at table ∷ earlier)
+    × IsChain medium table.previous table.commits earlier
+
+-- so many steps of the chain lead from one address to another
+abbrev pub Leads : List (List ℕ) → ℕ → ℕ → ℕ → Type 0
+Leads medium from zero to = from ≡ to
+Leads medium from (suc steps) to = (at : ℕ) × Leads medium from steps at × IsBefore medium at (Some to)
+
+-- the table whose entry stands at an address is that of so many commits, and the chain leads there
+pub record IsTableOf (medium : List (List ℕ)) (from commits at : ℕ) (vat : Vat) : Type 0 where
+  pub steps : ℕ
+  pub leads : Leads medium from steps at
+  pub table : HasTable medium at (view vat)
+  pub commits_are : vat.sessions.commits ≡ commits
