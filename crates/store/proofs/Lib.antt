@@ -1,7 +1,13 @@
 pub mod BelowLemmas
+pub mod Commits
+pub mod DirectoryBytes
 pub mod EntryChanges
+pub mod Names
 pub mod NodeChanges
+pub mod Packing
 pub mod Plans
 pub mod Puttings
 pub mod RecordChanges
 pub mod Sessions
+pub mod Tables
+pub mod Writings

@@ -10,6 +10,7 @@ mod directories;
 mod due;
 mod formatting;
 mod nodes;
+mod placed;
 mod places;
 mod plan;
 mod query;
