@@ -1,12 +1,16 @@
 pub mod BelowLemmas
 pub mod ChangesTaken
+pub mod Commits
+pub mod DirectoryBytes
 pub mod EntryChanges
 pub mod FormatJournals
 pub mod FreeAddresses
+pub mod Names
 pub mod NewVolumes
 pub mod NextSizes
 pub mod NextTables
 pub mod NodeChanges
+pub mod Packing
 pub mod Plans
 pub mod Puttings
 pub mod Reckoning
@@ -14,3 +18,5 @@ pub mod RecordChanges
 pub mod SaidRecords
 pub mod Sessions
 pub mod TableEntries
+pub mod Tables
+pub mod Writings

@@ -11,3 +11,4 @@ pub mod Putting
 pub mod Queries
 pub mod Sessions
 pub mod TableChange
+pub mod Writings

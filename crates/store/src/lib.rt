@@ -12,6 +12,7 @@ mod formatting;
 mod laws;
 mod nodes;
 mod parts;
+mod placed;
 mod places;
 mod plan;
 mod query;
