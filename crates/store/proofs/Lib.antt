@@ -1,7 +1,10 @@
 pub mod BelowLemmas
+pub mod Caches
 pub mod EntryChanges
 pub mod NodeChanges
 pub mod Plans
 pub mod Puttings
 pub mod RecordChanges
 pub mod Sessions
+pub mod StoredNodes
+pub mod Walks

@@ -1,8 +1,10 @@
 pub mod Agrees
 pub mod Below
+pub mod Cache
 pub mod Outside
 pub mod Plan
 pub mod Putting
 pub mod Queries
 pub mod Sessions
+pub mod Shows
 pub mod TableChange

@@ -6,7 +6,8 @@ ghost use Rattle.recover.specs.Faults.{Counts, devices};
 ghost use Rattle.store.specs.Below.{AreBelow};
 ghost use Rattle.request.specs.declared.answer.Code.TheVariants.{Done};
 
-use crate::directories::{Content, Directories};
+use crate::content::Content;
+use crate::directories::Directories;
 use crate::nodes::{Node, Nodes};
 use dir::{Dir, Entry, Kind};
 use drive::Drive;
