@@ -5,6 +5,7 @@ pub mod NodeChanges
 pub mod Plans
 pub mod Puttings
 pub mod RecordChanges
+pub mod Replacing
 pub mod Sessions
 pub mod StoredNodes
 pub mod Walks

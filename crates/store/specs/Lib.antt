@@ -1,6 +1,7 @@
 pub mod Agrees
 pub mod Below
 pub mod Cache
+pub mod Changes
 pub mod Outside
 pub mod Plan
 pub mod Putting
@@ -8,3 +9,4 @@ pub mod Queries
 pub mod Sessions
 pub mod Shows
 pub mod TableChange
+pub mod Writings
