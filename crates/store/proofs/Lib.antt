@@ -1,10 +1,10 @@
 pub mod BelowLemmas
+pub mod Caches
 pub mod ChangesTaken
 pub mod Commits
 pub mod DirectoryBytes
 pub mod EntryChanges
 pub mod FormatJournals
-pub mod FreeAddresses
 pub mod Names
 pub mod NewVolumes
 pub mod NextSizes
@@ -15,8 +15,11 @@ pub mod Plans
 pub mod Puttings
 pub mod Reckoning
 pub mod RecordChanges
+pub mod Replacing
 pub mod SaidRecords
 pub mod Sessions
+pub mod StoredNodes
 pub mod TableEntries
 pub mod Tables
+pub mod Walks
 pub mod Writings

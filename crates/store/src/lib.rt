@@ -6,6 +6,7 @@
 
 mod change;
 mod commit;
+mod content;
 mod directories;
 mod due;
 mod formatting;
