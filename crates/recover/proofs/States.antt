@@ -5,6 +5,7 @@ use Rattle.std.specs.List.{flat_map}
 use Rattle.std.specs.Cmp.Lexicographic.{pointwise}
 use Rattle.std.proofs.lemmas.Bool.{true≢false}
 use Rattle.std.proofs.lemmas.List.{length-take}
+use Rattle.std.proofs.lemmas.Option.{same_Some}
 use Rattle.dir.specs.declared.entry.Kind.TheVariants.{Directory}
 use Rattle.model.specs.Graph.{IsFunctional}
 use Rattle.model.proofs.Lists.{bytes_same}
@@ -13,7 +14,8 @@ use Rattle.medium.proofs.Stored.{stored_one}
 use Rattle.udf.specs.Said.{said_fields, said_table}
 use Rattle.udf.specs.Udf.{udf}
 use Rattle.udf.proofs.Formats.{bounded, exact}
-use Rattle.udf.proofs.Said.{entries_agree, tables_agree}
+use Rattle.icb.specs.VatIcb.{IsVatIcb}
+use Rattle.udf.proofs.Said.{imitation_agrees, entries_agree, tables_agree}
 use Rattle.vat.specs.declared.table.Vat.{Vat}
 use Rattle.vat.specs.Table.{IsTableAt, view}
 use Rattle.volume.specs.Front.{IsFront}
@@ -23,6 +25,7 @@ use Rattle.recover.specs.declared.walk.Named.{Named}
 use Rattle.recover.specs.declared.walk.Walk.{Walk}
 use Rattle.recover.specs.Forest.{Adds, AreDrawn, IsWhole, IsWalked, by_address, by_identity, whole}
 use Rattle.recover.specs.Forest.Forest.{End, Seen}
+use Rattle.recover.specs.Laws.{LastStands}
 use Rattle.recover.specs.Nodes.{is_directory}
 use Rattle.recover.specs.State.{HasFileSet, HasTree, IsCounted, IsShown}
 use Rattle.recover.specs.Tables.{HasDataBelow, IsEntryAt, data_of, table_fields}
@@ -151,4 +154,19 @@ is_shown capacity medium at state entry bytes formatted low long is below same t
       moment = moment;
       table = refl;
       label = label;
+    }
+
+-- at the last entry of a table it stands
+pub last_stands : LastStands
+last_stands capacity medium at state shown (low, here, none) =
+    let same = same_Some here.block shown.block (sym here.there ∙ shown.there) in
+    record {
+      at = at;
+      block = shown.block;
+      last = record {
+        there = shown.there;
+        is = (imitation_agrees shown.block at).1 (low, subst (λ (b : List ℕ). IsVatIcb b (at - 257)) same here.is);
+        no_later = λ later other lt there is. none later (omega (arith, lt)) (record { block = other; there = there; is = ((imitation_agrees other later).0 is).1 });
+      };
+      tells = shown.tells;
     }
