@@ -19,6 +19,6 @@ mod table;
 mod write;
 
 pub use due::Due;
-pub use formatting::format;
+pub use formatting::{format, one_format};
 pub use recover::StoreFault;
 pub use store::Store;
