@@ -22,7 +22,7 @@ mod table;
 mod write;
 
 pub use due::Due;
-pub use formatting::format;
+pub use formatting::{format, one_format};
 pub use laws::{need_is_reckoned, next_tables_follow};
 pub use recover::StoreFault;
 pub use store::Store;
