@@ -19,6 +19,8 @@ mod plan;
 mod query;
 mod store;
 mod table;
+#[cfg(test)]
+mod tests;
 mod write;
 
 pub use due::Due;
