@@ -1,10 +1,14 @@
 -- What a commit leaves on the medium lies behind what was there.
-use Rattle.std.proofs.Common.{◌≡◌, ℕ, List, ◌++◌, take}
-use Rattle.drive.specs.Journal.{Event, written}
-use Rattle.store.specs.Putting.{Writes, WritesFront}
+use Rattle.std.proofs.Common.{◌≡◌, ◌⊎◌, inl, inr, ℕ, List, [], ◌++◌, take, sym, ◌∙◌, append-nil}
+use Rattle.drive.specs.Journal.{Event, next_of, written}
+use Rattle.request.specs.declared.answer.Reply.{Reply}
+use Rattle.store.specs.Plan.{plan_blocks}
+use Rattle.store.specs.Putting.{WritesPlan, StopsInPlan}
+use Rattle.store.specs.declared.store.Store.{Store}
 
-pub behind_written : (count at : ℕ) (J K : List Event) → Writes count at J K → (more : List Event) × (K ≡ J ++ more)
-behind_written count at J K w = (written at w.0, w.2)
+pub behind_written : (capacity : ℕ) (J K : List Event) (store : Store) (reply : Reply) → WritesPlan capacity J K store reply → (more : List Event) × (K ≡ J ++ more)
+behind_written capacity J K store reply w = (written (next_of J) (plan_blocks w.plan), w.journal)
 
-pub behind_front : (at : ℕ) (J K : List Event) → (count : ℕ) × WritesFront count at J K → (more : List Event) × (K ≡ J ++ more)
-behind_front at J K w = (written at (take w.1.2.0 w.1.0), w.1.2.2)
+pub behind_front : (capacity : ℕ) (J K : List Event) → (K ≡ J) ⊎ StopsInPlan capacity J K → (more : List Event) × (K ≡ J ++ more)
+behind_front capacity J K (inl same) = ([], same ∙ sym (append-nil J))
+behind_front capacity J K (inr s) = (written (next_of J) (take s.front.0 (plan_blocks s.plan)), s.front.2)

@@ -1,14 +1,13 @@
 -- Nodes that were walked: which paths lead to them, and that no path, address or identity comes twice.
-use Rattle.std.proofs.Common.{◌≡◌, ◌⊎◌, inl, inr, ℕ, zero, suc, ◌+◌, ◌<◌, ◌≤◌, ◌==◌, Bool, true, false, cond, if◌then◌else◌, List, [], ◌∷◌, ◌++◌, map, length, drop, Contains, refl, sym, ap, ◌∙◌, subst, arith, nat_eq}
-use Rattle.std.specs.Prelude.{max}
-use Rattle.std.specs.List.{IsDistinct, AllByRecursion}
+use Rattle.std.proofs.Common.{◌≡◌, ◌⊎◌, inl, inr, ℕ, suc, ◌≤◌, ◌==◌, Bool, true, false, if◌then◌else◌, [], ◌∷◌, map, length, drop, Contains, refl, sym, ap, ◌∙◌, subst, arith, nat_eq}
+use Rattle.std.specs.List.{IsDistinct}
 use Rattle.std.specs.Str.{bytes_eq}
-use Rattle.std.proofs.lemmas.Bool.{false≢true, true≢false}
+use Rattle.std.proofs.lemmas.Bool.{true≢false}
 use Rattle.std.proofs.lemmas.Map.Views.{exact_unsigned_eq}
 use Rattle.std.specs.Cmp.{nat_eq_equiv}
 use Rattle.model.specs.Tree.{Name, Path}
-use Rattle.model.specs.Graph.{Graph, Stored, Entry, IsFunctional, Names, Leads, Reach, Agrees, HasParent, entries_of, is_directory}
-use Rattle.model.proofs.Lists.{contains_here, contains_there, contains_cons, contains_map, not_in_nil, all_contains, bytes_eq-itself}
+use Rattle.model.specs.Graph.{Graph, Stored, Entry, IsFunctional, Leads, entries_of, is_directory}
+use Rattle.model.proofs.Lists.{contains_here, contains_there, contains_cons, not_in_nil, all_contains, bytes_eq-itself}
 use Rattle.recover.specs.Forest.{Forest, IsSeen, IsWalked, IsDrawn, AreDrawn, At, Numbers, Puts, Adds, named, height}
 use Rattle.recover.specs.Forest.Forest.{End, Seen}
 

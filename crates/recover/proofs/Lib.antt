@@ -4,5 +4,7 @@ pub mod Fronts
 pub mod Held
 pub mod Nodes
 pub mod Sets
+pub mod States
 pub mod Tables
 pub mod Trees
+pub mod Walks

@@ -1,20 +1,20 @@
 -- The tree that the nodes of a walk make.
-use Rattle.std.proofs.Common.{◌≡◌, ◌↔◌, ◌⊎◌, inl, inr, ℕ, suc, ◌+◌, ◌<◌, ◌≤◌, Bool, true, false, cond, not, if◌then◌else◌, List, [], ◌∷◌, ◌++◌, map, length, Contains, Option, Some, None, is_some, refl, sym, ap, ◌∙◌, subst, arith}
-use Rattle.std.specs.FinMap.{get, insert, from_entries, get-from_entries, find, empty, len-empty, entries}
+use Rattle.std.proofs.Common.{◌≡◌, ◌⊎◌, inl, inr, ℕ, suc, ◌+◌, ◌<◌, ◌≤◌, Bool, true, false, cond, not, if◌then◌else◌, List, [], ◌∷◌, ◌++◌, map, length, Contains, Option, Some, None, refl, sym, ap, ◌∙◌, subst, arith}
+use Rattle.std.specs.FinMap.{get, from_entries, get-from_entries, find, entries}
 use Rattle.std.specs.List.{AllByRecursion, IsDistinct}
 use Rattle.std.specs.Ordering.{eq_by_cmp}
 use Rattle.std.specs.Str.{bytes_eq}
-use Rattle.std.proofs.lemmas.Bool.{false≢true, true≢false}
+use Rattle.std.proofs.lemmas.Bool.{true≢false}
 use Rattle.std.proofs.lemmas.Option.{none-some, same_Some}
 use Rattle.model.specs.Tree.{Name, Path, Node, Tree, IsTree, Has, path_cmp, names_at, found_names, names_in, found_directory, found_identity, identity_at, files_of, directories_of, is_directory as node_is_directory}
-use Rattle.model.specs.Graph.{Graph, Stored, Entry, HasParent, IsFunctional, MakesTree, Names, Leads, Reach, Agrees, entries_of, is_directory, node_of, content_of, content_in, entries_in, Body}
+use Rattle.model.specs.Graph.{Graph, Stored, Entry, HasParent, IsFunctional, MakesTree, Names, Leads, Reach, Agrees, entries_of, is_directory, node_of, content_in, entries_in, Body}
 use Rattle.model.specs.Graph.Body.{Bytes, Entries}
 use Rattle.model.specs.Identities.{HasIdentities}
 use Rattle.model.proofs.Lists.{contains_here, contains_there, contains_cons, contains_map, map_contains, not_in_nil, all_contains, bytes_eq-itself}
 use Rattle.model.proofs.Paths.{path_cases, path_cmp_total}
-use Rattle.model.proofs.Maps.{has_some, some_at, has_lists, none_at}
+use Rattle.model.proofs.Maps.{has_some, some_at, has_lists}
 use Rattle.model.proofs.Counts.{total, total-insert_new, total-empty, files-total, directories-total}
-use Rattle.recover.specs.Forest.{Forest, IsSeen, IsWalked, IsDrawn, At, IsWhole, by_address, by_identity, named, height, files_in, directories_in, whole}
+use Rattle.recover.specs.Forest.{Forest, IsSeen, IsWalked, At, IsWhole, by_address, by_identity, named, height, files_in, directories_in, whole}
 use Rattle.recover.specs.Forest.Forest.{End, Seen}
 use Rattle.recover.proofs.Forests.{tail_same, at_nil, at_short, at_drawn, at_seen, at_child, at_one, at_first, leads_down, leads_up, adds_one}
 

@@ -1,6 +1,13 @@
--- What is kept by a state that was read back from a medium.
-use Rattle.std.specs.Prelude.{◌≡◌, ℕ, ◌+◌, ◌-◌, ◌*◌, ◌≤◌, List, length, Option, Some, slice_get}
+-- What is kept by a state that was read back from a medium, and what it says.
+use Rattle.std.specs.Prelude.{◌≡◌, ℕ, ◌+◌, ◌-◌, ◌*◌, ◌≤◌, List, length, take, Option, Some, slice_get}
 use Rattle.icb.specs.FileSet.{IsFileSet}
+use Rattle.model.specs.Graph.{MakesTree}
+use Rattle.model.specs.Identities.{HasIdentities}
+use Rattle.model.specs.Session.{State as ModelState}
+use Rattle.model.specs.Tree.{Tree, IsTree, files_of, directories_of}
+use Rattle.medium.specs.Volume.{Tells, graph_of}
+use Rattle.udf.specs.Said.{said_table}
+use Rattle.udf.specs.Udf.{udf}
 use Rattle.vat.specs.declared.table.Vat.{Vat}
 use Rattle.vat.specs.Table.{IsTableAt, view}
 use Rattle.recover.specs.declared.state.State.{State}
@@ -29,3 +36,23 @@ pub record HasFileSet (medium : List (List ℕ)) (entries : List (Option ℕ)) (
   pub block : List ℕ
   pub there : slice_get medium (number + 257) ≡ Some block
   pub is : IsFileSet (record { label = label; moment = moment }) block
+
+-- the nodes that a table leads to make a tree, which the table counts
+pub record HasTree (medium : List (List ℕ)) (vat : Vat) : Type 0 where
+  pub tree : Tree
+  pub is : IsTree tree
+  pub makes : MakesTree (graph_of udf medium vat.entries.items) tree
+  pub identities : HasIdentities tree vat.sessions.next_unique
+  pub files : vat.files ≡ files_of tree
+  pub directories : vat.directories ≡ directories_of tree
+
+-- What was read is what stands where a table's entry does: the state that the blocks below it tell, on a drive of this
+-- capacity, by this table.
+pub record IsShown (capacity : ℕ) (medium : List (List ℕ)) (at : ℕ) (state : State) : Type 0 where
+  pub said : ModelState
+  pub block : List ℕ
+  pub there : slice_get medium at ≡ Some block
+  pub tells : Tells udf capacity state.capacity (take at medium) at block said
+  pub moment : said.moment ≡ state.moment
+  pub table : tells.table ≡ said_table (view state.vat)
+  pub label : state.vat.label ≡ state.label

@@ -1,10 +1,97 @@
--- What the walk through the nodes of a tree keeps.
-use Rattle.std.specs.Prelude.{ℕ, ◌+◌, ◌<◌, ◌≤◌}
+-- What the walk through the nodes of a tree sees, and what it keeps.
+use Rattle.std.specs.Prelude.{◌≡◌, ℕ, ◌+◌, ◌<◌, ◌≤◌, ◌^◌, ◌-◌, nat_eq, List, [], Option, Some, None, take, slice_get, All}
+use Rattle.std.specs.HashSet.{contains}
 use Rattle.std.specs.Int.{div_ceil}
+use Rattle.drive.specs.Journal.{Event, held}
+use Rattle.icb.specs.declared.entry.Kind.{Kind as IcbKind}
+use Rattle.icb.specs.declared.entry.Kind.TheVariants as icb_kinds
+use Rattle.icb.specs.Entry.{Fields, Place, IsEntry}
+use Rattle.icb.specs.Entry.Place.{Nowhere, Extent as IcbExtent, Inside}
+use Rattle.dir.specs.declared.entry.Dir.{Dir}
+use Rattle.dir.specs.declared.entry.Kind.{Kind}
+use Rattle.dir.specs.declared.entry.Kind.TheVariants.{File, Directory}
+use Rattle.dir.specs.Directory.{IsDirectory}
+use Rattle.model.specs.Graph.{Graph, Stored, is_directory as stored_is_directory}
+use Rattle.medium.specs.Volume.{graph_of}
+use Rattle.udf.specs.Udf.{IsBlock, udf}
 use Rattle.recover.specs.declared.directory.Extent.{Extent}
+use Rattle.recover.specs.declared.walk.Body.{Body}
+use Rattle.recover.specs.declared.walk.Named.{Named}
+use Rattle.recover.specs.declared.walk.Walk.{Walk}
+use Rattle.recover.specs.Forest.{Forest, IsWalked, AreDrawn, Adds, Numbers, by_address, by_identity, height, files_in, directories_in}
+use Rattle.recover.specs.Forest.Forest.{End, Seen}
+use Rattle.recover.specs.Nodes.{data_of, is_directory, links_of}
 
 -- there are bytes, and they lie within the largest partition and below an address
 pub record LiesBelow (at : ℕ) (extent : Extent) : Type 0 where
   pub some : 0 < extent.size
   pub first : extent.first ≤ 449_743
   pub below : extent.first + 257 + div_ceil extent.size 2048 ≤ at
+
+abbrev pub icb_kind : Kind → IcbKind
+icb_kind File = icb_kinds.File
+icb_kind Directory = icb_kinds.Directory
+
+-- where the bytes of a node lie, if blocks hold them
+abbrev pub extent_in : ℕ → Place → Option Extent
+extent_in size Nowhere = None
+extent_in size (IcbExtent first) = Some (record { first = first; size = size })
+extent_in size (Inside bytes) = None
+
+-- the entry of a node stands at this address, is what the directory above says, and says this
+pub record HasEntry (medium : List (List ℕ)) (entry_at : ℕ) (node : Named) (body : Body) : Type 0 where
+  pub block : List ℕ
+  pub there : slice_get medium entry_at ≡ Some block
+  pub fields : Fields
+  pub is : IsEntry fields node.address block
+  pub kind : fields.kind ≡ icb_kind node.kind
+  pub unique : fields.unique ≡ node.unique
+  pub links : fields.links ≡ body.links
+  pub file : node.kind ≡ File → fields.links ≡ 1
+  pub extent : body.extent ≡ extent_in fields.size fields.place
+
+-- these blocks are a directory's with this address above it, and with so many links
+pub record HasNames (medium : List (List ℕ)) (above count : ℕ) (extent : Extent) (directory : Dir) : Type 0 where
+  pub parent : directory.parent ≡ above
+  pub links : count ≡ links_of directory.entries.entries
+  pub are : All IsBlock (data_of medium extent)
+  pub is : IsDirectory directory.parent directory.entries.entries extent.first extent.size (data_of medium extent)
+
+-- the virtual address leads to this address
+pub record LeadsTo (table : List (Option ℕ)) (address entry_at : ℕ) : Type 0 where
+  pub number : ℕ
+  pub used : slice_get table address ≡ Some (Some number)
+  pub is : entry_at ≡ number + 257
+
+-- the virtual addresses that were reached, and the unique IDs that were seen
+abbrev pub reached_in : Walk → Numbers
+reached_in walk = contains nat_eq walk.reached
+
+abbrev pub uniques_in : Walk → Numbers
+uniques_in walk = contains nat_eq walk.uniques
+
+-- what is stored under the virtual addresses of the walk
+abbrev pub nodes_of : List Event → Walk → Graph
+nodes_of journal walk = graph_of udf (take walk.at (held journal)) walk.entries.now
+
+-- so many were counted, while the count is below its top
+abbrev pub Tallied : ℕ → ℕ → ℕ → Type 0
+Tallied before n after = (before ≤ after) × (after < 2 ^ 32 - 1 → after ≡ before + n)
+
+-- what the walk keeps of the nodes that it saw between two states, at a depth
+pub record Counts (before after : Walk) (depth : ℕ) (forest : Forest) : Type 0 where
+  pub shallow : depth + height forest ≤ 17
+  pub drawn : AreDrawn before.next_unique forest
+  pub reached : Adds by_address (reached_in before) forest (reached_in after)
+  pub uniques : Adds by_identity (uniques_in before) forest (uniques_in after)
+  pub files : Tallied before.files (files_in forest) after.files
+  pub directories : Tallied before.directories (directories_in forest) after.directories
+
+-- the node and all below it were seen
+pub record Visits (graph : Graph) (before after : Walk) (node : Named) : Type 0 where
+  pub stored : Stored
+  pub below : Forest
+  pub kind : stored_is_directory stored ≡ is_directory node.kind
+  pub identity : stored.identity ≡ node.unique
+  pub walked : IsWalked graph node.above (Seen [] node.address stored below End)
+  pub counts : Counts before after node.depth (Seen [] node.address stored below End)

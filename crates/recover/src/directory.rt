@@ -1,6 +1,7 @@
 //! Directories read back from a medium.
 
-ghost use Rattle.std.specs.Prelude.{◌≡◌, ◌+◌, ◌<◌, ◌≤◌, ◌^◌, ℕ, List, IsTrue, IfOk, IfErr, length};
+ghost use Rattle.std.specs.Prelude.{◌≡◌, ◌+◌, ◌<◌, ◌≤◌, ◌^◌, ℕ, List, IsTrue, IfOk, IfErr, length, All};
+ghost use Rattle.udf.specs.Udf.{IsBlock};
 ghost use Rattle.std.specs.Int.{div_ceil};
 ghost use Rattle.drive.specs.Journal.{held, next_of};
 ghost use Rattle.dir.specs.Directory.{IsDirectory};
@@ -29,7 +30,7 @@ pub fn read_directory<D: Drive>(
     requires some { 0 < extent.size }
     requires first { extent.first ≤ MAX_BLOCKS }
     requires within { extent.first + 257 + div_ceil extent.size 2048 ≤ next_of (D.journal drive.old) }
-    ensures directory { IfOk result (λ dir. (blocks : List (List ℕ)) × (IsTrue (D.honest drive.new) → blocks ≡ data_of (held (D.journal drive.old)) extent) × IsDirectory dir.parent dir.entries.entries extent.first extent.size blocks) }
+    ensures directory { IfOk result (λ dir. (blocks : List (List ℕ)) × (IsTrue (D.honest drive.new) → blocks ≡ data_of (held (D.journal drive.old)) extent) × All IsBlock blocks × IsDirectory dir.parent dir.entries.entries extent.first extent.size blocks) }
     ensures refused { IfErr result (λ fault. IsTrue (D.honest drive.new) → IsDirectoryRefused extent (data_of (held (D.journal drive.old)) extent) fault) }
     ensures journal { D.journal drive.new ≡ D.journal drive.old }
     ensures capacity { D.capacity drive.new ≡ D.capacity drive.old }

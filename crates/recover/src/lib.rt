@@ -3,7 +3,8 @@
 //!
 //! Promised: each call reads alone, so that the drive's journal stays as it was; each refusal is one of `StoreFault`, and one
 //! of the drive is told only where the drive counted a failure. On a drive whose reads are honest `last` finds the last entry
-//! of a table, from the end, and what is read is what the medium has; `state_at` looks at every node that a table leads to.
+//! of a table, from the end, and what is read is what the medium has. `state_at` looks at every node that a table leads to,
+//! and what it gives is the state that the blocks below the table's entry tell, which stands where that entry is the last.
 //!
 //! Left to others: whatever is written, and what is asked of a state.
 #![tactic(auto)]
@@ -11,6 +12,7 @@
 pub mod cause;
 mod directory;
 mod fault;
+mod laws;
 mod reading;
 mod state;
 mod table;
@@ -18,6 +20,7 @@ mod walk;
 
 pub use directory::{Extent, link_count, read_directory};
 pub use fault::{StoreFault, damaged};
+pub use laws::last_state_stands;
 pub use reading::{BLOCK_BYTES, PARTITION_START, block_count, read_block, read_blocks, read_bytes};
 pub use state::{State, state_at};
 pub use table::{TableEntry, before, last, lies_below, linked, read_table, table_at, table_entry};

@@ -1,6 +1,7 @@
 //! Reads of structures by their addresses. No call writes.
 
-ghost use Rattle.std.specs.Prelude.{◌≡◌, ◌+◌, ◌<◌, ◌≤◌, ◌^◌, IsTrue, IfOk, IfErr, Some, vec_len};
+ghost use Rattle.std.specs.Prelude.{◌≡◌, ◌+◌, ◌<◌, ◌≤◌, ◌^◌, IsTrue, IfOk, IfErr, Some, vec_len, All, slice_index, ℕ};
+ghost use Rattle.udf.specs.Udf.{IsBlock};
 ghost use Rattle.std.specs.Int.{div_ceil};
 ghost use Rattle.drive.specs.Journal.{held, last_at, next_of};
 ghost use Rattle.recover.specs.declared.fault.StoreFault.TheVariants.{Device};
@@ -29,6 +30,7 @@ pub fn block_count(size: u32) -> u32
 pub fn read_block<D: Drive>(drive: &mut D, at: u32) -> Result<Block, StoreFault>
     requires { at < next_of (D.journal drive.old) }
     ensures read { IfOk result (λ block. IsTrue (D.honest drive.new) → last_at (D.journal drive.old) at ≡ Some block) }
+    ensures block { IfOk result IsBlock }
     ensures device { IfErr result (λ fault. fault ≡ Device) }
     ensures journal { D.journal drive.new ≡ D.journal drive.old }
     ensures capacity { D.capacity drive.new ≡ D.capacity drive.old }
@@ -37,10 +39,18 @@ pub fn read_block<D: Drive>(drive: &mut D, at: u32) -> Result<Block, StoreFault>
 {
     let mut block = [0; 2048];
     match drive.read(at, &mut block) {
-        Ok(()) => Ok(block),
+        Ok(()) => {
+            are_bytes(&block);
+            Ok(block)
+        }
         Err(_) => Err(StoreFault::Device),
     }
 }
+
+/// What a slice of bytes has is below 256. Nothing runs.
+fn are_bytes(bytes: &[u8])
+    ensures { (i : ℕ) → slice_index bytes.now i < 256 }
+{}
 
 /// Reads so many blocks from an address on.
 pub fn read_blocks<D: Drive>(
@@ -52,6 +62,7 @@ pub fn read_blocks<D: Drive>(
     requires within { at + count ≤ next_of (D.journal drive.old) }
     requires fits { at + count < 2 ^ 32 }
     ensures read { IfOk result (λ blocks. IsTrue (D.honest drive.new) → blocks.items ≡ blocks_at (held (D.journal drive.old)) at count) }
+    ensures blocks { IfOk result (λ blocks. All IsBlock blocks.items) }
     ensures count { IfOk result (λ blocks. vec_len blocks ≡ count) }
     ensures refused { IfErr result IsShortage }
     ensures journal { D.journal drive.new ≡ D.journal drive.old }

@@ -1,10 +1,10 @@
 //! The state that stands where a table's entry does.
 
-ghost use Rattle.std.specs.Prelude.{◌≡◌, ◌<◌, ◌≤◌, IsTrue, IfOk, OnOk, take};
+ghost use Rattle.std.specs.Prelude.{◌≡◌, ◌<◌, ◌≤◌, ◌+◌, IsTrue, IfOk, OnOk, take};
 ghost use Rattle.drive.specs.Journal.{held, next_of};
 ghost use Rattle.volume.specs.Front.{IsFront};
 ghost use Rattle.recover.specs.Faults.{Counts, devices};
-ghost use Rattle.recover.specs.State.{HasFileSet, IsCounted, IsSound};
+ghost use Rattle.recover.specs.State.{HasFileSet, HasTree, IsCounted, IsShown, IsSound};
 
 use crate::cause;
 use crate::fault::{StoreFault, damaged};
@@ -44,6 +44,8 @@ pub struct State {
 pub fn state_at<D: Drive>(alloc: Global, drive: &mut D, at: u32) -> Result<State, StoreFault>
     requires low { 257 ≤ at }
     requires within { at < next_of (D.journal drive.old) }
+    // What is told there.
+    ensures shown { IfOk result (λ state. IsTrue (D.honest drive.new) → IsShown (D.capacity drive.old) (held (D.journal drive.old)) at state) }
     ensures sound { IfOk result (IsSound at (D.capacity drive.old)) }
     ensures journal { D.journal drive.new ≡ D.journal drive.old }
     ensures capacity { D.capacity drive.new ≡ D.capacity drive.old }
@@ -142,6 +144,9 @@ fn check_tree<D: Drive>(
 ) -> Result<(), StoreFault>
     requires low { 257 ≤ at }
     requires within { at < next_of (D.journal drive.old) }
+    requires next { 16 ≤ vat.now.sessions.next_unique }
+    requires few { vat.now.files + vat.now.directories ≤ 4_096 }
+    ensures tree { OnOk result (IsTrue (D.honest drive.new) → HasTree (take at (held (D.journal drive.old))) vat.now) }
     ensures counts { OnOk result (IsCounted at vat.now) }
     ensures journal { D.journal drive.new ≡ D.journal drive.old }
     ensures capacity { D.capacity drive.new ≡ D.capacity drive.old }
@@ -152,9 +157,13 @@ fn check_tree<D: Drive>(
     let mut walk = Walk::new(alloc, at, &vat.entries, sessions.next_unique);
     walk.visit(alloc, drive, Named::root(data_at))?;
     let commits = u64::from(sessions.commits);
-    let is_counted = walk.files == vat.files && walk.directories == vat.directories;
+    let files = walk.files;
+    let directories = walk.directories;
+    if files != vat.files || directories != vat.directories {
+        return Err(damaged(data_at, cause::COUNTS));
+    }
     let has_room = 2 * commits + FORMAT_BLOCKS <= u64::from(at);
-    if !is_counted || !has_room || u64::from(sessions.next_unique) > 16 + commits {
+    if !has_room || u64::from(sessions.next_unique) > 16 + commits {
         return Err(damaged(data_at, cause::COUNTS));
     }
     Ok(())

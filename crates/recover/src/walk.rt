@@ -2,19 +2,20 @@
 
 ghost use Rattle.std.specs.Prelude.{◌≡◌, ◌+◌, ◌<◌, ◌≤◌, ◌^◌, IsTrue, IfOk, IfSome, OnOk};
 ghost use Rattle.std.specs.Int.{div_ceil};
-ghost use Rattle.drive.specs.Journal.{next_of};
+ghost use Rattle.drive.specs.Journal.{held, next_of};
 ghost use Rattle.recover.specs.Faults.{Counts, devices};
-ghost use Rattle.recover.specs.Walk.{LiesBelow};
-ghost use Rattle.dir.specs.declared.entry.Kind.TheVariants.{Directory};
+ghost use Rattle.recover.specs.Walk.{HasNames, LiesBelow, extent_in, icb_kind};
+ghost use Rattle.icb.specs.Entry.{place_of};
+ghost use Rattle.dir.specs.declared.entry.Kind.TheVariants.{Directory, File};
 
 use crate::cause;
 use crate::directory::{Extent, link_count, read_directory};
 use crate::fault::{StoreFault, damaged};
 use crate::reading::{PARTITION_START, read_block};
 use crate::table::lies_below;
-use dir::Kind;
+use dir::{Dir, Entry, Kind};
 use drive::Drive;
-use icb::{Place, decode_fe};
+use icb::{FileEntry, Place, decode_fe};
 use std::alloc::Global;
 use std::collections::HashSet;
 
@@ -43,12 +44,15 @@ pub(crate) struct Named {
 }
 
 impl Named {
-    ghost use Rattle.std.specs.Prelude.{◌≡◌};
+    ghost use Rattle.std.specs.Prelude.{◌≡◌, ◌+◌, ◌<◌, ◌^◌};
     ghost use Rattle.dir.specs.declared.entry.Kind.TheVariants.{Directory};
 
     /// The root, which the table itself names.
     pub(crate) fn root(named_at: u32) -> Named
         ensures kind { result.kind ≡ Directory }
+        ensures address { result.address ≡ 1 }
+        ensures unique { result.unique ≡ 0 }
+        ensures above { result.above ≡ 1 }
         ensures depth { result.depth ≡ 0 }
     {
         Named {
@@ -58,6 +62,25 @@ impl Named {
             above: ROOT_ADDRESS,
             named_at,
             depth: 0,
+        }
+    }
+
+    /// The node that an entry of this directory names. The directory's data begin at `named_at`.
+    fn child(&self, entry: &Entry, named_at: u32) -> Named
+        requires { self.now.depth + 1 < 2 ^ 32 }
+        ensures kind { result.kind ≡ entry.now.kind }
+        ensures address { result.address ≡ entry.now.icb }
+        ensures unique { result.unique ≡ entry.now.unique }
+        ensures above { result.above ≡ self.now.address }
+        ensures depth { result.depth ≡ self.now.depth + 1 }
+    {
+        Named {
+            kind: entry.kind,
+            address: entry.icb,
+            unique: entry.unique,
+            above: self.address,
+            named_at,
+            depth: self.depth + 1,
         }
     }
 }
@@ -82,15 +105,15 @@ pub(crate) struct Walk<'a> {
     uniques: HashSet<u32>,
     pub(crate) files: u32,
     pub(crate) directories: u32,
-    ghost in_partition: { 257 ≤ at },
 }
 
 impl<'a> Walk<'a> {
-    ghost use Rattle.std.specs.Prelude.{◌≡◌, ◌+◌, ◌<◌, ◌≤◌, ◌^◌, IsTrue, IfOk, IfSome, OnOk};
+    ghost use Rattle.std.specs.Prelude.{◌≡◌, ◌+◌, ◌<◌, ◌≤◌, ◌^◌, ℕ, IsTrue, IfOk, IfSome, OnOk, false, take};
     ghost use Rattle.std.specs.Int.{div_ceil};
-    ghost use Rattle.drive.specs.Journal.{next_of};
+    ghost use Rattle.drive.specs.Journal.{held, next_of};
     ghost use Rattle.recover.specs.Faults.{Counts, devices};
-    ghost use Rattle.recover.specs.Walk.{LiesBelow};
+    ghost use Rattle.recover.specs.Forest.{IsDrawn, Puts};
+    ghost use Rattle.recover.specs.Walk.{HasEntry, LeadsTo, LiesBelow, Visits, nodes_of, reached_in, uniques_in};
     ghost use Rattle.dir.specs.declared.entry.Kind.TheVariants.{Directory};
 
     /// Nothing is seen yet of the tree of a table whose entry stands at `at`.
@@ -101,7 +124,13 @@ impl<'a> Walk<'a> {
         next_unique: u32,
     ) -> Walk<'a>
         requires { 257 ≤ at }
-        ensures { result.at ≡ at }
+        ensures at { result.at ≡ at }
+        ensures entries { result.entries.now ≡ entries.now }
+        ensures next_unique { result.next_unique ≡ next_unique }
+        ensures reached { (x : ℕ) → reached_in result x ≡ false }
+        ensures uniques { (x : ℕ) → uniques_in result x ≡ false }
+        ensures files { result.files ≡ 0 }
+        ensures directories { result.directories ≡ 0 }
     {
         Walk {
             at,
@@ -121,9 +150,13 @@ impl<'a> Walk<'a> {
         drive: &mut D,
         node: Named,
     ) -> Result<(), StoreFault>
+        requires low { 257 ≤ self.old.at }
         requires within { self.old.at < next_of (D.journal drive.old) }
         requires depth { node.depth ≤ 17 }
+        ensures visits { OnOk result (IsTrue (D.honest drive.new) → Visits (nodes_of (D.journal drive.old) self.old) self.old self.new node) }
         ensures at { self.new.at ≡ self.old.at }
+        ensures entries { self.new.entries.now ≡ self.old.entries.now }
+        ensures next_unique { self.new.next_unique ≡ self.old.next_unique }
         ensures counted { OnOk result (node.kind ≡ Directory → 1 ≤ self.new.directories) }
         ensures more { self.old.directories ≤ self.new.directories }
         ensures journal { D.journal drive.new ≡ D.journal drive.old }
@@ -133,31 +166,21 @@ impl<'a> Walk<'a> {
     {
         let entry_at = self.reach(&node)?;
         let body = self.read_entry(drive, &node, entry_at)?;
-        if node.kind == Kind::File {
-            self.files = self.files.saturating_add(1);
-            return Ok(());
+        match node.kind {
+            Kind::File => {
+                self.files = self.files.saturating_add(1);
+                return Ok(());
+            }
+            Kind::Directory => {}
         }
         let Some(extent) = body.extent else {
             return Err(damaged(entry_at, cause::RANGE));
         };
-        let directory = read_directory(alloc, drive, extent)?;
-        let named_at = extent.first + PARTITION_START;
-        if directory.parent != node.above {
-            return Err(damaged(named_at, cause::IDENTITY));
-        }
-        if body.links != link_count(&directory) {
-            return Err(damaged(entry_at, cause::IDENTITY));
-        }
+        let directory = read_names(alloc, drive, node.above, extent, body.links, entry_at)?;
         self.directories = self.directories.saturating_add(1);
-        for (_, entry) in directory.entries.iter() {
-            let child = Named {
-                kind: entry.kind,
-                address: entry.icb,
-                unique: entry.unique,
-                above: node.address,
-                named_at,
-                depth: node.depth + 1,
-            };
+        for index in 0..directory.entries.len() {
+            let (_, entry) = directory.entries.get_index(index).unwrap();
+            let child = node.child(entry, extent.first + PARTITION_START);
             self.visit(alloc, drive, child)?;
         }
         Ok(())
@@ -165,9 +188,16 @@ impl<'a> Walk<'a> {
 
     /// The address of the node's entry, to which no name led before.
     fn reach(&mut self, node: &Named) -> Result<u32, StoreFault>
+        requires { 257 ≤ self.old.at }
         ensures below { IfOk result (λ entry_at. (257 ≤ entry_at) × (entry_at < self.old.at)) }
+        ensures leads { IfOk result (λ entry_at. LeadsTo self.old.entries.now node.now.address entry_at) }
+        ensures reached { OnOk result (Puts (reached_in self.old) node.now.address (reached_in self.new)) }
         ensures depth { OnOk result (node.now.depth ≤ PATH_NAMES) }
         ensures at { self.new.at ≡ self.old.at }
+        ensures entries { self.new.entries ≡ self.old.entries }
+        ensures next_unique { self.new.next_unique ≡ self.old.next_unique }
+        ensures uniques { self.new.uniques ≡ self.old.uniques }
+        ensures files { self.new.files ≡ self.old.files }
         ensures directories { self.new.directories ≡ self.old.directories }
         ensures device { devices result ≡ 0 }
     {
@@ -191,9 +221,17 @@ impl<'a> Walk<'a> {
         node: &Named,
         entry_at: u32,
     ) -> Result<Body, StoreFault>
+        requires below { entry_at < self.old.at }
         requires within { entry_at < next_of (D.journal drive.old) }
+        ensures entry { IfOk result (λ body. IsTrue (D.honest drive.new) → HasEntry (take self.old.at (held (D.journal drive.old))) entry_at node.now body) }
         ensures extent { IfOk result (λ body. IfSome body.extent (LiesBelow self.old.at)) }
+        ensures drawn { OnOk result (IsDrawn self.old.next_unique node.now.address node.now.unique) }
+        ensures uniques { OnOk result (Puts (uniques_in self.old) node.now.unique (uniques_in self.new)) }
         ensures at { self.new.at ≡ self.old.at }
+        ensures entries { self.new.entries ≡ self.old.entries }
+        ensures next_unique { self.new.next_unique ≡ self.old.next_unique }
+        ensures reached { self.new.reached ≡ self.old.reached }
+        ensures files { self.new.files ≡ self.old.files }
         ensures directories { self.new.directories ≡ self.old.directories }
         ensures journal { D.journal drive.new ≡ D.journal drive.old }
         ensures capacity { D.capacity drive.new ≡ D.capacity drive.old }
@@ -208,50 +246,112 @@ impl<'a> Walk<'a> {
         if !is_kind(node.kind, entry.kind) || entry.unique != u64::from(node.unique) {
             return Err(damaged(entry_at, cause::IDENTITY));
         }
-        if !self.is_new_unique(node)? {
+        let is_new = self.is_new_unique(node)?;
+        if !is_new || !has_links(node.kind, entry.links) {
             return Err(damaged(entry_at, cause::IDENTITY));
         }
-        if node.kind == Kind::File && entry.links != 1 {
-            return Err(damaged(entry_at, cause::IDENTITY));
-        }
-        let extent = match entry.place {
-            Place::Extent(first) => {
-                if !lies_below(first, entry.size, self.at) {
-                    return Err(damaged(entry_at, cause::RANGE));
-                }
-                Some(Extent {
-                    first,
-                    size: entry.size,
-                })
-            }
-            _ => None,
-        };
-        Ok(Body {
+        let body = Body {
             links: entry.links,
-            extent,
-        })
+            extent: extent_of(&entry),
+        };
+        if !is_below(body.extent, self.at) {
+            return Err(damaged(entry_at, cause::RANGE));
+        }
+        Ok(body)
     }
 
     /// Whether the unique ID is one that the node may have, and no node before it had.
     fn is_new_unique(&mut self, node: &Named) -> Result<bool, StoreFault>
+        ensures drawn { IfOk result (λ is. IsTrue is → IsDrawn self.old.next_unique node.now.address node.now.unique) }
+        ensures uniques { IfOk result (λ is. IsTrue is → Puts (uniques_in self.old) node.now.unique (uniques_in self.new)) }
         ensures at { self.new.at ≡ self.old.at }
+        ensures entries { self.new.entries ≡ self.old.entries }
+        ensures next_unique { self.new.next_unique ≡ self.old.next_unique }
+        ensures reached { self.new.reached ≡ self.old.reached }
+        ensures files { self.new.files ≡ self.old.files }
         ensures directories { self.new.directories ≡ self.old.directories }
         ensures device { devices result ≡ 0 }
     {
         if node.address == ROOT_ADDRESS {
-            return Ok(node.unique == 0);
-        }
-        if node.unique < FIRST_UNIQUE || node.unique >= self.next_unique {
+            if node.unique != 0 {
+                return Ok(false);
+            }
+        } else if node.unique < FIRST_UNIQUE || node.unique >= self.next_unique {
             return Ok(false);
         }
         Ok(self.uniques.insert(node.unique)?)
     }
 }
 
+/// The directory whose bytes lie there, which has this directory above it and so many links. Its entry stands at
+/// `entry_at`.
+fn read_names<D: Drive>(
+    alloc: Global,
+    drive: &mut D,
+    above: u32,
+    extent: Extent,
+    links: u16,
+    entry_at: u32,
+) -> Result<Dir, StoreFault>
+    requires some { 0 < extent.size }
+    requires first { extent.first ≤ 449_743 }
+    requires within { extent.first + 257 + div_ceil extent.size 2048 ≤ next_of (D.journal drive.old) }
+    ensures names { IfOk result (λ directory. IsTrue (D.honest drive.new) → HasNames (held (D.journal drive.old)) above links extent directory) }
+    ensures journal { D.journal drive.new ≡ D.journal drive.old }
+    ensures capacity { D.capacity drive.new ≡ D.capacity drive.old }
+    ensures honest { IsTrue (D.honest drive.new) → IsTrue (D.honest drive.old) }
+    ensures failures { Counts (devices result) (D.failures drive.old) (D.failures drive.new) }
+{
+    let directory = read_directory(alloc, drive, extent)?;
+    if directory.parent != above {
+        return Err(damaged(extent.first + PARTITION_START, cause::IDENTITY));
+    }
+    if links != link_count(&directory) {
+        return Err(damaged(entry_at, cause::IDENTITY));
+    }
+    Ok(directory)
+}
+
 /// Whether an entry is of what the directory says.
-fn is_kind(named: Kind, kind: icb::Kind) -> bool {
+fn is_kind(named: Kind, kind: icb::Kind) -> bool
+    ensures { IsTrue result → kind ≡ icb_kind named }
+{
     match named {
         Kind::File => kind == icb::Kind::File,
         Kind::Directory => kind == icb::Kind::Directory,
+    }
+}
+
+/// Whether a node of this kind may have so many links, beside those of the directories in it: a file has one.
+fn has_links(named: Kind, links: u16) -> bool
+    ensures { IsTrue result → named ≡ File → links ≡ 1 }
+{
+    match named {
+        Kind::File => links == 1,
+        Kind::Directory => true,
+    }
+}
+
+/// Where the bytes of a node lie, if blocks hold them.
+fn extent_of(entry: &FileEntry<'_>) -> Option<Extent>
+    ensures { result ≡ extent_in entry.now.size (place_of entry.now.place) }
+{
+    match entry.place {
+        Place::Extent(first) => Some(Extent {
+            first,
+            size: entry.size,
+        }),
+        Place::None => None,
+        Place::Inside(_) => None,
+    }
+}
+
+/// Whether the bytes lie below an address.
+fn is_below(extent: Option<Extent>, at: u32) -> bool
+    ensures { IsTrue result → IfSome extent (λ e. e.first + 257 + div_ceil e.size 2048 ≤ at) }
+{
+    match extent {
+        Some(extent) => lies_below(extent.first, extent.size, at),
+        None => true,
     }
 }

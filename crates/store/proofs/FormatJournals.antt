@@ -1,11 +1,11 @@
 -- What a format leaves on a drive's journal.
 use Rattle.std.proofs.Common.{◌≡◌, ◌≢◌, ℕ, zero, suc, ◌+◌, ◌-◌, ◌<◌, ◌≤◌, Bool, true, false, IsTrue, List, [], ◌∷◌, ◌++◌, length, take, drop, get_or, Option, Some, None, inl, inr, refl, sym, ap, subst, ◌∙◌, arith, append_assoc, append-nil, length-append, length-drop, eq-eqb, ne_eqb}
-use Rattle.std.specs.Prelude.{All, nat_eq, not, unwrap_or}
+use Rattle.std.specs.Prelude.{All, nat_eq, not, slice_get, unwrap_or}
 use Rattle.std.specs.Cmp.Lexicographic.{pointwise, same_text, other_text}
 use Rattle.std.proofs.Math.ListN.{get_or-append}
 use Rattle.std.proofs.Math.Seq.{take-add, take-length}
 use Rattle.std.proofs.lemmas.Bool.{cases_lt}
-use Rattle.std.proofs.lemmas.List.{same_lists, take-append-drop, get_or_default, get_or-append-add, get_or-take, length-take, length-take-le, drop_at, take_at, take_all}
+use Rattle.std.proofs.lemmas.List.{same_lists, take-append-drop, get_or_default, get_or-append-add, get_or-take, length-take, length-take-le, take-append-le, drop_at, take_at, take_all}
 use Rattle.std.proofs.lemmas.List.Elements.{All-nil, All-append, All-cons}
 use Rattle.drive.specs.Journal.{Event, written, next_of, last_at, later_or, table, held, AddsFront}
 use Rattle.drive.proofs.Journals.{last-append, next_after_write}
@@ -14,9 +14,10 @@ use Rattle.volume.proofs.FrontLaws.{each_push}
 use Rattle.recover.proofs.Held.{length-held}
 use Rattle.model.specs.Session.{formatted}
 use Rattle.medium.specs.Formats.{Block}
-use Rattle.medium.specs.Volume.{Stands}
+use Rattle.medium.specs.Volume.{IsTableEntry, Stands}
 use Rattle.medium.specs.Step.{IsFormat}
-use Rattle.medium.proofs.Formatted.{none_before, format_stands}
+use Rattle.medium.proofs.Formatted.{format_stands}
+use Rattle.medium.proofs.Mediums.{none_take_at}
 use Rattle.udf.specs.Udf.{udf, IsBlock}
 use Rattle.udf.proofs.Formats.{exact}
 use Rattle.udf.proofs.NewVolume.{new_volumes_are_formats}
@@ -167,10 +168,13 @@ module _ (capacity : ℕ) (words : Words) (blocks : List Block) (before behind :
   holds_fronts = record {
     began = began;
     each = λ k le. let front = each_front k le in front.2 ∙ ap (λ n. take n blocks) (sym front.3);
-    nothing = λ k state le few stands.
+    nothing = λ k other_capacity other_volume state le few stands.
         let front = each_front k le in
-        let there : held (take k behind) ≡ take front.0 (first ++ is.mark ∷ []) = front.2 ∙ ap (λ (bs : List Block). take front.0 bs) (sym order) in
-        none_before udf capacity words.volume words.label words.moment first is.mark format_is front.0 state (omega (arith, few, front.3)) (subst (λ (bs : List Block). Stands udf capacity words.volume bs state) there stands);
+        let there : held (take k behind) ≡ take front.0 first =
+        front.2 ∙ ap (λ (bs : List Block). take front.0 bs) (sym order) ∙ take-append-le front.0 first (is.mark ∷ []) (omega (arith, few, front.3, format_is.long)) in
+        let at : stands.at ≡ 0 + stands.at = omega arith in
+        none_take_at udf 0 front.0 first format_is.none stands.at stands.block (ap (λ (M : List Block). slice_get M stands.at) (sym there) ∙ stands.last.there)
+        (subst (λ n. IsTableEntry udf stands.block n) at stands.last.is);
     new = λ k le all.
         let front = each_front k le in
         let there : held (take k behind) ≡ first ++ is.mark ∷ [] = front.2 ∙ take_all front.0 blocks (omega (arith, all, front.3, format_long words blocks is)) ∙ sym order in

@@ -5,7 +5,7 @@ use Rattle.std.specs.Option.{MatchOption}
 use Rattle.std.specs.List.{IsDistinct}
 use Rattle.std.proofs.Math.ListN.{get_or-append}
 use Rattle.std.proofs.lemmas.Bool.{cases_lt}
-use Rattle.std.proofs.lemmas.List.{take-append-drop, length-take-le, get_or-take, get_or-drop, get_or-append-add}
+use Rattle.std.proofs.lemmas.List.{same_lists, get_or_default, take-append-drop, length-take-le, get_or-take, get_or-drop, get_or-append-add}
 use Rattle.std.proofs.lemmas.List.Elements.{All-nil}
 use Rattle.ecma.specs.Descriptor.{padded}
 use Rattle.osta.specs.Label.{IsLabel}
@@ -22,7 +22,7 @@ use Rattle.volume.proofs.FrontLaws.{one_front_block}
 use Rattle.medium.specs.Formats.{Block}
 use Rattle.udf.specs.Udf.{IsBlock}
 use Rattle.udf.specs.NewVolume.{root_fields, first_table, table_fields}
-use Rattle.store.specs.NewVolume.{Words, IsFirstTable, IsBlockAt, IsFormatOf}
+use Rattle.store.specs.NewVolume.{Words, IsFirstTable, IsBlockAt, IsFormatOf, OneFormat}
 
 -- ---- the names of the root
 
@@ -263,3 +263,12 @@ module _ (words : Words) (blocks : List Block) (is : IsFormatOf words blocks) wh
       ]
     ]
   ]
+
+pub one_format : OneFormat
+one_format words a b x y =
+    same_lists a b (format_long words a x ∙ sym (format_long words b y)) (λ k d lt.
+    let low : k < 262 = omega (arith, lt, format_long words a x) in
+    let within : k < length b = omega (arith, low, format_long words b y) in
+    get_or_default a k d [] lt
+    ∙ one_block_at words k (get_or a k []) (get_or b k []) low (x.bytes k [] lt) (y.bytes k [] within) (block_at words a x k low) (block_at words b y k low)
+    ∙ get_or_default b k [] d within)

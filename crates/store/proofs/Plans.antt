@@ -1,40 +1,61 @@
--- The blocks of a plan, counted.
-use Rattle.std.proofs.Common.{◌≡◌, ℕ, zero, suc, ◌+◌, ◌*◌, ◌<◌, ◌≤◌, List, [], ◌∷◌, ◌++◌, length, take, get_or, refl, ap, arith}
-use Rattle.vat.specs.Table.{Table, Fits, table_bytes}
-use Rattle.vat.specs.declared.table.Version.{Version}
-use Rattle.vat.specs.declared.table.Version.TheVariants.{One, Two}
-use Rattle.vat.specs.Version.{record_size}
-use Rattle.vat.proofs.TableReads.{takes_so_many}
-use Rattle.store.specs.declared.places.PlacedDirectory.{PlacedDirectory}
-use Rattle.store.specs.Plan.{directory_count, directories_count}
+-- The blocks of a plan.
+use Rattle.std.proofs.Common.{◌≡◌, ℕ, zero, suc, ◌+◌, ◌-◌, ◌<◌, ◌≤◌, List, [], ◌∷◌, ◌++◌, length, take, drop, replicate, get_or, refl, sym, ap, subst, ◌∙◌, arith, append_assoc, append-nil, length-append}
+use Rattle.std.specs.Int.{div_ceil}
+use Rattle.std.proofs.lemmas.List.{length-replicate}
+use Rattle.medium.specs.Formats.{Block}
+use Rattle.medium.specs.Plan.{zeros, packed, Writing, Written, WritesNode, WritesNodes}
+use Rattle.medium.proofs.Packed.{length-packed}
+use Rattle.udf.specs.Udf.{udf}
+use Rattle.store.specs.declared.placed.PlacedDirectory.{PlacedDirectory}
+use Rattle.store.specs.declared.plan.Plan.{Plan}
+use Rattle.store.specs.Plan.{directory_list, directories_list, directories_writings, directories_written, node_list, table_data, plan_blocks, IsPlan}
+use Rattle.store.specs.Writings.{directory_writing}
+use Rattle.store.proofs.Writings.{writes_one, writes-append}
 
--- one directory more
-pub count_push : (ps : List PlacedDirectory) (p : PlacedDirectory) → directories_count (ps ++ p ∷ []) ≡ directories_count ps + directory_count p
-count_push [] p = omega arith
-count_push (x ∷ ps) p = omega (arith, count_push ps p)
+-- blocks of zeros, and bytes behind them
+pub length-padded : (gap : ℕ) (bytes : List ℕ) → length (replicate gap zeros ++ packed bytes) ≡ gap + div_ceil (length bytes) 2048
+length-padded gap bytes = omega (arith, length-append (replicate gap zeros) (packed bytes), length-replicate {A = List ℕ} gap zeros, length-packed bytes)
 
-pub count_more : (ps : List PlacedDirectory) (i : ℕ) (d : PlacedDirectory) → i < length ps → directories_count (take (i + 1) ps) ≡ directories_count (take i ps) + directory_count (get_or ps i d)
-count_more [] i d lt = absurd (omega arith)
-count_more (x ∷ ps) zero d lt = omega arith
-count_more (x ∷ ps) (suc i) d lt =
+-- ---- one directory more
+
+pub list_push : (ps : List PlacedDirectory) (p : PlacedDirectory) → directories_list (ps ++ p ∷ []) ≡ directories_list ps ++ directory_list p
+list_push [] p = append-nil (directory_list p)
+list_push (x ∷ ps) p = ap (λ (bs : List Block). directory_list x ++ bs) (list_push ps p) ∙ sym (append_assoc (directory_list x) (directories_list ps) (directory_list p))
+
+writings_push : (ps : List PlacedDirectory) (p : PlacedDirectory) → directories_writings (ps ++ p ∷ []) ≡ directories_writings ps ++ directory_writing p.directory ∷ []
+writings_push [] p = refl
+writings_push (x ∷ ps) p = ap (λ (ws : List Writing). directory_writing x.directory ∷ ws) (writings_push ps p)
+
+numbers_push : (ps : List PlacedDirectory) (p : PlacedDirectory) → directories_written (ps ++ p ∷ []) ≡ directories_written ps ++ record { address = p.directory.address; number = p.number } ∷ []
+numbers_push [] p = refl
+numbers_push (x ∷ ps) p = ap (λ (ws : List Written). record { address = x.directory.address; number = x.number } ∷ ws) (numbers_push ps p)
+
+pub written_push : (ps : List PlacedDirectory) (p : PlacedDirectory) (start now : ℕ) → now ≡ start + length (directories_list ps)
+    → WritesNodes udf (directories_writings ps) start (directories_list ps) (directories_written ps) → WritesNode udf (directory_writing p.directory) now (directory_list p) p.number
+    → WritesNodes udf (directories_writings (ps ++ p ∷ [])) start (directories_list (ps ++ p ∷ [])) (directories_written (ps ++ p ∷ []))
+written_push ps p start now at w one =
+    let next : Written = record { address = p.directory.address; number = p.number } in
+    let last = subst (λ n. WritesNodes udf (directory_writing p.directory ∷ []) n (directory_list p) (next ∷ [])) at (writes_one (directory_writing p.directory) now (directory_list p) p.number one) in
+    let all = writes-append (directories_writings ps) (directory_writing p.directory ∷ []) start (directories_list ps) (directory_list p) (directories_written ps) (next ∷ []) w last in
+    subst (λ (ws : List Writing). WritesNodes udf ws start (directories_list (ps ++ p ∷ [])) (directories_written (ps ++ p ∷ []))) (sym (writings_push ps p))
+    (subst (λ (bs : List Block). WritesNodes udf (directories_writings ps ++ directory_writing p.directory ∷ []) start bs (directories_written (ps ++ p ∷ []))) (sym (list_push ps p))
+    (subst (λ (ws : List Written). WritesNodes udf (directories_writings ps ++ directory_writing p.directory ∷ []) start (directories_list ps ++ directory_list p) ws) (sym (numbers_push ps p)) all))
+
+-- ---- the directories so far
+
+pub list_more : (ps : List PlacedDirectory) (i : ℕ) (p : PlacedDirectory) → i < length ps → get_or ps i p ≡ p → directories_list (take (i + 1) ps) ≡ directories_list (take i ps) ++ directory_list p
+list_more [] i p lt is = absurd (omega arith)
+list_more (x ∷ ps) zero p lt is = append-nil (directory_list x) ∙ ap directory_list is
+list_more (x ∷ ps) (suc i) p lt is =
     let next : suc i + 1 ≡ suc (i + 1) = omega arith in
-    omega (arith, ap (λ n. directories_count (take n (x ∷ ps))) next, count_more ps i d (omega arith))
+    ap (λ n. directories_list (take n (x ∷ ps))) next ∙ ap (λ (bs : List Block). directory_list x ++ bs) (list_more ps i p (omega arith) is) ∙ sym (append_assoc (directory_list x) (directories_list (take i ps)) (directory_list p))
 
-pub count_front : (n : ℕ) (ps : List PlacedDirectory) → directories_count (take n ps) ≤ directories_count ps
-count_front zero ps = omega arith
-count_front (suc n) [] = omega arith
-count_front (suc n) (x ∷ ps) = omega (arith, count_front n ps)
+pub list_front : (n : ℕ) (ps : List PlacedDirectory) → directories_list (take n ps) ++ directories_list (drop n ps) ≡ directories_list ps
+list_front zero ps = refl
+list_front (suc n) [] = refl
+list_front (suc n) (x ∷ ps) = append_assoc (directory_list x) (directories_list (take n ps)) (directories_list (drop n ps)) ∙ ap (λ (bs : List Block). directory_list x ++ bs) (list_front n ps)
 
--- a table's bytes are few
-pub table_few : (t : Table) → Fits t → length (table_bytes t) ≤ 1_048_576
-table_few t fits =
-    let size = takes_so_many t (table_bytes t) (record { fits = fits; whole = refl }) in
-    by t.version size
-  where
-    by : (v : Version) → length (table_bytes t) ≡ 196 + (record_size v * length t.records + 4 * length t.entries) → length (table_bytes t) ≤ 1_048_576
-    by One size = omega (arith, size, fits.clients, fits.many)
-    by Two size = omega (arith, size, fits.clients, fits.many)
+-- ---- a plan
 
--- one place more
-pub count_next : (old now next : ℕ) (ps : List PlacedDirectory) (p : PlacedDirectory) → now ≡ old + directories_count ps → next ≡ now + directory_count p → next ≡ old + directories_count (ps ++ p ∷ [])
-count_next old now next ps p h k = omega (arith, h, k, count_push ps p)
+pub plan_ends : (next capacity : ℕ) (p : Plan) → IsPlan next capacity p → next + length (plan_blocks p) ≡ p.table.at + 1
+plan_ends next capacity p is = omega (arith, is.low, is.table.number, length-append (node_list p) (table_data p.table ++ p.table.entry ∷ []), length-append (table_data p.table) (p.table.entry ∷ []))

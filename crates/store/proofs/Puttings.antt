@@ -1,63 +1,65 @@
--- Blocks that are given to a packet writer, counted.
-use Rattle.std.proofs.Common.{◌≡◌, ℕ, ◌+◌, ◌-◌, ◌≤◌, ◌<◌, List, [], ◌∷◌, ◌++◌, length, replicate, take, Bool, true, false, refl, sym, ap, subst, ◌∙◌, arith, append-nil, length-append}
+-- Blocks that are given to a packet writer.
+use Rattle.std.proofs.Common.{◌≡◌, ℕ, zero, suc, ◌+◌, ◌≤◌, ◌<◌, List, [], ◌∷◌, ◌++◌, length, take, drop, get_or, refl, sym, ap, subst, ◌∙◌, arith, append_assoc, append-nil, Bool, true, false}
 use Rattle.std.specs.Prelude.{Result, Ok, Err, is_err, OnErr, OnOk}
 use Rattle.std.proofs.lemmas.Bool.{false≢true}
-use Rattle.std.proofs.lemmas.List.{length-replicate}
+use Rattle.std.proofs.lemmas.List.{take_all}
 use Rattle.drive.specs.Journal.{Event, written, next_of, AddsFront}
-use Rattle.drive.specs.Waiting.{Waiting, end_of, Takes, Stops}
-use Rattle.drive.proofs.Packing.{takes-nil, takes-append, stops_after, stops_longer, takes_all, takes_front}
+use Rattle.drive.specs.Waiting.{Waiting, Takes, Stops}
+use Rattle.drive.proofs.Packing.{takes_next, stops_next, takes-append, stops_after, stops_longer, takes_all, takes_front}
 use Rattle.drive.proofs.Fronts.{begins_after}
-use Rattle.store.specs.Putting.{Puts, Fails, Writes, WritesFront}
 
-pub puts_none : (J : List Event) (w : Waiting) → Puts 0 J w J w
-puts_none J w = ([], refl, takes-nil J w)
+module _ (J J1 J2 : List Event) (w w1 : Waiting) (i : ℕ) (all : List (List ℕ)) (b : List ℕ) (below : i < length all) (is : get_or all i [] ≡ b) (t : Takes J w (take i all) J1 w1) where
+  -- in a loop over some blocks: one more was taken
+  pub takes_item : (w2 : Waiting) → Takes J1 w1 (b ∷ []) J2 w2 → Takes J w (take (i + 1) all) J2 w2
+  takes_item w2 u = takes_next J J1 J2 w w1 w2 i all [] below t (subst (λ (x : List ℕ). Takes J1 w1 (x ∷ []) J2 w2) (sym is) u)
 
-pub puts_one : (J J' : List Event) (w w' : Waiting) (b : List ℕ) → Takes J w (b ∷ []) J' w' → Puts 1 J w J' w'
-puts_one J J' w w' b t = (b ∷ [], refl, t)
+  -- in a loop over some blocks: a write failed
+  pub stops_item : Stops J1 w1 (b ∷ []) J2 → Stops J w all J2
+  stops_item s = stops_next J J1 J2 w w1 i all [] below t (subst (λ (x : List ℕ). Stops J1 w1 (x ∷ []) J2) (sym is) s)
 
-pub puts_more : (n m : ℕ) (J J1 J2 : List Event) (w w1 w2 : Waiting) → Puts n J w J1 w1 → Puts m J1 w1 J2 w2 → Puts (n + m) J w J2 w2
-puts_more n m J J1 J2 w w1 w2 p q = (p.0 ++ q.0, omega (arith, length-append p.0 q.0, p.1, q.1), takes-append J J1 J2 w w1 w2 p.0 q.0 p.2 q.2)
+-- the loop has ended
+pub takes_whole : (J J' : List Event) (w w' : Waiting) (i : ℕ) (all : List (List ℕ)) → length all ≤ i → Takes J w (take i all) J' w' → Takes J w all J' w'
+takes_whole J J' w w' i all h t = subst (λ (bs : List (List ℕ)). Takes J w bs J' w') (take_all i all h) t
 
-pub fails_one : (J J' : List Event) (w : Waiting) (b : List ℕ) → Stops J w (b ∷ []) J' → Fails 1 J w J'
-fails_one J J' w b s = (b ∷ [], refl, s)
+-- the same blocks, said in another way
+pub takes_same : (J J' : List Event) (w w' : Waiting) (bs cs : List (List ℕ)) → bs ≡ cs → Takes J w bs J' w' → Takes J w cs J' w'
+takes_same J J' w w' bs cs same t = subst (λ (xs : List (List ℕ)). Takes J w xs J' w') same t
 
-pub fails_after : (n m : ℕ) (J J1 J2 : List Event) (w w1 : Waiting) → Puts n J w J1 w1 → Fails m J1 w1 J2 → Fails (n + m) J w J2
-fails_after n m J J1 J2 w w1 p f = (p.0 ++ f.0, omega (arith, length-append p.0 f.0, p.1, f.1), stops_after J J1 J2 w w1 p.0 f.0 p.2 f.2)
+pub stops_same : (J J' : List Event) (w : Waiting) (bs cs : List (List ℕ)) → bs ≡ cs → Stops J w bs J' → Stops J w cs J'
+stops_same J J' w bs cs same s = subst (λ (xs : List (List ℕ)). Stops J w xs J') same s
 
-pub fails_longer : (n m : ℕ) (J J' : List Event) (w : Waiting) → n ≤ m → Fails n J w J' → Fails m J w J'
-fails_longer n m J J' w h f =
-    let more : List (List ℕ) = replicate (m - n) [] in
-    (f.0 ++ more, omega (arith, h, length-append f.0 more, length-replicate {A = List ℕ} (m - n) [], f.1), stops_longer J J' w f.0 more f.2)
+pub takes_from : (J J' : List Event) (w v w' : Waiting) (bs : List (List ℕ)) → w ≡ v → Takes J w bs J' w' → Takes J v bs J' w'
+takes_from J J' w v w' bs same t = subst (λ (u : Waiting). Takes J u bs J' w') same t
 
-pub puts_ends : (n : ℕ) (J J' : List Event) (w w' : Waiting) → Puts n J w J' w' → end_of w' ≡ end_of w + n
-puts_ends n J J' w w' p = omega (arith, p.2.ends, p.1)
+pub stops_from : (J J' : List Event) (w v : Waiting) (bs : List (List ℕ)) → w ≡ v → Stops J w bs J' → Stops J v bs J'
+stops_from J J' w v bs same s = subst (λ (u : Waiting). Stops J u bs J') same s
 
-pub puts_begins : (n : ℕ) (J J' : List Event) (w w' : Waiting) → Puts n J w J' w' → w.at ≤ next_of J → w'.at ≤ next_of J'
-puts_begins n J J' w w' p = p.2.begins
+-- some blocks, and then others behind them
+pub takes_both : (J J1 J2 : List Event) (w w1 w2 : Waiting) (bs cs all : List (List ℕ)) → bs ++ cs ≡ all → Takes J w bs J1 w1 → Takes J1 w1 cs J2 w2 → Takes J w all J2 w2
+takes_both J J1 J2 w w1 w2 bs cs all whole t u = takes_same J J2 w w2 (bs ++ cs) all whole (takes-append J J1 J2 w w1 w2 bs cs t u)
+
+pub stops_first : (J J' : List Event) (w : Waiting) (bs cs all : List (List ℕ)) → bs ++ cs ≡ all → Stops J w bs J' → Stops J w all J'
+stops_first J J' w bs cs all whole s = stops_same J J' w (bs ++ cs) all whole (stops_longer J J' w bs cs s)
+
+pub stops_second : (J J1 J2 : List Event) (w w1 : Waiting) (bs cs all : List (List ℕ)) → bs ++ cs ≡ all → Takes J w bs J1 w1 → Stops J1 w1 cs J2 → Stops J w all J2
+stops_second J J1 J2 w w1 bs cs all whole t s = stops_same J J2 w (bs ++ cs) all whole (stops_after J J1 J2 w w1 bs cs t s)
 
 -- what waits is written in the end
-pub puts_written : (n : ℕ) (J J1 J2 : List Event) (at : ℕ) (w w1 : Waiting) → w ≡ record { at = at; blocks = [] } → Puts n J w J1 w1 → J2 ≡ J1 ++ written w1.at w1.blocks → Writes n at J J2
-puts_written n J J1 J2 at w w1 new p is =
-    (p.0, p.1, takes_all J J1 J2 w w1 p.0 p.2 is ∙ ap (λ (v : Waiting). J ++ written v.at (v.blocks ++ p.0)) new)
+pub takes_written : (J J1 J2 : List Event) (at : ℕ) (w w1 : Waiting) (bs : List (List ℕ)) → w ≡ record { at = at; blocks = [] } → Takes J w bs J1 w1 → J2 ≡ J1 ++ written w1.at w1.blocks → J2 ≡ J ++ written at bs
+takes_written J J1 J2 at w w1 bs new t is = takes_all J J1 J2 w w1 bs t is ∙ ap (λ (v : Waiting). J ++ written v.at (v.blocks ++ bs)) new
 
 -- or a front of it is
-pub fails_front : (n : ℕ) (J J2 : List Event) (at : ℕ) (w : Waiting) → w ≡ record { at = at; blocks = [] } → Fails n J w J2 → WritesFront n at J J2
-fails_front n J J2 at w new f = (f.0, f.1, subst (λ (v : Waiting). AddsFront J v.at (v.blocks ++ f.0) J2) new f.2)
+pub stops_front : (J J' : List Event) (at : ℕ) (w : Waiting) (bs : List (List ℕ)) → w ≡ record { at = at; blocks = [] } → Stops J w bs J' → AddsFront J at bs J'
+stops_front J J' at w bs new s = subst (λ (v : Waiting). AddsFront J v.at (v.blocks ++ bs) J') new s
 
-pub puts_front : (n : ℕ) (J J1 J2 : List Event) (at : ℕ) (w w1 : Waiting) → w ≡ record { at = at; blocks = [] } → Puts n J w J1 w1 → AddsFront J1 w1.at w1.blocks J2 → WritesFront n at J J2
-puts_front n J J1 J2 at w w1 new p front = fails_front n J J2 at w new (p.0, p.1, takes_front J J1 J2 w w1 p.0 p.2 front)
+pub takes_fronted : (J J1 J2 : List Event) (at : ℕ) (w w1 : Waiting) (bs : List (List ℕ)) → w ≡ record { at = at; blocks = [] } → Takes J w bs J1 w1 → AddsFront J1 w1.at w1.blocks J2 → AddsFront J at bs J2
+takes_fronted J J1 J2 at w w1 bs new t front = stops_front J J2 at w bs new (takes_front J J1 J2 w w1 bs t front)
 
-pub writes_ends : (n at : ℕ) (J J' : List Event) → at ≤ next_of J → Writes n at J J' → at + n ≤ next_of J'
-writes_ends n at J J' begins w = omega (arith, w.1, ap next_of w.2, begins_after J at w.0 begins)
+pub writes_ends : (at : ℕ) (J J' : List Event) (bs : List (List ℕ)) → at ≤ next_of J → J' ≡ J ++ written at bs → at + length bs ≤ next_of J'
+writes_ends at J J' bs begins is = omega (arith, ap next_of is, begins_after J at bs begins)
 
-pub puts_from : (n : ℕ) (J J' : List Event) (w v w' : Waiting) → w ≡ v → Puts n J w J' w' → Puts n J v J' w'
-puts_from n J J' w v w' same p = subst (λ (u : Waiting). Puts n J u J' w') same p
-
-pub fails_from : (n : ℕ) (J J' : List Event) (w v : Waiting) → w ≡ v → Fails n J w J' → Fails n J v J'
-fails_from n J J' w v same f = subst (λ (u : Waiting). Fails n J u J') same f
-
-pub front_ends : (n at : ℕ) (J J' : List Event) → at ≤ next_of J → WritesFront n at J J' → at ≤ next_of J'
-front_ends n at J J' begins f = omega (arith, ap next_of f.2.2, begins_after J at (take f.2.0 f.0) begins)
+pub front_ends : (at : ℕ) (J J' : List Event) (bs : List (List ℕ)) → at ≤ next_of J → AddsFront J at bs J' → at ≤ next_of J'
+front_ends at J J' bs begins f = omega (arith, ap next_of f.2, begins_after J at (take f.0 bs) begins)
 
 -- what holds on an error holds where there is one
 pub on_err : {T E : Type 0} (r : Result T E) (P : Type 0) → is_err r ≡ true → OnErr r P → P
@@ -67,7 +69,3 @@ on_err (Err x) P e h = h
 pub on_ok : {T E : Type 0} (r : Result T E) (P : Type 0) → is_err r ≡ false → OnOk r P → P
 on_ok (Ok x) P e h = h
 on_ok (Err x) P e h = absurd (false≢true (sym e))
-
--- a drive that was not written
-pub front_none : (at : ℕ) (J J' : List Event) → J' ≡ J → WritesFront 0 at J J'
-front_none at J J' same = ([], refl, (0, omega arith, same ∙ sym (append-nil J)))

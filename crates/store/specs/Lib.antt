@@ -1,7 +1,9 @@
 pub mod Agrees
 pub mod Asked
 pub mod Below
+pub mod Cache
 pub mod Calls
+pub mod Changes
 pub mod History
 pub mod Need
 pub mod NewVolume
@@ -11,4 +13,6 @@ pub mod Plan
 pub mod Putting
 pub mod Queries
 pub mod Sessions
+pub mod Shows
 pub mod TableChange
+pub mod Writings

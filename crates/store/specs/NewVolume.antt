@@ -55,7 +55,11 @@ pub record IsFormatOf (words : Words) (blocks : List Block) : Type 0 where
   pub is : IsNewVolume words.volume words.label words.moment front set names root table mark
   pub order : blocks ≡ front ++ set ∷ names ∷ root ∷ table ∷ mark ∷ []
 
--- they are a front of them, none and all among these
+-- words have one list of them
+abbrev pub OneFormat : Type 0
+OneFormat = (words : Words) (a b : List Block) → IsFormatOf words a → IsFormatOf words b → a ≡ b
+
+-- the blocks are a front of a format's, none and all among these
 pub record IsBegun (words : Words) (blocks : List Block) : Type 0 where
   pub whole : List Block
   pub is : IsFormatOf words whole
@@ -79,11 +83,11 @@ pub record AreBlocks (words : Words) (from to : ℕ) (blocks : List Block) : Typ
 -- ---- what a call leaves
 
 -- On the fronts of a journal from the one before on there is what was there, and behind it the blocks that were missing.
--- Before the last of the 262 nothing stands, and with it the new volume does.
+-- Before the last of the 262 nothing stands, whatever drive and volume it is read in, and with it the new volume does.
 pub record HoldsFronts (capacity : ℕ) (words : Words) (blocks : List Block) (before behind : List Event) : Type 0 where
   pub began : held before ≡ take (next_of before) blocks
   pub each : (k : ℕ) → length before ≤ k → held (take k behind) ≡ take (next_of (take k behind)) blocks
-  pub nothing : (k : ℕ) (state : State) → length before ≤ k → next_of (take k behind) < 262 → Stands udf capacity words.volume (held (take k behind)) state → ⊥
+  pub nothing : (k other_capacity other_volume : ℕ) (state : State) → length before ≤ k → next_of (take k behind) < 262 → Stands udf other_capacity other_volume (held (take k behind)) state → ⊥
   pub new : (k : ℕ) → length before ≤ k → next_of (take k behind) ≡ 262 → Stands udf capacity words.volume (held (take k behind)) (formatted words.moment)
 
 -- The format was finished: the blocks that were missing are written, and on an honest drive the new volume stands.

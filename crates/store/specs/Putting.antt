@@ -1,21 +1,22 @@
--- So many blocks, given to a packet writer or written by it.
-use Rattle.std.specs.Prelude.{◌≡◌, ℕ, List, length}
-use Rattle.drive.specs.Journal.{Event, AddsFront, written}
-use Rattle.drive.specs.Waiting.{Waiting, Takes, Stops}
-use Rattle.std.specs.Prelude.{◌++◌}
+-- What a commit writes to a drive.
+use Rattle.std.specs.Prelude.{◌≡◌, ℕ, List, ◌++◌}
+use Rattle.drive.specs.Journal.{Event, next_of, written, AddsFront}
+use Rattle.request.specs.declared.answer.Reply.{Reply}
+use Rattle.store.specs.Plan.{IsPlan, plan_blocks}
+use Rattle.store.specs.declared.plan.Plan.{Plan}
+use Rattle.store.specs.declared.store.Store.{Store}
 
--- so many blocks were taken
-abbrev pub Puts : ℕ → List Event → Waiting → List Event → Waiting → Type 0
-Puts count J w J' w' = (blocks : List (List ℕ)) × (length blocks ≡ count) × Takes J w blocks J' w'
+-- All that was planned was written, and the store keeps the plan's table.
+pub record WritesPlan (capacity : ℕ) (J J' : List Event) (store : Store) (reply : Reply) : Type 0 where
+  pub plan : Plan
+  pub is : IsPlan (next_of J) capacity plan
+  pub reply_is : reply ≡ plan.reply
+  pub at : store.at ≡ plan.table.at
+  pub vat : store.vat ≡ plan.table.vat
+  pub journal : J' ≡ J ++ written (next_of J) (plan_blocks plan)
 
--- a write failed among so many blocks and those that waited
-abbrev pub Fails : ℕ → List Event → Waiting → List Event → Type 0
-Fails count J w J' = (blocks : List (List ℕ)) × (length blocks ≡ count) × Stops J w blocks J'
-
--- so many blocks lie behind each other from an address on
-abbrev pub Writes : ℕ → ℕ → List Event → List Event → Type 0
-Writes count at J J' = (blocks : List (List ℕ)) × (length blocks ≡ count) × (J' ≡ J ++ written at blocks)
-
--- a front of so many blocks does
-abbrev pub WritesFront : ℕ → ℕ → List Event → List Event → Type 0
-WritesFront count at J J' = (blocks : List (List ℕ)) × (length blocks ≡ count) × AddsFront J at blocks J'
+-- a front of what was planned was written
+pub record StopsInPlan (capacity : ℕ) (J J' : List Event) : Type 0 where
+  pub plan : Plan
+  pub is : IsPlan (next_of J) capacity plan
+  pub front : AddsFront J (next_of J) (plan_blocks plan) J'

@@ -1,12 +1,19 @@
 //! What a request does to the nodes, before any place is chosen.
 
-ghost use Rattle.std.specs.Prelude.{◌≡◌, ◌<◌, ◌≤◌, IsTrue, IfOk, length};
+ghost use Rattle.std.specs.Prelude.{◌≡◌, ◌<◌, ◌≤◌, ℕ, IsTrue, IfOk, IfErr, length};
 ghost use Rattle.drive.specs.Journal.{next_of};
-ghost use Rattle.recover.specs.Faults.{Counts, devices};
+ghost use Rattle.model.specs.Addresses as addresses;
+ghost use Rattle.model.specs.Operation.Operation.{Replace};
+ghost use Rattle.model.specs.Tree.{Tree};
+ghost use Rattle.recover.specs.Faults.{Counts, IsShortage, devices};
 ghost use Rattle.store.specs.Below.{AreBelow};
+ghost use Rattle.store.specs.Cache.{AreKept};
+ghost use Rattle.store.specs.Changes.{Does, IsRefusal};
+ghost use Rattle.store.specs.Shows.{Shows, graph_below};
 ghost use Rattle.request.specs.declared.answer.Code.TheVariants.{Done};
 
-use crate::directories::{Content, Directories};
+use crate::content::Content;
+use crate::directories::Directories;
 use crate::nodes::{Node, Nodes};
 use dir::{Dir, Entry, Kind};
 use drive::Drive;
@@ -76,7 +83,9 @@ enum Thing<'r> {
 
 impl<'r> Change<'r> {
     /// Nothing is done.
-    fn refused(alloc: Global, code: Code) -> Change<'r> {
+    fn refused(alloc: Global, code: Code) -> Change<'r>
+        ensures { IsRefusal code result }
+    {
         Change {
             code,
             file: None,
@@ -186,6 +195,9 @@ impl Directories {
     ) -> Result<Change<'r>, StoreFault>
         requires below { AreBelow before.now.nodes.at before.now.nodes.entries.now }
         requires within { before.now.nodes.at ≤ next_of (D.journal drive.old) }
+        ensures does { (tree : Tree) (moment identity : ℕ) → Shows (D.honest drive.new) (D.journal drive.old) self.old before.now.nodes.at before.now.nodes.entries.now tree → IfOk result (Does (graph_below before.now.nodes.at before.now.nodes.entries.now (D.journal drive.old)) (addresses.free_address before.now.nodes.entries.now) tree (Replace names.now bytes.now) moment identity) }
+        ensures short { (tree : Tree) → Shows (D.honest drive.new) (D.journal drive.old) self.old before.now.nodes.at before.now.nodes.entries.now tree → IfErr result IsShortage }
+        ensures kept { IsTrue (D.honest drive.new) → AreKept (D.journal drive.old) self.old → AreKept (D.journal drive.old) self.new }
         ensures journal { D.journal drive.new ≡ D.journal drive.old }
         ensures capacity { D.capacity drive.new ≡ D.capacity drive.old }
         ensures honest { IsTrue (D.honest drive.new) → IsTrue (D.honest drive.old) }
@@ -197,7 +209,7 @@ impl Directories {
         let Some(node) = self.find(alloc, drive, &before.nodes, names)? else {
             return Ok(Change::refused(alloc, Code::NotFound));
         };
-        if node.kind == Kind::Directory {
+        if node.is_directory() {
             return Ok(Change::refused(alloc, Code::IsDirectory));
         }
         let mut change = Change::refused(alloc, Code::Done);

@@ -1,26 +1,25 @@
 //! A commit: what is planned is written, and then kept.
 
-ghost use Rattle.std.specs.Prelude.{◌≡◌, ◌+◌, ◌-◌, ◌<◌, ◌≤◌, ◌^◌, false, true, Err, ℕ, is_err, length, IsTrue, IfOk, OnOk, OnErr};
-ghost use Rattle.std.specs.Int.{div_ceil};
-ghost use Rattle.drive.specs.Journal.{next_of, counted};
-ghost use Rattle.drive.specs.Waiting.{end_of};
+ghost use Rattle.std.specs.Prelude.{◌≡◌, ◌+◌, ◌<◌, ◌≤◌, ◌^◌, ◌++◌, ◌⊎◌, [], ◌∷◌, false, true, Err, is_err, length, IsTrue, IfOk, OnOk, OnErr};
+ghost use Rattle.drive.specs.Journal.{next_of, written, AddsFront, counted};
+ghost use Rattle.drive.specs.Waiting.{end_of, Takes, Stops};
 ghost use Rattle.recover.specs.Faults.{Counts, devices};
 ghost use Rattle.store.specs.Agrees.{Agrees};
-ghost use Rattle.store.specs.Plan.{IsPlan, file_count, directory_count, directories_count, table_count, plan_count};
-ghost use Rattle.store.specs.Putting.{Puts, Fails, Writes, WritesFront};
+ghost use Rattle.store.specs.Plan.{IsPlan, file_list, directory_list, directories_list, table_data, plan_blocks};
+ghost use Rattle.store.specs.Putting.{WritesPlan, StopsInPlan};
 ghost use Rattle.store.specs.TableChange.{IsNext};
 ghost use Rattle.recover.specs.declared.fault.StoreFault.TheVariants.{Stopped};
 
 use crate::change::Before;
 use crate::nodes::Nodes;
-use crate::places::{PlacedDirectory, PlacedFile, outside_of, place_of_bytes};
+use crate::placed::{PlacedDirectory, PlacedFile};
+use crate::places::outside_of;
 use crate::plan::{PlacedTable, Plan};
 use crate::store::Store;
 use crate::write::Writer;
 use drive::{Drive, DriveFault};
 use ecma::Timestamp;
-use icb::{FileEntry, Kind, Place, encode_fe};
-use recover::{PARTITION_START, StoreFault, block_count, link_count};
+use recover::{StoreFault, block_count};
 use request::{Reply, Request};
 use std::alloc::Global;
 
@@ -29,12 +28,11 @@ fn write_file<D: Drive>(
     writer: &mut Writer,
     drive: &mut D,
     file: &Option<PlacedFile<'_>>,
-    moment: Timestamp,
 ) -> Result<(), DriveFault>
     requires begins { writer.old.packets.at ≤ next_of (D.journal drive.old) }
-    requires fits { end_of writer.old.packets + file_count file.now ≤ D.capacity drive.old }
-    ensures ok { OnOk result (Puts (file_count file.now) (D.journal drive.old) writer.old.packets (D.journal drive.new) writer.new.packets) }
-    ensures err { OnErr result (Fails (file_count file.now) (D.journal drive.old) writer.old.packets (D.journal drive.new)) }
+    requires fits { end_of writer.old.packets + length (file_list file.now) ≤ D.capacity drive.old }
+    ensures ok { OnOk result (Takes (D.journal drive.old) writer.old.packets (file_list file.now) (D.journal drive.new) writer.new.packets) }
+    ensures err { OnErr result (Stops (D.journal drive.old) writer.old.packets (file_list file.now) (D.journal drive.new)) }
     ensures capacity { D.capacity drive.new ≡ D.capacity drive.old }
     ensures failures { D.failures drive.new ≡ counted (is_err result) (D.failures drive.old) }
     ensures honest { IsTrue (D.honest drive.new) → IsTrue (D.honest drive.old) }
@@ -44,15 +42,7 @@ fn write_file<D: Drive>(
     };
     let bytes = placed.file.bytes.as_slice();
     writer.put_bytes(drive, placed.gap, outside_of(bytes))?;
-    let entry = FileEntry {
-        kind: Kind::File,
-        moment,
-        links: 1,
-        unique: u64::from(placed.file.unique),
-        size: bytes.len() as u32,
-        place: place_of_bytes(bytes, placed.first),
-    };
-    writer.put(drive, &encode_fe(&entry, placed.file.address))?;
+    writer.put(drive, &placed.entry)?;
     Ok(())
 }
 
@@ -63,25 +53,16 @@ fn write_directory<D: Drive>(
     placed: &PlacedDirectory,
 ) -> Result<(), DriveFault>
     requires begins { writer.old.packets.at ≤ next_of (D.journal drive.old) }
-    requires fits { end_of writer.old.packets + directory_count placed.now ≤ D.capacity drive.old }
-    ensures ok { OnOk result (Puts (directory_count placed.now) (D.journal drive.old) writer.old.packets (D.journal drive.new) writer.new.packets) }
-    ensures err { OnErr result (Fails (directory_count placed.now) (D.journal drive.old) writer.old.packets (D.journal drive.new)) }
+    requires fits { end_of writer.old.packets + length (directory_list placed.now) ≤ D.capacity drive.old }
+    ensures ok { OnOk result (Takes (D.journal drive.old) writer.old.packets (directory_list placed.now) (D.journal drive.new) writer.new.packets) }
+    ensures err { OnErr result (Stops (D.journal drive.old) writer.old.packets (directory_list placed.now) (D.journal drive.new)) }
     ensures capacity { D.capacity drive.new ≡ D.capacity drive.old }
     ensures failures { D.failures drive.new ≡ counted (is_err result) (D.failures drive.old) }
     ensures honest { IsTrue (D.honest drive.new) → IsTrue (D.honest drive.old) }
 {
-    let directory = &placed.directory;
-    let content = &directory.content;
+    let content = &placed.directory.content;
     writer.put_directory(drive, &content.dir, placed.extent.first)?;
-    let entry = FileEntry {
-        kind: Kind::Directory,
-        moment: directory.moment,
-        links: link_count(&content.dir),
-        unique: u64::from(directory.unique),
-        size: placed.extent.size,
-        place: Place::Extent(placed.extent.first),
-    };
-    writer.put(drive, &encode_fe(&entry, directory.address))?;
+    writer.put(drive, &placed.entry)?;
     Ok(())
 }
 
@@ -92,9 +73,9 @@ fn write_directories<D: Drive>(
     directories: &[PlacedDirectory],
 ) -> Result<(), DriveFault>
     requires begins { writer.old.packets.at ≤ next_of (D.journal drive.old) }
-    requires fits { end_of writer.old.packets + directories_count directories.now ≤ D.capacity drive.old }
-    ensures ok { OnOk result (Puts (directories_count directories.now) (D.journal drive.old) writer.old.packets (D.journal drive.new) writer.new.packets) }
-    ensures err { OnErr result (Fails (directories_count directories.now) (D.journal drive.old) writer.old.packets (D.journal drive.new)) }
+    requires fits { end_of writer.old.packets + length (directories_list directories.now) ≤ D.capacity drive.old }
+    ensures ok { OnOk result (Takes (D.journal drive.old) writer.old.packets (directories_list directories.now) (D.journal drive.new) writer.new.packets) }
+    ensures err { OnErr result (Stops (D.journal drive.old) writer.old.packets (directories_list directories.now) (D.journal drive.new)) }
     ensures capacity { D.capacity drive.new ≡ D.capacity drive.old }
     ensures failures { D.failures drive.new ≡ counted (is_err result) (D.failures drive.old) }
     ensures honest { IsTrue (D.honest drive.new) → IsTrue (D.honest drive.old) }
@@ -110,30 +91,18 @@ fn write_table<D: Drive>(
     writer: &mut Writer,
     drive: &mut D,
     table: &PlacedTable,
-    moment: Timestamp,
 ) -> Result<(), DriveFault>
-    requires some { 0 < length table.now.bytes.items }
-    requires few { length table.now.bytes.items ≤ 1_048_576 }
-    requires low { 257 ≤ table.now.at }
-    requires room { table.now.first + div_ceil (length table.now.bytes.items) 2048 ≤ 449_743 }
+    requires few { length table.now.bytes.items < 2 ^ 32 }
     requires begins { writer.old.packets.at ≤ next_of (D.journal drive.old) }
-    requires fits { end_of writer.old.packets + table_count table.now ≤ D.capacity drive.old }
-    ensures ok { OnOk result (Puts (table_count table.now) (D.journal drive.old) writer.old.packets (D.journal drive.new) writer.new.packets) }
-    ensures err { OnErr result (Fails (table_count table.now) (D.journal drive.old) writer.old.packets (D.journal drive.new)) }
+    requires fits { end_of writer.old.packets + length (table_data table.now ++ table.now.entry ∷ []) ≤ D.capacity drive.old }
+    ensures ok { OnOk result (Takes (D.journal drive.old) writer.old.packets (table_data table.now ++ table.now.entry ∷ []) (D.journal drive.new) writer.new.packets) }
+    ensures err { OnErr result (Stops (D.journal drive.old) writer.old.packets (table_data table.now ++ table.now.entry ∷ []) (D.journal drive.new)) }
     ensures capacity { D.capacity drive.new ≡ D.capacity drive.old }
     ensures failures { D.failures drive.new ≡ counted (is_err result) (D.failures drive.old) }
     ensures honest { IsTrue (D.honest drive.new) → IsTrue (D.honest drive.old) }
 {
     writer.put_bytes(drive, table.gap, &table.bytes)?;
-    let entry = FileEntry {
-        kind: Kind::Vat,
-        moment,
-        links: 0,
-        unique: 0,
-        size: table.bytes.len() as u32,
-        place: Place::Extent(table.first),
-    };
-    writer.put(drive, &encode_fe(&entry, table.at - PARTITION_START))?;
+    writer.put(drive, &table.entry)?;
     Ok(())
 }
 
@@ -141,21 +110,27 @@ impl Plan<'_> {
     /// Writes all that is planned, in order.
     fn write<D: Drive>(&mut self, drive: &mut D) -> Result<(), DriveFault>
         requires plan { IsPlan (next_of (D.journal drive.old)) (D.capacity drive.old) self.old }
-        ensures ok { OnOk result (Writes (plan_count self.old) (next_of (D.journal drive.old)) (D.journal drive.old) (D.journal drive.new)) }
-        ensures err { OnErr result (WritesFront (plan_count self.old) (next_of (D.journal drive.old)) (D.journal drive.old) (D.journal drive.new)) }
+        ensures ok { OnOk result (D.journal drive.new ≡ D.journal drive.old ++ written (next_of (D.journal drive.old)) (plan_blocks self.old)) }
+        ensures err { OnErr result (AddsFront (D.journal drive.old) (next_of (D.journal drive.old)) (plan_blocks self.old) (D.journal drive.new)) }
         ensures table { self.new.table ≡ self.old.table }
         ensures reply { self.new.reply ≡ self.old.reply }
         ensures capacity { D.capacity drive.new ≡ D.capacity drive.old }
         ensures failures { D.failures drive.new ≡ counted (is_err result) (D.failures drive.old) }
         ensures honest { IsTrue (D.honest drive.new) → IsTrue (D.honest drive.old) }
     {
-        write_file(&mut self.writer, drive, &self.file, self.moment)?;
+        let held = self.held();
+        self.writer.hold(held);
+        write_file(&mut self.writer, drive, &self.file)?;
         write_directories(&mut self.writer, drive, &self.directories)?;
-        self.writer
-            .hold_table(block_count(self.table.bytes.len() as u32));
-        write_table(&mut self.writer, drive, &self.table, self.moment)?;
+        write_table(&mut self.writer, drive, &self.table)?;
         self.writer.finish(drive)?;
         Ok(())
+    }
+
+    /// How many blocks are held encoded all the while: the entries, and the table's bytes.
+    fn held(&self) -> usize {
+        let entries = self.directories.len().saturating_add(2);
+        entries.saturating_add(self.table.bytes.len().div_ceil(2048))
     }
 }
 
@@ -172,8 +147,8 @@ impl Store {
         requires next { IsNext request.now.client request.now.number self.old.vat.sessions.records.items }
         ensures agrees { Agrees (D.journal drive.new) (D.capacity drive.new) self.new }
         ensures commit { IfOk result (λ reply. reply.commit ≡ self.old.vat.sessions.commits + 1) }
-        ensures written { OnOk result (Writes (self.new.at + 1 - next_of (D.journal drive.old)) (next_of (D.journal drive.old)) (D.journal drive.old) (D.journal drive.new)) }
-        ensures front { OnErr result ((count : ℕ) × WritesFront count (next_of (D.journal drive.old)) (D.journal drive.old) (D.journal drive.new)) }
+        ensures written { IfOk result (λ reply. WritesPlan (D.capacity drive.old) (D.journal drive.old) (D.journal drive.new) self.new reply) }
+        ensures front { OnErr result ((D.journal drive.new ≡ D.journal drive.old) ⊎ StopsInPlan (D.capacity drive.old) (D.journal drive.old) (D.journal drive.new)) }
         ensures refused { OnErr result (self.new.is_stopped ≡ false → D.journal drive.new ≡ D.journal drive.old) }
         ensures stopped { self.old.is_stopped ≡ true → result ≡ Err Stopped }
         ensures goes_on { OnOk result (self.new.is_stopped ≡ false) }
@@ -206,8 +181,10 @@ impl Store {
         requires plan { IsPlan (next_of (D.journal drive.old)) (D.capacity drive.old) plan }
         ensures agrees { Agrees (D.journal drive.new) (D.capacity drive.new) self.new }
         ensures reply { IfOk result (λ reply. reply ≡ plan.entry.reply) }
-        ensures written { OnOk result (Writes (self.new.at + 1 - next_of (D.journal drive.old)) (next_of (D.journal drive.old)) (D.journal drive.old) (D.journal drive.new)) }
-        ensures front { OnErr result ((count : ℕ) × WritesFront count (next_of (D.journal drive.old)) (D.journal drive.old) (D.journal drive.new)) }
+        ensures at { OnOk result (self.new.at ≡ plan.entry.table.at) }
+        ensures vat { OnOk result (self.new.vat ≡ plan.entry.table.vat) }
+        ensures written { OnOk result (D.journal drive.new ≡ D.journal drive.old ++ written (next_of (D.journal drive.old)) (plan_blocks plan.entry)) }
+        ensures front { OnErr result (AddsFront (D.journal drive.old) (next_of (D.journal drive.old)) (plan_blocks plan.entry) (D.journal drive.new)) }
         ensures stopped { self.new.is_stopped ≡ is_err result }
         ensures capacity { D.capacity drive.new ≡ D.capacity drive.old }
         ensures honest { IsTrue (D.honest drive.new) → IsTrue (D.honest drive.old) }

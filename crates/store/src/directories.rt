@@ -1,13 +1,24 @@
 //! The directories that were used last, and the nodes that paths lead to.
 
-ghost use Rattle.std.specs.Prelude.{◌≡◌, ◌+◌, ◌<◌, ◌≤◌, IsTrue, IfOk, IfSome, length};
+ghost use Rattle.std.specs.Prelude.{◌≡◌, ◌+◌, ◌<◌, ◌≤◌, List, IsTrue, IfOk, IfErr};
 ghost use Rattle.std.specs.Int.{div_ceil};
-ghost use Rattle.drive.specs.Journal.{next_of};
+ghost use Rattle.drive.specs.Journal.{Event, held, next_of};
 ghost use Rattle.recover.specs.Faults.{Counts, devices};
+ghost use Rattle.recover.specs.Nodes.{IsDirectoryRefused, data_of};
 ghost use Rattle.store.specs.Below.{AreBelow};
+ghost use Rattle.std.specs.Map.{lookup};
+ghost use Rattle.std.specs.Cmp.Lexicographic.{pointwise};
+ghost use Rattle.std.specs.Prelude.{nat_eq, true};
+ghost use Rattle.model.specs.Tree.{Tree};
+ghost use Rattle.model.specs.Graph.{Stored, is_directory};
+ghost use Rattle.recover.specs.Faults.{IsShortage};
+ghost use Rattle.store.specs.declared.content.Content.{Content};
+ghost use Rattle.store.specs.Cache.{AreKept, LiesThere};
+ghost use Rattle.store.specs.Shows.{IsOpened, Shows, IsFound, IsFoundDirectory, graph_below};
 
+use crate::content::Content;
 use crate::nodes::{Node, Nodes, Placed, ROOT};
-use dir::{Dir, Entry, Kind};
+use dir::{Entry, Kind};
 use drive::Drive;
 use lru::LruCache;
 use osta::Name;
@@ -17,31 +28,6 @@ use std::num::NonZeroUsize;
 
 /// How many directories are kept.
 const KEPT_DIRECTORIES: usize = 64;
-
-/// A directory that a volume may have.
-#[derive(Drop)]
-pub(crate) struct Content {
-    pub dir: Dir,
-    pub ghost few: { length dir.entries.entries ≤ 512 },
-}
-
-impl Content {
-    /// Adds a name behind the others.
-    pub(crate) fn add(&mut self, name: Name, entry: Entry) -> Result<(), StoreFault>
-        requires room { length self.old.dir.entries.entries < 512 }
-        ensures device { devices result ≡ 0 }
-    {
-        self.dir.entries.insert(name, entry)?;
-        Ok(())
-    }
-
-    /// Takes a name away, and says what was said of it.
-    pub(crate) fn remove(&mut self, name: &Name) -> Option<Entry>
-        ensures { IfSome result (λ _. length self.new.dir.entries.entries < 512) }
-    {
-        self.dir.entries.shift_remove(name)
-    }
-}
 
 /// Directories by where their data lie. Two states of a volume may have data that begin in one block and differ in size,
 /// so both are the key; what lies there is never written again.
@@ -53,7 +39,8 @@ pub(crate) struct Directories {
 impl Directories {
     /// Keeps none yet.
     pub(crate) fn new(alloc: Global) -> Result<Directories, StoreFault>
-        ensures { devices result ≡ 0 }
+        ensures kept { IfOk result (λ directories. (journal : List Event) → AreKept journal directories) }
+        ensures device { devices result ≡ 0 }
     {
         let count = NonZeroUsize::new(KEPT_DIRECTORIES).unwrap();
         Ok(Directories {
@@ -71,6 +58,9 @@ impl Directories {
         requires some { 0 < extent.size }
         requires first { extent.first ≤ 449_743 }
         requires within { extent.first + 257 + div_ceil extent.size 2048 ≤ next_of (D.journal drive.old) }
+        ensures lies { IfOk result (λ content. IsTrue (D.honest drive.new) → AreKept (D.journal drive.old) self.old → LiesThere (D.journal drive.old) extent content) }
+        ensures refused { IfErr result (λ fault. IsTrue (D.honest drive.new) → IsDirectoryRefused extent (data_of (held (D.journal drive.old)) extent) fault) }
+        ensures kept { (journal : List Event) → AreKept journal self.old → AreKept journal self.new }
         ensures journal { D.journal drive.new ≡ D.journal drive.old }
         ensures capacity { D.capacity drive.new ≡ D.capacity drive.old }
         ensures honest { IsTrue (D.honest drive.new) → IsTrue (D.honest drive.old) }
@@ -85,7 +75,9 @@ impl Directories {
     }
 
     /// Keeps the directory whose data lie there, if there is memory for it.
-    pub(crate) fn keep(&mut self, extent: Extent, content: Content) {
+    pub(crate) fn keep(&mut self, extent: Extent, content: Content)
+        ensures { (journal : List Event) → LiesThere journal extent content → AreKept journal self.old → AreKept journal self.new }
+    {
         let _ = self.cache.put(extent, content);
     }
 
@@ -99,6 +91,10 @@ impl Directories {
     ) -> Result<(Placed, Content), StoreFault>
         requires below { AreBelow nodes.now.at nodes.now.entries.now }
         requires within { nodes.now.at ≤ next_of (D.journal drive.old) }
+        ensures opened { IfOk result (λ read. IsTrue (D.honest drive.new) → AreKept (D.journal drive.old) self.old → (s : Stored) → graph_below nodes.now.at nodes.now.entries.now (D.journal drive.old) address s → is_directory s ≡ true → IsOpened s read.0 read.1) }
+        ensures lies { IfOk result (λ read. IsTrue (D.honest drive.new) → AreKept (D.journal drive.old) self.old → LiesThere (D.journal drive.old) read.0.extent read.1) }
+        ensures refused { IfErr result (λ fault. IsTrue (D.honest drive.new) → (s : Stored) → graph_below nodes.now.at nodes.now.entries.now (D.journal drive.old) address s → is_directory s ≡ true → IsShortage fault) }
+        ensures kept { IsTrue (D.honest drive.new) → AreKept (D.journal drive.old) self.old → AreKept (D.journal drive.old) self.new }
         ensures journal { D.journal drive.new ≡ D.journal drive.old }
         ensures capacity { D.capacity drive.new ≡ D.capacity drive.old }
         ensures honest { IsTrue (D.honest drive.new) → IsTrue (D.honest drive.old) }
@@ -120,6 +116,9 @@ impl Directories {
         requires some { 0 < extent.size }
         requires first { extent.first ≤ 449_743 }
         requires within { extent.first + 257 + div_ceil extent.size 2048 ≤ next_of (D.journal drive.old) }
+        ensures found { IfOk result (λ found. IsTrue (D.honest drive.new) → AreKept (D.journal drive.old) self.old → (content : Content) × LiesThere (D.journal drive.old) extent content × (found ≡ lookup (pointwise nat_eq name.now) content.dir.entries.entries)) }
+        ensures refused { IfErr result (λ fault. IsTrue (D.honest drive.new) → IsDirectoryRefused extent (data_of (held (D.journal drive.old)) extent) fault) }
+        ensures kept { IsTrue (D.honest drive.new) → AreKept (D.journal drive.old) self.old → AreKept (D.journal drive.old) self.new }
         ensures journal { D.journal drive.new ≡ D.journal drive.old }
         ensures capacity { D.capacity drive.new ≡ D.capacity drive.old }
         ensures honest { IsTrue (D.honest drive.new) → IsTrue (D.honest drive.old) }
@@ -141,6 +140,9 @@ impl Directories {
     ) -> Result<Option<Node>, StoreFault>
         requires below { AreBelow nodes.now.at nodes.now.entries.now }
         requires within { nodes.now.at ≤ next_of (D.journal drive.old) }
+        ensures found { (tree : Tree) → Shows (D.honest drive.new) (D.journal drive.old) self.old nodes.now.at nodes.now.entries.now tree → IfOk result (IsFound (graph_below nodes.now.at nodes.now.entries.now (D.journal drive.old)) tree names.now) }
+        ensures refused { (tree : Tree) → Shows (D.honest drive.new) (D.journal drive.old) self.old nodes.now.at nodes.now.entries.now tree → IfErr result IsShortage }
+        ensures kept { IsTrue (D.honest drive.new) → AreKept (D.journal drive.old) self.old → AreKept (D.journal drive.old) self.new }
         ensures journal { D.journal drive.new ≡ D.journal drive.old }
         ensures capacity { D.capacity drive.new ≡ D.capacity drive.old }
         ensures honest { IsTrue (D.honest drive.new) → IsTrue (D.honest drive.old) }
@@ -148,7 +150,7 @@ impl Directories {
     {
         let mut node = ROOT;
         for name in names {
-            if node.kind != Kind::Directory {
+            if !node.is_directory() {
                 return Ok(None);
             }
             let placed = nodes.directory(drive, node.address)?;
@@ -174,15 +176,21 @@ impl Directories {
     ) -> Result<Option<Node>, StoreFault>
         requires below { AreBelow nodes.now.at nodes.now.entries.now }
         requires within { nodes.now.at ≤ next_of (D.journal drive.old) }
+        ensures found { (tree : Tree) → Shows (D.honest drive.new) (D.journal drive.old) self.old nodes.now.at nodes.now.entries.now tree → IfOk result (IsFoundDirectory (graph_below nodes.now.at nodes.now.entries.now (D.journal drive.old)) tree names.now) }
+        ensures refused { (tree : Tree) → Shows (D.honest drive.new) (D.journal drive.old) self.old nodes.now.at nodes.now.entries.now tree → IfErr result IsShortage }
+        ensures kept { IsTrue (D.honest drive.new) → AreKept (D.journal drive.old) self.old → AreKept (D.journal drive.old) self.new }
         ensures journal { D.journal drive.new ≡ D.journal drive.old }
         ensures capacity { D.capacity drive.new ≡ D.capacity drive.old }
         ensures honest { IsTrue (D.honest drive.new) → IsTrue (D.honest drive.old) }
         ensures failures { Counts (devices result) (D.failures drive.old) (D.failures drive.new) }
     {
-        match self.find(alloc, drive, nodes, names)? {
-            Some(node) if node.kind == Kind::Directory => Ok(Some(node)),
-            _ => Ok(None),
+        let Some(node) = self.find(alloc, drive, nodes, names)? else {
+            return Ok(None);
+        };
+        if !node.is_directory() {
+            return Ok(None);
         }
+        Ok(Some(node))
     }
 
     /// How many names the longest path below a directory has, looking no further than `left` names.

@@ -10,7 +10,7 @@ ghost use Rattle.osta.specs.FirstFault.{first_fault};
 ghost use Rattle.osta.specs.Label.{IsLabel, label_faults};
 ghost use Rattle.recover.specs.Faults.{Counts, devices};
 ghost use Rattle.recover.specs.declared.fault.StoreFault.TheVariants as fault;
-ghost use Rattle.store.specs.NewVolume.{words_of, words_on, IsBlockAt, IsSeen, IsBegun, AreBlocks, IsFormatted, IsRefused};
+ghost use Rattle.store.specs.NewVolume.{words_of, words_on, IsBlockAt, IsSeen, IsBegun, AreBlocks, IsFormatted, IsRefused, OneFormat};
 ghost use Rattle.udf.specs.Udf.{IsBlock};
 ghost use Rattle.udf.specs.NewVolume as udf;
 ghost use Rattle.udf.specs.NewVolume.{root_fields, table_fields};
@@ -86,6 +86,11 @@ pub fn format<D: Drive>(
         Err(_) => Err(StoreFault::Device),
     }
 }
+
+/// A label, a moment and a capacity have one format. It does nothing: what it ensures is a law.
+pub fn one_format()
+    ensures { OneFormat }
+{}
 
 /// What the blocks of a format with these words are made from.
 fn parts_of(

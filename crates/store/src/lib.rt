@@ -6,6 +6,7 @@
 
 mod change;
 mod commit;
+mod content;
 mod directories;
 mod due;
 mod formatting;
@@ -13,15 +14,18 @@ mod history;
 mod laws;
 mod nodes;
 mod parts;
+mod placed;
 mod places;
 mod plan;
 mod query;
 mod store;
 mod table;
+#[cfg(test)]
+mod tests;
 mod write;
 
 pub use due::Due;
-pub use formatting::format;
+pub use formatting::{format, one_format};
 pub use history::{Commit, Snapshot};
 pub use laws::{need_is_reckoned, next_tables_follow};
 pub use recover::StoreFault;

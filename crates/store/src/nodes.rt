@@ -1,11 +1,15 @@
 //! The nodes of a state, by their virtual addresses.
 
-ghost use Rattle.std.specs.Prelude.{◌≡◌, ◌+◌, ◌<◌, ◌≤◌, IsTrue, IfOk, length};
+ghost use Rattle.std.specs.Prelude.{◌≡◌, ◌+◌, ◌<◌, ◌≤◌, IsTrue, IfOk, IfErr, length, true};
 ghost use Rattle.std.specs.Int.{div_ceil};
 ghost use Rattle.drive.specs.Journal.{next_of};
-ghost use Rattle.model.specs.Addresses.{free_address};
+ghost use Rattle.model.specs.Addresses as addresses;
+ghost use Rattle.model.specs.Graph.{Stored, is_directory};
 ghost use Rattle.recover.specs.Faults.{Counts, devices, failures_of};
+ghost use Rattle.recover.specs.declared.fault.StoreFault.TheVariants.{Device};
+ghost use Rattle.udf.specs.Said.{names_directory};
 ghost use Rattle.store.specs.Below.{AreBelow, IsUsed};
+ghost use Rattle.store.specs.Shows.{LiesIn, graph_below};
 
 use drive::Drive;
 use ecma::{Block, Timestamp};
@@ -21,6 +25,18 @@ pub(crate) struct Node {
     /// The virtual address of its entry.
     pub address: u32,
     pub unique: u32,
+}
+
+impl Node {
+    /// Whether the node is a directory.
+    pub(crate) fn is_directory(self) -> bool
+        ensures { result ≡ names_directory self.kind }
+    {
+        match self.kind {
+            dir::Kind::File => false,
+            dir::Kind::Directory => true,
+        }
+    }
 }
 
 /// The root, which nothing names.
@@ -54,6 +70,9 @@ impl Nodes<'_> {
     ) -> Result<(Block, u32), StoreFault>
         requires below { AreBelow self.now.at self.now.entries.now }
         requires within { self.now.at ≤ next_of (D.journal drive.old) }
+        // What is stored there is read from it.
+        ensures block { IfOk result (λ read. IsTrue (D.honest drive.new) → (s : Stored) (there : graph_below self.now.at self.now.entries.now (D.journal drive.old) address s) → (there.block ≡ read.0) × (read.1 ≡ there.number + 257)) }
+        ensures refused { IfErr result (λ fault. (s : Stored) → graph_below self.now.at self.now.entries.now (D.journal drive.old) address s → fault ≡ Device) }
         ensures used { IfOk result (λ _. IsUsed address self.now.entries.now) }
         ensures journal { D.journal drive.new ≡ D.journal drive.old }
         ensures capacity { D.capacity drive.new ≡ D.capacity drive.old }
@@ -61,13 +80,15 @@ impl Nodes<'_> {
         ensures failures { Counts (devices result) (D.failures drive.old) (D.failures drive.new) }
     {
         let table_at = self.at;
-        match self.entries.get(address as usize) {
-            Some(Some(number)) => {
-                let at = *number + PARTITION_START;
-                Ok((read_block(drive, at)?, at))
-            }
-            _ => Err(damaged(table_at, cause::RANGE)),
+        let index = address as usize;
+        if index >= self.entries.len() {
+            return Err(damaged(table_at, cause::RANGE));
         }
+        let Some(number) = self.entries[index] else {
+            return Err(damaged(table_at, cause::RANGE));
+        };
+        let at = number + PARTITION_START;
+        Ok((read_block(drive, at)?, at))
     }
 
     /// Where the data of a directory lie, by the virtual address of its entry.
@@ -78,6 +99,8 @@ impl Nodes<'_> {
     ) -> Result<Placed, StoreFault>
         requires below { AreBelow self.now.at self.now.entries.now }
         requires within { self.now.at ≤ next_of (D.journal drive.old) }
+        ensures placed { IfOk result (λ placed. IsTrue (D.honest drive.new) → (s : Stored) → graph_below self.now.at self.now.entries.now (D.journal drive.old) address s → is_directory s ≡ true → LiesIn (D.journal drive.old) placed s) }
+        ensures refused { IfErr result (λ fault. IsTrue (D.honest drive.new) → (s : Stored) → graph_below self.now.at self.now.entries.now (D.journal drive.old) address s → is_directory s ≡ true → fault ≡ Device) }
         ensures used { IfOk result (λ _. IsUsed address self.now.entries.now) }
         ensures data { IfOk result (λ p. (0 < p.extent.size) × (p.extent.first ≤ 449_743) × (p.extent.first + 257 + div_ceil p.extent.size 2048 ≤ self.now.at)) }
         ensures journal { D.journal drive.new ≡ D.journal drive.old }
@@ -90,21 +113,24 @@ impl Nodes<'_> {
             Ok(entry) => entry,
             Err(fault) => return Err(damaged(at, fault as u8)),
         };
-        match entry.place {
-            Place::Extent(first) if lies_below(first, entry.size, self.at) => Ok(Placed {
-                extent: Extent {
-                    first,
-                    size: entry.size,
-                },
-                moment: entry.moment,
-            }),
-            _ => Err(damaged(at, cause::RANGE)),
+        let Place::Extent(first) = entry.place else {
+            return Err(damaged(at, cause::RANGE));
+        };
+        if !lies_below(first, entry.size, self.at) {
+            return Err(damaged(at, cause::RANGE));
         }
+        Ok(Placed {
+            extent: Extent {
+                first,
+                size: entry.size,
+            },
+            moment: entry.moment,
+        })
     }
 
     /// The least unused virtual address from 2 on, else the next past the end.
     pub(crate) fn free_address(&self) -> u32
-        ensures { result ≡ free_address self.now.entries.now }
+        ensures { result ≡ addresses.free_address self.now.entries.now }
     {
         let mut address = 2;
         while address < self.entries.len() {

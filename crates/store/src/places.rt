@@ -1,46 +1,27 @@
 //! Where the blocks of a commit lie.
 
-ghost use Rattle.std.specs.Prelude.{◌≡◌, ◌+◌, ◌<◌, ◌≤◌, length, IfOk, OnOk};
+ghost use Rattle.std.specs.Prelude.{◌≡◌, ℕ, ◌+◌, ◌<◌, ◌≤◌, List, [], ◌∷◌, ◌++◌, length, IfOk, OnOk};
 ghost use Rattle.std.specs.Int.{div_ceil};
 ghost use Rattle.icb.specs.Entry.{FitsPlace, place_of};
 ghost use Rattle.icb.specs.declared.entry.Kind.TheVariants.{File};
-ghost use Rattle.dir.specs.Directory.{directory_blocks};
+ghost use Rattle.dir.specs.Directory.{directory_blocks, directory_size};
+ghost use Rattle.medium.specs.Plan.{packed, IsClearStart, IsPlaced, PlacesFile, WritesNode};
 ghost use Rattle.recover.specs.Faults.{devices};
 ghost use Rattle.store.specs.Outside.{outside};
+ghost use Rattle.store.specs.Plan.{file_data, directory_data};
+ghost use Rattle.store.specs.Writings.{IsProper, file_writing, directory_writing};
+ghost use Rattle.udf.specs.Said.{said_place};
+ghost use Rattle.udf.specs.Udf.{udf};
 
 use crate::change::{NewDirectory, NewFile};
-use icb::Place;
-use recover::{Extent, StoreFault, block_count};
+use crate::placed::{PlacedDirectory, PlacedFile};
+use ecma::{Block, Timestamp};
+use icb::{FileEntry, Kind, Place, encode_fe};
+use recover::{Extent, StoreFault, block_count, link_count};
 use vat::clear_start;
 
 /// The most bytes of a file that stand inside its entry.
 pub(crate) const INSIDE_BYTES: usize = 1872;
-
-/// A file with its place.
-#[derive(Clone, Copy, Debug)]
-pub(crate) struct PlacedFile<'r> {
-    pub file: NewFile<'r>,
-    /// The number of the first block of its bytes, where they are outside the entry.
-    pub first: u32,
-    /// The blocks of zeros before them.
-    pub gap: u32,
-    /// The number of its entry.
-    pub number: u32,
-    pub ghost room: { first + div_ceil (length (outside file.bytes.now)) 2048 ≤ 449_743 },
-}
-
-/// A directory with its place.
-#[derive(Drop)]
-pub(crate) struct PlacedDirectory {
-    pub directory: NewDirectory,
-    pub extent: Extent,
-    /// The number of its entry.
-    pub number: u32,
-    pub ghost some: { 0 < extent.size },
-    pub ghost small: { extent.size ≤ 1_048_576 },
-    pub ghost room: { extent.first + div_ceil extent.size 2048 ≤ 449_743 },
-    pub ghost laid: { length (directory_blocks directory.content.dir extent.first) ≡ div_ceil extent.size 2048 },
-}
 
 /// The block numbers that a commit gives out, one behind another.
 #[derive(Clone, Copy, Debug)]
@@ -89,8 +70,8 @@ impl Numbers {
     /// Places bytes at the least clear start, and says where it is.
     pub(crate) fn place_bytes(&mut self, bytes: &[u8]) -> Result<u32, StoreFault>
         requires { length bytes.now ≤ 1_048_576 }
+        ensures start { IfOk result (λ first. IsClearStart udf (packed bytes.now) self.old.next first) }
         ensures next { IfOk result (λ first. self.new.next ≡ first + div_ceil (length bytes.now) 2048) }
-        ensures first { IfOk result (λ first. self.old.next ≤ first) }
         ensures room { OnOk result (self.new.next ≤ self.new.end) }
         ensures end { self.new.end ≡ self.old.end }
         ensures device { devices result ≡ 0 }
@@ -101,11 +82,17 @@ impl Numbers {
         Ok(first)
     }
 
-    /// Places a file: its bytes, where they are outside its entry, and the entry.
-    pub(crate) fn place_file<'r>(&mut self, file: NewFile<'r>) -> Result<PlacedFile<'r>, StoreFault>
-        ensures number { IfOk result (λ p. p.number + 1 ≡ self.new.next) }
-        ensures blocks { IfOk result (λ p. self.new.next ≡ self.old.next + (p.gap + div_ceil (length (outside p.file.bytes.now)) 2048 + 1)) }
-        ensures file { IfOk result (λ p. p.file.address ≡ file.entry.address) }
+    /// Places a file: its bytes, where they are outside its entry, and the entry, of this moment.
+    pub(crate) fn place_file<'r>(
+        &mut self,
+        file: NewFile<'r>,
+        moment: Timestamp,
+    ) -> Result<PlacedFile<'r>, StoreFault>
+        ensures address { IfOk result (λ p. p.file.address ≡ file.entry.address) }
+        ensures unique { IfOk result (λ p. p.file.unique ≡ file.entry.unique) }
+        ensures bytes { IfOk result (λ p. p.file.bytes.now ≡ file.entry.bytes.now) }
+        ensures written { IfOk result (λ p. WritesNode udf (file_writing moment p.file) self.old.next (file_data p ++ p.entry ∷ []) p.number) }
+        ensures next { IfOk result (λ p. self.new.next ≡ p.number + 1) }
         ensures end { self.new.end ≡ self.old.end }
         ensures device { devices result ≡ 0 }
     {
@@ -115,8 +102,8 @@ impl Numbers {
         self.take(1)?;
         Ok(PlacedFile {
             file,
-            first,
             gap: first - start,
+            entry: file_entry(&file, moment, first),
             number,
         })
     }
@@ -126,8 +113,10 @@ impl Numbers {
         &mut self,
         directory: NewDirectory,
     ) -> Result<PlacedDirectory, StoreFault>
-        ensures number { IfOk result (λ p. p.number + 1 ≡ self.new.next) }
-        ensures blocks { IfOk result (λ p. self.new.next ≡ self.old.next + (div_ceil p.extent.size 2048 + 1)) }
+        requires proper { IsProper directory.content.dir }
+        ensures directory { IfOk result (λ p. p.directory ≡ directory) }
+        ensures written { IfOk result (λ p. WritesNode udf (directory_writing p.directory) self.old.next (directory_data p ++ p.entry ∷ []) p.number) }
+        ensures next { IfOk result (λ p. self.new.next ≡ p.number + 1) }
         ensures end { self.new.end ≡ self.old.end }
         ensures device { devices result ≡ 0 }
     {
@@ -139,12 +128,53 @@ impl Numbers {
         self.take(size.blocks())?;
         let number = self.next;
         self.take(1)?;
+        let entry = directory_entry(&directory, extent);
         Ok(PlacedDirectory {
             directory,
             extent,
+            entry,
             number,
         })
     }
+}
+
+/// The entry of a file whose bytes, where they are outside of it, begin at the block of this number.
+fn file_entry(file: &NewFile<'_>, moment: Timestamp, first: u32) -> Block
+    requires { first + div_ceil (length (outside file.now.bytes.now)) 2048 ≤ 449_743 }
+    ensures { (from : ℕ) (blocks : List (List ℕ)) → IsPlaced udf (outside file.now.bytes.now) from first blocks → WritesNode udf (file_writing moment file.now) from (blocks ++ result ∷ []) (from + length blocks) }
+{
+    let bytes = file.bytes.as_slice();
+    let entry = FileEntry {
+        kind: Kind::File,
+        moment,
+        links: 1,
+        unique: u64::from(file.unique),
+        size: bytes.len() as u32,
+        place: place_of_bytes(bytes, first),
+    };
+    encode_fe(&entry, file.address)
+}
+
+/// The entry of a directory whose data lie there.
+fn directory_entry(directory: &NewDirectory, extent: Extent) -> Block
+    requires proper { IsProper directory.now.content.dir }
+    requires size { extent.size ≡ directory_size directory.now.content.dir }
+    requires some { 0 < extent.size }
+    requires few { extent.size ≤ 1_048_576 }
+    requires room { extent.first + div_ceil extent.size 2048 ≤ 449_743 }
+    requires blocks { length (directory_blocks directory.now.content.dir extent.first) ≡ div_ceil extent.size 2048 }
+    ensures { WritesNode udf (directory_writing directory.now) extent.first (directory_blocks directory.now.content.dir extent.first ++ result ∷ []) (extent.first + div_ceil extent.size 2048) }
+{
+    let _parent = directory.content.dir.parent;
+    let entry = FileEntry {
+        kind: Kind::Directory,
+        moment: directory.moment,
+        links: link_count(&directory.content.dir),
+        unique: u64::from(directory.unique),
+        size: extent.size,
+        place: Place::Extent(extent.first),
+    };
+    encode_fe(&entry, directory.address)
 }
 
 /// The bytes of a file that lie outside its entry: all or none.
@@ -159,9 +189,10 @@ pub(crate) fn outside_of(bytes: &[u8]) -> &[u8]
 }
 
 /// Where the bytes of a file stand, the first block of those outside its entry having this number.
-pub(crate) fn place_of_bytes(bytes: &[u8], first: u32) -> Place<'_>
+fn place_of_bytes(bytes: &[u8], first: u32) -> Place<'_>
     requires { first + div_ceil (length (outside bytes.now)) 2048 ≤ 449_743 }
-    ensures { FitsPlace File (length bytes.now) (place_of result) }
+    ensures fits { FitsPlace File (length bytes.now) (place_of result) }
+    ensures places { (from : ℕ) (blocks : List (List ℕ)) → IsPlaced udf (outside bytes.now) from first blocks → PlacesFile udf bytes.now from blocks (said_place (place_of result)) }
 {
     if bytes.is_empty() {
         Place::None

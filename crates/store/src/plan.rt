@@ -1,24 +1,37 @@
 //! A commit, planned whole: which blocks it writes, and where.
 
-ghost use Rattle.std.specs.Prelude.{◌≡◌, ℕ, ◌+◌, ◌*◌, ◌<◌, ◌≤◌, ◌^◌, IsTrue, IfOk, OnOk, length};
+ghost use Rattle.std.specs.Prelude.{◌≡◌, ℕ, ◌+◌, ◌-◌, ◌*◌, ◌<◌, ◌≤◌, ◌^◌, Some, IsTrue, IfOk, OnOk, IfSome, All, length};
 ghost use Rattle.std.specs.Int.{div_ceil};
 ghost use Rattle.drive.specs.Journal.{next_of};
+ghost use Rattle.osta.specs.Compressed.{compressed};
+ghost use Rattle.dir.specs.Directory.{IsEntry};
+ghost use Rattle.dir.specs.Identifier.{plain_size};
+ghost use Rattle.dir.specs.Size.{name_sizes, plain_sizes};
+ghost use Rattle.medium.specs.Formats.Kind.{Table};
+ghost use Rattle.medium.specs.Formats.Place.{Extent};
+ghost use Rattle.medium.specs.Plan.{WritesNodes};
+ghost use Rattle.udf.specs.Udf.{udf};
 ghost use Rattle.vat.specs.Table.{Fits, view};
 ghost use Rattle.recover.specs.Faults.{Counts, devices};
 ghost use Rattle.store.specs.Agrees.{Agrees, Keeps};
 ghost use Rattle.store.specs.Below.{AreBelow};
-ghost use Rattle.store.specs.Plan.{IsPlan, file_count, directories_count};
+ghost use Rattle.store.specs.Plan.{IsPlan, IsTablePlaced, file_list, file_writings, file_written, directories_list, directories_writings, directories_written};
 ghost use Rattle.store.specs.TableChange.{IsNext};
+ghost use Rattle.store.specs.Writings.{IsProper};
 
 use crate::change::{Change, NewDirectory, NewFile};
+use crate::directories::Content;
 use crate::nodes::Node;
-use crate::places::{Numbers, PlacedDirectory, PlacedFile, outside_of};
+use crate::placed::{PlacedDirectory, PlacedFile};
+use crate::places::{Numbers, outside_of};
 use crate::store::Store;
 use crate::table::{add_node, copied, keep_reply, place_node, remove_node};
 use crate::write::Writer;
-use dir::Dir;
+use dir::Entry;
 use drive::Drive;
-use ecma::Timestamp;
+use ecma::{Block, Timestamp};
+use icb::{FileEntry, Kind, Place, encode_fe};
+use osta::Name;
 use recover::{PARTITION_START, StoreFault, block_count, cause, damaged};
 use request::{Code, Reply, Request};
 use std::alloc::Global;
@@ -48,6 +61,7 @@ pub(crate) struct PlacedTable {
     pub first: u32,
     /// The blocks of zeros before them.
     pub gap: u32,
+    pub entry: Block,
     /// The address of its entry.
     pub at: u32,
 }
@@ -84,7 +98,7 @@ impl Store {
             code: change.code,
             commit: vat.sessions.commits,
         };
-        let file = place_file(&mut vat, &mut numbers, change.file, self.at)?;
+        let file = place_file(&mut vat, &mut numbers, change.file, moment, self.at)?;
         let directories = place_directories(
             alloc,
             &mut vat,
@@ -93,7 +107,7 @@ impl Store {
             self.at,
         )?;
         take_away(&mut vat, change.removed, self.at)?;
-        let table = place_table(alloc, vat, &mut numbers)?;
+        let table = place_table(alloc, vat, &mut numbers, moment)?;
         Ok(Plan {
             reply,
             moment,
@@ -115,6 +129,7 @@ impl Store {
         requires next { IsNext request.now.client request.now.number self.now.vat.sessions.records.items }
         ensures fits { IfOk result (λ vat. Fits (view vat)) }
         ensures below { IfOk result (λ vat. AreBelow self.now.at vat.entries.items) }
+        ensures previous { IfOk result (λ vat. vat.previous ≡ Some (self.now.at - 257)) }
         ensures commits { IfOk result (λ vat. vat.sessions.commits ≡ self.now.vat.sessions.commits + 1) }
         ensures unique { IfOk result (λ vat. vat.sessions.next_unique ≤ 16 + vat.sessions.commits) }
         ensures device { devices result ≡ 0 }
@@ -140,6 +155,7 @@ impl Store {
 /// The most blocks that a commit may take, from sizes alone.
 fn need(change: &Change<'_>, vat: &Vat) -> u64
     requires { Fits (view vat.now) }
+    ensures proper { All (λ d. IsProper d.content.dir) change.now.directories.items }
 {
     let table = 196 + 48 * vat.sessions.records.len() as u64 + 4 * vat.entries.len() as u64;
     let mut blocks = 2 * table.div_ceil(2048) + 1;
@@ -148,35 +164,54 @@ fn need(change: &Change<'_>, vat: &Vat) -> u64
         blocks += 2 * u64::from(block_count(outside.len() as u32)) + 1;
     }
     for directory in &change.directories {
-        let size = identifiers_size(&directory.content.dir);
+        let size = identifiers_size(&directory.content);
         blocks = blocks.saturating_add(2 + size / LEAST_USED);
     }
     blocks
 }
 
 /// The bytes of a directory's identifiers, none of them lengthened.
-fn identifiers_size(directory: &Dir) -> u64 {
-    let mut size: u64 = 40;
-    for (name, _) in directory.entries.iter() {
-        let identifier = (38 + name.compressed().len() as u64).div_ceil(4) * 4;
-        size = size.saturating_add(identifier);
+fn identifiers_size(content: &Content) -> u64
+    ensures size { result ≡ 40 + plain_sizes (name_sizes content.now.dir.entries.entries) }
+    ensures proper { IsProper content.now.dir }
+{
+    let entries = &content.dir.entries;
+    let mut size = 40;
+    for i in 0..entries.len() {
+        let (name, entry) = entries.get_index(i).unwrap();
+        size += identifier_size(name, *entry);
     }
     size
 }
 
-/// Places a file, if one is written. The table of the state before stands at `at`.
+/// The bytes of a name's identifier, not lengthened.
+fn identifier_size(name: &Name, entry: Entry) -> u64
+    ensures size { result ≡ plain_size (length (compressed name.now)) }
+    ensures few { result ≤ 296 }
+    ensures entry { IsEntry (name.now, entry) }
+{
+    let Entry { icb, unique, .. } = entry;
+    let _text = name.as_str();
+    let _said = (icb, unique);
+    (38 + name.compressed().len() as u64).div_ceil(4) * 4
+}
+
+/// Places a file, if one is written, at this moment. The table of the state before stands at `at`.
 fn place_file<'r>(
     vat: &mut Vat,
     numbers: &mut Numbers,
     file: Option<NewFile<'r>>,
+    moment: Timestamp,
     at: u32,
 ) -> Result<Option<PlacedFile<'r>>, StoreFault>
     requires fits { Fits (view vat.old) }
     ensures fits { OnOk result (Fits (view vat.new)) }
     ensures below { OnOk result (AreBelow (numbers.old.next + 257) vat.old.entries.items → AreBelow (numbers.new.next + 257) vat.new.entries.items) }
+    ensures previous { OnOk result (vat.new.previous ≡ vat.old.previous) }
     ensures commits { OnOk result (vat.new.sessions.commits ≡ vat.old.sessions.commits) }
     ensures unique { OnOk result (vat.new.sessions.next_unique ≡ vat.old.sessions.next_unique) }
-    ensures count { IfOk result (λ placed. numbers.new.next ≡ numbers.old.next + file_count placed) }
+    ensures written { IfOk result (λ placed. WritesNodes udf (file_writings moment placed) numbers.old.next (file_list placed) (file_written placed)) }
+    ensures next { IfOk result (λ placed. numbers.new.next ≡ numbers.old.next + length (file_list placed)) }
     ensures end { numbers.new.end ≡ numbers.old.end }
     ensures device { devices result ≡ 0 }
 {
@@ -184,7 +219,7 @@ fn place_file<'r>(
         return Ok(None);
     };
     let address = file.address;
-    let placed = numbers.place_file(file)?;
+    let placed = numbers.place_file(file, moment)?;
     if !place_node(vat, address, placed.number) {
         return Err(damaged(at, cause::IDENTITY));
     }
@@ -200,11 +235,14 @@ fn place_directories(
     at: u32,
 ) -> Result<Vec<PlacedDirectory>, StoreFault>
     requires fits { Fits (view vat.old) }
+    requires proper { All (λ d. IsProper d.content.dir) directories.items }
     ensures fits { OnOk result (Fits (view vat.new)) }
     ensures below { OnOk result (AreBelow (numbers.old.next + 257) vat.old.entries.items → AreBelow (numbers.new.next + 257) vat.new.entries.items) }
+    ensures previous { OnOk result (vat.new.previous ≡ vat.old.previous) }
     ensures commits { OnOk result (vat.new.sessions.commits ≡ vat.old.sessions.commits) }
     ensures unique { OnOk result (vat.new.sessions.next_unique ≡ vat.old.sessions.next_unique) }
-    ensures count { IfOk result (λ placed. numbers.new.next ≡ numbers.old.next + directories_count placed.items) }
+    ensures written { IfOk result (λ placed. WritesNodes udf (directories_writings placed.items) numbers.old.next (directories_list placed.items) (directories_written placed.items)) }
+    ensures next { IfOk result (λ placed. numbers.new.next ≡ numbers.old.next + length (directories_list placed.items)) }
     ensures end { numbers.new.end ≡ numbers.old.end }
     ensures device { devices result ≡ 0 }
 {
@@ -225,6 +263,7 @@ fn take_away(vat: &mut Vat, removed: Option<Node>, at: u32) -> Result<(), StoreF
     requires fits { Fits (view vat.old) }
     ensures fits { OnOk result (Fits (view vat.new)) }
     ensures below { OnOk result ((at : ℕ) → AreBelow at vat.old.entries.items → AreBelow at vat.new.entries.items) }
+    ensures previous { OnOk result (vat.new.previous ≡ vat.old.previous) }
     ensures commits { OnOk result (vat.new.sessions.commits ≡ vat.old.sessions.commits) }
     ensures unique { OnOk result (vat.new.sessions.next_unique ≡ vat.old.sessions.next_unique) }
     ensures device { devices result ≡ 0 }
@@ -238,27 +277,52 @@ fn take_away(vat: &mut Vat, removed: Option<Node>, at: u32) -> Result<(), StoreF
     Ok(())
 }
 
-/// Places the table, behind all that it leads to.
-fn place_table(alloc: Global, vat: Vat, numbers: &mut Numbers) -> Result<PlacedTable, StoreFault>
+/// Places the table, behind all that it leads to. Its entry has this moment.
+fn place_table(
+    alloc: Global,
+    vat: Vat,
+    numbers: &mut Numbers,
+    moment: Timestamp,
+) -> Result<PlacedTable, StoreFault>
     requires fits { Fits (view vat) }
+    requires below { AreBelow (numbers.old.next + 257) vat.entries.items }
+    requires previous { IfSome vat.previous (λ previous. previous < numbers.old.next) }
     ensures vat { IfOk result (λ t. t.vat ≡ vat) }
+    ensures placed { IfOk result (IsTablePlaced numbers.old.next moment) }
     ensures some { IfOk result (λ t. 0 < length t.bytes.items) }
-    ensures few { IfOk result (λ t. length t.bytes.items ≤ 1_048_576) }
-    ensures room { IfOk result (λ t. t.first + div_ceil (length t.bytes.items) 2048 ≤ 449_743) }
-    ensures at { IfOk result (λ t. t.at ≡ numbers.old.next + 257 + (t.gap + div_ceil (length t.bytes.items) 2048)) }
     ensures within { IfOk result (λ t. t.at < numbers.old.end + 257) }
     ensures device { devices result ≡ 0 }
 {
     let bytes = encode_vat(alloc, &vat)?;
     let start = numbers.next();
     let first = numbers.place_bytes(&bytes)?;
-    let at = numbers.next() + PARTITION_START;
+    let number = numbers.next();
     numbers.take(1)?;
+    let entry = table_entry(bytes.len() as u32, first, number, moment);
     Ok(PlacedTable {
         vat,
         bytes,
         first,
         gap: first - start,
-        at,
+        entry,
+        at: number + PARTITION_START,
     })
+}
+
+/// The entry of a table of so many bytes, which begin at the block of a number, for the block of another.
+fn table_entry(size: u32, first: u32, number: u32, moment: Timestamp) -> Block
+    requires some { 0 < size }
+    requires few { size ≤ 1_048_576 }
+    requires room { first + div_ceil size 2048 ≤ 449_743 }
+    ensures { udf.IsEntry (record { kind = Table; moment = moment; links = 0; identity = 0; size = size; place = Extent first }) result number }
+{
+    let entry = FileEntry {
+        kind: Kind::Vat,
+        moment,
+        links: 0,
+        unique: 0,
+        size,
+        place: Place::Extent(first),
+    };
+    encode_fe(&entry, number)
 }

@@ -8,7 +8,7 @@ ghost use Rattle.store.specs.Agrees.{Agrees};
 ghost use Rattle.store.specs.Below.{AreBelow};
 ghost use Rattle.store.specs.Queries.{SameVolume};
 
-use crate::directories::Content;
+use crate::content::Content;
 use crate::nodes::{Node, Nodes};
 use crate::store::Store;
 use dir::Kind;

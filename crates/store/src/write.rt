@@ -1,11 +1,12 @@
 //! Blocks on their way to the drive, and how many of them are held.
 
-ghost use Rattle.std.specs.Prelude.{◌≡◌, ◌+◌, ◌<◌, ◌≤◌, ◌^◌, [], ◌++◌, length, is_err, IsTrue, IfOk, OnOk, OnErr};
+ghost use Rattle.std.specs.Prelude.{◌≡◌, ◌+◌, ◌*◌, ◌<◌, ◌≤◌, ◌^◌, [], ◌∷◌, ◌++◌, length, replicate, is_err, IsTrue, IfOk, OnOk, OnErr};
 ghost use Rattle.std.specs.Int.{div_ceil};
 ghost use Rattle.drive.specs.Journal.{next_of, written, AddsFront, counted};
-ghost use Rattle.drive.specs.Waiting.{end_of};
+ghost use Rattle.drive.specs.Waiting.{end_of, Takes, Stops};
 ghost use Rattle.dir.specs.Directory.{directory_blocks};
-ghost use Rattle.store.specs.Putting.{Puts, Fails};
+ghost use Rattle.vat.specs.Imitation.{data_block};
+ghost use Rattle.medium.specs.Plan.{zeros, packed};
 
 use dir::{Dir, Lay, MAX_BLOCKS, MAX_NAMES};
 use drive::{Drive, DriveFault, PacketWriter};
@@ -21,8 +22,8 @@ const ZEROS: Block = [0; BLOCK_SIZE];
 #[derive(Drop)]
 pub(crate) struct Writer {
     packets: PacketWriter,
-    /// The blocks of the table's bytes, which are held all the while.
-    table_blocks: u32,
+    /// The blocks beside these that are held all the while.
+    held: usize,
     most_held: usize,
 }
 
@@ -33,16 +34,16 @@ impl Writer {
     {
         Ok(Writer {
             packets: PacketWriter::new(alloc, at)?,
-            table_blocks: 0,
+            held: 0,
             most_held: 0,
         })
     }
 
-    /// Counts the blocks of a table among those that are held.
-    pub(crate) fn hold_table(&mut self, blocks: u32)
+    /// Counts so many blocks among those that are held, beside the ones that it is given.
+    pub(crate) fn hold(&mut self, blocks: usize)
         ensures { self.new.packets ≡ self.old.packets }
     {
-        self.table_blocks = blocks;
+        self.held = blocks;
     }
 
     /// The greatest number of encoded blocks that were held at once.
@@ -55,13 +56,13 @@ impl Writer {
     pub(crate) fn put<D: Drive>(&mut self, drive: &mut D, block: &Block) -> Result<(), DriveFault>
         requires begins { self.old.packets.at ≤ next_of (D.journal drive.old) }
         requires fits { end_of self.old.packets < D.capacity drive.old }
-        ensures ok { OnOk result (Puts 1 (D.journal drive.old) self.old.packets (D.journal drive.new) self.new.packets) }
-        ensures err { OnErr result (Fails 1 (D.journal drive.old) self.old.packets (D.journal drive.new)) }
+        ensures ok { OnOk result (Takes (D.journal drive.old) self.old.packets (block.now ∷ []) (D.journal drive.new) self.new.packets) }
+        ensures err { OnErr result (Stops (D.journal drive.old) self.old.packets (block.now ∷ []) (D.journal drive.new)) }
         ensures capacity { D.capacity drive.new ≡ D.capacity drive.old }
         ensures failures { D.failures drive.new ≡ counted (is_err result) (D.failures drive.old) }
         ensures honest { IsTrue (D.honest drive.new) → IsTrue (D.honest drive.old) }
     {
-        let held = self.packets.waiting() + self.table_blocks as usize + 1;
+        let held = self.held.saturating_add(self.packets.waiting() + 1);
         self.most_held = self.most_held.max(held);
         self.packets.put(drive, block)
     }
@@ -70,8 +71,8 @@ impl Writer {
     fn put_zeros<D: Drive>(&mut self, drive: &mut D, count: u32) -> Result<(), DriveFault>
         requires begins { self.old.packets.at ≤ next_of (D.journal drive.old) }
         requires fits { end_of self.old.packets + count ≤ D.capacity drive.old }
-        ensures ok { OnOk result (Puts count (D.journal drive.old) self.old.packets (D.journal drive.new) self.new.packets) }
-        ensures err { OnErr result (Fails count (D.journal drive.old) self.old.packets (D.journal drive.new)) }
+        ensures ok { OnOk result (Takes (D.journal drive.old) self.old.packets (replicate count zeros) (D.journal drive.new) self.new.packets) }
+        ensures err { OnErr result (Stops (D.journal drive.old) self.old.packets (replicate count zeros) (D.journal drive.new)) }
         ensures capacity { D.capacity drive.new ≡ D.capacity drive.old }
         ensures failures { D.failures drive.new ≡ counted (is_err result) (D.failures drive.old) }
         ensures honest { IsTrue (D.honest drive.new) → IsTrue (D.honest drive.old) }
@@ -87,18 +88,14 @@ impl Writer {
         requires begins { self.old.packets.at ≤ next_of (D.journal drive.old) }
         requires size { length bytes.now < 2 ^ 32 }
         requires fits { end_of self.old.packets + div_ceil (length bytes.now) 2048 ≤ D.capacity drive.old }
-        ensures ok { OnOk result (Puts (div_ceil (length bytes.now) 2048) (D.journal drive.old) self.old.packets (D.journal drive.new) self.new.packets) }
-        ensures err { OnErr result (Fails (div_ceil (length bytes.now) 2048) (D.journal drive.old) self.old.packets (D.journal drive.new)) }
+        ensures ok { OnOk result (Takes (D.journal drive.old) self.old.packets (packed bytes.now) (D.journal drive.new) self.new.packets) }
+        ensures err { OnErr result (Stops (D.journal drive.old) self.old.packets (packed bytes.now) (D.journal drive.new)) }
         ensures capacity { D.capacity drive.new ≡ D.capacity drive.old }
         ensures failures { D.failures drive.new ≡ counted (is_err result) (D.failures drive.old) }
         ensures honest { IsTrue (D.honest drive.new) → IsTrue (D.honest drive.old) }
     {
         for i in 0..block_count(bytes.len() as u32) {
-            let start = i as usize * BLOCK_SIZE;
-            let size = (bytes.len() - start).min(BLOCK_SIZE);
-            let mut block = ZEROS;
-            block[..size].copy_from_slice(&bytes[start..start + size]);
-            self.put(drive, &block)?;
+            self.put(drive, &block_of(bytes, i as usize))?;
         }
         Ok(())
     }
@@ -113,8 +110,8 @@ impl Writer {
         requires begins { self.old.packets.at ≤ next_of (D.journal drive.old) }
         requires size { length bytes.now < 2 ^ 32 }
         requires fits { end_of self.old.packets + (gap + div_ceil (length bytes.now) 2048) ≤ D.capacity drive.old }
-        ensures ok { OnOk result (Puts (gap + div_ceil (length bytes.now) 2048) (D.journal drive.old) self.old.packets (D.journal drive.new) self.new.packets) }
-        ensures err { OnErr result (Fails (gap + div_ceil (length bytes.now) 2048) (D.journal drive.old) self.old.packets (D.journal drive.new)) }
+        ensures ok { OnOk result (Takes (D.journal drive.old) self.old.packets (replicate gap zeros ++ packed bytes.now) (D.journal drive.new) self.new.packets) }
+        ensures err { OnErr result (Stops (D.journal drive.old) self.old.packets (replicate gap zeros ++ packed bytes.now) (D.journal drive.new)) }
         ensures capacity { D.capacity drive.new ≡ D.capacity drive.old }
         ensures failures { D.failures drive.new ≡ counted (is_err result) (D.failures drive.old) }
         ensures honest { IsTrue (D.honest drive.new) → IsTrue (D.honest drive.old) }
@@ -135,8 +132,8 @@ impl Writer {
         requires first { first ≤ MAX_BLOCKS }
         requires begins { self.old.packets.at ≤ next_of (D.journal drive.old) }
         requires fits { end_of self.old.packets + length (directory_blocks directory.now first) ≤ D.capacity drive.old }
-        ensures ok { OnOk result (Puts (length (directory_blocks directory.now first)) (D.journal drive.old) self.old.packets (D.journal drive.new) self.new.packets) }
-        ensures err { OnErr result (Fails (length (directory_blocks directory.now first)) (D.journal drive.old) self.old.packets (D.journal drive.new)) }
+        ensures ok { OnOk result (Takes (D.journal drive.old) self.old.packets (directory_blocks directory.now first) (D.journal drive.new) self.new.packets) }
+        ensures err { OnErr result (Stops (D.journal drive.old) self.old.packets (directory_blocks directory.now first) (D.journal drive.new)) }
         ensures capacity { D.capacity drive.new ≡ D.capacity drive.old }
         ensures failures { D.failures drive.new ≡ counted (is_err result) (D.failures drive.old) }
         ensures honest { IsTrue (D.honest drive.new) → IsTrue (D.honest drive.old) }
@@ -160,4 +157,16 @@ impl Writer {
     {
         self.packets.finish(drive)
     }
+}
+
+/// A block of bytes, with zeros behind them in the last.
+fn block_of(bytes: &[u8], index: usize) -> Block
+    requires { 2048 * index ≤ length bytes.now }
+    ensures { result ≡ data_block bytes.now index }
+{
+    let (_, rest) = bytes.split_at(BLOCK_SIZE * index);
+    let (text, _) = rest.split_at(rest.len().min(BLOCK_SIZE));
+    let mut block = ZEROS;
+    block[..text.len()].copy_from_slice(text);
+    block
 }

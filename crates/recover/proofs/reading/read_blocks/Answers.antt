@@ -1,4 +1,6 @@
 use Rattle.std.proofs.Common.{◌+◌, ◌<◌, ◌∙◌, arith, rules}
+use Rattle.std.proofs.lemmas.List.Elements.{All-push}
+use Rattle.udf.specs.Udf.{IsBlock}
 use Rattle.drive.specs.Journal.{held, next_of}
 use Rattle.recover.proofs.Blocks.{blocks_more}
 use Rattle.recover.proofs.Held.{held_at}
@@ -6,6 +8,7 @@ use Rattle.recover.proofs.reading.read_blocks.Goals as goal
 
 pub loop-i-preserved : goal.loop-i-preserved
 loop-i-preserved g c = record {
+  blocks = rw c.in_ok-push.ensures.items (All-push IsBlock _ _ c.loop-i.invariant.blocks c.in_ok-block.ensures.block);
   count = search rules;
   read = λ h.
       let there = rw c.loop-i.invariant.journal at (c.in_ok-block.ensures.read h) in

@@ -1,33 +1,50 @@
-use Rattle.std.proofs.Common.{◌≡◌, ◌+◌, ◌≤◌, ◌∙◌, length, List, ℕ, ap, subst, arith}
-use Rattle.std.specs.Int.{div_ceil}
+use Rattle.std.proofs.Common.{◌≡◌, ◌++◌, ◌∷◌, ◌∙◌, [], length, List, ℕ, replicate, ap, sym, arith, length-append}
 use Rattle.std.proofs.lemmas.Result.{err_from_is_err_and}
+use Rattle.medium.specs.Plan.{zeros, packed}
 use Rattle.store.specs.Outside.{outside}
-use Rattle.store.specs.Plan.{file_count}
-use Rattle.store.specs.Putting.{Puts, Fails}
-use Rattle.store.proofs.Puttings.{puts_more, fails_after, fails_longer}
+use Rattle.store.specs.Plan.{file_list}
+use Rattle.store.proofs.Plans.{length-padded}
+use Rattle.store.proofs.Puttings.{takes_both, stops_first, stops_second}
 use Rattle.store.proofs.commit.write_file.Goals as goal
+
+pub put_bytes-requires-clause-fits : goal.put_bytes-requires-clause-fits
+put_bytes-requires-clause-fits g c =
+    let p = c.in-Some.placed in
+    let out = c.outside_of.result.now in
+    let front = replicate p.gap zeros ++ packed out in
+    let whole : front ++ p.entry ∷ [] ≡ file_list c.args.file.now = ap (λ (bs : List ℕ). (replicate p.gap zeros ++ packed bs) ++ p.entry ∷ []) (c.outside_of.ensures ∙ ap outside c.as_slice-bytes.ensures.bytes) ∙ sym (ap file_list c.in-Some.is) in
+    omega (arith, c.requires.fits, ap length whole, length-append front (p.entry ∷ []), length-padded p.gap out)
+
+pub put-requires-clause-fits : goal.put-requires-clause-fits
+put-requires-clause-fits g c =
+    let p = c.in-Some.placed in
+    let out = c.outside_of.result.now in
+    let front = replicate p.gap zeros ++ packed out in
+    let whole : front ++ p.entry ∷ [] ≡ file_list c.args.file.now = ap (λ (bs : List ℕ). (replicate p.gap zeros ++ packed bs) ++ p.entry ∷ []) (c.outside_of.ensures ∙ ap outside c.as_slice-bytes.ensures.bytes) ∙ sym (ap file_list c.in-Some.is) in
+    omega (arith, c.requires.fits, ap length whole, length-append front (p.entry ∷ []), c.in_ok-put_bytes.ensures.ok.ends, c.put_bytes.ensures.capacity)
 
 pub returns-in_err-put_bytes-clause-err : goal.returns-in_err-put_bytes-clause-err
 returns-in_err-put_bytes-clause-err g c =
-    let p = err_from_is_err_and c.from_residual.result c.from_residual.ensures.1 in
-    let p0 = c.in-Some.placed in
-    let some = p0.gap + div_ceil (length c.outside_of.result.now) 2048 in
-    let count : some + 1 ≡ file_count c.args.file.now = omega (arith, ap file_count c.in-Some.is, ap (λ (bs : List ℕ). div_ceil (length bs) 2048) (c.outside_of.ensures ∙ ap outside c.as_slice-bytes.ensures.bytes)) in
-    rw p.1 (fails_longer some (file_count c.args.file.now) (g.D.Drive.journal c.args.drive.now) (g.D.Drive.journal c.put_bytes.new.drive) c.args.writer.now.packets (omega (arith, count)) c.in_err-put_bytes.ensures.err)
+    let q = err_from_is_err_and c.from_residual.result c.from_residual.ensures.1 in
+    let p = c.in-Some.placed in
+    let out = c.outside_of.result.now in
+    let front = replicate p.gap zeros ++ packed out in
+    let whole : front ++ p.entry ∷ [] ≡ file_list c.args.file.now = ap (λ (bs : List ℕ). (replicate p.gap zeros ++ packed bs) ++ p.entry ∷ []) (c.outside_of.ensures ∙ ap outside c.as_slice-bytes.ensures.bytes) ∙ sym (ap file_list c.in-Some.is) in
+    rw q.1 (stops_first (g.D.Drive.journal c.args.drive.now) (g.D.Drive.journal c.put_bytes.new.drive) c.args.writer.now.packets front (p.entry ∷ []) (file_list c.args.file.now) whole c.in_err-put_bytes.ensures.err)
 
 pub returns-in_err-put-clause-err : goal.returns-in_err-put-clause-err
 returns-in_err-put-clause-err g c =
-    let p = err_from_is_err_and c.from_residual-in_err-put.result c.from_residual-in_err-put.ensures.1 in
-    let p0 = c.in-Some.placed in
-    let some = p0.gap + div_ceil (length c.outside_of.result.now) 2048 in
-    let count : some + 1 ≡ file_count c.args.file.now = omega (arith, ap file_count c.in-Some.is, ap (λ (bs : List ℕ). div_ceil (length bs) 2048) (c.outside_of.ensures ∙ ap outside c.as_slice-bytes.ensures.bytes)) in
-    rw p.1 (subst (λ n. Fails n (g.D.Drive.journal c.args.drive.now) c.args.writer.now.packets (g.D.Drive.journal c.put.new.drive)) count
-    (fails_after some 1 (g.D.Drive.journal c.args.drive.now) (g.D.Drive.journal c.put_bytes.new.drive) (g.D.Drive.journal c.put.new.drive) c.args.writer.now.packets c.put_bytes.new.self.packets c.in_ok-put_bytes.ensures.ok c.in_err-put.ensures.err))
+    let q = err_from_is_err_and c.from_residual-in_err-put.result c.from_residual-in_err-put.ensures.1 in
+    let p = c.in-Some.placed in
+    let out = c.outside_of.result.now in
+    let front = replicate p.gap zeros ++ packed out in
+    let whole : front ++ p.entry ∷ [] ≡ file_list c.args.file.now = ap (λ (bs : List ℕ). (replicate p.gap zeros ++ packed bs) ++ p.entry ∷ []) (c.outside_of.ensures ∙ ap outside c.as_slice-bytes.ensures.bytes) ∙ sym (ap file_list c.in-Some.is) in
+    rw q.1 (stops_second (g.D.Drive.journal c.args.drive.now) (g.D.Drive.journal c.put_bytes.new.drive) (g.D.Drive.journal c.put.new.drive) c.args.writer.now.packets c.put_bytes.new.self.packets front (p.entry ∷ []) (file_list c.args.file.now) whole c.in_ok-put_bytes.ensures.ok c.in_err-put.ensures.err)
 
 pub returns-clause-ok : goal.returns-clause-ok
 returns-clause-ok g c =
-    let p0 = c.in-Some.placed in
-    let some = p0.gap + div_ceil (length c.outside_of.result.now) 2048 in
-    let count : some + 1 ≡ file_count c.args.file.now = omega (arith, ap file_count c.in-Some.is, ap (λ (bs : List ℕ). div_ceil (length bs) 2048) (c.outside_of.ensures ∙ ap outside c.as_slice-bytes.ensures.bytes)) in
-    subst (λ n. Puts n (g.D.Drive.journal c.args.drive.now) c.args.writer.now.packets (g.D.Drive.journal c.put.new.drive) c.put.new.self.packets) count
-    (puts_more some 1 (g.D.Drive.journal c.args.drive.now) (g.D.Drive.journal c.put_bytes.new.drive) (g.D.Drive.journal c.put.new.drive) c.args.writer.now.packets c.put_bytes.new.self.packets c.put.new.self.packets c.in_ok-put_bytes.ensures.ok c.in_ok-put.ensures.ok)
+    let p = c.in-Some.placed in
+    let out = c.outside_of.result.now in
+    let front = replicate p.gap zeros ++ packed out in
+    let whole : front ++ p.entry ∷ [] ≡ file_list c.args.file.now = ap (λ (bs : List ℕ). (replicate p.gap zeros ++ packed bs) ++ p.entry ∷ []) (c.outside_of.ensures ∙ ap outside c.as_slice-bytes.ensures.bytes) ∙ sym (ap file_list c.in-Some.is) in
+    takes_both (g.D.Drive.journal c.args.drive.now) (g.D.Drive.journal c.put_bytes.new.drive) (g.D.Drive.journal c.put.new.drive) c.args.writer.now.packets c.put_bytes.new.self.packets c.put.new.self.packets front (p.entry ∷ []) (file_list c.args.file.now) whole c.in_ok-put_bytes.ensures.ok c.in_ok-put.ensures.ok

@@ -1,16 +1,24 @@
-use Rattle.std.proofs.Common.{◌≡◌, ◌+◌}
+use Rattle.std.proofs.Common.{◌≡◌, ◌+◌, length}
+use Rattle.std.specs.Prelude.{All}
+use Rattle.std.specs.Vec.Iter.{into_iter_items}
+use Rattle.medium.specs.Plan.{WritesNodes}
+use Rattle.udf.specs.Udf.{udf}
 use Rattle.vat.specs.Table.{Fits, view}
 use Rattle.store.specs.Below.{AreBelow}
-use Rattle.store.specs.Plan.{directories_count}
+use Rattle.store.specs.Plan.{directories_list, directories_writings, directories_written}
+use Rattle.store.specs.Writings.{IsProper}
 use Rattle.store.proofs.plan.place_directories.Given as goal
 
 -- the directories so far were placed
 abbrev pub invariant-loop-directory : goal.invariant-loop-directory
 invariant-loop-directory l = record {
+  left : All (λ d. IsProper d.content.dir) (into_iter_items l.directory-iterator);
   fits : Fits (view l.vat);
   below : AreBelow (l.fn.numbers.next + 257) l.fn.vat.entries.items → AreBelow (l.numbers.next + 257) l.vat.entries.items;
+  previous : l.vat.previous ≡ l.fn.vat.previous;
   commits : l.vat.sessions.commits ≡ l.fn.vat.sessions.commits;
   unique : l.vat.sessions.next_unique ≡ l.fn.vat.sessions.next_unique;
-  count : l.numbers.next ≡ l.fn.numbers.next + directories_count l.all.items;
+  written : WritesNodes udf (directories_writings l.all.items) l.fn.numbers.next (directories_list l.all.items) (directories_written l.all.items);
+  next : l.numbers.next ≡ l.fn.numbers.next + length (directories_list l.all.items);
   end : l.numbers.end ≡ l.fn.numbers.end;
 }

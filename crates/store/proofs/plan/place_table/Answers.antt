@@ -1,10 +1,47 @@
-use Rattle.std.proofs.Common.{◌≡◌, ◌≤◌, length, ap, ◌∙◌, arith}
-use Rattle.vat.specs.Table.{view, table_bytes}
-use Rattle.store.proofs.Plans.{table_few}
+use Rattle.std.proofs.Common.{◌++◌, ◌+◌, replicate, ◌≡◌, ◌-◌, ◌≤◌, List, ℕ, length, ap, ◌∙◌, sym, subst, arith}
+use Rattle.std.specs.Int.{div_ceil}
+use Rattle.vat.specs.Table.{view}
+use Rattle.medium.specs.Formats.Kind.{Table}
+use Rattle.medium.specs.Formats.Place.{Extent}
+use Rattle.medium.specs.Plan.{zeros, packed, IsClearStart, IsPlaced}
+use Rattle.udf.specs.Said.{said_table}
+use Rattle.udf.specs.Udf.{udf}
+use Rattle.udf.proofs.Said.{tables_agree}
+use Rattle.store.proofs.Tables.{table_few, table_some, table_at}
+use Rattle.store.proofs.Writings.{placed_at, length-placed}
 use Rattle.store.proofs.plan.place_table.Goals as goal
 
 pub place_bytes-requires : goal.place_bytes-requires
 place_bytes-requires c = omega (arith, ap length c.deref.ensures.value, ap length c.in_ok-bytes.ensures, table_few (view c.args.vat) c.requires.fits)
 
-pub returns-clause-few : goal.returns-clause-few
-returns-clause-few c = omega (arith, ap length c.in_ok-bytes.ensures, table_few (view c.args.vat) c.requires.fits)
+pub table_entry-entry-requires-clause-some : goal.table_entry-entry-requires-clause-some
+table_entry-entry-requires-clause-some c = omega (arith, ap length c.in_ok-bytes.ensures, table_some (view c.args.vat) c.requires.fits)
+
+pub table_entry-entry-requires-clause-few : goal.table_entry-entry-requires-clause-few
+table_entry-entry-requires-clause-few c = omega (arith, ap length c.in_ok-bytes.ensures, table_few (view c.args.vat) c.requires.fits)
+
+pub returns-clause-placed : goal.returns-clause-placed
+returns-clause-placed c =
+    let from = c.args.numbers.now.next in
+    let first = c.in_ok-first.first in
+    let number = c.next-number.result in
+    let bytes = c.in_ok-bytes.bytes.items in
+    let same : c.deref.result.now ≡ bytes = c.deref.ensures.value in
+    let start = subst (λ (bs : List ℕ). IsClearStart udf (packed bs) from first) same c.in_ok-first.ensures.start in
+    let placed = subst (λ n. IsPlaced udf bytes from first (replicate (first - n) zeros ++ packed bytes)) (sym c.next-start.ensures.next) (placed_at bytes from first start) in
+    let long = length-placed bytes from first (replicate (first - c.next-start.result) zeros ++ packed bytes) placed in
+    let next : number ≡ first + div_ceil (length bytes) 2048 = c.next-number.ensures.next ∙ c.in_ok-first.ensures.next ∙ ap (λ (bs : List ℕ). first + div_ceil (length bs) 2048) same in
+    let size : c.len.result ≡ length bytes = omega arith in
+    let at : number + 257 - 257 ≡ number = omega arith in
+    let later : from ≤ number = omega (arith, next, long) in
+    let table = tables_agree (view c.args.vat) number bytes (table_at (view c.args.vat) from number bytes c.requires.fits c.in_ok-bytes.ensures c.requires.previous c.requires.below later) in
+    record {
+      placed = placed;
+      number = omega (arith, long, next);
+      spelled = subst (λ n. udf.IsTable (said_table (view c.args.vat)) n bytes) (sym at) table;
+      mark = subst (λ n. udf.IsEntry (record { kind = Table; moment = c.args.moment; links = 0; identity = 0; size = length bytes; place = Extent first }) c.table_entry-entry.result n) (sym at)
+          (subst (λ n. udf.IsEntry (record { kind = Table; moment = c.args.moment; links = 0; identity = 0; size = n; place = Extent first }) c.table_entry-entry.result number) size c.table_entry-entry.ensures);
+    }
+
+pub returns-clause-some : goal.returns-clause-some
+returns-clause-some c = omega (arith, ap length c.in_ok-bytes.ensures, table_some (view c.args.vat) c.requires.fits)

@@ -1,19 +1,36 @@
-use Rattle.std.proofs.Common.{◌≡◌, ◌+◌, ◌*◌, ◌/◌, ◌≤◌, ◌<◌, ◌∙◌, length, sym, arith, ap}
+use Rattle.std.proofs.Common.{◌≡◌, ◌+◌, ◌/◌, ◌++◌, ◌∷◌, ◌∙◌, [], length, sym, subst, arith, ap}
 use Rattle.std.specs.Int.{div_ceil}
 use Rattle.dir.specs.Directory.{directory_size, directory_blocks}
 use Rattle.dir.specs.Layout.{blocks_of}
-use Rattle.dir.specs.Size.{end_of, end_bytes}
+use Rattle.medium.specs.Plan.{WritesNode}
+use Rattle.udf.specs.Udf.{udf}
+use Rattle.store.specs.Writings.{directory_writing}
 use Rattle.store.proofs.places.Numbers.place_directory.Goals as goal
 
-pub invariant_of-result : goal.invariant_of-result
-invariant_of-result c =
+pub directory_entry-entry-requires-clause-size : goal.directory_entry-entry-requires-clause-size
+directory_entry-entry-requires-clause-size c = c.bytes.ensures ∙ c.data_size-size.ensures.size
+
+pub directory_entry-entry-requires-clause-blocks : goal.directory_entry-entry-requires-clause-blocks
+directory_entry-entry-requires-clause-blocks c =
     let dir = c.args.directory.content.dir in
     let size : c.bytes.result ≡ directory_size dir = c.bytes.ensures ∙ c.data_size-size.ensures.size in
-    let blocks : c.blocks-2.result ≡ (c.bytes.result + 2047) / 2048 = c.blocks-2.ensures.size ∙ ap blocks_of (sym c.bytes.ensures) in
     let count : length (directory_blocks dir c.args.self.now.next) ≡ (c.bytes.result + 2047) / 2048 = c.data_size-size.ensures.blocks c.args.self.now.next ∙ ap blocks_of (sym size) in
-    record {
-      some = omega (arith, c.bytes.ensures, c.data_size-size.result.some);
-      small = omega (arith, c.bytes.ensures, c.data_size-size.ensures.full, c.data_size-size.result.in_block);
-      room = omega (arith, blocks, c.in_ok-take.ensures.next, c.take.new.self.within, c.take.new.self.partition);
-      laid = omega (arith, count);
-    }
+    omega (arith, count)
+
+pub directory_entry-entry-requires-clause-some : goal.directory_entry-entry-requires-clause-some
+directory_entry-entry-requires-clause-some c = omega (arith, c.bytes.ensures, c.data_size-size.result.some)
+
+pub directory_entry-entry-requires-clause-few : goal.directory_entry-entry-requires-clause-few
+directory_entry-entry-requires-clause-few c = omega (arith, c.bytes.ensures, c.data_size-size.ensures.full, c.data_size-size.result.in_block)
+
+pub directory_entry-entry-requires-clause-room : goal.directory_entry-entry-requires-clause-room
+directory_entry-entry-requires-clause-room c =
+    let blocks : c.blocks-2.result ≡ (c.bytes.result + 2047) / 2048 = c.blocks-2.ensures.size ∙ ap blocks_of (sym c.bytes.ensures) in
+    omega (arith, blocks, c.in_ok-take.ensures.next, c.take.new.self.within, c.take.new.self.partition)
+
+pub returns-clause-written : goal.returns-clause-written
+returns-clause-written c =
+    let blocks : c.blocks-2.result ≡ (c.bytes.result + 2047) / 2048 = c.blocks-2.ensures.size ∙ ap blocks_of (sym c.bytes.ensures) in
+    let from = c.args.self.now.next in
+    let number : from + div_ceil c.bytes.result 2048 ≡ c.take.new.self.next = omega (arith, blocks, c.in_ok-take.ensures.next) in
+    subst (λ n. WritesNode udf (directory_writing c.args.directory) from (directory_blocks c.args.directory.content.dir from ++ c.directory_entry-entry.result ∷ []) n) number c.directory_entry-entry.ensures

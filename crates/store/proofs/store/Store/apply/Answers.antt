@@ -1,24 +1,56 @@
-use Rattle.std.proofs.Common.{◌≡◌, ◌∙◌, ℕ, List, subst}
-use Rattle.std.specs.Prelude.{OnErr}
-use Rattle.std.proofs.lemmas.Result.{err_from_is_err_and}
+use Rattle.std.proofs.Common.{◌≡◌, ◌+◌, ◌<◌, ◌≤◌, ◌∙◌, ℕ, List, true, false, sym, ap, subst, arith}
+use Rattle.std.proofs.lemmas.Bool.{false≢true}
 use Rattle.drive.specs.Journal.{Event, next_of}
-use Rattle.store.specs.Putting.{WritesFront}
-use Rattle.store.proofs.Puttings.{front_none}
+use Rattle.request.specs.declared.answer.Reply.{Reply}
+use Rattle.store.specs.Plan.{IsPlan}
+use Rattle.store.proofs.Commits.{if_ok, writes_plan, stops_in_plan, goes_on, is_stopped}
 use Rattle.store.proofs.store.Store.apply.Goals as goal
 
-pub returns-in_err-change-clause-front : goal.returns-in_err-change-clause-front
-returns-in_err-change-clause-front g c =
-    let p = err_from_is_err_and c.from_residual.result c.from_residual.ensures.1 in
-    let J = g.D.Drive.journal c.args.drive.now in
-    rw p.1 (0, front_none (next_of J) J (g.D.Drive.journal c.change.new.drive) c.change.ensures.journal)
+pub commit-requires-clause-agrees : goal.commit-requires-clause-agrees
+commit-requires-clause-agrees g c =
+    let same = c.plan.ensures.journal ∙ c.change.ensures.journal in
+    record {
+      keeps = c.requires.agrees.keeps;
+      on = omega (arith, ap next_of same, c.requires.agrees.on);
+      least = c.requires.agrees.least;
+      most = c.requires.agrees.most;
+      fits = omega (arith, c.requires.agrees.fits, c.plan.ensures.capacity, c.change.ensures.capacity);
+    }
 
-pub returns-in_err-plan-clause-front : goal.returns-in_err-plan-clause-front
-returns-in_err-plan-clause-front g c =
-    let p = err_from_is_err_and c.from_residual-in_err-plan.result c.from_residual-in_err-plan.ensures.1 in
+pub returns-clause-commit : goal.returns-clause-commit
+returns-clause-commit g c =
+    let plan = c.in_ok-plan.plan in
+    let commits = c.args.self.now.vat.sessions.commits in
+    if_ok c.commit.result (λ (reply : Reply). reply ≡ plan.reply) (λ (reply : Reply). reply.commit ≡ commits + 1) (λ reply same. ap (λ (r : Reply). r.commit) same ∙ c.in_ok-plan.ensures.reply) c.commit.ensures.reply
+
+pub returns-clause-written : goal.returns-clause-written
+returns-clause-written g c =
     let J = g.D.Drive.journal c.args.drive.now in
-    rw p.1 (0, front_none (next_of J) J (g.D.Drive.journal c.plan.new.drive) (c.plan.ensures.journal ∙ c.change.ensures.journal))
+    let K = g.D.Drive.journal c.plan.new.drive in
+    let capacity = g.D.Drive.capacity c.args.drive.now in
+    let plan = c.in_ok-plan.plan in
+    let is : IsPlan (next_of J) capacity plan =
+    subst (λ n. IsPlan (next_of J) n plan) c.change.ensures.capacity (subst (λ (L : List Event). IsPlan (next_of L) (g.D.Drive.capacity c.change.new.drive) plan) c.change.ensures.journal c.in_ok-plan.ensures.plan) in
+    writes_plan c.commit.result K J (g.D.Drive.journal c.commit.new.drive) capacity plan c.commit.new.self (c.plan.ensures.journal ∙ c.change.ensures.journal) is c.commit.ensures.reply c.commit.ensures.at c.commit.ensures.vat c.commit.ensures.written
 
 pub returns-clause-front : goal.returns-clause-front
 returns-clause-front g c =
-    subst (λ (K : List Event). OnErr c.commit.result ((count : ℕ) × WritesFront count (next_of K) K (g.D.Drive.journal c.commit.new.drive)))
-    (c.plan.ensures.journal ∙ c.change.ensures.journal) c.commit.ensures.front
+    let J = g.D.Drive.journal c.args.drive.now in
+    let K = g.D.Drive.journal c.plan.new.drive in
+    let capacity = g.D.Drive.capacity c.args.drive.now in
+    let plan = c.in_ok-plan.plan in
+    let is : IsPlan (next_of J) capacity plan =
+    subst (λ n. IsPlan (next_of J) n plan) c.change.ensures.capacity (subst (λ (L : List Event). IsPlan (next_of L) (g.D.Drive.capacity c.change.new.drive) plan) c.change.ensures.journal c.in_ok-plan.ensures.plan) in
+    stops_in_plan c.commit.result K J (g.D.Drive.journal c.commit.new.drive) capacity plan (c.plan.ensures.journal ∙ c.change.ensures.journal) is c.commit.ensures.front
+
+pub returns-clause-refused : goal.returns-clause-refused
+returns-clause-refused g c = is_stopped c.commit.result c.commit.new.self.is_stopped (g.D.Drive.journal c.commit.new.drive ≡ g.D.Drive.journal c.args.drive.now) c.commit.ensures.stopped
+
+pub returns-clause-stopped : goal.returns-clause-stopped
+returns-clause-stopped g c h = absurd (false≢true (sym c.if-self.false ∙ h))
+
+pub returns-clause-goes_on : goal.returns-clause-goes_on
+returns-clause-goes_on g c = goes_on c.commit.result c.commit.new.self.is_stopped c.commit.ensures.stopped
+
+pub returns-clause-honest : goal.returns-clause-honest
+returns-clause-honest g c h = c.change.ensures.honest (c.plan.ensures.honest (c.commit.ensures.honest h))

@@ -1,4 +1,4 @@
-use Rattle.std.proofs.Common.{◌≡◌, ◌+◌, ◌≤◌, ◌<◌, ◌^◌, IsTrue, false}
+use Rattle.std.proofs.Common.{◌≡◌, false}
 use Rattle.store.proofs.store.Store.commit.Given as goal
 
 -- only the directories that are kept change

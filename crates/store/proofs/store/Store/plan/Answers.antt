@@ -1,12 +1,37 @@
-use Rattle.std.proofs.Common.{◌≡◌, ◌+◌, ◌*◌, ◌<◌, ◌≤◌, ◌∙◌, ℕ, List, [], length, sym, subst, ap, arith}
+use Rattle.std.proofs.Common.{◌≡◌, ◌+◌, ◌-◌, ◌*◌, ◌<◌, ◌≤◌, ◌++◌, ◌∷◌, ◌∙◌, ℕ, List, [], Some, length, sym, subst, ap, arith, length-append}
+use Rattle.std.specs.Prelude.{Option, IfSome}
 use Rattle.drive.specs.Journal.{next_of}
 use Rattle.drive.specs.Waiting.{Waiting}
+use Rattle.medium.specs.Plan.{WritesNodes}
+use Rattle.udf.specs.Udf.{udf}
 use Rattle.vat.specs.declared.table.Vat.{Vat}
 use Rattle.vat.specs.Table.{Fits, view}
 use Rattle.store.specs.Agrees.{Keeps}
 use Rattle.store.specs.Below.{AreBelow}
+use Rattle.store.specs.Plan.{IsTablePlaced, file_list, file_writings, file_written, directories_list, directories_writings, directories_written, table_data}
 use Rattle.store.proofs.BelowLemmas.{below_later}
+use Rattle.store.proofs.Plans.{length-padded}
+use Rattle.store.proofs.Writings.{writes-append}
 use Rattle.store.proofs.store.Store.plan.Goals as goal
+
+pub place_table-requires-clause-below : goal.place_table-requires-clause-below
+place_table-requires-clause-below g c =
+    let start = c.new-numbers.result.next in
+    let begins : start + 257 ≡ next_of (g.D.Drive.journal c.args.drive.now) = omega (arith, c.in-Ok.ensures.next, c.new-numbers.ensures.next, c.requires.agrees.on, c.requires.agrees.keeps.low) in
+    let first = below_later c.args.self.now.at (start + 257) c.in_ok-vat.vat.entries.items (omega (arith, begins, c.requires.agrees.on)) c.in_ok-vat.ensures.below in
+    c.in_ok-take_away.ensures.below (c.place_directories.new.numbers.next + 257) (c.in_ok-directories.ensures.below (c.in_ok-file.ensures.below first))
+
+pub place_table-requires-clause-previous : goal.place_table-requires-clause-previous
+place_table-requires-clause-previous g c =
+    let previous : c.take_away.new.vat.previous ≡ Some (c.args.self.now.at - 257) =
+    c.in_ok-take_away.ensures.previous ∙ c.in_ok-directories.ensures.previous ∙ c.in_ok-file.ensures.previous ∙ c.in_ok-vat.ensures.previous in
+    let end = c.place_directories.new.numbers.next in
+    let low : c.args.self.now.at - 257 < end =
+    omega (arith, c.in-Ok.ensures.next, c.new-numbers.ensures.next, c.in_ok-file.ensures.next, c.in_ok-directories.ensures.next, c.requires.agrees.on, c.requires.agrees.keeps.low) in
+    subst (λ (p : Option ℕ). IfSome p (λ n. n < end)) (sym previous) low
+
+pub returns-clause-reply : goal.returns-clause-reply
+returns-clause-reply g c = c.in_ok-vat.ensures.commits
 
 pub returns-clause-plan : goal.returns-clause-plan
 returns-clause-plan g c =
@@ -14,28 +39,31 @@ returns-clause-plan g c =
     let start = c.new-numbers.result.next in
     let file_end = c.place_file.new.numbers.next in
     let node_end = c.place_directories.new.numbers.next in
-    let at = c.in_ok-table.table.at in
-    let vat = c.in_ok-table.table.vat in
-    let begins : start + 257 ≡ next_of J = omega (arith, c.in-Ok.ensures.next, c.new-numbers.ensures.next, c.requires.agrees.on, c.requires.agrees.keeps.low) in
-    let nodes : node_end + 257 ≤ at = omega (arith, c.in_ok-table.ensures.at) in
-    let files : start ≤ file_end = omega (arith, c.in_ok-file.ensures.count) in
-    let directories : file_end ≤ node_end = omega (arith, c.in_ok-directories.ensures.count) in
-    let behind : next_of J + 1 ≤ at = omega (arith, begins, files, directories, c.in_ok-table.ensures.at, c.in_ok-table.ensures.some) in
+    let file = c.in_ok-file.file in
+    let directories = c.in_ok-directories.directories.items in
+    let table = c.in_ok-table.table in
+    let at = table.at in
+    let vat = table.vat in
+    let nodes = file_list file ++ directories_list directories in
+    let begins : start ≡ next_of J - 257 = omega (arith, c.in-Ok.ensures.next, c.new-numbers.ensures.next) in
+    let low : 257 ≤ next_of J = omega (arith, c.requires.agrees.on, c.requires.agrees.keeps.low) in
+    let size : node_end ≡ next_of J - 257 + length nodes = omega (arith, begins, c.in_ok-file.ensures.next, c.in_ok-directories.ensures.next, length-append (file_list file) (directories_list directories)) in
+    let behind : next_of J + 1 ≤ at = omega (arith, low, size, c.in_ok-table.ensures.placed.number, length-padded table.gap table.bytes.items, c.in_ok-table.ensures.some) in
     let commits : vat.sessions.commits ≡ c.args.self.now.vat.sessions.commits + 1 =
     ap (λ (v : Vat). v.sessions.commits) c.in_ok-table.ensures.vat ∙ c.in_ok-take_away.ensures.commits ∙ c.in_ok-directories.ensures.commits ∙ c.in_ok-file.ensures.commits ∙ c.in_ok-vat.ensures.commits in
     let unique : vat.sessions.next_unique ≡ c.in_ok-vat.vat.sessions.next_unique =
     ap (λ (v : Vat). v.sessions.next_unique) c.in_ok-table.ensures.vat ∙ c.in_ok-take_away.ensures.unique ∙ c.in_ok-directories.ensures.unique ∙ c.in_ok-file.ensures.unique in
     let first = below_later c.args.self.now.at (start + 257) c.in_ok-vat.vat.entries.items (omega (arith, begins, c.requires.agrees.on)) c.in_ok-vat.ensures.below in
-    let placed = c.in_ok-directories.ensures.below (c.in_ok-file.ensures.below first) in
-    let gone = c.in_ok-take_away.ensures.below (node_end + 257) placed in
-    let all : AreBelow at c.take_away.new.vat.entries.items = below_later (node_end + 257) at c.take_away.new.vat.entries.items nodes gone in
+    let gone = c.in_ok-take_away.ensures.below (node_end + 257) (c.in_ok-directories.ensures.below (c.in_ok-file.ensures.below first)) in
+    let all : AreBelow at c.take_away.new.vat.entries.items = below_later (node_end + 257) at c.take_away.new.vat.entries.items (omega (arith, c.in_ok-table.ensures.placed.number)) gone in
+    let second = subst (λ n. WritesNodes udf (directories_writings directories) n (directories_list directories) (directories_written directories)) c.in_ok-file.ensures.next c.in_ok-directories.ensures.written in
+    let both = writes-append (file_writings c.args.moment file) (directories_writings directories) start (file_list file) (directories_list directories) (file_written file) (directories_written directories) c.in_ok-file.ensures.written second in
     record {
       begins = c.in_ok-new.ensures ∙ ap (λ (n : ℕ). record { at = n; blocks = [] }) c.in-Ok.ensures.next;
-      ends = omega (arith, begins, c.in_ok-file.ensures.count, c.in_ok-directories.ensures.count, c.in_ok-table.ensures.at);
+      low = low;
+      nodes = subst (λ n. WritesNodes udf (file_writings c.args.moment file ++ directories_writings directories) n nodes (file_written file ++ directories_written directories)) begins both;
+      table = subst (λ n. IsTablePlaced n c.args.moment table) size c.in_ok-table.ensures.placed;
       fits = omega (arith, c.in_ok-table.ensures.within, c.in_ok-directories.ensures.end, c.in_ok-file.ensures.end, c.new-numbers.ensures.end, c.requires.agrees.fits, c.requires.agrees.least);
-      some = c.in_ok-table.ensures.some;
-      few = c.in_ok-table.ensures.few;
-      room = c.in_ok-table.ensures.room;
       keeps = record {
         low = omega (arith, behind, c.requires.agrees.on, c.requires.agrees.keeps.low);
         fits = subst (λ (v : Vat). Fits (view v)) (sym c.in_ok-table.ensures.vat) c.in_ok-take_away.ensures.fits;

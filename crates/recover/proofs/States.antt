@@ -1,0 +1,172 @@
+-- The state that was read is the one that the blocks tell.
+use Rattle.std.proofs.Common.{◌≡◌, ℕ, ◌+◌, ◌-◌, ◌<◌, ◌≤◌, Bool, true, false, not, nat_eq, List, [], length, take, refl, sym, ap, ◌∙◌, subst, arith}
+use Rattle.std.specs.Int.{div_ceil}
+use Rattle.std.specs.List.{flat_map}
+use Rattle.std.specs.Cmp.Lexicographic.{pointwise}
+use Rattle.std.proofs.lemmas.Bool.{true≢false}
+use Rattle.std.proofs.lemmas.List.{length-take}
+use Rattle.std.proofs.lemmas.Option.{same_Some}
+use Rattle.dir.specs.declared.entry.Kind.TheVariants.{Directory}
+use Rattle.model.specs.Graph.{IsFunctional}
+use Rattle.model.proofs.Lists.{bytes_same}
+use Rattle.medium.specs.Volume.{HasTable, bytes_in, extent, graph_of}
+use Rattle.medium.proofs.Stored.{stored_one}
+use Rattle.udf.specs.Said.{said_fields, said_table}
+use Rattle.udf.specs.Udf.{udf}
+use Rattle.udf.proofs.Formats.{bounded, exact}
+use Rattle.icb.specs.VatIcb.{IsVatIcb}
+use Rattle.udf.proofs.Said.{imitation_agrees, entries_agree, tables_agree}
+use Rattle.vat.specs.declared.table.Vat.{Vat}
+use Rattle.vat.specs.Table.{IsTableAt, view}
+use Rattle.volume.specs.Front.{IsFront}
+use Rattle.recover.specs.declared.state.State.{State}
+use Rattle.recover.specs.declared.table.TableEntry.{TableEntry}
+use Rattle.recover.specs.declared.walk.Named.{Named}
+use Rattle.recover.specs.declared.walk.Walk.{Walk}
+use Rattle.recover.specs.Forest.{Adds, AreDrawn, IsWhole, IsWalked, by_address, by_identity, whole}
+use Rattle.recover.specs.Forest.Forest.{End, Seen}
+use Rattle.recover.specs.Laws.{LastStands}
+use Rattle.recover.specs.Nodes.{is_directory}
+use Rattle.recover.specs.State.{HasFileSet, HasTree, IsCounted, IsShown}
+use Rattle.recover.specs.Tables.{HasDataBelow, IsEntryAt, data_of, table_fields}
+use Rattle.recover.specs.Walk.{Visits, reached_in, uniques_in}
+use Rattle.recover.proofs.Trees.{tree_of, makes_tree, is_tree, has_identities, files_are, directories_are}
+use Rattle.recover.proofs.Walks.{adds_from, part_below}
+
+-- labels that `!=` does not tell apart
+pub same_label : (a b : List ℕ) (r : Bool) → r ≡ not (pointwise nat_eq a b) → r ≡ false → a ≡ b
+same_label a b r e f = go (pointwise nat_eq a b) refl (sym e ∙ f)
+  where
+    go : (t : Bool) → pointwise nat_eq a b ≡ t → not (pointwise nat_eq a b) ≡ false → a ≡ b
+    go true is n = bytes_same a b is
+    go false is n = absurd (true≢false (sym (ap not is) ∙ n))
+
+-- a table has few nodes
+pub few_nodes : (icb : ℕ) (vat : Vat) (bytes : List ℕ) → IsTableAt icb (view vat) bytes → (16 ≤ vat.sessions.next_unique) × (vat.files + vat.directories ≤ 4096)
+few_nodes icb vat bytes is = (is.table.fits.next_unique, let used = bounded.nodes (said_table (view vat)) icb bytes (tables_agree (view vat) icb bytes is) in let a = used.0 in let b = used.1 in omega (arith, a, b))
+
+-- ---- the tree
+
+module _ (medium : List (List ℕ)) (vat : Vat) (before after : Walk) (node : Named) (none_reached : (x : ℕ) → reached_in before x ≡ false) (none_unique : (x : ℕ) → uniques_in before x ≡ false)
+    (kind : node.kind ≡ Directory) (address : node.address ≡ 1) (unique : node.unique ≡ 0) (above : node.above ≡ 1) (depth : node.depth ≡ 0)
+    (next : before.next_unique ≡ vat.sessions.next_unique) (visits : Visits (graph_of udf medium vat.entries.items) before after node) where
+  functional : IsFunctional (graph_of udf medium vat.entries.items)
+  functional = stored_one udf exact medium vat.entries.items
+
+  is_whole : IsWhole (graph_of udf medium vat.entries.items) vat.sessions.next_unique visits.stored visits.below
+  is_whole = record {
+    walked =
+        subst (λ (i : ℕ). IsWalked (graph_of udf medium vat.entries.items) 1 (Seen [] i visits.stored visits.below End)) address
+        (subst (λ (i : ℕ). IsWalked (graph_of udf medium vat.entries.items) i (Seen [] node.address visits.stored visits.below End)) above visits.walked);
+    is_root = visits.kind ∙ ap is_directory kind;
+    shallow = (let s = visits.counts.shallow in omega (arith, s, depth));
+    drawn =
+        subst (λ (k : ℕ). AreDrawn k (whole visits.stored visits.below)) next
+        (subst (λ (i : ℕ). AreDrawn before.next_unique (Seen [] i visits.stored visits.below End)) address visits.counts.drawn);
+    addresses = (
+      reached_in after,
+      subst (λ (i : ℕ). Adds by_address (λ x. false) (Seen [] i visits.stored visits.below End) (reached_in after)) address
+          (adds_from by_address (λ x. false) (reached_in before) (reached_in after) (Seen [] node.address visits.stored visits.below End) (λ x. sym (none_reached x)) visits.counts.reached),
+    );
+    identities = (
+      uniques_in after,
+      subst (λ (i : ℕ). Adds by_identity (λ x. false) (Seen [] i visits.stored visits.below End) (uniques_in after)) address
+          (adds_from by_identity (λ x. false) (uniques_in before) (uniques_in after) (Seen [] node.address visits.stored visits.below End) (λ x. sym (none_unique x)) visits.counts.uniques),
+    );
+  }
+
+  pub has_tree : 16 ≤ vat.sessions.next_unique → vat.files + vat.directories ≤ 4096 → before.files ≡ 0 → before.directories ≡ 0 → after.files ≡ vat.files → after.directories ≡ vat.directories
+      → HasTree medium vat
+  has_tree enough few no_files no_directories files directories =
+      let w = is_whole in
+      let counted_files = files_are (graph_of udf medium vat.entries.items) functional vat.sessions.next_unique visits.stored visits.below w in
+      let counted_directories = directories_are (graph_of udf medium vat.entries.items) functional vat.sessions.next_unique visits.stored visits.below w in
+      let seen_files = visits.counts.files.1 (omega (arith, few, files)) in
+      let seen_directories = visits.counts.directories.1 (omega (arith, few, directories)) in
+      record {
+        tree = tree_of visits.stored visits.below;
+        is = is_tree (graph_of udf medium vat.entries.items) functional vat.sessions.next_unique visits.stored visits.below w;
+        makes = makes_tree (graph_of udf medium vat.entries.items) functional vat.sessions.next_unique visits.stored visits.below w;
+        identities = has_identities (graph_of udf medium vat.entries.items) functional vat.sessions.next_unique visits.stored visits.below w enough;
+        files = omega (arith, files, no_files, seen_files, counted_files);
+        directories = omega (arith, directories, no_directories, seen_directories, counted_directories);
+      }
+
+-- ---- all of it
+
+-- the table of an entry that was read, on the blocks below it
+has_table : (medium : List (List ℕ)) (at : ℕ) (entry : TableEntry) (is : IsEntryAt medium at entry) (vat : Vat) → at ≤ length medium → HasDataBelow at entry
+    → IsTableAt (at - 257) (view vat) (data_of medium entry) → HasTable udf (take at medium) at is.block (said_table (view vat)) entry.moment
+has_table medium at entry is vat long below table = record {
+  fields = said_fields (table_fields entry);
+  kind = refl;
+  entry = (entries_agree (table_fields entry) is.block (at - 257)).0 is.is;
+  moment_is = refl;
+  first = entry.first;
+  place = refl;
+  within = (let l = length-take at medium in omega (arith, l, long, below));
+  is =
+      let part = part_below (entry.first + 257) (div_ceil entry.size 2048) at medium below in
+      let same : data_of medium entry ≡ bytes_in entry.size (extent (take at medium) entry.first entry.size) = ap (λ (blocks : List (List ℕ)). take entry.size (flat_map (λ b. b) blocks)) (sym part) in
+      tables_agree (view vat) (at - 257) _ (subst (IsTableAt (at - 257) (view vat)) same table);
+}
+
+pub is_shown : (capacity : ℕ) (medium : List (List ℕ)) (at : ℕ) (state : State) (entry : TableEntry) (bytes : List ℕ) (formatted : ℕ) → 257 ≤ at → at < length medium
+    → IsEntryAt medium at entry → HasDataBelow at entry → bytes ≡ data_of medium entry → IsTableAt (at - 257) (view state.vat) bytes → entry.moment ≡ state.moment
+    → state.vat.label ≡ state.label → IsFront state.label formatted state.capacity (take 257 medium) → state.capacity ≤ capacity
+    → HasFileSet (take at medium) state.vat.entries.items state.label formatted → HasTree (take at medium) state.vat → IsCounted at state.vat → IsShown capacity medium at state
+is_shown capacity medium at state entry bytes formatted low long is below same table moment label front fits set tree counted =
+    let read = subst (IsTableAt (at - 257) (view state.vat)) same table in
+    record {
+      said = record {
+        tree = tree.tree;
+        records = (said_table (view state.vat)).records;
+        commits = state.vat.sessions.commits;
+        next_identity = state.vat.sessions.next_unique;
+        table_length = length state.vat.entries.items;
+        moment = entry.moment;
+      };
+      block = is.block;
+      there = is.there;
+      tells = record {
+        table = said_table (view state.vat);
+        has = has_table medium at entry is state.vat (omega (arith, long)) below read;
+        commits = refl;
+        next_identity = refl;
+        records = refl;
+        table_length = refl;
+        formatted = formatted;
+        front = subst (λ (l : List ℕ). IsFront l formatted state.capacity (take 257 (take at medium))) (sym label) (subst (IsFront state.label formatted state.capacity) (sym (part_below 0 257 at medium low)) front);
+        fits = fits;
+        set_number = set.number;
+        set_used = set.used;
+        set_block = set.block;
+        set_there = set.there;
+        set_is = subst (λ (l : List ℕ). udf.IsFileSet l formatted set.block) (sym label) set.is;
+        tree = tree.is;
+        makes = tree.makes;
+        identities = tree.identities;
+        files = tree.files;
+        directories = tree.directories;
+        few_commits = counted.few_commits;
+        few_identities = counted.few_unique;
+      };
+      moment = moment;
+      table = refl;
+      label = label;
+    }
+
+-- at the last entry of a table it stands
+pub last_stands : LastStands
+last_stands capacity medium at state shown (low, here, none) =
+    let same = same_Some here.block shown.block (sym here.there ∙ shown.there) in
+    record {
+      at = at;
+      block = shown.block;
+      last = record {
+        there = shown.there;
+        is = (imitation_agrees shown.block at).1 (low, subst (λ (b : List ℕ). IsVatIcb b (at - 257)) same here.is);
+        no_later = λ later other lt there is. none later (omega (arith, lt)) (record { block = other; there = there; is = ((imitation_agrees other later).0 is).1 });
+      };
+      tells = shown.tells;
+    }

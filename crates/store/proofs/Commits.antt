@@ -1,0 +1,41 @@
+-- What a commit says of a plan that it writes.
+use Rattle.std.proofs.Common.{◌≡◌, ℕ, ◌++◌, List, Bool, true, false, Result, Ok, Err, ◌⊎◌, inl, inr, refl, sym, ap, subst, ◌∙◌}
+use Rattle.std.specs.Prelude.{is_err, IfOk, OnOk, OnErr}
+use Rattle.std.proofs.lemmas.Bool.{false≢true}
+use Rattle.drive.specs.Journal.{Event, next_of, written, AddsFront}
+use Rattle.request.specs.declared.answer.Reply.{Reply}
+use Rattle.store.specs.declared.plan.Plan.{Plan}
+use Rattle.store.specs.declared.store.Store.{Store}
+use Rattle.store.specs.Plan.{IsPlan, plan_blocks}
+use Rattle.store.specs.Putting.{WritesPlan, StopsInPlan}
+
+pub if_ok : {T E : Type 0} (r : Result T E) (P Q : T → Type 0) → ((x : T) → P x → Q x) → IfOk r P → IfOk r Q
+if_ok (Ok x) P Q f h = f x h
+if_ok (Err e) P Q f h = h
+
+pub writes_plan : {E : Type 0} (r : Result Reply E) (K J J' : List Event) (capacity : ℕ) (plan : Plan) (store : Store) → K ≡ J → IsPlan (next_of J) capacity plan
+    → IfOk r (λ reply. reply ≡ plan.reply) → OnOk r (store.at ≡ plan.table.at) → OnOk r (store.vat ≡ plan.table.vat) → OnOk r (J' ≡ K ++ written (next_of K) (plan_blocks plan))
+    → IfOk r (WritesPlan capacity J J' store)
+writes_plan (Ok reply) K J J' capacity plan store same is said at vat journal = record {
+  plan = plan;
+  is = is;
+  reply_is = said;
+  at = at;
+  vat = vat;
+  journal = journal ∙ ap (λ (L : List Event). L ++ written (next_of L) (plan_blocks plan)) same;
+}
+writes_plan (Err e) K J J' capacity plan store same is said at vat journal = said
+
+pub stops_in_plan : {T E : Type 0} (r : Result T E) (K J J' : List Event) (capacity : ℕ) (plan : Plan) → K ≡ J → IsPlan (next_of J) capacity plan
+    → OnErr r (AddsFront K (next_of K) (plan_blocks plan) J') → OnErr r ((J' ≡ J) ⊎ StopsInPlan capacity J J')
+stops_in_plan (Ok x) K J J' capacity plan same is front = front
+stops_in_plan (Err e) K J J' capacity plan same is front = inr (record { plan = plan; is = is; front = subst (λ (L : List Event). AddsFront L (next_of L) (plan_blocks plan) J') same front })
+
+-- a store is stopped where it answers an error
+pub goes_on : {T E : Type 0} (r : Result T E) (b : Bool) → b ≡ is_err r → OnOk r (b ≡ false)
+goes_on (Ok x) b h = h
+goes_on (Err e) b h = tt
+
+pub is_stopped : {T E : Type 0} (r : Result T E) (b : Bool) (P : Type 0) → b ≡ is_err r → OnErr r (b ≡ false → P)
+is_stopped (Ok x) b P h = tt
+is_stopped (Err e) b P h = λ f. absurd (false≢true (sym f ∙ h))

@@ -1,0 +1,121 @@
+use Rattle.std.proofs.Common.{◌≡◌, ◌+◌, ◌∙◌, sym, ap, subst, refl, inl, List, Option, ℕ, Some, None, true, false, take, get_or, length, IsTrue, rules, arith, ◌<◌, ◌≤◌}
+use Rattle.std.specs.Prelude.{nat_eq}
+use Rattle.std.specs.Map.{lookup}
+use Rattle.std.specs.Cmp.Lexicographic.{pointwise}
+use Rattle.std.proofs.lemmas.Result.{err_from_is_err_and}
+use Rattle.std.proofs.lemmas.List.{take_all}
+use Rattle.drive.specs.Journal.{Event, held}
+use Rattle.recover.specs.Faults.{IsShortage}
+use Rattle.recover.specs.Nodes.{IsDirectoryRefused, data_of}
+use Rattle.recover.specs.declared.fault.StoreFault.{StoreFault}
+use Rattle.model.specs.Tree.{Tree, Path}
+use Rattle.udf.specs.Said.{names_directory}
+use Rattle.dir.specs.declared.entry.Entry.{Entry}
+use Rattle.dir.specs.declared.entry.Kind.{Kind}
+use Rattle.store.specs.declared.content.Content.{Content}
+use Rattle.store.specs.Cache.{AreKept, LiesThere}
+use Rattle.store.specs.Shows.{Shows, IsAt, IsFound, graph_below}
+use Rattle.store.proofs.Walks.{IsNext, shows_before, lies_at, next_at, file_at, root_at, refused_at}
+use Rattle.store.proofs.directories.Directories.find.Goals as goal
+
+pub loop-name-init : goal.loop-name-init
+loop-name-init g c = record {
+  journal = refl;
+  capacity = refl;
+  honest = λ h. h;
+  failures = λ below. omega arith;
+  kept = λ honest kept. kept;
+  found = λ tree s. root_at c.args.nodes.now.at c.args.nodes.now.entries.now (g.D.Drive.journal c.args.drive.now) (g.D.Drive.journal c.args.drive.now) (g.D.Drive.journal c.args.drive.now) refl refl tree s.tree s.makes c.args.names.now s.root;
+}
+
+pub returns-then-not-is_directory-clause-found : goal.returns-then-not-is_directory-clause-found
+returns-then-not-is_directory-clause-found g c tree s =
+    let J = g.D.Drive.journal c.args.drive.now in
+    let here = c.loop-name.invariant.found tree s in
+    file_at c.args.nodes.now.at c.args.nodes.now.entries.now J J J refl refl tree s.tree s.makes c.args.names.now c.loop-name.name-index c.name-item.result c.loop-name.node c.loop-name-test.true c.name-item.is here (sym c.is_directory.ensures ∙ c.if-not-is_directory.true)
+
+pub returns-in_err-placed-clause-kept : goal.returns-in_err-placed-clause-kept
+returns-in_err-placed-clause-kept g c honest kept = c.loop-name.invariant.kept (c.in_err-placed.ensures.honest honest) kept
+
+pub returns-in_err-placed-clause-refused : goal.returns-in_err-placed-clause-refused
+returns-in_err-placed-clause-refused g c tree s =
+    let J = g.D.Drive.journal c.args.drive.now in
+    let p = err_from_is_err_and c.from_residual.result c.from_residual.ensures.1 in
+    let s1 = shows_before (g.D.Drive.honest c.directory.new.drive) (g.D.Drive.honest c.loop-name.drive) J c.args.self.now c.args.nodes.now.at c.args.nodes.now.entries.now tree c.in_err-placed.ensures.honest s in
+    let here = c.loop-name.invariant.found tree s1 in
+    let there = subst (λ (a : ℕ). graph_below c.args.nodes.now.at c.args.nodes.now.entries.now J a here.found.stored) (sym here.address) here.found.is in
+    let there1 = subst (λ (K : List Event). graph_below c.args.nodes.now.at c.args.nodes.now.entries.now K c.loop-name.node.address here.found.stored) (sym c.loop-name.invariant.journal) there in
+    rw p.1 (inl (p.2 ∙ c.in_err-placed.ensures.refused s.honest here.found.stored there1 (sym here.kind ∙ (sym c.is_directory.ensures ∙ c.if-not-is_directory.false))))
+
+pub returns-in_err-entry-clause-kept : goal.returns-in_err-entry-clause-kept
+returns-in_err-entry-clause-kept g c honest kept =
+    let same = c.in_ok-placed.ensures.journal ∙ c.loop-name.invariant.journal in
+    let kept1 = c.loop-name.invariant.kept (c.in_ok-placed.ensures.honest (c.in_err-entry.ensures.honest honest)) kept in
+    let kept2 = subst (λ (K : List Event). AreKept K c.loop-name.self) (sym same) kept1 in
+    subst (λ (K : List Event). AreKept K c.entry.new.self) same (c.in_err-entry.ensures.kept honest kept2)
+
+pub returns-in_err-entry-clause-refused : goal.returns-in_err-entry-clause-refused
+returns-in_err-entry-clause-refused g c tree s =
+    let J = g.D.Drive.journal c.args.drive.now in
+    let J1 = g.D.Drive.journal c.loop-name.drive in
+    let J2 = g.D.Drive.journal c.directory.new.drive in
+    let p = err_from_is_err_and c.from_residual-in_err-entry.result c.from_residual-in_err-entry.ensures.1 in
+    let h1 = c.in_err-entry.ensures.honest s.honest in
+    let s1 = shows_before (g.D.Drive.honest c.entry.new.drive) (g.D.Drive.honest c.loop-name.drive) J c.args.self.now c.args.nodes.now.at c.args.nodes.now.entries.now tree (λ h. c.in_ok-placed.ensures.honest (c.in_err-entry.ensures.honest h)) s in
+    let here = c.loop-name.invariant.found tree s1 in
+    let why = refused_at c.args.nodes.now.at c.args.nodes.now.entries.now J J1 J2 c.loop-name.invariant.journal c.in_ok-placed.ensures.journal tree s.tree s.makes (take c.loop-name.name-index c.args.names.now) c.loop-name.node c.in_ok-placed.placed c.in_err-entry.field-0.0 here (sym c.is_directory.ensures ∙ c.if-not-is_directory.false) (c.in_ok-placed.ensures.placed h1) (c.in_err-entry.ensures.refused s.honest) in
+    rw p.1 (subst (λ (f : StoreFault). IsShortage f) (sym p.2) why)
+
+pub returns-in-None-clause-found : goal.returns-in-None-clause-found
+returns-in-None-clause-found g c tree s =
+    let J = g.D.Drive.journal c.args.drive.now in
+    let J1 = g.D.Drive.journal c.loop-name.drive in
+    let J2 = g.D.Drive.journal c.directory.new.drive in
+    let same = c.in_ok-placed.ensures.journal ∙ c.loop-name.invariant.journal in
+    let h1 = c.in_ok-entry.ensures.honest s.honest in
+    let s1 = shows_before (g.D.Drive.honest c.entry.new.drive) (g.D.Drive.honest c.loop-name.drive) J c.args.self.now c.args.nodes.now.at c.args.nodes.now.entries.now tree (λ h. c.in_ok-placed.ensures.honest (c.in_ok-entry.ensures.honest h)) s in
+    let here = c.loop-name.invariant.found tree s1 in
+    let kept2 = subst (λ (K : List Event). AreKept K c.loop-name.self) (sym same) (c.loop-name.invariant.kept s1.honest s.kept) in
+    let next = next_at c.args.nodes.now.at c.args.nodes.now.entries.now J J1 J2 c.loop-name.invariant.journal c.in_ok-placed.ensures.journal tree s.tree s.makes c.args.names.now c.loop-name.name-index c.name-item.result c.loop-name.node c.in_ok-placed.placed c.in_ok-entry.field-0 c.loop-name-test.true c.name-item.is here (sym c.is_directory.ensures ∙ c.if-not-is_directory.false) (c.in_ok-placed.ensures.placed h1) (c.in_ok-entry.ensures.found s.honest kept2) in
+    subst (λ (o : Option Entry). IsNext (graph_below c.args.nodes.now.at c.args.nodes.now.entries.now J) tree c.args.names.now c.loop-name.name-index o) c.in-None.is next
+
+pub returns-in-None-clause-kept : goal.returns-in-None-clause-kept
+returns-in-None-clause-kept g c honest kept =
+    let same = c.in_ok-placed.ensures.journal ∙ c.loop-name.invariant.journal in
+    let kept1 = c.loop-name.invariant.kept (c.in_ok-placed.ensures.honest (c.in_ok-entry.ensures.honest honest)) kept in
+    let kept2 = subst (λ (K : List Event). AreKept K c.loop-name.self) (sym same) kept1 in
+    subst (λ (K : List Event). AreKept K c.entry.new.self) same (c.in_ok-entry.ensures.kept honest kept2)
+
+pub loop-name-preserved : goal.loop-name-preserved
+loop-name-preserved g c =
+    let J = g.D.Drive.journal c.args.drive.now in
+    let J1 = g.D.Drive.journal c.loop-name.drive in
+    let J2 = g.D.Drive.journal c.directory.new.drive in
+    let same = c.in_ok-placed.ensures.journal ∙ c.loop-name.invariant.journal in
+    record {
+      journal = c.in_ok-entry.ensures.journal ∙ same;
+      capacity = c.in_ok-entry.ensures.capacity ∙ (c.in_ok-placed.ensures.capacity ∙ c.loop-name.invariant.capacity);
+      honest = λ h. c.loop-name.invariant.honest (c.in_ok-placed.ensures.honest (c.in_ok-entry.ensures.honest h));
+      failures = λ below.
+          let third = c.in_ok-entry.ensures.failures below in
+          let second = c.in_ok-placed.ensures.failures (omega (arith, below, third)) in
+          let first = c.loop-name.invariant.failures (omega (arith, below, third, second)) in
+          omega (arith, first, second, third);
+      kept = λ honest kept.
+          let kept1 = c.loop-name.invariant.kept (c.in_ok-placed.ensures.honest (c.in_ok-entry.ensures.honest honest)) kept in
+          let kept2 = subst (λ (K : List Event). AreKept K c.loop-name.self) (sym same) kept1 in
+          subst (λ (K : List Event). AreKept K c.entry.new.self) same (c.in_ok-entry.ensures.kept honest kept2);
+      found = λ tree s.
+          let h1 = c.in_ok-entry.ensures.honest s.honest in
+          let s1 = shows_before (g.D.Drive.honest c.entry.new.drive) (g.D.Drive.honest c.loop-name.drive) J c.args.self.now c.args.nodes.now.at c.args.nodes.now.entries.now tree (λ h. c.in_ok-placed.ensures.honest (c.in_ok-entry.ensures.honest h)) s in
+          let here = c.loop-name.invariant.found tree s1 in
+          let kept2 = subst (λ (K : List Event). AreKept K c.loop-name.self) (sym same) (c.loop-name.invariant.kept s1.honest s.kept) in
+          let next = next_at c.args.nodes.now.at c.args.nodes.now.entries.now J J1 J2 c.loop-name.invariant.journal c.in_ok-placed.ensures.journal tree s.tree s.makes c.args.names.now c.loop-name.name-index c.name-item.result c.loop-name.node c.in_ok-placed.placed c.in_ok-entry.field-0 c.loop-name-test.true c.name-item.is here (sym c.is_directory.ensures ∙ c.if-not-is_directory.false) (c.in_ok-placed.ensures.placed h1) (c.in_ok-entry.ensures.found s.honest kept2) in
+          subst (λ (o : Option Entry). IsNext (graph_below c.args.nodes.now.at c.args.nodes.now.entries.now J) tree c.args.names.now c.loop-name.name-index o) c.in-Some.is next;
+    }
+
+pub returns-clause-found : goal.returns-clause-found
+returns-clause-found g c tree s =
+    let J = g.D.Drive.journal c.args.drive.now in
+    let here = c.loop-name.invariant.found tree s in
+    subst (λ (p : Path). IsAt (graph_below c.args.nodes.now.at c.args.nodes.now.entries.now J) p c.loop-name.node) (take_all c.loop-name.name-index c.args.names.now c.loop-name-test.false) here

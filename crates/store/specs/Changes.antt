@@ -1,0 +1,53 @@
+-- What a request does to the nodes, in the model's words.
+use Rattle.std.specs.Prelude.{◌≡◌, ℕ, List, [], ◌∷◌, ◌++◌, map, Option, Some, None}
+use Rattle.model.specs.Tree.{Tree}
+use Rattle.model.specs.Graph.{Graph}
+use Rattle.model.specs.Operation.{Operation, code_of}
+use Rattle.model.specs.Operation.Operation.{Create, Replace, MakeDir, Rename, Remove}
+use Rattle.medium.specs.Plan.{Writing, Plans}
+use Rattle.request.specs.Numbers.{code_number}
+use Rattle.request.specs.declared.answer.Code.{Code}
+use Rattle.request.specs.declared.message.Op.{Op}
+use Rattle.request.specs.declared.message.Op.TheVariants as op
+use Rattle.store.specs.declared.change.Change.{Change}
+use Rattle.store.specs.declared.change.NewFile.{NewFile}
+use Rattle.store.specs.declared.nodes.Node.{Node}
+use Rattle.store.specs.Writings.{file_writing, directory_writing}
+
+-- what a request asks for
+abbrev pub operation_of : Op → Operation
+operation_of (op.Create path bytes) = Create path bytes
+operation_of (op.Replace path bytes) = Replace path bytes
+operation_of (op.MakeDir path) = MakeDir path
+operation_of (op.Rename from to) = Rename from to
+operation_of (op.Remove path) = Remove path
+
+abbrev pub files_in : ℕ → Option NewFile → List Writing
+files_in moment None = []
+files_in moment (Some file) = file_writing moment file ∷ []
+
+abbrev pub addresses_in : Option Node → List ℕ
+addresses_in None = []
+addresses_in (Some node) = node.address ∷ []
+
+-- the nodes that are written, in their order; a file has the request's moment
+abbrev pub writings_of : ℕ → Change → List Writing
+writings_of moment change = files_in moment change.file ++ map directory_writing change.directories.items
+
+-- the addresses that are unused afterwards
+abbrev pub gone_of : Change → List ℕ
+gone_of change = addresses_in change.removed
+
+-- nothing is done, with this code
+pub record IsRefusal (code : Code) (change : Change) : Type 0 where
+  pub code_is : change.code ≡ code
+  pub file : change.file ≡ None
+  pub directories : change.directories.items ≡ []
+  pub made : change.made ≡ None
+  pub removed : change.removed ≡ None
+
+-- The change has the operation's code. With code 0 it is the one that the operation plans, and else nothing is done.
+pub record Does (graph : Graph) (free : ℕ) (tree : Tree) (operation : Operation) (moment identity : ℕ) (change : Change) : Type 0 where
+  pub code_is : code_number change.code ≡ code_of operation tree
+  pub done : code_of operation tree ≡ 0 → Plans graph free operation moment identity (writings_of moment change) (gone_of change)
+  pub refused : (code_of operation tree ≡ 0 → ⊥) → (writings_of moment change ≡ []) × (gone_of change ≡ [])
