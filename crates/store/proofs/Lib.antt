@@ -1,10 +1,13 @@
 pub mod BelowLemmas
 pub mod ChangesTaken
+pub mod Committed
+pub mod Counting
 pub mod EntryChanges
 pub mod FreeAddresses
 pub mod NextSizes
 pub mod NextTables
 pub mod NodeChanges
+pub mod PlanPieces
 pub mod Plans
 pub mod Puttings
 pub mod Reckoning

@@ -2,9 +2,11 @@ pub mod Agrees
 pub mod Asked
 pub mod Below
 pub mod Calls
+pub mod Commits
 pub mod Need
 pub mod NextTable
 pub mod Outside
+pub mod Pieces
 pub mod Plan
 pub mod Putting
 pub mod Queries
