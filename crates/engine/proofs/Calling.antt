@@ -63,7 +63,7 @@ front_grows J K front = omega (arith, ap (λ (L : List Event). length L) front, 
 kept_knows : (volume : ℕ) (S : State) (s : Situation) (kept : Store) → s.store ≡ Some kept → StillKnows s.capacity volume s.journal S kept → (store : Store) → IsOpen s store → Knows s.capacity volume s.journal S store
 kept_knows volume S s kept there still store here = subst (λ (x : Store). StillKnows s.capacity volume s.journal S x) (same_Some kept store (sym there ∙ here.0)) still here.1
 
-none_knows : (volume : ℕ) (S : State) (s : Situation) → s.store ≡ None → (store : Store) → IsOpen s store → Knows s.capacity volume s.journal S store
+pub none_knows : (volume : ℕ) (S : State) (s : Situation) → s.store ≡ None → (store : Store) → IsOpen s store → Knows s.capacity volume s.journal S store
 none_knows volume S s none store here = absurd (none-some store (sym none ∙ here.0))
 
 module _ (volume : ℕ) where

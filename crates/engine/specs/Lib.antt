@@ -6,3 +6,4 @@ pub mod Delivered
 pub mod Said
 pub mod Steps
 pub mod Called
+pub mod Headline

@@ -13,7 +13,7 @@ mod streams;
 mod tests;
 
 pub use engine::Engine;
-pub use laws::{calls_are_steps, steps_hold};
+pub use laws::{calls_are_steps, runs_hold, steps_hold};
 pub use runs::{Delivery, run};
 pub use serving::{ServeFault, serve};
 pub use streams::{put_all, read_piece};

@@ -2,6 +2,8 @@ pub mod BelowLemmas
 pub mod Caches
 pub mod ChangesTaken
 pub mod Commits
+pub mod Committed
+pub mod Counting
 pub mod DirectoryBytes
 pub mod EntryChanges
 pub mod FormatJournals
@@ -13,6 +15,7 @@ pub mod NextSizes
 pub mod NextTables
 pub mod NodeChanges
 pub mod Packing
+pub mod PlanPieces
 pub mod Plans
 pub mod Puttings
 pub mod Reckoning

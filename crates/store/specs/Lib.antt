@@ -4,11 +4,13 @@ pub mod Below
 pub mod Cache
 pub mod Calls
 pub mod Changes
+pub mod Commits
 pub mod History
 pub mod Need
 pub mod NewVolume
 pub mod NextTable
 pub mod Outside
+pub mod Pieces
 pub mod Plan
 pub mod Putting
 pub mod Queries

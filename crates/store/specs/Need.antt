@@ -1,10 +1,12 @@
 -- How many blocks a commit may take, reckoned from the sizes of what it writes.
-use Rattle.std.specs.Prelude.{◌≡◌, ℕ, ◌+◌, ◌*◌, List, [], ◌∷◌, length, map, Option, Some, None}
+use Rattle.std.specs.Prelude.{◌≡◌, ℕ, ◌+◌, ◌*◌, ◌<◌, ◌≤◌, List, [], ◌∷◌, length, map, take, slice_index_or, Option, Some, None, All}
+use Rattle.std.specs.Int.{div_ceil}
 use Rattle.model.specs.Tree.{Name}
 use Rattle.model.specs.Operation.{code_of}
 use Rattle.model.specs.Session.{State, Request}
 use Rattle.model.specs.Graph.{Body}
 use Rattle.model.specs.Graph.Body.{Bytes, Entries}
+use Rattle.medium.specs.Formats.{identifiers_size}
 use Rattle.medium.specs.Volume.{Medium, blocks_for, Stands}
 use Rattle.medium.specs.Plan.{Writing, Written}
 use Rattle.medium.specs.Commit.{most_for_file, most_for_directory, table_size, need}
@@ -14,6 +16,7 @@ use Rattle.vat.specs.Table.{Table}
 use Rattle.store.specs.declared.change.NewNode.{NewNode}
 use Rattle.store.specs.declared.nodes.Node.{Node}
 use Rattle.store.specs.NextTable.{Changes, begun}
+use Rattle.store.specs.Outside.{outside}
 
 abbrev pub most_for_bytes : Option (List ℕ) → ℕ
 most_for_bytes None = 0
@@ -51,3 +54,19 @@ NeedIsReckoned =
     (made : Option NewNode) (taken : Option Node) (t : Table) (file : Option (List ℕ)) (directories : List (List Name))
     → said_table t ≡ stands.tells.table → Changes capacity volume medium S stands request nodes unused written made taken → AreOf file directories nodes
     → reckoned file directories (begun stands.at request.client request.number (code_of request.operation S.tree) made t) ≡ need spelled S request
+
+-- ---- as they are counted in turn
+
+-- one name more
+abbrev pub NamesAreCounted : Type 0
+NamesAreCounted =
+    (names : List Name) (i : ℕ) (name : Name) → i < length names → name ≡ slice_index_or names i name
+    → identifiers_size spelled (take (i + 1) names) ≡ identifiers_size spelled (take i names) + div_ceil (38 + spelled name) 4 * 4
+
+-- so many names take no more
+abbrev pub NamesAreShort : Type 0
+NamesAreShort = (names : List Name) → All (λ name. spelled name ≤ 255) names → identifiers_size spelled names ≤ 40 + 296 * length names
+
+-- a file's bytes, where they are outside its entry, and the entry
+abbrev pub FilesAreCounted : Type 0
+FilesAreCounted = (bytes : List ℕ) → 2 * div_ceil (length (outside bytes)) 2048 + 1 ≡ most_for_file bytes

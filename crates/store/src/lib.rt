@@ -27,6 +27,6 @@ mod write;
 pub use due::Due;
 pub use formatting::{format, one_format};
 pub use history::{Commit, Snapshot};
-pub use laws::{need_is_reckoned, next_tables_follow};
+pub use laws::{commits_are_planned, need_is_reckoned, next_tables_follow, pieces_are_planned};
 pub use recover::StoreFault;
 pub use store::Store;

@@ -20,7 +20,7 @@ ghost use Rattle.store.specs.TableChange.{IsNext};
 ghost use Rattle.store.specs.Writings.{IsProper};
 
 use crate::change::{Change, NewDirectory, NewFile};
-use crate::directories::Content;
+use crate::content::Content;
 use crate::nodes::Node;
 use crate::placed::{PlacedDirectory, PlacedFile};
 use crate::places::{Numbers, outside_of};
