@@ -6,7 +6,7 @@ use Rattle.std.proofs.Math.ListN.{get_or-append}
 use Rattle.std.proofs.Math.Seq.{take-add, take-length}
 use Rattle.std.proofs.lemmas.Bool.{cases_lt}
 use Rattle.std.proofs.lemmas.List.{same_lists, take-append-drop, get_or_default, get_or-append-add, get_or-take, length-take, length-take-le, take-append-le, drop_at, take_at, take_all}
-use Rattle.std.proofs.lemmas.List.Elements.{All-nil, All-append, All-cons}
+use Rattle.std.proofs.lemmas.List.Elements.{All-append, All-push}
 use Rattle.drive.specs.Journal.{Event, written, next_of, last_at, later_or, table, held, AddsFront}
 use Rattle.drive.proofs.Journals.{last-append, next_after_write}
 use Rattle.drive.proofs.Fronts.{front_whole, front_within}
@@ -77,9 +77,6 @@ held_more J bs =
 
 -- ---- what was there before
 
-All-push : (P : Block → Type 0) (blocks : List Block) (block : Block) → All P blocks → P block → All P (blocks ++ block ∷ [])
-All-push P blocks block all p = All-append P blocks (block ∷ []) all (All-cons P block [] p (All-nil P))
-
 -- what a comparison of two blocks told
 pub blocks_differ : (a b : Block) (told : Bool) → told ≡ not (pointwise nat_eq a b) → told ≡ true → a ≢ b
 blocks_differ a b told e other = other_text a b (flipped (pointwise nat_eq a b) (sym e ∙ other))
@@ -106,15 +103,6 @@ seen_more words J before behind n block made honest seen bytes is same read = re
   there = λ h. each_push (λ k b. last_at J k ≡ Some b) seen.blocks block n seen.long (seen.there (honest h)) (read h);
 }
 
-pub seen_none : (words : Words) (J : List Event) (honest : Bool) → IsSeen words J honest 0
-seen_none words J honest = record {
-  blocks = [];
-  long = refl;
-  bytes = All-nil IsBlock;
-  each = λ n lt. absurd (omega arith);
-  there = λ h n lt. absurd (omega arith);
-}
-
 -- what holds more is no front of a format
 pub too_many : (words : Words) (J : List Event) → 262 < next_of J → IsBegun words (held J) → ⊥
 too_many words J many begun =
@@ -131,9 +119,7 @@ other_block words J n block made low within read bytes is other begun =
 
 -- ---- what is left to write
 
-pub blocks_none : (words : Words) (from : ℕ) → AreBlocks words from from []
-blocks_none words from = record { long = omega arith; bytes = All-nil IsBlock; each = λ n lt. absurd (omega arith) }
-
+-- one block more was made
 pub blocks_more : (words : Words) (from to : ℕ) (blocks : List Block) (made : Block) → AreBlocks words from to blocks → IsBlock made → IsBlockAt words to made → AreBlocks words from (to + 1) (blocks ++ made ∷ [])
 blocks_more words from to blocks made are bytes is = record {
   long = omega (arith, length-append blocks (made ∷ []), are.long);
