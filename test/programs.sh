@@ -204,6 +204,10 @@ run ls "$image" /a
 told 'a file is no directory' 1 '' 'udfburn: 98 NotDirectory\n'
 run get "$image" /b
 told 'nothing is there' 1 '' 'udfburn: 96 NotFound\n'
+run log "$image"
+told 'the commits' 0 '1 266 1 1\n0 261 0 1\n' ''
+run check "$image"
+told 'the state after each commit' 0 'sound 1\n' ''
 
 # A daemon that is killed between the frames of a connection: its client sent the second, and a part of a third.
 mkfifo frames
@@ -298,6 +302,14 @@ cp before.img damaged.img
 flip damaged.img $((266 * 2048 + 56)) 007
 run ls damaged.img /
 told 'the state before a damaged table' 0 '' ''
+cp before.img damaged.img
+flip damaged.img $((261 * 2048 + 56)) 007
+run ls damaged.img /
+told 'the state behind a damaged link' 0 'f a\n' ''
+for command in log check; do
+    run "$command" damaged.img
+    told "$command of a damaged link" 1 '' 'udfburn: 67 Damaged block 261 cause 78\n'
+done
 
 # An output that takes no bytes.
 if [ -c /dev/full ]; then

@@ -7,7 +7,6 @@ pub mod Counting
 pub mod DirectoryBytes
 pub mod EntryChanges
 pub mod FormatJournals
-pub mod FreeAddresses
 pub mod Histories
 pub mod Names
 pub mod NewVolumes

@@ -1,7 +1,9 @@
 -- The commits of a volume, as its chain of tables tells of them.
-use Rattle.std.specs.Prelude.{◌≡◌, ℕ, zero, suc, ◌+◌, List, [], ◌∷◌, Option, Some, None}
+use Rattle.std.specs.Prelude.{◌≡◌, ℕ, zero, suc, ◌+◌, List, [], ◌∷◌, All, Option, Some, None}
 use Rattle.vat.specs.Table.{Table, view}
 use Rattle.vat.specs.declared.table.Vat.{Vat}
+use Rattle.recover.specs.State.{IsShown}
+use Rattle.recover.specs.declared.state.State.{State}
 use Rattle.recover.specs.Tables.{HasTable, IsBefore}
 use Rattle.store.specs.declared.history.Commit.{Commit}
 
@@ -32,3 +34,13 @@ pub record IsTableOf (medium : List (List ℕ)) (from commits at : ℕ) (vat : V
   pub leads : Leads medium from steps at
   pub table : HasTable medium at (view vat)
   pub commits_are : vat.sessions.commits ≡ commits
+
+-- the state after each of the commits is told by the blocks, on a drive of this capacity
+abbrev pub AreShown : ℕ → List (List ℕ) → List Commit → Type 0
+AreShown capacity medium commits = All (λ (c : Commit). (state : State) × IsShown capacity medium c.at state) commits
+
+-- each commit from the one whose table's entry stands at an address, and the state after it
+pub record IsChecked (capacity : ℕ) (medium : List (List ℕ)) (at : ℕ) : Type 0 where
+  pub commits : List Commit
+  pub history : IsHistory medium at commits
+  pub shown : AreShown capacity medium commits

@@ -4,12 +4,11 @@ ghost use Rattle.std.specs.Prelude.{◌≡◌, ◌+◌, ◌<◌, ◌≤◌, ◌�
 ghost use Rattle.drive.specs.Journal.{held, next_of};
 ghost use Rattle.vat.specs.Table.{view};
 ghost use Rattle.recover.specs.Faults.{Counts, devices};
-ghost use Rattle.recover.specs.State.{IsSound};
+ghost use Rattle.recover.specs.State.{IsShown};
 ghost use Rattle.recover.specs.declared.state.State.{State};
 ghost use Rattle.recover.specs.declared.fault.StoreFault.TheVariants.{NoCommit, Stopped};
 ghost use Rattle.store.specs.Agrees.{Agrees};
-ghost use Rattle.store.specs.declared.history.Commit.{Commit};
-ghost use Rattle.store.specs.History.{IsHistory, IsTableOf, told_of};
+ghost use Rattle.store.specs.History.{AreShown, IsChecked, IsHistory, IsTableOf, told_of};
 
 use crate::store::Store;
 use drive::Drive;
@@ -111,7 +110,7 @@ impl Store {
         ensures stopped { IsTrue self.now.is_stopped → result ≡ Err Stopped }
         ensures none { self.now.is_stopped ≡ false → self.now.vat.sessions.commits < commit → result ≡ Err NoCommit }
         ensures table { IfOk result (λ s. IsTrue (D.honest drive.new) → IsTableOf (held (D.journal drive.old)) self.now.at commit s.at s.vat) }
-        ensures sound { IfOk result (λ s. (state : State) × IsSound s.at (D.capacity drive.old) state) }
+        ensures shown { IfOk result (λ s. IsTrue (D.honest drive.new) → (state : State) × IsShown (D.capacity drive.old) (held (D.journal drive.old)) s.at state) }
         ensures journal { D.journal drive.new ≡ D.journal drive.old }
         ensures capacity { D.capacity drive.new ≡ D.capacity drive.old }
         ensures honest { IsTrue (D.honest drive.new) → IsTrue (D.honest drive.old) }
@@ -160,8 +159,7 @@ impl Store {
         requires agrees { Agrees (D.journal drive.old) (D.capacity drive.old) self.now }
         ensures stopped { IsTrue self.now.is_stopped → result ≡ Err Stopped }
         ensures count { IfOk result (λ n. n ≡ self.now.vat.sessions.commits) }
-        ensures history { OnOk result ((commits : List Commit) × (IsTrue (D.honest drive.new) → IsHistory (held (D.journal drive.old)) self.now.at commits)
-            × All (λ c. (state : State) × IsSound c.at (D.capacity drive.old) state) commits) }
+        ensures history { OnOk result (IsTrue (D.honest drive.new) → IsChecked (D.capacity drive.old) (held (D.journal drive.old)) self.now.at) }
         ensures journal { D.journal drive.new ≡ D.journal drive.old }
         ensures capacity { D.capacity drive.new ≡ D.capacity drive.old }
         ensures honest { IsTrue (D.honest drive.new) → IsTrue (D.honest drive.old) }
@@ -180,7 +178,7 @@ fn check_states<D: Drive>(
     commits: &[Commit],
 ) -> Result<(), StoreFault>
     requires within { All (λ c. (257 ≤ c.at) × (c.at < next_of (D.journal drive.old))) commits.now }
-    ensures sound { OnOk result (All (λ c. (state : State) × IsSound c.at (D.capacity drive.old) state) commits.now) }
+    ensures shown { OnOk result (IsTrue (D.honest drive.new) → AreShown (D.capacity drive.old) (held (D.journal drive.old)) commits.now) }
     ensures journal { D.journal drive.new ≡ D.journal drive.old }
     ensures capacity { D.capacity drive.new ≡ D.capacity drive.old }
     ensures honest { IsTrue (D.honest drive.new) → IsTrue (D.honest drive.old) }

@@ -1,6 +1,7 @@
 use Rattle.std.proofs.Common.{◌≡◌, ◌+◌, ◌∙◌, ◌<◌, ℕ, slice_index_or, length, arith}
+use Rattle.drive.specs.Journal.{held}
 use Rattle.recover.specs.Faults.{Counts}
-use Rattle.recover.specs.State.{IsSound}
+use Rattle.recover.specs.State.{IsShown}
 use Rattle.recover.specs.declared.state.State.{State}
 use Rattle.store.specs.declared.history.Commit.{Commit}
 use Rattle.store.proofs.Histories.{one_more}
@@ -8,9 +9,10 @@ use Rattle.store.proofs.history.check_states.Goals as goal
 
 pub loop-i-preserved : goal.loop-i-preserved
 loop-i-preserved g c = record {
-  sound = one_more (λ (m : Commit). (state : State) × IsSound m.at (g.D.Drive.capacity c.args.drive.now) state) c.args.commits.now c.loop-i.i _ c.loop-i.invariant.sound
+  shown = λ h. one_more (λ (m : Commit). (state : State) × IsShown (g.D.Drive.capacity c.args.drive.now) (held (g.D.Drive.journal c.args.drive.now)) m.at state) c.args.commits.now c.loop-i.i _
+      (c.loop-i.invariant.shown (c.state_at.ensures.honest h))
       (let there : c.loop-i.i < length c.args.commits.now = omega (arith, c.loop-i-test.true) in there)
-      (c.in_ok-state_at.field-0, rw c.loop-i.invariant.capacity at c.in_ok-state_at.ensures.sound);
+      (c.in_ok-state_at.field-0, rw c.loop-i.invariant.capacity at (rw c.loop-i.invariant.journal at (c.in_ok-state_at.ensures.shown h)));
   journal = c.state_at.ensures.journal ∙ c.loop-i.invariant.journal;
   capacity = c.state_at.ensures.capacity ∙ c.loop-i.invariant.capacity;
   honest = λ h. c.loop-i.invariant.honest (c.state_at.ensures.honest h);

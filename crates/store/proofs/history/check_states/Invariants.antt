@@ -1,13 +1,15 @@
 use Rattle.std.proofs.Common.{◌≡◌, ◌<◌, ℕ, IsTrue, slice_index_or}
+use Rattle.drive.specs.Journal.{held}
 use Rattle.recover.specs.Faults.{Counts}
-use Rattle.recover.specs.State.{IsSound}
+use Rattle.recover.specs.State.{IsShown}
 use Rattle.recover.specs.declared.state.State.{State}
 use Rattle.store.specs.declared.history.Commit.{Commit}
 use Rattle.store.proofs.history.check_states.Given as goal
 
 abbrev pub invariant-loop-i : goal.invariant-loop-i
 invariant-loop-i g l = record {
-  sound : (k : ℕ) (d : Commit) → k < l.i → (state : State) × IsSound (slice_index_or l.fn.commits k d).at (g.D.Drive.capacity l.fn.drive) state;
+  shown : IsTrue (g.D.Drive.honest l.drive) → (k : ℕ) (d : Commit) → k < l.i
+      → (state : State) × IsShown (g.D.Drive.capacity l.fn.drive) (held (g.D.Drive.journal l.fn.drive)) (slice_index_or l.fn.commits k d).at state;
   journal : g.D.Drive.journal l.drive ≡ g.D.Drive.journal l.fn.drive;
   capacity : g.D.Drive.capacity l.drive ≡ g.D.Drive.capacity l.fn.drive;
   honest : IsTrue (g.D.Drive.honest l.drive) → IsTrue (g.D.Drive.honest l.fn.drive);
