@@ -167,3 +167,23 @@ fn bytes_of_the_first_create(rt: HostRuntime) -> Result<(), Fail> {
     }
     Ok(())
 }
+
+#[test]
+fn an_empty_file_has_no_extent(rt: HostRuntime) -> Result<(), Fail> {
+    let alloc = rt.alloc();
+    let mut recorder = Recorder::new(alloc, 3000)?;
+    let answer = recorder.ask(&create(alloc, By(7, 1), &["a"], b"")?)?;
+    assert_eq!(rt; answer.as_slice(), reply(0, 1).as_slice());
+    assert_eq!(rt; recorder.blocks(), 267);
+    let (_, entry) = recorder
+        .journal()
+        .get(262)
+        .copied()
+        .ok_or("too few blocks")?;
+    // its kind, its flags, and the lengths of its attributes and extents
+    assert_eq!(rt; entry[27], 5);
+    assert!(rt; entry[34..36] == [1, 0][..]);
+    assert!(rt; entry[168..176] == [0; 8][..]);
+    assert!(rt; entry[176..].iter().all(|byte| *byte == 0));
+    Ok(())
+}
