@@ -557,7 +557,7 @@ module _ (formats : Formats) (capacity volume : ℕ) (exact : AreExact formats) 
         subst (λ (M : Medium). IsWithin M p.first (length p.bytes) × (extent M p.first (length p.bytes) ≡ packed p.bytes)) whole
         (placed_extent formats (B ++ p.node_blocks) p.bytes (start + length p.node_blocks) p.first p.table_blocks [] (omega (arith, low, length-append B p.node_blocks)) (omega (arith, low, length-append B p.node_blocks)) p.placed)
 
-    has_table : HasTable formats (B ++ blocks) (length B + length blocks) mark p.table (after_one S r).moment
+    pub has_table : HasTable formats (B ++ blocks) (length B + length blocks) mark p.table (after_one S r).moment
     has_table = record {
       fields = record { kind = TableEntry; moment = r.moment; links = 0; identity = 0; size = length p.bytes; place = Extent p.first };
       kind = refl;

@@ -1,21 +1,27 @@
 -- The planned blocks of a request on a journal, all of them or a front.
 use Rattle.std.proofs.Common.{◌≡◌, ◌⊎◌, inl, inr, ℕ, suc, ◌+◌, ◌<◌, ◌≤◌, List, [], ◌∷◌, ◌++◌, length, refl, sym, ap, ◌∙◌, subst, arith, append_assoc, length-append}
+use Rattle.std.proofs.lemmas.List.{take_at}
+use Rattle.std.proofs.lemmas.Option.{slice_get_within}
 use Rattle.drive.specs.Journal.{Event, held, Once, AddsFront, written}
 use Rattle.drive.proofs.Fronts.{front_whole, front_keeps, front_once, front_grows, held_write}
 use Rattle.model.specs.Session.{State, Request, after_one}
 use Rattle.medium.specs.Formats.{Block}
-use Rattle.medium.specs.Volume.{Medium, Stands}
+use Rattle.medium.specs.Volume.{Medium, IsLast, HasTable, LastTable, Stands}
 use Rattle.medium.specs.Step.{Moves}
 use Rattle.medium.specs.Plan.{IsPlanned}
 use Rattle.medium.specs.Commit.{need}
 use Rattle.medium.specs.Journal.{Advances}
 use Rattle.medium.proofs.Commits.{moves_whole}
+use Rattle.medium.proofs.History.{last_table_one}
+use Rattle.medium.proofs.Lists.{get_past}
+use Rattle.medium.proofs.Mediums.{within}
 use Rattle.medium.proofs.Needs.{planned_short}
+use Rattle.medium.proofs.One.{last_one}
 use Rattle.medium.proofs.OnJournals.{commit_advances}
-use Rattle.medium.proofs.Planned.{planned_carries}
+use Rattle.medium.proofs.Planned.{has_table, planned_carries}
 use Rattle.udf.specs.Udf.{udf, spelled}
 use Rattle.udf.proofs.Formats.{exact, bounded, distinct, short}
-use Rattle.store.specs.Commits.{IsPart, CommitsArePart, CommitsAreWhole}
+use Rattle.store.specs.Commits.{IsPart, CommitsArePart, CommitsAreWhole, TablesStand}
 
 module _ (capacity volume : ℕ) (J K : List Event) (S : State) (r : Request) (blocks : List Block) (mark : Block) (once : Once J) (stands : Stands udf capacity volume (held J) S) (plan : IsPlanned udf capacity volume (held J) S stands r blocks mark) where
   abbrev all : List Block
@@ -66,3 +72,47 @@ commits_are_whole capacity volume before behind S r blocks mark once stands plan
 
 pub commits_are_part : CommitsArePart
 commits_are_part capacity volume before behind S r blocks mark once stands plan front = part capacity volume before behind S r blocks mark once stands plan front
+
+-- ---- the table that stands behind a whole commit
+
+module _ (capacity volume : ℕ) (B : Medium) (S : State) (r : Request) (blocks : List Block) (mark : Block) (stands : Stands udf capacity volume B S) (plan : IsPlanned udf capacity volume B S stands r blocks mark) where
+  has : HasTable udf (B ++ blocks) (length B + length blocks) mark plan.table (after_one S r).moment
+  has = has_table udf capacity volume exact distinct B S stands bounded r blocks mark plan
+
+  abbrev mark_at : ℕ
+  mark_at = length B + length blocks
+
+  abbrev M : Medium
+  M = (B ++ blocks) ++ mark ∷ []
+
+  size : length (B ++ blocks) ≡ length B + length blocks
+  size = length-append B blocks
+
+  low : 257 ≤ length B
+  low = omega (arith, within udf B stands.at stands.block stands.last, stands.last.is.0)
+
+  last : IsLast udf M mark_at mark
+  last = record {
+    there = get_past (B ++ blocks) (mark ∷ []) mark_at 0 (omega (arith, size));
+    is = (omega (arith, low), has.fields, has.kind, has.entry);
+    no_later = λ later other past there is. absurd (omega (arith, past, size, slice_get_within M later other there, length-append (B ++ blocks) (mark ∷ [])));
+  }
+
+  abbrev new_table : LastTable udf M
+  new_table = record {
+    at = mark_at;
+    block = mark;
+    last = last;
+    table = plan.table;
+    moment = (after_one S r).moment;
+    has = subst (λ (N : Medium). HasTable udf N mark_at mark plan.table (after_one S r).moment) (sym (take_at (B ++ blocks) (mark ∷ []) mark_at size)) has;
+  }
+
+  pub table_stands : (T : State) (later : Stands udf capacity volume M T) → (later.at ≡ mark_at) × (later.tells.table ≡ plan.table)
+  table_stands T later = (
+    last_one udf M later.at mark_at later.block mark later.last last,
+    last_table_one udf exact M (record { at = later.at; block = later.block; last = later.last; table = later.tells.table; moment = T.moment; has = later.tells.has }) new_table,
+  )
+
+pub tables_stand : TablesStand
+tables_stand capacity volume medium S r blocks mark stands plan T later = table_stands capacity volume medium S r blocks mark stands plan T later

@@ -3,7 +3,7 @@ use Rattle.std.specs.Prelude.{◌≡◌, ◌⊎◌, ℕ, ◌+◌, ◌<◌, ◌�
 use Rattle.drive.specs.Journal.{Event, held, Once, AddsFront, written}
 use Rattle.model.specs.Session.{State, Request, after, after_one}
 use Rattle.medium.specs.Formats.{Block}
-use Rattle.medium.specs.Volume.{Stands}
+use Rattle.medium.specs.Volume.{Medium, Stands}
 use Rattle.medium.specs.Plan.{IsPlanned}
 use Rattle.medium.specs.Commit.{need}
 use Rattle.medium.specs.Journal.{Advances}
@@ -31,3 +31,10 @@ abbrev pub CommitsArePart : Type 0
 CommitsArePart =
     (capacity volume : ℕ) (before behind : List Event) (S : State) (request : Request) (blocks : List Block) (mark : Block) → Once before → (stands : Stands udf capacity volume (held before) S)
     → IsPlanned udf capacity volume (held before) S stands request blocks mark → AddsFront before (length before) (blocks ++ mark ∷ []) behind → IsPart capacity volume before S request behind
+
+-- behind a whole commit the table that stands is the plan's, and its entry the last block
+abbrev pub TablesStand : Type 0
+TablesStand =
+    (capacity volume : ℕ) (medium : Medium) (S : State) (request : Request) (blocks : List Block) (mark : Block) (stands : Stands udf capacity volume medium S)
+    → (plan : IsPlanned udf capacity volume medium S stands request blocks mark) (T : State) (later : Stands udf capacity volume ((medium ++ blocks) ++ mark ∷ []) T)
+    → (later.at ≡ length medium + length blocks) × (later.tells.table ≡ plan.table)

@@ -1,6 +1,6 @@
 //! What holds of the tables of commits. Nothing here runs: each function's contract is a law.
 
-ghost use Rattle.store.specs.Commits.{CommitsArePart, CommitsAreWhole};
+ghost use Rattle.store.specs.Commits.{CommitsArePart, CommitsAreWhole, TablesStand};
 ghost use Rattle.store.specs.Need.{FilesAreCounted, NamesAreCounted, NamesAreShort, NeedIsReckoned};
 ghost use Rattle.store.specs.Pieces.{NodesAreWritten, PiecesArePlanned};
 ghost use Rattle.store.specs.NextTable.{ChangesAreTaken, NextTablesFollow, NextTablesAreLong, NextTablesAreSized};
@@ -33,4 +33,5 @@ pub fn pieces_are_planned()
 pub fn commits_are_planned()
     ensures whole { CommitsAreWhole }
     ensures part { CommitsArePart }
+    ensures table { TablesStand }
 {}
