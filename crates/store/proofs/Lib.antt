@@ -1,6 +1,8 @@
+pub mod Asking
 pub mod BelowLemmas
 pub mod Caches
 pub mod EntryChanges
+pub mod FileBytes
 pub mod NodeChanges
 pub mod Plans
 pub mod Puttings
