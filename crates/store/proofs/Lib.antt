@@ -1,3 +1,4 @@
+pub mod Asking
 pub mod BelowLemmas
 pub mod Caches
 pub mod ChangesTaken
@@ -6,6 +7,7 @@ pub mod Committed
 pub mod Counting
 pub mod DirectoryBytes
 pub mod EntryChanges
+pub mod FileBytes
 pub mod FormatJournals
 pub mod Histories
 pub mod Names

@@ -59,7 +59,7 @@ pub record HasData (at : ℕ) (J : List Event) (s : Stored) (e : icb.Fields) : T
   pub is : udf.IsDirectory parent entries first e.size (data_of (held J) (record { first = first; size = e.size }))
   pub moment : e.moment ≡ s.moment
 
-part_below : (M : Medium) (at s c : ℕ) → s + c ≤ length (take at M) → take c (drop s (take at M)) ≡ take c (drop s M)
+pub part_below : (M : Medium) (at s c : ℕ) → s + c ≤ length (take at M) → take c (drop s (take at M)) ≡ take c (drop s M)
 part_below M at s c h = sym (part-append s c (take at M) (drop at M) h) ∙ ap (λ (xs : List Block). take c (drop s xs)) (take-append-drop at M)
 
 data_in : (at : ℕ) (J : List Event) (s : Stored) (fields : Fields) (place : Place) (body : Body) → fields.place ≡ place → s.body ≡ body → is_directory s ≡ true → fields.moment ≡ s.moment → HoldsBody udf (take at (held J)) fields body

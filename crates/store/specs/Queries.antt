@@ -1,5 +1,12 @@
--- What a query leaves as it was.
-use Rattle.std.specs.Prelude.{◌≡◌}
+-- What a query is told, and what it leaves as it was.
+use Rattle.std.specs.Prelude.{◌≡◌, ◌⊎◌, None}
+use Rattle.std.specs.FinMap.{get}
+use Rattle.model.specs.Tree.{Path, Tree}
+use Rattle.medium.specs.Runs as runs
+use Rattle.medium.specs.Runs.{Answer}
+use Rattle.recover.specs.Faults.{IsShortage}
+use Rattle.recover.specs.declared.fault.StoreFault.{StoreFault}
+use Rattle.recover.specs.declared.fault.StoreFault.TheVariants.{NotFound, IsDirectory, NotDirectory}
 use Rattle.store.specs.declared.store.Store.{Store}
 
 -- all but the directories that are kept
@@ -9,3 +16,14 @@ pub record SameVolume (old new : Store) : Type 0 where
   pub vat : new.vat ≡ old.vat
   pub stopped : new.is_stopped ≡ old.is_stopped
   pub most_held : new.most_held ≡ old.most_held
+
+-- the path leads nowhere, or the node could not be read
+abbrev pub IsMissing : Tree → Path → StoreFault → Type 0
+IsMissing tree path fault = ((fault ≡ NotFound) × (get tree path ≡ None)) ⊎ IsShortage fault
+
+-- the refusal is the answer, or the answer could not be read
+abbrev pub IsRefused : Answer → StoreFault → Type 0
+IsRefused told fault =
+    ((fault ≡ NotFound) × (told ≡ runs.Answer.NotFound))
+    ⊎ (((fault ≡ IsDirectory) × (told ≡ runs.Answer.IsDirectory))
+    ⊎ (((fault ≡ NotDirectory) × (told ≡ runs.Answer.NotDirectory)) ⊎ IsShortage fault))

@@ -1,12 +1,18 @@
 //! Questions about the tree. What the medium holds is not trusted: a structure that is no such structure is refused.
 
-ghost use Rattle.std.specs.Prelude.{◌≡◌, ◌<◌, ◌≤◌, IsTrue, IfOk, length, Err};
+ghost use Rattle.std.specs.Prelude.{◌≡◌, ◌<◌, ◌≤◌, IsTrue, IfOk, IfErr, length, Err, false};
 ghost use Rattle.drive.specs.Journal.{next_of};
-ghost use Rattle.recover.specs.Faults.{Counts, devices};
+ghost use Rattle.medium.specs.Runs as runs;
+ghost use Rattle.model.specs.Tree.{Tree};
+ghost use Rattle.model.specs.Graph.{Stored, is_directory};
+ghost use Rattle.model.specs.Graph.Body.{Bytes};
+ghost use Rattle.recover.specs.Faults.{Counts, IsShortage, devices};
 ghost use Rattle.recover.specs.declared.fault.StoreFault.TheVariants.{Stopped};
 ghost use Rattle.store.specs.Agrees.{Agrees};
 ghost use Rattle.store.specs.Below.{AreBelow};
-ghost use Rattle.store.specs.Queries.{SameVolume};
+ghost use Rattle.store.specs.Cache.{AreKept};
+ghost use Rattle.store.specs.Queries.{IsMissing, IsRefused, SameVolume};
+ghost use Rattle.store.specs.Shows.{IsAt, Shows, graph_below};
 
 use crate::content::Content;
 use crate::nodes::{Node, Nodes};
@@ -27,6 +33,9 @@ impl Store {
         path: &Path,
     ) -> Result<FileData, StoreFault>
         requires agrees { Agrees (D.journal drive.old) (D.capacity drive.old) self.old }
+        ensures told { (tree : Tree) → Shows (D.honest drive.new) (D.journal drive.old) self.old.directories self.old.at self.old.vat.entries.items tree → IfOk result (λ bytes. runs.told tree (runs.Query.Get path.now) ≡ runs.Answer.Data bytes) }
+        ensures refused { (tree : Tree) → Shows (D.honest drive.new) (D.journal drive.old) self.old.directories self.old.at self.old.vat.entries.items tree → self.old.is_stopped ≡ false → IfErr result (IsRefused (runs.told tree (runs.Query.Get path.now))) }
+        ensures kept { IsTrue (D.honest drive.new) → AreKept (D.journal drive.old) self.old.directories → AreKept (D.journal drive.old) self.new.directories }
         ensures stopped { IsTrue self.old.is_stopped → result ≡ Err Stopped }
         ensures same { SameVolume self.old self.new }
         ensures agrees { Agrees (D.journal drive.new) (D.capacity drive.new) self.new }
@@ -36,7 +45,7 @@ impl Store {
         ensures failures { Counts (devices result) (D.failures drive.old) (D.failures drive.new) }
     {
         let node = self.node(alloc, drive, path)?;
-        if node.kind == Kind::Directory {
+        if node.is_directory() {
             return Err(StoreFault::IsDirectory);
         }
         let nodes = Nodes {
@@ -113,6 +122,9 @@ impl Store {
         path: &Path,
     ) -> Result<Node, StoreFault>
         requires agrees { Agrees (D.journal drive.old) (D.capacity drive.old) self.old }
+        ensures found { (tree : Tree) → Shows (D.honest drive.new) (D.journal drive.old) self.old.directories self.old.at self.old.vat.entries.items tree → IfOk result (IsAt (graph_below self.old.at self.old.vat.entries.items (D.journal drive.old)) path.now) }
+        ensures missing { (tree : Tree) → Shows (D.honest drive.new) (D.journal drive.old) self.old.directories self.old.at self.old.vat.entries.items tree → self.old.is_stopped ≡ false → IfErr result (IsMissing tree path.now) }
+        ensures kept { IsTrue (D.honest drive.new) → AreKept (D.journal drive.old) self.old.directories → AreKept (D.journal drive.old) self.new.directories }
         ensures stopped { IsTrue self.old.is_stopped → result ≡ Err Stopped }
         ensures same { SameVolume self.old self.new }
         ensures agrees { Agrees (D.journal drive.new) (D.capacity drive.new) self.new }
@@ -212,6 +224,8 @@ fn file_data<D: Drive>(
 ) -> Result<FileData, StoreFault>
     requires below { AreBelow nodes.now.at nodes.now.entries.now }
     requires within { nodes.now.at ≤ next_of (D.journal drive.old) }
+    ensures bytes { IfOk result (λ read. IsTrue (D.honest drive.new) → (s : Stored) → graph_below nodes.now.at nodes.now.entries.now (D.journal drive.old) address s → is_directory s ≡ false → s.body ≡ Bytes read) }
+    ensures short { IfErr result (λ fault. IsTrue (D.honest drive.new) → (s : Stored) → graph_below nodes.now.at nodes.now.entries.now (D.journal drive.old) address s → is_directory s ≡ false → IsShortage fault) }
     ensures journal { D.journal drive.new ≡ D.journal drive.old }
     ensures capacity { D.capacity drive.new ≡ D.capacity drive.old }
     ensures honest { IsTrue (D.honest drive.new) → IsTrue (D.honest drive.old) }
