@@ -19,7 +19,7 @@ returns-in-Err g c = record {
   due = committed_due _ _ _ _ c.in-New.ensures (inr (inr c.failure.ensures.fails, c.in-Err.ensures.refused));
   follows = record {
     ready = c.in-Err.ensures.agrees;
-    front = behind_front _ _ _ c.in-Err.ensures.front;
+    front = behind_front _ _ _ _ c.in-Err.ensures.front;
     capacity = c.in-Err.ensures.capacity;
     honest = c.in-Err.ensures.honest;
   };
