@@ -1,6 +1,7 @@
 -- What a commit says of a plan that it writes.
-use Rattle.std.proofs.Common.{◌≡◌, ℕ, ◌++◌, List, Bool, true, false, Result, Ok, Err, ◌⊎◌, inl, inr, refl, sym, ap, subst, ◌∙◌}
-use Rattle.std.specs.Prelude.{is_err, IfOk, OnOk, OnErr}
+use Rattle.std.proofs.Common.{◌≡◌, ℕ, ◌++◌, List, Bool, false, Result, Ok, Err, ◌⊎◌, inr, sym, ap, subst, ◌∙◌}
+use Rattle.std.specs.Prelude.{is_err, IfOk, OnOk, OnErr, Option, Some}
+use Rattle.std.specs.Option.{SomeIff}
 use Rattle.std.proofs.lemmas.Bool.{false≢true}
 use Rattle.drive.specs.Journal.{Event, next_of, written, AddsFront}
 use Rattle.request.specs.declared.answer.Reply.{Reply}
@@ -13,23 +14,24 @@ pub if_ok : {T E : Type 0} (r : Result T E) (P Q : T → Type 0) → ((x : T) �
 if_ok (Ok x) P Q f h = f x h
 if_ok (Err e) P Q f h = h
 
-pub writes_plan : {E : Type 0} (r : Result Reply E) (K J J' : List Event) (capacity : ℕ) (plan : Plan) (store : Store) → K ≡ J → IsPlan (next_of J) capacity plan
+pub writes_plan : {E : Type 0} (r : Result Reply E) (K J J' : List Event) (moment capacity : ℕ) (plan : Plan) (store : Store) → K ≡ J → plan.moment ≡ moment → IsPlan (next_of J) capacity plan
     → IfOk r (λ reply. reply ≡ plan.reply) → OnOk r (store.at ≡ plan.table.at) → OnOk r (store.vat ≡ plan.table.vat) → OnOk r (J' ≡ K ++ written (next_of K) (plan_blocks plan))
-    → IfOk r (WritesPlan capacity J J' store)
-writes_plan (Ok reply) K J J' capacity plan store same is said at vat journal = record {
+    → IfOk r (WritesPlan moment capacity J J' store)
+writes_plan (Ok reply) K J J' moment capacity plan store same of_moment is said at vat journal = record {
   plan = plan;
   is = is;
+  moment_is = of_moment;
   reply_is = said;
   at = at;
   vat = vat;
   journal = journal ∙ ap (λ (L : List Event). L ++ written (next_of L) (plan_blocks plan)) same;
 }
-writes_plan (Err e) K J J' capacity plan store same is said at vat journal = said
+writes_plan (Err e) K J J' moment capacity plan store same of_moment is said at vat journal = said
 
-pub stops_in_plan : {T E : Type 0} (r : Result T E) (K J J' : List Event) (capacity : ℕ) (plan : Plan) → K ≡ J → IsPlan (next_of J) capacity plan
-    → OnErr r (AddsFront K (next_of K) (plan_blocks plan) J') → OnErr r ((J' ≡ J) ⊎ StopsInPlan capacity J J')
-stops_in_plan (Ok x) K J J' capacity plan same is front = front
-stops_in_plan (Err e) K J J' capacity plan same is front = inr (record { plan = plan; is = is; front = subst (λ (L : List Event). AddsFront L (next_of L) (plan_blocks plan) J') same front })
+pub stops_in_plan : {T E : Type 0} (r : Result T E) (K J J' : List Event) (moment capacity : ℕ) (plan : Plan) → K ≡ J → plan.moment ≡ moment → IsPlan (next_of J) capacity plan
+    → OnErr r (AddsFront K (next_of K) (plan_blocks plan) J') → OnErr r ((J' ≡ J) ⊎ StopsInPlan moment capacity J J')
+stops_in_plan (Ok x) K J J' moment capacity plan same of_moment is front = front
+stops_in_plan (Err e) K J J' moment capacity plan same of_moment is front = inr (record { plan = plan; is = is; moment_is = of_moment; front = subst (λ (L : List Event). AddsFront L (next_of L) (plan_blocks plan) J') same front })
 
 -- a store is stopped where it answers an error
 pub goes_on : {T E : Type 0} (r : Result T E) (b : Bool) → b ≡ is_err r → OnOk r (b ≡ false)
@@ -39,3 +41,7 @@ goes_on (Err e) b h = tt
 pub is_stopped : {T E : Type 0} (r : Result T E) (b : Bool) (P : Type 0) → b ≡ is_err r → OnErr r (b ≡ false → P)
 is_stopped (Ok x) b P h = tt
 is_stopped (Err e) b P h = λ f. absurd (false≢true (sym f ∙ h))
+
+-- what was unwrapped
+pub some_is : (o : Option ℕ) (x m : ℕ) (P : Type 0) → o ≡ Some x → SomeIff o P m → x ≡ m
+some_is o x m P e s = (subst (λ (p : Option ℕ). SomeIff p P m) e s).1

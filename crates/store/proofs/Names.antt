@@ -1,5 +1,5 @@
 -- Names of directories, one after another.
-use Rattle.std.proofs.Common.{◌≡◌, ℕ, zero, suc, ◌+◌, ◌<◌, List, [], ◌∷◌, length, take, get_or, sym, ap, refl, subst, ◌∙◌, arith}
+use Rattle.std.proofs.Common.{◌≡◌, ℕ, zero, suc, ◌+◌, List, [], ◌∷◌, length, take, sym, ap, refl, subst, arith}
 use Rattle.std.specs.Prelude.{slice_get, Some, All}
 use Rattle.osta.specs.Compressed.{compressed}
 use Rattle.dir.specs.declared.entry.Entry.{Entry}
@@ -30,3 +30,7 @@ pub all_next : {X : Type 0} (P : X → Type 0) (xs rest : List X) (x : X) → xs
 all_next {X = X} P xs rest x is all =
     let each : All P (x ∷ rest) = subst (λ (ys : List X). All P ys) is all in
     (each 0 x (omega arith), λ k d lt. each (suc k) d (omega (arith, lt)))
+
+pub nothing : {X : Type 0} (xs : List X) → length xs ≡ 0 → xs ≡ []
+nothing [] e = refl
+nothing (x ∷ xs) e = absurd (omega (arith, e))

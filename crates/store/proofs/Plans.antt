@@ -1,5 +1,5 @@
 -- The blocks of a plan.
-use Rattle.std.proofs.Common.{◌≡◌, ℕ, zero, suc, ◌+◌, ◌-◌, ◌<◌, ◌≤◌, List, [], ◌∷◌, ◌++◌, length, take, drop, replicate, get_or, refl, sym, ap, subst, ◌∙◌, arith, append_assoc, append-nil, length-append}
+use Rattle.std.proofs.Common.{◌≡◌, ℕ, zero, suc, ◌+◌, ◌<◌, List, [], ◌∷◌, ◌++◌, length, take, drop, replicate, get_or, refl, sym, ap, subst, ◌∙◌, arith, append_assoc, append-nil, length-append}
 use Rattle.std.specs.Int.{div_ceil}
 use Rattle.std.proofs.lemmas.List.{length-replicate}
 use Rattle.medium.specs.Formats.{Block}
@@ -22,7 +22,7 @@ pub list_push : (ps : List PlacedDirectory) (p : PlacedDirectory) → directorie
 list_push [] p = append-nil (directory_list p)
 list_push (x ∷ ps) p = ap (λ (bs : List Block). directory_list x ++ bs) (list_push ps p) ∙ sym (append_assoc (directory_list x) (directories_list ps) (directory_list p))
 
-writings_push : (ps : List PlacedDirectory) (p : PlacedDirectory) → directories_writings (ps ++ p ∷ []) ≡ directories_writings ps ++ directory_writing p.directory ∷ []
+pub writings_push : (ps : List PlacedDirectory) (p : PlacedDirectory) → directories_writings (ps ++ p ∷ []) ≡ directories_writings ps ++ directory_writing p.directory ∷ []
 writings_push [] p = refl
 writings_push (x ∷ ps) p = ap (λ (ws : List Writing). directory_writing x.directory ∷ ws) (writings_push ps p)
 

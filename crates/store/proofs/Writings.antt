@@ -1,5 +1,5 @@
 -- What is written of a node, and where.
-use Rattle.std.proofs.Common.{◌≡◌, ℕ, zero, suc, ◌+◌, ◌-◌, ◌^◌, ◌<◌, ◌≤◌, Bool, true, false, List, [], ◌∷◌, ◌++◌, length, replicate, map, refl, sym, ap, subst, ◌∙◌, arith, length-append, append_assoc, append-nil}
+use Rattle.std.proofs.Common.{◌≡◌, ℕ, ◌+◌, ◌-◌, ◌^◌, ◌<◌, ◌≤◌, Bool, List, [], ◌∷◌, ◌++◌, length, replicate, refl, sym, ap, subst, ◌∙◌, arith, length-append, append_assoc, append-nil}
 use Rattle.std.specs.Prelude.{if◌then◌else◌, fold}
 use Rattle.std.specs.Map.{values_of}
 use Rattle.std.proofs.lemmas.List.{length-replicate}
@@ -18,7 +18,7 @@ use Rattle.medium.specs.Volume.{blocks_for}
 use Rattle.medium.specs.Plan.{zeros, packed, Writing, Written, IsClearStart, IsPlaced, WritesNode, WritesNodes}
 use Rattle.medium.proofs.Packed.{length-packed}
 use Rattle.recover.specs.Nodes.{is_directory, links_of}
-use Rattle.udf.specs.Said.{names_directory, said_entry, said_entries}
+use Rattle.udf.specs.Said.{names_directory, said_entries}
 use Rattle.udf.specs.Udf.{udf, HoldsDirectory}
 use Rattle.udf.proofs.Said.{directories_agree}
 use Rattle.store.specs.Writings.{IsProper}

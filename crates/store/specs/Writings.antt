@@ -1,5 +1,5 @@
 -- What the nodes that a commit writes say.
-use Rattle.std.specs.Prelude.{ℕ, nat_eq, All}
+use Rattle.std.specs.Prelude.{ℕ, List, [], ◌∷◌, ◌++◌, map, Option, Some, None, nat_eq, All}
 use Rattle.std.specs.Cmp.Lexicographic.{pointwise}
 use Rattle.std.specs.List.{IsDistinct}
 use Rattle.std.specs.Map.{keys_of}
@@ -9,6 +9,7 @@ use Rattle.model.specs.Graph.{whole}
 use Rattle.model.specs.Graph.Body.{Bytes, Entries}
 use Rattle.medium.specs.Plan.{Writing}
 use Rattle.udf.specs.Said.{said_entries}
+use Rattle.store.specs.declared.change.Change.{Change}
 use Rattle.store.specs.declared.change.NewFile.{NewFile}
 use Rattle.store.specs.declared.change.NewDirectory.{NewDirectory}
 
@@ -22,3 +23,14 @@ file_writing moment f = record { address = f.address; stored = whole f.unique mo
 
 abbrev pub directory_writing : NewDirectory → Writing
 directory_writing d = record { address = d.address; stored = whole d.unique d.moment (Entries d.content.dir.parent (said_entries d.content.dir.entries.entries)) }
+
+abbrev pub new_file : ℕ → Option NewFile → List Writing
+new_file moment None = []
+new_file moment (Some f) = file_writing moment f ∷ []
+
+abbrev pub new_directories : List NewDirectory → List Writing
+new_directories ds = map directory_writing ds
+
+-- what a change writes at a moment, in order
+abbrev pub change_writings : ℕ → Change → List Writing
+change_writings moment c = new_file moment c.file ++ new_directories c.directories.items

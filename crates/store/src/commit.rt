@@ -129,8 +129,12 @@ impl Plan<'_> {
 
     /// How many blocks are held encoded all the while: the entries, and the table's bytes.
     fn held(&self) -> usize {
-        let entries = self.directories.len().saturating_add(2);
-        entries.saturating_add(self.table.bytes.len().div_ceil(2048))
+        let nodes = self
+            .directories
+            .len()
+            .saturating_add(usize::from(self.file.is_some()));
+        let table = 1 + self.table.bytes.len().div_ceil(2048);
+        nodes.saturating_add(table)
     }
 }
 
@@ -147,8 +151,8 @@ impl Store {
         requires next { IsNext request.now.client request.now.number self.old.vat.sessions.records.items }
         ensures agrees { Agrees (D.journal drive.new) (D.capacity drive.new) self.new }
         ensures commit { IfOk result (λ reply. reply.commit ≡ self.old.vat.sessions.commits + 1) }
-        ensures written { IfOk result (λ reply. WritesPlan (D.capacity drive.old) (D.journal drive.old) (D.journal drive.new) self.new reply) }
-        ensures front { OnErr result ((D.journal drive.new ≡ D.journal drive.old) ⊎ StopsInPlan (D.capacity drive.old) (D.journal drive.old) (D.journal drive.new)) }
+        ensures written { IfOk result (λ reply. WritesPlan request.now.moment (D.capacity drive.old) (D.journal drive.old) (D.journal drive.new) self.new reply) }
+        ensures front { OnErr result ((D.journal drive.new ≡ D.journal drive.old) ⊎ StopsInPlan request.now.moment (D.capacity drive.old) (D.journal drive.old) (D.journal drive.new)) }
         ensures refused { OnErr result (self.new.is_stopped ≡ false → D.journal drive.new ≡ D.journal drive.old) }
         ensures stopped { self.old.is_stopped ≡ true → result ≡ Err Stopped }
         ensures goes_on { OnOk result (self.new.is_stopped ≡ false) }

@@ -15,9 +15,9 @@ ghost use Rattle.vat.specs.Table.{Fits, view};
 ghost use Rattle.recover.specs.Faults.{Counts, devices};
 ghost use Rattle.store.specs.Agrees.{Agrees, Keeps};
 ghost use Rattle.store.specs.Below.{AreBelow};
-ghost use Rattle.store.specs.Plan.{IsPlan, IsTablePlaced, file_list, file_writings, file_written, directories_list, directories_writings, directories_written};
+ghost use Rattle.store.specs.Plan.{IsPlan, IsTablePlaced, file_list, file_writings, file_written, directories_list, directories_writings, directories_written, plan_writings};
 ghost use Rattle.store.specs.TableChange.{IsNext};
-ghost use Rattle.store.specs.Writings.{IsProper};
+ghost use Rattle.store.specs.Writings.{IsProper, new_file, new_directories, change_writings};
 
 use crate::change::{Change, NewDirectory, NewFile};
 use crate::content::Content;
@@ -80,6 +80,8 @@ impl Store {
         requires next { IsNext request.now.client request.now.number self.now.vat.sessions.records.items }
         ensures plan { IfOk result (IsPlan (next_of (D.journal drive.old)) (D.capacity drive.old)) }
         ensures reply { IfOk result (λ p. p.reply.commit ≡ self.now.vat.sessions.commits + 1) }
+        ensures moment { IfOk result (λ p. p.moment ≡ moment) }
+        ensures writings { IfOk result (λ p. plan_writings p ≡ change_writings moment change.entry) }
         ensures journal { D.journal drive.new ≡ D.journal drive.old }
         ensures capacity { D.capacity drive.new ≡ D.capacity drive.old }
         ensures honest { IsTrue (D.honest drive.new) → IsTrue (D.honest drive.old) }
@@ -210,6 +212,7 @@ fn place_file<'r>(
     ensures previous { OnOk result (vat.new.previous ≡ vat.old.previous) }
     ensures commits { OnOk result (vat.new.sessions.commits ≡ vat.old.sessions.commits) }
     ensures unique { OnOk result (vat.new.sessions.next_unique ≡ vat.old.sessions.next_unique) }
+    ensures writings { IfOk result (λ placed. file_writings moment placed ≡ new_file moment file.entry) }
     ensures written { IfOk result (λ placed. WritesNodes udf (file_writings moment placed) numbers.old.next (file_list placed) (file_written placed)) }
     ensures next { IfOk result (λ placed. numbers.new.next ≡ numbers.old.next + length (file_list placed)) }
     ensures end { numbers.new.end ≡ numbers.old.end }
@@ -241,6 +244,7 @@ fn place_directories(
     ensures previous { OnOk result (vat.new.previous ≡ vat.old.previous) }
     ensures commits { OnOk result (vat.new.sessions.commits ≡ vat.old.sessions.commits) }
     ensures unique { OnOk result (vat.new.sessions.next_unique ≡ vat.old.sessions.next_unique) }
+    ensures writings { IfOk result (λ placed. directories_writings placed.items ≡ new_directories directories.items) }
     ensures written { IfOk result (λ placed. WritesNodes udf (directories_writings placed.items) numbers.old.next (directories_list placed.items) (directories_written placed.items)) }
     ensures next { IfOk result (λ placed. numbers.new.next ≡ numbers.old.next + length (directories_list placed.items)) }
     ensures end { numbers.new.end ≡ numbers.old.end }

@@ -1,15 +1,15 @@
-use Rattle.std.proofs.Common.{◌≡◌, ℕ, List, [], ◌∷◌, ◌++◌, ◌+◌, ◌<◌, ◌≤◌, ◌∙◌, length, sym, ap, subst, arith, length-append, rules}
+use Rattle.std.proofs.Common.{◌≡◌, List, [], ◌∷◌, ◌++◌, ◌+◌, ◌<◌, ◌≤◌, ◌∙◌, length, refl, append_assoc, append-nil, sym, ap, subst, arith, length-append, rules}
 use Rattle.std.specs.Prelude.{All}
 use Rattle.std.specs.Vec.Iter.{into_iter_items}
-use Rattle.medium.specs.Plan.{WritesNodes}
+use Rattle.medium.specs.Plan.{Writing, WritesNodes}
 use Rattle.udf.specs.Udf.{udf}
 use Rattle.store.specs.declared.change.NewDirectory.{NewDirectory}
 use Rattle.store.specs.declared.placed.PlacedDirectory.{PlacedDirectory}
 use Rattle.store.specs.Plan.{directory_list, directories_list, directories_writings, directories_written}
-use Rattle.store.specs.Writings.{IsProper, directory_writing}
+use Rattle.store.specs.Writings.{IsProper, directory_writing, new_directories}
 use Rattle.store.proofs.BelowLemmas.{below_later}
-use Rattle.store.proofs.Names.{all_next}
-use Rattle.store.proofs.Plans.{list_push, written_push}
+use Rattle.store.proofs.Names.{all_next, nothing}
+use Rattle.store.proofs.Plans.{list_push, writings_push, written_push}
 use Rattle.store.proofs.Writings.{node_ends}
 use Rattle.store.proofs.plan.place_directories.Goals as goal
 
@@ -17,6 +17,31 @@ pub place_directory-requires : goal.place_directory-requires
 place_directory-requires c = record {
   proper = (all_next (λ (d : NewDirectory). IsProper d.content.dir) (into_iter_items c.loop-directory.directory-iterator) (into_iter_items c.next.new.self) c.in-Some.directory c.in-Some.ensures.steps.0 c.loop-directory.invariant.left).0;
 }
+
+pub loop-directory-init : goal.loop-directory-init
+loop-directory-init c =
+    let start = c.args.numbers.now.next in
+    let none : c.in_ok-all.all.items ≡ [] = c.in_ok-all.ensures.items in
+    let gives = c.into_iter-directory-iterator.ensures.into_iter_gives in
+    record {
+      left = subst (λ (ds : List NewDirectory). All (λ d. IsProper d.content.dir) ds) (sym gives.0) c.requires.proper;
+      count = omega (arith, gives.1, ap length gives.0);
+      writings = ap new_directories (sym gives.0) ∙ subst (λ (ps : List PlacedDirectory). new_directories (into_iter_items c.into_iter-directory-iterator.result) ≡ directories_writings ps ++ new_directories (into_iter_items c.into_iter-directory-iterator.result)) (sym none) refl;
+      fits = c.requires.fits;
+      below = λ h. h;
+      previous = refl;
+      commits = refl;
+      unique = refl;
+      written = subst (λ (ps : List PlacedDirectory). WritesNodes udf (directories_writings ps) start (directories_list ps) (directories_written ps)) (sym none) (refl, refl);
+      next = subst (λ (ps : List PlacedDirectory). start ≡ start + length (directories_list ps)) (sym none) (omega arith);
+      end = refl;
+    }
+
+pub returns-clause-writings : goal.returns-clause-writings
+returns-clause-writings c =
+    let ps = c.loop-directory.all.items in
+    let none : into_iter_items c.loop-directory.directory-iterator ≡ [] = nothing (into_iter_items c.loop-directory.directory-iterator) (omega (arith, c.loop-directory.invariant.count, c.in-None.ensures.steps.0)) in
+    sym (c.loop-directory.invariant.writings ∙ ap (λ (ds : List NewDirectory). directories_writings ps ++ new_directories ds) none ∙ append-nil (directories_writings ps))
 
 pub loop-directory-preserved : goal.loop-directory-preserved
 loop-directory-preserved c =
@@ -28,9 +53,19 @@ loop-directory-preserved c =
     let ends = node_ends (directory_writing p.directory) now (directory_list p) p.number c.in_ok-placed.ensures.written in
     let later : now + 257 ≤ next + 257 = omega (arith, ends, c.in_ok-placed.ensures.next) in
     let number : p.number + 257 < next + 257 = omega (arith, c.in_ok-placed.ensures.next) in
+    let d = c.in-Some.directory in
+    let rest = new_directories (into_iter_items c.next.new.self) in
+    let written : new_directories c.args.directories.items ≡ directories_writings (all ++ p ∷ []) ++ rest =
+    c.loop-directory.invariant.writings
+    ∙ ap (λ (ds : List NewDirectory). directories_writings all ++ new_directories ds) c.in-Some.ensures.steps.0
+    ∙ ap (λ (x : NewDirectory). directories_writings all ++ (directory_writing x ∷ rest)) (sym c.in_ok-placed.ensures.directory)
+    ∙ sym (append_assoc (directories_writings all) (directory_writing p.directory ∷ []) rest)
+    ∙ ap (λ (ws : List Writing). ws ++ rest) (sym (writings_push all p)) in
     let pushed : all ++ p ∷ [] ≡ c.push.new.self.items = sym c.in_ok-push.ensures.items in
     record {
       left = (all_next (λ (d : NewDirectory). IsProper d.content.dir) (into_iter_items c.loop-directory.directory-iterator) (into_iter_items c.next.new.self) c.in-Some.directory c.in-Some.ensures.steps.0 c.loop-directory.invariant.left).1;
+      count = omega (arith, c.loop-directory.invariant.count, ap length c.in-Some.ensures.steps.0, c.in-Some.ensures.steps.1);
+      writings = subst (λ (ps : List PlacedDirectory). new_directories c.args.directories.items ≡ directories_writings ps ++ new_directories (into_iter_items c.next.new.self)) pushed written;
       fits = c.place_node.ensures.fits;
       below = λ h. c.place_node.ensures.below (next + 257) number (below_later (now + 257) (next + 257) c.loop-directory.vat.entries.items later (c.loop-directory.invariant.below h));
       previous = search rules;

@@ -1,18 +1,20 @@
-use Rattle.std.proofs.Common.{◌≡◌, ◌+◌, length}
+use Rattle.std.proofs.Common.{◌≡◌, ◌+◌, ◌++◌, length}
 use Rattle.std.specs.Prelude.{All}
-use Rattle.std.specs.Vec.Iter.{into_iter_items}
+use Rattle.std.specs.Vec.Iter.{into_iter_items, into_iter_len}
 use Rattle.medium.specs.Plan.{WritesNodes}
 use Rattle.udf.specs.Udf.{udf}
 use Rattle.vat.specs.Table.{Fits, view}
 use Rattle.store.specs.Below.{AreBelow}
 use Rattle.store.specs.Plan.{directories_list, directories_writings, directories_written}
-use Rattle.store.specs.Writings.{IsProper}
+use Rattle.store.specs.Writings.{IsProper, new_directories}
 use Rattle.store.proofs.plan.place_directories.Given as goal
 
 -- the directories so far were placed
 abbrev pub invariant-loop-directory : goal.invariant-loop-directory
 invariant-loop-directory l = record {
   left : All (λ d. IsProper d.content.dir) (into_iter_items l.directory-iterator);
+  count : into_iter_len l.directory-iterator ≡ length (into_iter_items l.directory-iterator);
+  writings : new_directories l.fn.directories.items ≡ directories_writings l.all.items ++ new_directories (into_iter_items l.directory-iterator);
   fits : Fits (view l.vat);
   below : AreBelow (l.fn.numbers.next + 257) l.fn.vat.entries.items → AreBelow (l.numbers.next + 257) l.vat.entries.items;
   previous : l.vat.previous ≡ l.fn.vat.previous;

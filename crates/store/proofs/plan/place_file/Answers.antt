@@ -1,8 +1,11 @@
-use Rattle.std.proofs.Common.{◌+◌, ◌≤◌, ◌++◌, ◌∷◌, [], arith}
+use Rattle.std.proofs.Common.{◌+◌, ◌≤◌, ◌++◌, ◌∷◌, ◌∙◌, [], ℕ, List, sym, ap, arith}
+use Rattle.model.specs.Graph.{whole}
+use Rattle.model.specs.Graph.Body.{Bytes}
+use Rattle.medium.specs.Plan.{Writing}
 use Rattle.store.specs.Plan.{file_data}
 use Rattle.store.proofs.BelowLemmas.{below_later}
 use Rattle.store.proofs.Writings.{node_ends}
-use Rattle.store.specs.Writings.{file_writing}
+use Rattle.store.specs.Writings.{file_writing, new_file}
 use Rattle.store.proofs.plan.place_file.Goals as goal
 
 pub returns-clause-below : goal.returns-clause-below
@@ -12,3 +15,14 @@ returns-clause-below c h =
     let ends = node_ends (file_writing c.args.moment p.file) c.args.numbers.now.next (file_data p ++ p.entry ∷ []) p.number c.in_ok-placed.ensures.written in
     let later : c.args.numbers.now.next + 257 ≤ next + 257 = omega (arith, ends, c.in_ok-placed.ensures.next) in
     c.place_node.ensures.below (next + 257) (omega (arith, c.in_ok-placed.ensures.next)) (below_later (c.args.numbers.now.next + 257) (next + 257) c.args.vat.now.entries.items later h)
+
+pub returns-clause-writings : goal.returns-clause-writings
+returns-clause-writings c =
+    let m = c.args.moment in
+    let p = c.in_ok-placed.placed.file in
+    let f = c.in-Some.file in
+    let of : ℕ → ℕ → List ℕ → List Writing = λ a u bs. record { address = a; stored = whole u m (Bytes bs) } ∷ [] in
+    ap (λ a. of a p.unique p.bytes.now) c.in_ok-placed.ensures.address
+    ∙ ap (λ u. of f.address u p.bytes.now) c.in_ok-placed.ensures.unique
+    ∙ ap (λ (bs : List ℕ). of f.address f.unique bs) c.in_ok-placed.ensures.bytes
+    ∙ sym (ap (new_file m) c.in-Some.is)

@@ -1,9 +1,9 @@
-use Rattle.std.proofs.Common.{◌≡◌, ◌+◌, ◌<◌, ◌≤◌, ◌∙◌, ℕ, List, true, false, sym, ap, subst, arith}
+use Rattle.std.proofs.Common.{◌≡◌, ◌+◌, ◌∙◌, List, sym, ap, subst, arith, rules}
 use Rattle.std.proofs.lemmas.Bool.{false≢true}
 use Rattle.drive.specs.Journal.{Event, next_of}
 use Rattle.request.specs.declared.answer.Reply.{Reply}
 use Rattle.store.specs.Plan.{IsPlan}
-use Rattle.store.proofs.Commits.{if_ok, writes_plan, stops_in_plan, goes_on, is_stopped}
+use Rattle.store.proofs.Commits.{if_ok, writes_plan, stops_in_plan, goes_on, is_stopped, some_is}
 use Rattle.store.proofs.store.Store.apply.Goals as goal
 
 pub commit-requires-clause-agrees : goal.commit-requires-clause-agrees
@@ -31,7 +31,8 @@ returns-clause-written g c =
     let plan = c.in_ok-plan.plan in
     let is : IsPlan (next_of J) capacity plan =
     subst (λ n. IsPlan (next_of J) n plan) c.change.ensures.capacity (subst (λ (L : List Event). IsPlan (next_of L) (g.D.Drive.capacity c.change.new.drive) plan) c.change.ensures.journal c.in_ok-plan.ensures.plan) in
-    writes_plan c.commit.result K J (g.D.Drive.journal c.commit.new.drive) capacity plan c.commit.new.self (c.plan.ensures.journal ∙ c.change.ensures.journal) is c.commit.ensures.reply c.commit.ensures.at c.commit.ensures.vat c.commit.ensures.written
+    let of_moment : plan.moment ≡ c.args.request.now.moment = c.in_ok-plan.ensures.moment ∙ some_is c.of.result c.unwrap-moment.result c.args.request.now.moment _ (search rules) c.of.ensures in
+    writes_plan c.commit.result K J (g.D.Drive.journal c.commit.new.drive) c.args.request.now.moment capacity plan c.commit.new.self (c.plan.ensures.journal ∙ c.change.ensures.journal) of_moment is c.commit.ensures.reply c.commit.ensures.at c.commit.ensures.vat c.commit.ensures.written
 
 pub returns-clause-front : goal.returns-clause-front
 returns-clause-front g c =
@@ -41,7 +42,8 @@ returns-clause-front g c =
     let plan = c.in_ok-plan.plan in
     let is : IsPlan (next_of J) capacity plan =
     subst (λ n. IsPlan (next_of J) n plan) c.change.ensures.capacity (subst (λ (L : List Event). IsPlan (next_of L) (g.D.Drive.capacity c.change.new.drive) plan) c.change.ensures.journal c.in_ok-plan.ensures.plan) in
-    stops_in_plan c.commit.result K J (g.D.Drive.journal c.commit.new.drive) capacity plan (c.plan.ensures.journal ∙ c.change.ensures.journal) is c.commit.ensures.front
+    let of_moment : plan.moment ≡ c.args.request.now.moment = c.in_ok-plan.ensures.moment ∙ some_is c.of.result c.unwrap-moment.result c.args.request.now.moment _ (search rules) c.of.ensures in
+    stops_in_plan c.commit.result K J (g.D.Drive.journal c.commit.new.drive) c.args.request.now.moment capacity plan (c.plan.ensures.journal ∙ c.change.ensures.journal) of_moment is c.commit.ensures.front
 
 pub returns-clause-refused : goal.returns-clause-refused
 returns-clause-refused g c = is_stopped c.commit.result c.commit.new.self.is_stopped (g.D.Drive.journal c.commit.new.drive ≡ g.D.Drive.journal c.args.drive.now) c.commit.ensures.stopped

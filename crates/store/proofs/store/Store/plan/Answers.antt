@@ -1,14 +1,13 @@
-use Rattle.std.proofs.Common.{◌≡◌, ◌+◌, ◌-◌, ◌*◌, ◌<◌, ◌≤◌, ◌++◌, ◌∷◌, ◌∙◌, ℕ, List, [], Some, length, sym, subst, ap, arith, length-append}
+use Rattle.std.proofs.Common.{◌≡◌, ◌+◌, ◌-◌, ◌<◌, ◌≤◌, ◌++◌, ◌∙◌, ℕ, List, [], Some, length, refl, sym, subst, ap, arith, length-append}
 use Rattle.std.specs.Prelude.{Option, IfSome}
 use Rattle.drive.specs.Journal.{next_of}
-use Rattle.drive.specs.Waiting.{Waiting}
-use Rattle.medium.specs.Plan.{WritesNodes}
+use Rattle.medium.specs.Plan.{Writing, WritesNodes}
 use Rattle.udf.specs.Udf.{udf}
 use Rattle.vat.specs.declared.table.Vat.{Vat}
 use Rattle.vat.specs.Table.{Fits, view}
-use Rattle.store.specs.Agrees.{Keeps}
 use Rattle.store.specs.Below.{AreBelow}
-use Rattle.store.specs.Plan.{IsTablePlaced, file_list, file_writings, file_written, directories_list, directories_writings, directories_written, table_data}
+use Rattle.store.specs.Plan.{IsTablePlaced, file_list, file_writings, file_written, directories_list, directories_writings, directories_written}
+use Rattle.store.specs.Writings.{new_file}
 use Rattle.store.proofs.BelowLemmas.{below_later}
 use Rattle.store.proofs.Plans.{length-padded}
 use Rattle.store.proofs.Writings.{writes-append}
@@ -72,3 +71,12 @@ returns-clause-plan g c =
         few_unique = omega (arith, commits, unique, c.in_ok-vat.ensures.unique, c.in_ok-vat.ensures.commits);
       };
     }
+
+pub returns-clause-moment : goal.returns-clause-moment
+returns-clause-moment g c = refl
+
+pub returns-clause-writings : goal.returns-clause-writings
+returns-clause-writings g c =
+    let m = c.args.moment in
+    ap (λ (ws : List Writing). ws ++ directories_writings c.in_ok-directories.directories.items) c.in_ok-file.ensures.writings
+    ∙ ap (λ (ws : List Writing). new_file m c.args.change.file ++ ws) c.in_ok-directories.ensures.writings
