@@ -1,5 +1,6 @@
 pub mod Agrees
 pub mod Below
+pub mod Needs
 pub mod Outside
 pub mod Plan
 pub mod Putting
