@@ -1,5 +1,6 @@
 -- The blocks of a plan.
 use Rattle.std.proofs.Common.{◌≡◌, ℕ, zero, suc, ◌+◌, ◌<◌, List, [], ◌∷◌, ◌++◌, length, take, drop, replicate, get_or, refl, sym, ap, subst, ◌∙◌, arith, append_assoc, append-nil, length-append}
+use Rattle.std.specs.Prelude.{slice_get, Some}
 use Rattle.std.specs.Int.{div_ceil}
 use Rattle.std.proofs.lemmas.List.{length-replicate}
 use Rattle.medium.specs.Formats.{Block}
@@ -7,7 +8,9 @@ use Rattle.medium.specs.Plan.{zeros, packed, Writing, Written, WritesNode, Write
 use Rattle.medium.proofs.Packed.{length-packed}
 use Rattle.udf.specs.Udf.{udf}
 use Rattle.store.specs.declared.placed.PlacedDirectory.{PlacedDirectory}
+use Rattle.store.specs.declared.change.NewDirectory.{NewDirectory}
 use Rattle.store.specs.declared.plan.Plan.{Plan}
+use Rattle.store.specs.Needs.{directory_need, directories_need}
 use Rattle.store.specs.Plan.{directory_list, directories_list, directories_writings, directories_written, node_list, table_data, plan_blocks, IsPlan}
 use Rattle.store.specs.Writings.{directory_writing}
 use Rattle.store.proofs.Writings.{writes_one, writes-append}
@@ -59,3 +62,12 @@ list_front (suc n) (x ∷ ps) = append_assoc (directory_list x) (directories_lis
 
 pub plan_ends : (next capacity : ℕ) (p : Plan) → IsPlan next capacity p → next + length (plan_blocks p) ≡ p.table.at + 1
 plan_ends next capacity p is = omega (arith, is.low, is.table.number, length-append (node_list p) (table_data p.table ++ p.table.entry ∷ []), length-append (table_data p.table) (p.table.entry ∷ []))
+
+-- ---- how many blocks directories may take
+
+pub need_more : (ds : List NewDirectory) (i : ℕ) (d : NewDirectory) → slice_get ds i ≡ Some d → directories_need (take (i + 1) ds) ≡ directories_need (take i ds) + directory_need d
+need_more [] i d found = absurd (cc)
+need_more (x ∷ ds) zero d found = let same : x ≡ d = cc in omega (arith, ap directory_need same)
+need_more (x ∷ ds) (suc i) d found =
+    let next : suc i + 1 ≡ suc (i + 1) = omega arith in
+    omega (arith, ap (λ n. directories_need (take n (x ∷ ds))) next, need_more ds i d found)

@@ -7,6 +7,7 @@ pub mod Changes
 pub mod Commits
 pub mod History
 pub mod Need
+pub mod Needs
 pub mod NewVolume
 pub mod NextTable
 pub mod Outside

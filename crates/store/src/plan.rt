@@ -1,6 +1,6 @@
 //! A commit, planned whole: which blocks it writes, and where.
 
-ghost use Rattle.std.specs.Prelude.{◌≡◌, ℕ, ◌+◌, ◌-◌, ◌*◌, ◌<◌, ◌≤◌, ◌^◌, Some, IsTrue, IfOk, OnOk, IfSome, All, length};
+ghost use Rattle.std.specs.Prelude.{min, ◌≡◌, ℕ, ◌+◌, ◌-◌, ◌*◌, ◌<◌, ◌≤◌, ◌^◌, Some, IsTrue, IfOk, OnOk, IfSome, All, length};
 ghost use Rattle.std.specs.Int.{div_ceil};
 ghost use Rattle.drive.specs.Journal.{next_of};
 ghost use Rattle.osta.specs.Compressed.{compressed};
@@ -15,6 +15,7 @@ ghost use Rattle.vat.specs.Table.{Fits, view};
 ghost use Rattle.recover.specs.Faults.{Counts, devices};
 ghost use Rattle.store.specs.Agrees.{Agrees, Keeps};
 ghost use Rattle.store.specs.Below.{AreBelow};
+ghost use Rattle.store.specs.Needs as needs;
 ghost use Rattle.store.specs.Plan.{IsPlan, IsTablePlaced, file_list, file_writings, file_written, directories_list, directories_writings, directories_written, plan_writings};
 ghost use Rattle.store.specs.TableChange.{IsNext};
 ghost use Rattle.store.specs.Writings.{IsProper, new_file, new_directories, change_writings};
@@ -157,15 +158,42 @@ impl Store {
 /// The most blocks that a commit may take, from sizes alone.
 fn need(change: &Change<'_>, vat: &Vat) -> u64
     requires { Fits (view vat.now) }
+    ensures value { result ≡ min (needs.table_need vat.now + needs.file_need change.now.file + needs.directories_need change.now.directories.items) (2 ^ 64 - 1) }
     ensures proper { All (λ d. IsProper d.content.dir) change.now.directories.items }
 {
-    let table = 196 + 48 * vat.sessions.records.len() as u64 + 4 * vat.entries.len() as u64;
-    let mut blocks = 2 * table.div_ceil(2048) + 1;
-    if let Some(file) = &change.file {
-        let outside = outside_of(file.bytes.as_slice());
-        blocks += 2 * u64::from(block_count(outside.len() as u32)) + 1;
-    }
-    for directory in &change.directories {
+    let nodes = directories_need(&change.directories);
+    nodes.saturating_add(file_need(&change.file) + table_need(vat))
+}
+
+/// The most blocks for a table.
+fn table_need(vat: &Vat) -> u64
+    requires { Fits (view vat.now) }
+    ensures value { result ≡ needs.table_need vat.now }
+    ensures few { result ≤ 1_000 }
+{
+    let size = 196 + 48 * vat.sessions.records.len() as u64 + 4 * vat.entries.len() as u64;
+    2 * size.div_ceil(2048) + 1
+}
+
+/// The most blocks for a file, if one is written.
+fn file_need(file: &Option<NewFile<'_>>) -> u64
+    ensures value { result ≡ needs.file_need file.now }
+    ensures few { result ≤ 1_025 }
+{
+    let Some(file) = file else {
+        return 0;
+    };
+    let outside = outside_of(file.bytes.as_slice());
+    2 * u64::from(block_count(outside.len() as u32)) + 1
+}
+
+/// The most blocks for directories.
+fn directories_need(directories: &[NewDirectory]) -> u64
+    ensures value { result ≡ min (needs.directories_need directories.now) (2 ^ 64 - 1) }
+    ensures proper { All (λ d. IsProper d.content.dir) directories.now }
+{
+    let mut blocks: u64 = 0;
+    for directory in directories {
         let size = identifiers_size(&directory.content);
         blocks = blocks.saturating_add(2 + size / LEAST_USED);
     }
