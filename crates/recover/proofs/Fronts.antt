@@ -1,9 +1,15 @@
 -- The blocks before the partition, as they are read one after another.
-use Rattle.std.proofs.Common.{◌≡◌, ℕ, inl, inr, ◌+◌, ◌<◌, ◌≤◌, List, [], length, take, Some, sym, subst, arith, length-take}
+use Rattle.std.proofs.Common.{◌≡◌, ◌∙◌, ℕ, inl, inr, ◌+◌, ◌<◌, ◌≤◌, List, [], length, take, Some, sym, subst, arith, length-take}
 use Rattle.std.specs.Prelude.{slice_get, slice_index_or}
 use Rattle.std.proofs.lemmas.Bool.{cases_lt}
 use Rattle.std.proofs.lemmas.List.{get_or-take}
 use Rattle.std.proofs.lemmas.Option.{get_or_from_slice_get}
+use Rattle.ecma.specs.FirstFault.{IsFirst}
+use Rattle.ecma.proofs.Faults.{no_fault}
+use Rattle.volume.specs.declared.front.Front.{Front}
+use Rattle.volume.specs.declared.read.VolumeFault.{VolumeFault}
+use Rattle.volume.specs.Reading.{Tells, word_rules}
+use Rattle.volume.proofs.ReadingLaws.{front_tells, one_told}
 use Rattle.volume.specs.Front.{IsFront, IsFrontBlock}
 
 -- those below an address are the front's
@@ -32,3 +38,27 @@ module _ (label : List ℕ) (moment capacity : ℕ) (medium : List (List ℕ)) w
     count = (let e : length (take 257 medium) ≡ 257 = omega (arith, length-take 257 medium) in e);
     each = λ n lt. subst (λ (b : List ℕ). IsFrontBlock label moment capacity n b) (sym (get_or-take 257 medium n [] lt)) (seen n lt);
   }
+
+  -- the descriptors of a front tell it
+  told_front : (primary partition : List ℕ) → slice_get medium 32 ≡ Some primary → slice_get medium 34 ≡ Some partition → IsFront label moment capacity (take 257 medium)
+      → Tells (record { label = label; moment = moment; capacity = capacity }) primary partition
+  told_front primary partition first second is =
+      let a : slice_index_or (take 257 medium) 32 [] ≡ primary = get_or-take 257 medium 32 [] (omega arith) ∙ get_or_from_slice_get medium 32 primary [] first in
+      let b : slice_index_or (take 257 medium) 34 [] ≡ partition = get_or-take 257 medium 34 [] (omega arith) ∙ get_or_from_slice_get medium 34 partition [] second in
+      subst (λ (x : List ℕ). Tells (record { label = label; moment = moment; capacity = capacity }) x partition) a
+      (subst (λ (x : List ℕ). Tells (record { label = label; moment = moment; capacity = capacity }) (slice_index_or (take 257 medium) 32 []) x) b
+      (front_tells (record { label = label; moment = moment; capacity = capacity }) (take 257 medium) is))
+
+  -- blocks whose descriptors tell no front are none
+  pub no_words : (primary partition : List ℕ) (fault : VolumeFault) → slice_get medium 32 ≡ Some primary → slice_get medium 34 ≡ Some partition → IsFirst (word_rules primary partition) fault
+      → IsFront label moment capacity (take 257 medium) → ⊥
+  no_words primary partition fault first second told is =
+      no_fault (word_rules primary partition) fault told (told_front primary partition first second is).rules
+
+  -- and no other
+  pub no_block : (front : Front) (primary partition : List ℕ) (n : ℕ) (block : List ℕ) → slice_get medium 32 ≡ Some primary → slice_get medium 34 ≡ Some partition → Tells front primary partition
+      → n < 257 → slice_get medium n ≡ Some block → (IsFrontBlock front.label front.moment front.capacity n block → ⊥) → IsFront label moment capacity (take 257 medium) → ⊥
+  no_block front primary partition n block first second tells lt there never is =
+      let same = one_told (record { label = label; moment = moment; capacity = capacity }) front primary partition (told_front primary partition first second is) tells in
+      let here = subst (λ (b : List ℕ). IsFrontBlock label moment capacity n b) (get_or-take 257 medium n [] lt ∙ get_or_from_slice_get medium n block [] there) (is.each n lt) in
+      never (subst (λ (f : Front). IsFrontBlock f.label f.moment f.capacity n block) same here)

@@ -1,5 +1,5 @@
 -- What is kept by a state that was read back from a medium, and what it says.
-use Rattle.std.specs.Prelude.{◌≡◌, ℕ, ◌+◌, ◌-◌, ◌*◌, ◌≤◌, List, length, take, Option, Some, slice_get}
+use Rattle.std.specs.Prelude.{◌≡◌, ℕ, ◌+◌, ◌-◌, ◌*◌, ◌≤◌, ⊤, List, length, take, Option, Some, slice_get}
 use Rattle.icb.specs.FileSet.{IsFileSet}
 use Rattle.model.specs.Graph.{MakesTree}
 use Rattle.model.specs.Identities.{HasIdentities}
@@ -10,6 +10,9 @@ use Rattle.udf.specs.Said.{said_table}
 use Rattle.udf.specs.Udf.{udf}
 use Rattle.vat.specs.declared.table.Vat.{Vat}
 use Rattle.vat.specs.Table.{IsTableAt, view}
+use Rattle.volume.specs.Front.{IsFront}
+use Rattle.recover.specs.declared.fault.StoreFault.{StoreFault}
+use Rattle.recover.specs.declared.fault.StoreFault.TheVariants.{Device, Damaged}
 use Rattle.recover.specs.declared.state.State.{State}
 
 -- the table counts the root, and no more commits and unique IDs than the blocks below its entry leave room for
@@ -28,6 +31,12 @@ pub record IsSound (at capacity : ℕ) (state : State) : Type 0 where
   pub counted : IsCounted at state.vat
   -- each node has an entry beside that of the file set
   pub nodes : 1 + (state.vat.files + state.vat.directories) ≤ length state.vat.entries.items
+
+-- why no front was read from these blocks
+abbrev pub IsFrontRefused : List (List ℕ) → StoreFault → Type 0
+IsFrontRefused blocks Device = ⊤
+IsFrontRefused blocks (Damaged block cause) = (cause ≡ 71) × ((label : List ℕ) (moment capacity : ℕ) → IsFront label moment capacity blocks → ⊥)
+IsFrontRefused blocks _ = ⊥
 
 -- the file set descriptor has virtual address 0, and this label and moment
 pub record HasFileSet (medium : List (List ℕ)) (entries : List (Option ℕ)) (label : List ℕ) (moment : ℕ) : Type 0 where

@@ -1,10 +1,10 @@
 //! The state that stands where a table's entry does.
 
-ghost use Rattle.std.specs.Prelude.{◌≡◌, ◌<◌, ◌≤◌, ◌+◌, IsTrue, IfOk, OnOk, take};
+ghost use Rattle.std.specs.Prelude.{◌≡◌, ◌<◌, ◌≤◌, ◌+◌, IsTrue, IfOk, IfErr, OnOk, take};
 ghost use Rattle.drive.specs.Journal.{held, next_of};
 ghost use Rattle.volume.specs.Front.{IsFront};
 ghost use Rattle.recover.specs.Faults.{Counts, devices};
-ghost use Rattle.recover.specs.State.{HasFileSet, HasTree, IsCounted, IsShown, IsSound};
+ghost use Rattle.recover.specs.State.{HasFileSet, IsFrontRefused, HasTree, IsCounted, IsShown, IsSound};
 
 use crate::cause;
 use crate::fault::{StoreFault, damaged};
@@ -76,6 +76,7 @@ pub fn state_at<D: Drive>(alloc: Global, drive: &mut D, at: u32) -> Result<State
 fn read_front<D: Drive>(drive: &mut D) -> Result<Front, StoreFault>
     requires within { 257 ≤ next_of (D.journal drive.old) }
     ensures front { IfOk result (λ front. IsTrue (D.honest drive.new) → IsFront front.label front.moment front.capacity (take 257 (held (D.journal drive.old)))) }
+    ensures refused { IfErr result (λ fault. IsTrue (D.honest drive.new) → IsFrontRefused (take 257 (held (D.journal drive.old))) fault) }
     ensures limits { IfOk result (λ front. (512 ≤ front.capacity) × (front.capacity ≤ 450_000)) }
     ensures journal { D.journal drive.new ≡ D.journal drive.old }
     ensures capacity { D.capacity drive.new ≡ D.capacity drive.old }

@@ -1,8 +1,25 @@
-use Rattle.std.proofs.Common.{◌≡◌, ◌<◌, ◌≤◌, ◌∙◌, subst, length, arith, rules}
-use Rattle.drive.specs.Journal.{held, next_of}
-use Rattle.recover.proofs.Fronts.{BeginsFront, more_front, whole_front}
+use Rattle.std.proofs.Common.{◌≡◌, ◌<◌, ◌≤◌, ◌∙◌, List, refl, sym, subst, length, arith, rules}
+use Rattle.std.proofs.lemmas.Option.{none-some}
+use Rattle.drive.specs.Journal.{Event, held, next_of}
+use Rattle.recover.proofs.Fronts.{BeginsFront, more_front, no_block, no_front, no_words, whole_front}
 use Rattle.recover.proofs.Held.{held_at, length-held}
 use Rattle.recover.proofs.state.read_front.Goals as goal
+
+pub loop-n-init : goal.loop-n-init
+loop-n-init g c = record {
+  seen = λ h. no_front _ _ _ _;
+  words = λ h. (
+    c.in_ok-primary.primary,
+    c.in_ok-partition.partition,
+    c.in_ok-primary.ensures.read (c.read_block-2.ensures.honest h),
+    rw c.read_block.ensures.journal at (c.in_ok-partition.ensures.read h),
+    c.in-Ok.ensures.tells,
+  );
+  journal = c.read_block-2.ensures.journal ∙ c.read_block.ensures.journal;
+  capacity = c.read_block-2.ensures.capacity ∙ c.read_block.ensures.capacity;
+  honest = λ h. c.read_block.ensures.honest (c.read_block-2.ensures.honest h);
+  failures = search rules;
+}
 
 pub loop-n-preserved : goal.loop-n-preserved
 loop-n-preserved g c = record {
@@ -10,6 +27,7 @@ loop-n-preserved g c = record {
       let there = rw (c.loop-n.invariant.journal) at (c.in_ok-block.ensures.read h) in
       let below : c.loop-n.n < next_of (g.D.Drive.journal c.args.drive.now) = omega arith in
       more_front _ _ _ _ _ _ (held_at _ _ _ below there) (c.in-None.ensures.none) (c.loop-n.invariant.seen (c.read_block-in-loop-n.ensures.honest h));
+  words = λ h. c.loop-n.invariant.words (c.read_block-in-loop-n.ensures.honest h);
   journal = c.read_block-in-loop-n.ensures.journal ∙ c.loop-n.invariant.journal;
   capacity = c.read_block-in-loop-n.ensures.capacity ∙ c.loop-n.invariant.capacity;
   honest = λ h. c.loop-n.invariant.honest (c.read_block-in-loop-n.ensures.honest h);
@@ -22,3 +40,29 @@ returns-clause-front g c = λ h.
     let all : c.loop-n.n ≡ 257 = omega arith in
     whole_front _ _ _ _ c.in-Ok.ensures.capacity.0 c.in-Ok.ensures.capacity.1 long
     (subst (λ n. BeginsFront c.in-Ok.front.label c.in-Ok.front.moment c.in-Ok.front.capacity n (held (g.D.Drive.journal c.args.drive.now))) all (c.loop-n.invariant.seen h))
+
+pub returns-in-Err-Field-clause-refused : goal.returns-in-Err-Field-clause-refused
+returns-in-Err-Field-clause-refused g c = rw c.damaged.ensures (λ h. (
+  refl,
+  λ label moment capacity.
+      let J : List Event = g.D.Drive.journal c.args.drive.now in
+      let first : 32 < next_of J = omega (arith, c.requires.within) in
+      let second : 34 < next_of J = omega (arith, c.requires.within) in
+      no_words label moment capacity (held J) c.in_ok-primary.primary c.in_ok-partition.partition _ (held_at J 32 _ first (c.in_ok-primary.ensures.read (c.read_block-2.ensures.honest h)))
+      (held_at J 34 _ second (rw c.read_block.ensures.journal at (c.in_ok-partition.ensures.read h))) c.in-Err-Field.ensures.fault,
+))
+
+pub returns-in-Some-clause-refused : goal.returns-in-Some-clause-refused
+returns-in-Some-clause-refused g c = rw c.damaged-in-Some.ensures (λ h. (
+  refl,
+  λ label moment capacity.
+      let J : List Event = g.D.Drive.journal c.args.drive.now in
+      let first : 32 < next_of J = omega (arith, c.requires.within) in
+      let second : 34 < next_of J = omega (arith, c.requires.within) in
+      let here : c.loop-n.n < next_of J = omega (arith, c.requires.within, c.loop-n-test.true) in
+      let inside : c.loop-n.n < 257 = omega (arith, c.loop-n-test.true) in
+      let words = c.loop-n.invariant.words (c.read_block-in-loop-n.ensures.honest h) in
+      no_block label moment capacity (held J) c.in-Ok.front words.0 words.1 c.loop-n.n c.in_ok-block.block (held_at J 32 _ first words.2) (held_at J 34 _ second words.3)
+      words.4 inside (held_at J c.loop-n.n _ here (rw c.loop-n.invariant.journal at (c.in_ok-block.ensures.read h)))
+      (λ is. none-some c.in-Some.field-0 (sym (c.in-Some.ensures.only is))),
+))

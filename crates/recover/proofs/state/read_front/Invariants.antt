@@ -1,5 +1,6 @@
-use Rattle.std.proofs.Common.{◌≡◌, IsTrue}
-use Rattle.drive.specs.Journal.{held}
+use Rattle.std.proofs.Common.{◌≡◌, ℕ, IsTrue, List, Some}
+use Rattle.volume.specs.Reading.{Tells}
+use Rattle.drive.specs.Journal.{held, last_at}
 use Rattle.recover.specs.Faults.{Counts}
 use Rattle.recover.proofs.Fronts.{BeginsFront}
 use Rattle.recover.proofs.state.read_front.Given as goal
@@ -7,6 +8,7 @@ use Rattle.recover.proofs.state.read_front.Given as goal
 abbrev pub invariant-loop-n : goal.invariant-loop-n
 invariant-loop-n g l = record {
   seen : IsTrue (g.D.Drive.honest l.drive) → BeginsFront l.front.label l.front.moment l.front.capacity l.n (held (g.D.Drive.journal l.fn.drive));
+  words : IsTrue (g.D.Drive.honest l.drive) → (primary : List ℕ) × (partition : List ℕ) × (last_at (g.D.Drive.journal l.fn.drive) 32 ≡ Some primary) × (last_at (g.D.Drive.journal l.fn.drive) 34 ≡ Some partition) × Tells l.front primary partition;
   journal : g.D.Drive.journal l.drive ≡ g.D.Drive.journal l.fn.drive;
   capacity : g.D.Drive.capacity l.drive ≡ g.D.Drive.capacity l.fn.drive;
   honest : IsTrue (g.D.Drive.honest l.drive) → IsTrue (g.D.Drive.honest l.fn.drive);
