@@ -10,6 +10,7 @@ pub mod EntryChanges
 pub mod FileBytes
 pub mod FormatJournals
 pub mod Histories
+pub mod Keeping
 pub mod Names
 pub mod NewVolumes
 pub mod NextSizes

@@ -11,7 +11,7 @@ use Rattle.store.specs.declared.placed.PlacedDirectory.{PlacedDirectory}
 use Rattle.store.specs.declared.change.NewDirectory.{NewDirectory}
 use Rattle.store.specs.declared.plan.Plan.{Plan}
 use Rattle.store.specs.Needs.{directory_need, directories_need}
-use Rattle.store.specs.Plan.{directory_list, directories_list, directories_writings, directories_written, node_list, table_data, plan_blocks, IsPlan}
+use Rattle.store.specs.Plan.{directory_list, directories_list, directories_writings, directories_written, node_list, table_data, plan_blocks, IsLaid, AreLaid, IsPlan}
 use Rattle.store.specs.Writings.{directory_writing}
 use Rattle.store.proofs.Writings.{writes_one, writes-append}
 
@@ -43,6 +43,11 @@ written_push ps p start now at w one =
     subst (λ (ws : List Writing). WritesNodes udf ws start (directories_list (ps ++ p ∷ [])) (directories_written (ps ++ p ∷ []))) (sym (writings_push ps p))
     (subst (λ (bs : List Block). WritesNodes udf (directories_writings ps ++ directory_writing p.directory ∷ []) start bs (directories_written (ps ++ p ∷ []))) (sym (list_push ps p))
     (subst (λ (ws : List Written). WritesNodes udf (directories_writings ps ++ directory_writing p.directory ∷ []) start (directories_list ps ++ directory_list p) ws) (sym (numbers_push ps p)) all))
+
+pub laid_push : (ps : List PlacedDirectory) (p : PlacedDirectory) (start now : ℕ) → now ≡ start + length (directories_list ps) → AreLaid start ps → IsLaid now p → AreLaid start (ps ++ p ∷ [])
+laid_push [] p start now at laid one = (subst (λ n. IsLaid n p) (let begins : now ≡ start = omega (arith, at) in begins) one, tt)
+laid_push (x ∷ ps) p start now at laid one =
+    (laid.0, laid_push ps p (start + length (directory_list x)) now (omega (arith, at, length-append (directory_list x) (directories_list ps))) laid.1 one)
 
 -- ---- the directories so far
 

@@ -55,12 +55,18 @@ counts_agree n (e ∷ es) =
 pub links_agree : (parent : ℕ) (es : List (List ℕ × Entry)) → links_of es ≡ links_in (Entries parent (said_entries es))
 links_agree parent es = ap (λ n. 1 + n) (counts_agree 0 es)
 
+-- a directory's blocks are its data
+pub laid_there : (d : Dir) (first size : ℕ) → d.parent < 2 ^ 32 → length d.entries.entries ≤ 512 → IsProper d → size ≡ directory_size d → IsDirectory d.parent d.entries.entries first size (directory_blocks d first)
+laid_there d first size low few proper same =
+    let es = d.entries.entries in
+    let laid_size : length (laid first 0 (identifiers d.parent es)) ≡ size = data_sized first d.parent es proper.named ∙ sym (data_sized 0 d.parent es proper.named) ∙ sym same in
+    subst (λ n. IsDirectory d.parent es first n (directory_blocks d first)) laid_size (laid_directory d.parent first es low few proper.named proper.distinct)
+
 pub holds_directory : (d : Dir) (first size : ℕ) → d.parent < 2 ^ 32 → length d.entries.entries ≤ 512 → IsProper d → first ≤ 449_743 → size ≡ directory_size d
     → HoldsDirectory d.parent (said_entries d.entries.entries) first size (directory_blocks d first)
 holds_directory d first size low few proper room same =
     let es = d.entries.entries in
-    let laid_size : length (laid first 0 (identifiers d.parent es)) ≡ size = data_sized first d.parent es proper.named ∙ sym (data_sized 0 d.parent es proper.named) ∙ sym same in
-    let is = subst (λ n. IsDirectory d.parent es first n (directory_blocks d first)) laid_size (laid_directory d.parent first es low few proper.named proper.distinct) in
+    let is = laid_there d first size low few proper same in
     (directories_agree d.parent first size es (directory_blocks d first) (directory_bytes d.parent first es proper.named) room).0 is
 
 -- ---- nodes one behind another

@@ -19,16 +19,19 @@ use Rattle.udf.specs.Udf.{udf, spelled}
 use Rattle.udf.specs.Said.{said_table}
 use Rattle.vat.specs.Table.{view}
 use Rattle.store.specs.declared.store.Store.{Store}
+use Rattle.store.specs.Cache.{AreKept}
 use Rattle.store.specs.Asked.{is_directory, said_names}
 use Rattle.store.specs.Sessions.{reply_said}
 
--- The state stands on the journal, in which each address is written once, and the store keeps what the last table says.
+-- The state stands on the journal, in which each address is written once, and the store keeps what the last table says,
+-- and directories that lie there.
 pub record Knows (capacity volume : ℕ) (journal : List Event) (S : State) (store : Store) : Type 0 where
   pub once : Once journal
   pub stands : Stands udf capacity volume (held journal) S
   pub at : store.at ≡ stands.at
   pub table : said_table (view store.vat) ≡ stands.tells.table
   pub capacity_is : store.capacity ≡ volume
+  pub kept : AreKept journal store.directories
 
 -- so it does as long as it is not stopped
 abbrev pub StillKnows : (capacity volume : ℕ) → List Event → State → Store → Type 0

@@ -1,6 +1,7 @@
 -- The blocks that a planned commit writes.
-use Rattle.std.specs.Prelude.{◌≡◌, ℕ, ◌+◌, ◌-◌, ◌<◌, ◌≤◌, List, [], ◌∷◌, ◌++◌, length, replicate, Option, Some, None}
-use Rattle.dir.specs.Directory.{directory_blocks}
+use Rattle.std.specs.Prelude.{◌≡◌, ℕ, ◌+◌, ◌-◌, ◌<◌, ◌≤◌, ⊤, List, [], ◌∷◌, ◌++◌, length, replicate, Option, Some, None}
+use Rattle.std.specs.Int.{div_ceil}
+use Rattle.dir.specs.Directory.{directory_blocks, IsDirectory}
 use Rattle.medium.specs.Formats.{Fields}
 use Rattle.medium.specs.Formats.Kind.{Table}
 use Rattle.medium.specs.Formats.Place.{Extent}
@@ -34,6 +35,17 @@ directory_list p = directory_data p ++ p.entry ∷ []
 abbrev pub directories_list : List PlacedDirectory → List (List ℕ)
 directories_list [] = []
 directories_list (p ∷ ps) = directory_list p ++ directories_list ps
+
+-- the directory's data lie in its extent, which begins at a block number
+pub record IsLaid (from : ℕ) (p : PlacedDirectory) : Type 0 where
+  pub first : p.extent.first ≡ from
+  pub blocks : length (directory_data p) ≡ div_ceil p.extent.size 2048
+  pub is : IsDirectory p.directory.content.dir.parent p.directory.content.dir.entries.entries p.extent.first p.extent.size (directory_data p)
+
+-- the directories lie one behind the other
+abbrev pub AreLaid : ℕ → List PlacedDirectory → Type 0
+AreLaid from [] = ⊤
+AreLaid from (p ∷ ps) = IsLaid from p × AreLaid (from + length (directory_list p)) ps
 
 abbrev pub table_data : PlacedTable → List (List ℕ)
 table_data t = replicate t.gap zeros ++ packed t.bytes.items
@@ -85,6 +97,7 @@ pub record IsPlan (next capacity : ℕ) (p : Plan) : Type 0 where
   pub begins : p.writer.packets ≡ record { at = next; blocks = [] }
   pub low : 257 ≤ next
   pub nodes : WritesNodes udf (plan_writings p) (next - 257) (node_list p) (plan_written p)
+  pub laid : AreLaid (next - 257 + length (file_list p.file)) p.directories.items
   pub table : IsTablePlaced (next - 257 + length (node_list p)) p.moment p.table
   pub fits : p.table.at < capacity
   pub keeps : Keeps p.table.at p.table.vat

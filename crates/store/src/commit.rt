@@ -1,10 +1,11 @@
 //! A commit: what is planned is written, and then kept.
 
 ghost use Rattle.std.specs.Prelude.{◌≡◌, ◌+◌, ◌<◌, ◌≤◌, ◌^◌, ◌++◌, ◌⊎◌, [], ◌∷◌, false, true, Err, is_err, length, IsTrue, IfOk, OnOk, OnErr};
-ghost use Rattle.drive.specs.Journal.{next_of, written, AddsFront, counted};
+ghost use Rattle.drive.specs.Journal.{Once, next_of, written, AddsFront, counted};
 ghost use Rattle.drive.specs.Waiting.{end_of, Takes, Stops};
 ghost use Rattle.recover.specs.Faults.{Counts, devices};
 ghost use Rattle.store.specs.Agrees.{Agrees};
+ghost use Rattle.store.specs.Cache.{AreKept};
 ghost use Rattle.store.specs.Plan.{IsPlan, file_list, directory_list, directories_list, table_data, plan_blocks};
 ghost use Rattle.store.specs.Putting.{WritesPlan, StopsInPlan};
 ghost use Rattle.store.specs.TableChange.{IsNext};
@@ -112,6 +113,7 @@ impl Plan<'_> {
         requires plan { IsPlan (next_of (D.journal drive.old)) (D.capacity drive.old) self.old }
         ensures ok { OnOk result (D.journal drive.new ≡ D.journal drive.old ++ written (next_of (D.journal drive.old)) (plan_blocks self.old)) }
         ensures err { OnErr result (AddsFront (D.journal drive.old) (next_of (D.journal drive.old)) (plan_blocks self.old) (D.journal drive.new)) }
+        ensures directories { self.new.directories.items ≡ self.old.directories.items }
         ensures table { self.new.table ≡ self.old.table }
         ensures reply { self.new.reply ≡ self.old.reply }
         ensures capacity { D.capacity drive.new ≡ D.capacity drive.old }
@@ -189,6 +191,7 @@ impl Store {
         ensures vat { OnOk result (self.new.vat ≡ plan.entry.table.vat) }
         ensures written { OnOk result (D.journal drive.new ≡ D.journal drive.old ++ written (next_of (D.journal drive.old)) (plan_blocks plan.entry)) }
         ensures front { OnErr result (AddsFront (D.journal drive.old) (next_of (D.journal drive.old)) (plan_blocks plan.entry) (D.journal drive.new)) }
+        ensures kept { Once (D.journal drive.old) → AreKept (D.journal drive.old) self.old.directories → AreKept (D.journal drive.new) self.new.directories }
         ensures stopped { self.new.is_stopped ≡ is_err result }
         ensures capacity { D.capacity drive.new ≡ D.capacity drive.old }
         ensures honest { IsTrue (D.honest drive.new) → IsTrue (D.honest drive.old) }

@@ -8,7 +8,7 @@ ghost use Rattle.dir.specs.Directory.{directory_blocks, directory_size};
 ghost use Rattle.medium.specs.Plan.{packed, IsClearStart, IsPlaced, PlacesFile, WritesNode};
 ghost use Rattle.recover.specs.Faults.{devices};
 ghost use Rattle.store.specs.Outside.{outside};
-ghost use Rattle.store.specs.Plan.{file_data, directory_data};
+ghost use Rattle.store.specs.Plan.{file_data, directory_data, IsLaid};
 ghost use Rattle.store.specs.Writings.{IsProper, file_writing, directory_writing};
 ghost use Rattle.udf.specs.Said.{said_place};
 ghost use Rattle.udf.specs.Udf.{udf};
@@ -115,6 +115,7 @@ impl Numbers {
     ) -> Result<PlacedDirectory, StoreFault>
         requires proper { IsProper directory.content.dir }
         ensures directory { IfOk result (λ p. p.directory ≡ directory) }
+        ensures laid { IfOk result (IsLaid self.old.next) }
         ensures written { IfOk result (λ p. WritesNode udf (directory_writing p.directory) self.old.next (directory_data p ++ p.entry ∷ []) p.number) }
         ensures next { IfOk result (λ p. self.new.next ≡ p.number + 1) }
         ensures end { self.new.end ≡ self.old.end }

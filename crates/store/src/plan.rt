@@ -16,7 +16,7 @@ ghost use Rattle.recover.specs.Faults.{Counts, devices};
 ghost use Rattle.store.specs.Agrees.{Agrees, Keeps};
 ghost use Rattle.store.specs.Below.{AreBelow};
 ghost use Rattle.store.specs.Needs as needs;
-ghost use Rattle.store.specs.Plan.{IsPlan, IsTablePlaced, file_list, file_writings, file_written, directories_list, directories_writings, directories_written, plan_writings};
+ghost use Rattle.store.specs.Plan.{IsPlan, IsTablePlaced, AreLaid, file_list, file_writings, file_written, directories_list, directories_writings, directories_written, plan_writings};
 ghost use Rattle.store.specs.TableChange.{IsNext};
 ghost use Rattle.store.specs.Writings.{IsProper, new_file, new_directories, change_writings};
 
@@ -273,6 +273,7 @@ fn place_directories(
     ensures commits { OnOk result (vat.new.sessions.commits ≡ vat.old.sessions.commits) }
     ensures unique { OnOk result (vat.new.sessions.next_unique ≡ vat.old.sessions.next_unique) }
     ensures writings { IfOk result (λ placed. directories_writings placed.items ≡ new_directories directories.items) }
+    ensures laid { IfOk result (λ placed. AreLaid numbers.old.next placed.items) }
     ensures written { IfOk result (λ placed. WritesNodes udf (directories_writings placed.items) numbers.old.next (directories_list placed.items) (directories_written placed.items)) }
     ensures next { IfOk result (λ placed. numbers.new.next ≡ numbers.old.next + length (directories_list placed.items)) }
     ensures end { numbers.new.end ≡ numbers.old.end }

@@ -3,6 +3,7 @@
 ghost use Rattle.std.specs.Prelude.{◌≡◌, ◌≤◌, IsTrue, IfOk, false};
 ghost use Rattle.recover.specs.Faults.{Counts, devices};
 ghost use Rattle.store.specs.Agrees.{Agrees};
+ghost use Rattle.store.specs.Cache.{AreKept};
 
 use crate::directories::Directories;
 use crate::nodes::Nodes;
@@ -28,6 +29,7 @@ impl Store {
     /// The volume on a drive, as its last table says. Nothing is written.
     pub fn open<D: Drive>(alloc: Global, drive: &mut D) -> Result<Store, StoreFault>
         ensures agrees { IfOk result (Agrees (D.journal drive.old) (D.capacity drive.old)) }
+        ensures kept { IfOk result (λ store. AreKept (D.journal drive.new) store.directories) }
         ensures stopped { IfOk result (λ store. store.is_stopped ≡ false) }
         ensures journal { D.journal drive.new ≡ D.journal drive.old }
         ensures capacity { D.capacity drive.new ≡ D.capacity drive.old }

@@ -5,11 +5,11 @@ use Rattle.medium.specs.Plan.{Writing, WritesNodes}
 use Rattle.udf.specs.Udf.{udf}
 use Rattle.store.specs.declared.change.NewDirectory.{NewDirectory}
 use Rattle.store.specs.declared.placed.PlacedDirectory.{PlacedDirectory}
-use Rattle.store.specs.Plan.{directory_list, directories_list, directories_writings, directories_written}
+use Rattle.store.specs.Plan.{AreLaid, directory_list, directories_list, directories_writings, directories_written}
 use Rattle.store.specs.Writings.{IsProper, directory_writing, new_directories}
 use Rattle.store.proofs.BelowLemmas.{below_later}
 use Rattle.store.proofs.Names.{all_next, nothing}
-use Rattle.store.proofs.Plans.{list_push, writings_push, written_push}
+use Rattle.store.proofs.Plans.{list_push, writings_push, written_push, laid_push}
 use Rattle.store.proofs.Writings.{node_ends}
 use Rattle.store.proofs.plan.place_directories.Goals as goal
 
@@ -33,6 +33,7 @@ loop-directory-init c =
       commits = refl;
       unique = refl;
       written = subst (λ (ps : List PlacedDirectory). WritesNodes udf (directories_writings ps) start (directories_list ps) (directories_written ps)) (sym none) (refl, refl);
+      laid = subst (λ (ps : List PlacedDirectory). AreLaid start ps) (sym none) tt;
       next = subst (λ (ps : List PlacedDirectory). start ≡ start + length (directories_list ps)) (sym none) (omega arith);
       end = refl;
     }
@@ -72,6 +73,7 @@ loop-directory-preserved c =
       commits = c.place_node.ensures.commits ∙ c.loop-directory.invariant.commits;
       unique = c.place_node.ensures.unique ∙ c.loop-directory.invariant.unique;
       written = subst (λ (ps : List PlacedDirectory). WritesNodes udf (directories_writings ps) start (directories_list ps) (directories_written ps)) pushed (written_push all p start now c.loop-directory.invariant.next c.loop-directory.invariant.written c.in_ok-placed.ensures.written);
+      laid = subst (λ (ps : List PlacedDirectory). AreLaid start ps) pushed (laid_push all p start now c.loop-directory.invariant.next c.loop-directory.invariant.laid c.in_ok-placed.ensures.laid);
       next = subst (λ (ps : List PlacedDirectory). next ≡ start + length (directories_list ps)) pushed (omega (arith, ends, c.in_ok-placed.ensures.next, c.loop-directory.invariant.next, ap length (list_push all p), length-append (directories_list all) (directory_list p)));
       end = c.in_ok-placed.ensures.end ∙ c.loop-directory.invariant.end;
     }

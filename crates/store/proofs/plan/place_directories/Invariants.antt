@@ -5,7 +5,7 @@ use Rattle.medium.specs.Plan.{WritesNodes}
 use Rattle.udf.specs.Udf.{udf}
 use Rattle.vat.specs.Table.{Fits, view}
 use Rattle.store.specs.Below.{AreBelow}
-use Rattle.store.specs.Plan.{directories_list, directories_writings, directories_written}
+use Rattle.store.specs.Plan.{AreLaid, directories_list, directories_writings, directories_written}
 use Rattle.store.specs.Writings.{IsProper, new_directories}
 use Rattle.store.proofs.plan.place_directories.Given as goal
 
@@ -21,6 +21,7 @@ invariant-loop-directory l = record {
   commits : l.vat.sessions.commits ≡ l.fn.vat.sessions.commits;
   unique : l.vat.sessions.next_unique ≡ l.fn.vat.sessions.next_unique;
   written : WritesNodes udf (directories_writings l.all.items) l.fn.numbers.next (directories_list l.all.items) (directories_written l.all.items);
+  laid : AreLaid l.fn.numbers.next l.all.items;
   next : l.numbers.next ≡ l.fn.numbers.next + length (directories_list l.all.items);
   end : l.numbers.end ≡ l.fn.numbers.end;
 }

@@ -1,10 +1,11 @@
-use Rattle.std.proofs.Common.{◌≡◌, ◌+◌, ◌/◌, ◌++◌, ◌∷◌, ◌∙◌, [], length, sym, subst, arith, ap}
+use Rattle.std.proofs.Common.{◌≡◌, ◌+◌, ◌/◌, ◌++◌, ◌∷◌, ◌∙◌, [], length, refl, sym, subst, arith, ap, rules}
 use Rattle.std.specs.Int.{div_ceil}
 use Rattle.dir.specs.Directory.{directory_size, directory_blocks}
 use Rattle.dir.specs.Layout.{blocks_of}
 use Rattle.medium.specs.Plan.{WritesNode}
 use Rattle.udf.specs.Udf.{udf}
 use Rattle.store.specs.Writings.{directory_writing}
+use Rattle.store.proofs.Writings.{laid_there}
 use Rattle.store.proofs.places.Numbers.place_directory.Goals as goal
 
 pub directory_entry-entry-requires-clause-size : goal.directory_entry-entry-requires-clause-size
@@ -34,3 +35,15 @@ returns-clause-written c =
     let from = c.args.self.now.next in
     let number : from + div_ceil c.bytes.result 2048 ≡ c.take.new.self.next = omega (arith, blocks, c.in_ok-take.ensures.next) in
     subst (λ n. WritesNode udf (directory_writing c.args.directory) from (directory_blocks c.args.directory.content.dir from ++ c.directory_entry-entry.result ∷ []) n) number c.directory_entry-entry.ensures
+
+pub returns-clause-laid : goal.returns-clause-laid
+returns-clause-laid c =
+    let dir = c.args.directory.content.dir in
+    let from = c.args.self.now.next in
+    let size : c.bytes.result ≡ directory_size dir = c.bytes.ensures ∙ c.data_size-size.ensures.size in
+    let count : length (directory_blocks dir from) ≡ (c.bytes.result + 2047) / 2048 = c.data_size-size.ensures.blocks from ∙ ap blocks_of (sym size) in
+    record {
+      first = refl;
+      blocks = (let long : length (directory_blocks dir from) ≡ div_ceil c.bytes.result 2048 = omega (arith, count) in long);
+      is = laid_there dir from c.bytes.result (search rules) (search rules) c.requires.proper size;
+    }

@@ -1,10 +1,15 @@
-use Rattle.std.proofs.Common.{◌≡◌, ◌++◌, ◌≤◌, ◌∙◌, true, false, sym, subst, ap, arith}
-use Rattle.std.specs.Prelude.{is_err}
+use Rattle.std.proofs.Common.{◌≡◌, ◌++◌, ◌≤◌, ◌∙◌, List, true, false, refl, sym, subst, ap, arith}
+use Rattle.std.specs.Prelude.{is_err, All}
+use Rattle.std.specs.Vec.Iter.{into_iter_items}
 use Rattle.drive.specs.Journal.{next_of, written, AddsFront}
 use Rattle.store.specs.Plan.{plan_blocks}
 use Rattle.vat.specs.declared.table.Vat.{Vat}
 use Rattle.store.specs.Agrees.{Keeps}
+use Rattle.store.specs.Cache.{LiesThere}
+use Rattle.store.specs.declared.placed.PlacedDirectory.{PlacedDirectory}
 use Rattle.store.specs.declared.plan.PlacedTable.{PlacedTable}
+use Rattle.store.proofs.Keeping.{kept_front, kept_longer, plan_lies}
+use Rattle.store.proofs.Names.{all_next}
 use Rattle.store.proofs.Plans.{plan_ends}
 use Rattle.store.proofs.Puttings.{on_err, on_ok, front_ends, writes_ends}
 use Rattle.store.proofs.store.Store.commit.Goals as goal
@@ -60,3 +65,43 @@ returns-clause-written g c =
     let J' = g.D.Drive.journal c.write-written.new.drive in
     let done : is_err c.write-written.result ≡ false = sym c.is_err.ensures.value ∙ c.if-is_err.false in
     on_ok c.write-written.result (J' ≡ J ++ written (next_of J) (plan_blocks c.args.plan)) done c.write-written.ensures.ok
+
+pub returns-then-is_err-clause-kept : goal.returns-then-is_err-clause-kept
+returns-then-is_err-clause-kept g c once kept =
+    let J = g.D.Drive.journal c.args.drive.now in
+    let J' = g.D.Drive.journal c.write-written.new.drive in
+    let failed : is_err c.write-written.result ≡ true = sym c.is_err.ensures.value ∙ c.if-is_err.true in
+    let front = on_err c.write-written.result (AddsFront J (next_of J) (plan_blocks c.args.plan) J') failed c.write-written.ensures.err in
+    kept_front J J' (plan_blocks c.args.plan) c.args.self.now.directories front once kept
+
+pub loop-placed-init : goal.loop-placed-init
+loop-placed-init g c = record {
+  at = refl;
+  capacity = refl;
+  vat = refl;
+  stopped = refl;
+  kept = λ journal lie kept.
+      let same : c.args.plan.directories.items ≡ into_iter_items c.into_iter-placed-iterator.result = sym (c.into_iter-placed-iterator.ensures.into_iter_gives.0 ∙ c.write-written.ensures.directories) in
+      (subst (λ (ps : List PlacedDirectory). All (λ (p : PlacedDirectory). LiesThere journal p.extent p.directory.content) ps) same lie, kept);
+}
+
+pub loop-placed-preserved : goal.loop-placed-preserved
+loop-placed-preserved g c = record {
+  at = c.loop-placed.invariant.at;
+  capacity = c.loop-placed.invariant.capacity;
+  vat = c.loop-placed.invariant.vat;
+  stopped = c.loop-placed.invariant.stopped;
+  kept = λ journal lie kept.
+      let before = c.loop-placed.invariant.kept journal lie kept in
+      let next = all_next (λ (p : PlacedDirectory). LiesThere journal p.extent p.directory.content) (into_iter_items c.loop-placed.placed-iterator) (into_iter_items c.next.new.self) c.in-Some.placed c.in-Some.ensures.steps.0 before.0 in
+      (next.1, c.keep.ensures journal next.0 before.1);
+}
+
+pub returns-clause-kept : goal.returns-clause-kept
+returns-clause-kept g c once kept =
+    let J = g.D.Drive.journal c.args.drive.now in
+    let J' = g.D.Drive.journal c.write-written.new.drive in
+    let done : is_err c.write-written.result ≡ false = sym c.is_err.ensures.value ∙ c.if-is_err.false in
+    let all = on_ok c.write-written.result (J' ≡ J ++ written (next_of J) (plan_blocks c.args.plan)) done c.write-written.ensures.ok in
+    let longer = kept_longer J J' (plan_blocks c.args.plan) once all c.args.self.now.directories kept in
+    (c.loop-placed.invariant.kept J' (plan_lies J J' once (g.D.Drive.capacity c.args.drive.now) c.args.plan c.requires.plan all) longer).1

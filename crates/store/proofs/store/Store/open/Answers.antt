@@ -23,3 +23,6 @@ returns-clause-agrees g c =
       most = sound.high;
       fits = omega (arith, sound.fits, c.last.ensures.capacity);
     }
+
+pub returns-clause-kept : goal.returns-clause-kept
+returns-clause-kept g c = c.in_ok-new.ensures.kept (g.D.Drive.journal c.state_at.new.drive)

@@ -6,7 +6,7 @@ use Rattle.udf.specs.Udf.{udf}
 use Rattle.vat.specs.declared.table.Vat.{Vat}
 use Rattle.vat.specs.Table.{Fits, view}
 use Rattle.store.specs.Below.{AreBelow}
-use Rattle.store.specs.Plan.{IsTablePlaced, file_list, file_writings, file_written, directories_list, directories_writings, directories_written}
+use Rattle.store.specs.Plan.{AreLaid, IsTablePlaced, file_list, file_writings, file_written, directories_list, directories_writings, directories_written}
 use Rattle.store.specs.Writings.{new_file}
 use Rattle.store.proofs.BelowLemmas.{below_later}
 use Rattle.store.proofs.Plans.{length-padded}
@@ -61,6 +61,7 @@ returns-clause-plan g c =
       begins = c.in_ok-new.ensures ∙ ap (λ (n : ℕ). record { at = n; blocks = [] }) c.in-Ok.ensures.next;
       low = low;
       nodes = subst (λ n. WritesNodes udf (file_writings c.args.moment file ++ directories_writings directories) n nodes (file_written file ++ directories_written directories)) begins both;
+      laid = subst (λ n. AreLaid n directories) (c.in_ok-file.ensures.next ∙ ap (λ n. n + length (file_list file)) begins) c.in_ok-directories.ensures.laid;
       table = subst (λ n. IsTablePlaced n c.args.moment table) size c.in_ok-table.ensures.placed;
       fits = omega (arith, c.in_ok-table.ensures.within, c.in_ok-directories.ensures.end, c.in_ok-file.ensures.end, c.new-numbers.ensures.end, c.requires.agrees.fits, c.requires.agrees.least);
       keeps = record {
