@@ -1,3 +1,6 @@
+pub mod Holding
+pub mod Calling
+pub mod Running
 pub mod Messages
 pub mod Delivering
 pub mod Pieces

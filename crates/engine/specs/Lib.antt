@@ -3,3 +3,7 @@ pub mod Answered
 pub mod Streams
 pub mod Served
 pub mod Delivered
+pub mod Said
+pub mod Steps
+pub mod Called
+pub mod Headline

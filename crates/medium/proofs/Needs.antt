@@ -69,11 +69,11 @@ content_names (Bytes bytes) = refl
 content_names (Entries parent entries) = refl
 
 module _ (formats : Formats) (spelled : Name → ℕ) (short : AreShort formats spelled) where
-  abbrev most_for_body : Body → ℕ
+  abbrev pub most_for_body : Body → ℕ
   most_for_body (Bytes bytes) = most_for_file bytes
   most_for_body (Entries parent entries) = most_for_directory spelled (map (λ e. e.name) entries)
 
-  abbrev most_for_all : List Writing → ℕ
+  abbrev pub most_for_all : List Writing → ℕ
   most_for_all [] = 0
   most_for_all (node ∷ nodes) = most_for_body node.stored.body + most_for_all nodes
 

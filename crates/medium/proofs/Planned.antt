@@ -282,7 +282,7 @@ module _ (formats : Formats) (capacity volume : ℕ) (exact : AreExact formats) 
       let whole_path : parent_of path ++ e.name ∷ [] ≡ path = ap (λ (ns : Path). parent_of path ++ ns) (sym last) ∙ take-append-drop (length path - 1) path in
       subst (λ p. Reach graph p e.address) whole_path (reach_more graph (parent_of path) 1 above.address e.name e.address above.reach (above.stored, above.is, e, contains, refl, refl))
 
-  above_zero : (a : ℕ) → IsReached graph a → 1 ≤ a
+  pub above_zero : (a : ℕ) → IsReached graph a → 1 ≤ a
   above_zero zero reached = absurd (not_zero reached)
   above_zero (suc a) reached = omega arith
 
@@ -557,7 +557,7 @@ module _ (formats : Formats) (capacity volume : ℕ) (exact : AreExact formats) 
         subst (λ (M : Medium). IsWithin M p.first (length p.bytes) × (extent M p.first (length p.bytes) ≡ packed p.bytes)) whole
         (placed_extent formats (B ++ p.node_blocks) p.bytes (start + length p.node_blocks) p.first p.table_blocks [] (omega (arith, low, length-append B p.node_blocks)) (omega (arith, low, length-append B p.node_blocks)) p.placed)
 
-    has_table : HasTable formats (B ++ blocks) (length B + length blocks) mark p.table (after_one S r).moment
+    pub has_table : HasTable formats (B ++ blocks) (length B + length blocks) mark p.table (after_one S r).moment
     has_table = record {
       fields = record { kind = TableEntry; moment = r.moment; links = 0; identity = 0; size = length p.bytes; place = Extent p.first };
       kind = refl;

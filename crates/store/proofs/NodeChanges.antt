@@ -40,7 +40,7 @@ fits_with t files directories next xs fits least most are = record {
   used = are.count;
 }
 
-still_used : (xs : List (Option ℕ)) (i k number : ℕ) → i ≤ length xs → IsUsed k xs → IsUsed k (with_entry i (Some number) xs)
+pub still_used : (xs : List (Option ℕ)) (i k number : ℕ) → i ≤ length xs → IsUsed k xs → IsUsed k (with_entry i (Some number) xs)
 still_used xs i k number le is = go (k == i) refl
   where
     go : (b : Bool) → (k == i) ≡ b → IsUsed k (with_entry i (Some number) xs)

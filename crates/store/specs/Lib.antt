@@ -1,7 +1,13 @@
 pub mod Agrees
+pub mod Asked
 pub mod Below
+pub mod Calls
+pub mod Commits
+pub mod Need
 pub mod Needs
+pub mod NextTable
 pub mod Outside
+pub mod Pieces
 pub mod Plan
 pub mod Putting
 pub mod Queries

@@ -9,6 +9,7 @@ mod commit;
 mod directories;
 mod due;
 mod formatting;
+mod laws;
 mod nodes;
 mod placed;
 mod places;
@@ -20,5 +21,6 @@ mod write;
 
 pub use due::Due;
 pub use formatting::format;
+pub use laws::{commits_are_planned, need_is_reckoned, next_tables_follow, pieces_are_planned};
 pub use recover::StoreFault;
 pub use store::Store;

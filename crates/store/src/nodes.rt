@@ -3,6 +3,7 @@
 ghost use Rattle.std.specs.Prelude.{◌≡◌, ◌+◌, ◌<◌, ◌≤◌, IsTrue, IfOk, length};
 ghost use Rattle.std.specs.Int.{div_ceil};
 ghost use Rattle.drive.specs.Journal.{next_of};
+ghost use Rattle.model.specs.Addresses.{free_address};
 ghost use Rattle.recover.specs.Faults.{Counts, devices, failures_of};
 ghost use Rattle.store.specs.Below.{AreBelow, IsUsed};
 
@@ -102,7 +103,9 @@ impl Nodes<'_> {
     }
 
     /// The least unused virtual address from 2 on, else the next past the end.
-    pub(crate) fn free_address(&self) -> u32 {
+    pub(crate) fn free_address(&self) -> u32
+        ensures { result ≡ free_address self.now.entries.now }
+    {
         let mut address = 2;
         while address < self.entries.len() {
             if self.entries[address].is_none() {

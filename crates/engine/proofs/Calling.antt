@@ -1,0 +1,278 @@
+-- What an engine makes of its store's calls are steps that are rows of the medium's.
+use Rattle.std.proofs.Common.{◌≡◌, ◌⊎◌, inl, inr, ℕ, ◌+◌, ◌-◌, ◌<◌, ◌≤◌, List, [], ◌∷◌, length, take, map, Option, Some, None, refl, sym, ap, ◌∙◌, subst, arith, append-nil}
+use Rattle.std.specs.Prelude.{Result, Ok, Err}
+use Rattle.std.proofs.lemmas.List.{take_all, length-map, length-take}
+use Rattle.std.proofs.lemmas.Option.{same_Some, none-some}
+use Rattle.drive.specs.Journal.{Event, held, Once}
+use Rattle.recover.specs.declared.fault.StoreFault.{StoreFault}
+use Rattle.recover.specs.declared.fault.StoreFault.TheVariants as fault
+use Rattle.recover.specs.Faults.{IsShortage}
+use Rattle.request.specs.declared.message.Message.{Message}
+use Rattle.request.specs.declared.message.Message.TheVariants as message
+use Rattle.request.specs.declared.message.Query as asked
+use Rattle.request.specs.declared.message.Query.TheVariants as query
+use Rattle.request.specs.declared.message.Request as asking
+use Rattle.request.specs.declared.answer.Answer.{Answer}
+use Rattle.request.specs.declared.answer.Answer.TheVariants as answer
+use Rattle.model.specs.Session.{State, Request, ClientRecord, Due, due, due_by, record_of, reply_to, after}
+use Rattle.model.specs.Session.Due.{Repeat, Stale, Gap, ClientsFull, New}
+use Rattle.medium.specs.Commit.{need}
+use Rattle.medium.specs.Formats.{Table_}
+use Rattle.medium.specs.Volume.{Medium, Stands}
+use Rattle.medium.specs.Step.{Moves}
+use Rattle.medium.specs.Journal.{Advances}
+use Rattle.medium.specs.Runs.{Delivery, Query, Effect, Row, AnswersNew, AnswersDue, MayFail, told}
+use Rattle.medium.specs.Runs as medium
+use Rattle.medium.specs.Runs.AnswersNew.{committed, failed as fails, full, no_memory}
+use Rattle.medium.proofs.Commits.{moves_front}
+use Rattle.udf.specs.Udf.{udf, spelled}
+use Rattle.udf.specs.Said.{said_record}
+use Rattle.vat.specs.declared.record.Record.{Record}
+use Rattle.store.specs.declared.store.Store.{Store}
+use Rattle.store.specs.Asked.{said_request, said_query}
+use Rattle.store.specs.Sessions.{kept_of}
+use Rattle.store.specs.Calls.{Knows, StillKnows, Applies, IsDone, IsFailed, IsLeft, Gets, Lists, Stats}
+use Rattle.engine.specs.Situation.{Situation, IsOpen}
+use Rattle.engine.specs.Answered.{due_of}
+use Rattle.engine.specs.Delivered.{with_store}
+use Rattle.engine.specs.Said.{said_message, said_answer}
+use Rattle.engine.specs.Steps.{IsAt, IsStep}
+use Rattle.engine.specs.Called.{failed, refused, applied, got, listed, shown, get_refused, list_refused, stat_refused, IsShort, Uses, IsDealt, IsQueried, Calls, CallsAreSteps, RestartsAreSteps}
+
+-- ---- where nothing is written
+
+abbrev nothing : Effect
+nothing = record { done = []; blocks = 0 }
+
+stay : (capacity volume : ℕ) (J : List Event) (S : State) → Once J → Stands udf capacity volume (held J) S → Advances udf capacity volume J S J S
+stay capacity volume J S once stands = record {
+  front = take_all (length J) J (omega arith);
+  once = once;
+  moves = subst (λ (M : Medium). Moves udf capacity volume (held J) S M S) (append-nil (held J)) (moves_front udf capacity volume (held J) [] S tt stands);
+}
+
+stands_there : (s t : Situation) (volume : ℕ) (S : State) → t.journal ≡ s.journal → t.capacity ≡ s.capacity → Stands udf s.capacity volume (held s.journal) S → Stands udf t.capacity volume (held t.journal) S
+stands_there s t volume S journal capacity stands =
+    subst (λ (J : List Event). Stands udf t.capacity volume (held J) S) (sym journal) (subst (λ (c : ℕ). Stands udf c volume (held s.journal) S) (sym capacity) stands)
+
+-- a journal goes on from its front
+front_grows : (J K : List Event) → take (length J) K ≡ J → length J ≤ length K
+front_grows J K front = omega (arith, ap (λ (L : List Event). length L) front, length-take (length J) K)
+
+-- the one store that is kept
+kept_knows : (volume : ℕ) (S : State) (s : Situation) (kept : Store) → s.store ≡ Some kept → StillKnows s.capacity volume s.journal S kept → (store : Store) → IsOpen s store → Knows s.capacity volume s.journal S store
+kept_knows volume S s kept there still store here = subst (λ (x : Store). StillKnows s.capacity volume s.journal S x) (same_Some kept store (sym there ∙ here.0)) still here.1
+
+pub none_knows : (volume : ℕ) (S : State) (s : Situation) → s.store ≡ None → (store : Store) → IsOpen s store → Knows s.capacity volume s.journal S store
+none_knows volume S s none store here = absurd (none-some store (sym none ∙ here.0))
+
+module _ (volume : ℕ) where
+  quiet : (d : Delivery) (a : Option medium.Answer) (S : State) (before behind : Situation) → Row (need spelled) S (length before.journal) volume d a nothing
+      → Once before.journal → Stands udf before.capacity volume (held before.journal) S → behind.journal ≡ before.journal → behind.capacity ≡ before.capacity
+      → ((store : Store) → IsOpen behind store → Knows behind.capacity volume behind.journal S store) → IsStep volume d S before a S behind
+  quiet d a S before behind row once stands journal capacity knows = record {
+    effect = nothing;
+    row = row;
+    blocks = omega (arith, ap (λ (J : List Event). length J) journal);
+    state = refl;
+    advances = subst (λ (J : List Event). Advances udf before.capacity volume before.journal S J S) (sym journal) (stay before.capacity volume before.journal S once stands);
+    capacity = capacity;
+    at = record { once = subst Once (sym journal) once; stands = stands_there before behind volume S journal capacity stands; knows = knows };
+  }
+
+  -- a step from where nothing was written since
+  step_from : (d : Delivery) (a : Option medium.Answer) (S S' : State) (before during behind : Situation) → during.journal ≡ before.journal → during.capacity ≡ before.capacity
+      → IsStep volume d S during a S' behind → IsStep volume d S before a S' behind
+  step_from d a S S' before during behind journal capacity step = record {
+    effect = step.effect;
+    row = subst (λ (J : List Event). Row (need spelled) S (length J) volume d a step.effect) journal step.row;
+    blocks = subst (λ (J : List Event). length behind.journal ≡ length J + step.effect.blocks) journal step.blocks;
+    state = step.state;
+    advances = subst (λ (c : ℕ). Advances udf c volume before.journal S behind.journal S') capacity (subst (λ (J : List Event). Advances udf during.capacity volume J S behind.journal S') journal step.advances);
+    capacity = step.capacity ∙ capacity;
+    at = step.at;
+  }
+
+  -- ---- shortages
+
+  may_fail : (refuse : StoreFault → Answer) → refuse fault.Device ≡ answer.Fault → refuse fault.Memory ≡ answer.Memory → (refusal : StoreFault) (a : Answer) → IsShortage refusal → a ≡ refuse refusal → MayFail (said_answer a)
+  may_fail refuse device memory refusal a (inl e) is = inl (ap said_answer (is ∙ ap refuse e ∙ device))
+  may_fail refuse device memory refusal a (inr e) is = inr (ap said_answer (is ∙ ap refuse e ∙ memory))
+
+  short_due : (S : State) (mark capacity most : ℕ) (r : Request) (d : Due) (a : medium.Answer) → MayFail a → AnswersDue S mark capacity most r d a nothing
+  short_due S mark capacity most r (Repeat reply) a may = (inr may, (refl, refl))
+  short_due S mark capacity most r (Stale latest) a may = (inr may, (refl, refl))
+  short_due S mark capacity most r (Gap latest) a may = (inr may, (refl, refl))
+  short_due S mark capacity most r ClientsFull a may = (inr may, (refl, refl))
+  short_due S mark capacity most r New a (inl e) = subst (λ (x : medium.Answer). AnswersNew S mark capacity most r x nothing) (sym e) (fails nothing (inl refl) (omega arith) (λ some. absurd (omega arith)))
+  short_due S mark capacity most r New a (inr e) = subst (λ (x : medium.Answer). AnswersNew S mark capacity most r x nothing) (sym e) (no_memory nothing (refl, refl))
+
+  short_step : (d : Delivery) (S : State) (before : Situation) (a : Answer) (behind : Situation) → IsAt volume S before → IsShort before a behind → Row (need spelled) S (length before.journal) volume d (Some (said_answer a)) nothing
+      → (S' : State) × IsStep volume d S before (Some (said_answer a)) S' behind
+  short_step d S before a behind at short row = (S, quiet d (Some (said_answer a)) S before behind row at.once at.stands short.journal short.capacity (none_knows volume S behind short.store))
+
+  short_fails : (before : Situation) (a : Answer) (behind : Situation) → IsShort before a behind → MayFail (said_answer a)
+  short_fails before a behind short = may_fail failed refl refl short.refusal a short.shortage short.told
+
+  -- ---- queries
+
+  get_told : (S : State) (path : _) (result : Result (List ℕ) StoreFault) (a : Answer) → Gets S path result → a ≡ got result → (said_answer a ≡ told S.tree (medium.Query.Get path)) ⊎ MayFail (said_answer a)
+  get_told S path (Ok bytes) a gets is = inl (ap said_answer is ∙ sym gets)
+  get_told S path (Err refusal) a (inl short) is = inr (may_fail get_refused refl refl refusal a short is)
+  get_told S path (Err refusal) a (inr (inl (e, shows))) is = inl (ap said_answer (is ∙ ap get_refused e) ∙ sym shows)
+  get_told S path (Err refusal) a (inr (inr (e, shows))) is = inl (ap said_answer (is ∙ ap get_refused e) ∙ sym shows)
+
+  list_told : (S : State) (path : _) (result : Result _ StoreFault) (a : Answer) → Lists S path result → a ≡ listed result → (said_answer a ≡ told S.tree (medium.Query.List_ path)) ⊎ MayFail (said_answer a)
+  list_told S path (Ok names) a lists is = inl (ap said_answer is ∙ sym lists)
+  list_told S path (Err refusal) a (inl short) is = inr (may_fail list_refused refl refl refusal a short is)
+  list_told S path (Err refusal) a (inr (inl (e, shows))) is = inl (ap said_answer (is ∙ ap list_refused e) ∙ sym shows)
+  list_told S path (Err refusal) a (inr (inr (e, shows))) is = inl (ap said_answer (is ∙ ap list_refused e) ∙ sym shows)
+
+  stat_told : (S : State) (path : _) (result : Result _ StoreFault) (a : Answer) → Stats S path result → a ≡ shown result → (said_answer a ≡ told S.tree (medium.Query.Stat path)) ⊎ MayFail (said_answer a)
+  stat_told S path (Ok status) a stats is = inl (ap said_answer is ∙ sym stats)
+  stat_told S path (Err refusal) a (inl short) is = inr (may_fail stat_refused refl refl refusal a short is)
+  stat_told S path (Err refusal) a (inr (e, shows)) is = inl (ap said_answer (is ∙ ap stat_refused e) ∙ sym shows)
+
+  query_told : (S : State) (q : asked.Query) (a : Answer) → IsQueried S q a → (said_answer a ≡ told S.tree (said_query q)) ⊎ MayFail (said_answer a)
+  query_told S (query.Get path) a (result, gets, is) = get_told S path result a gets is
+  query_told S (query.List path) a (result, lists, is) = list_told S path result a lists is
+  query_told S (query.Stat path) a (result, stats, is) = stat_told S path result a stats is
+
+  -- ---- what is due
+
+  kept_said : (rs : List Record) → map kept_of rs ≡ map said_record rs
+  kept_said [] = refl
+  kept_said (r ∷ rs) = ap (λ (xs : List ClientRecord). said_record r ∷ xs) (kept_said rs)
+
+  same_due : (S : State) (s : Situation) (store : Store) (client number : ℕ) → Knows s.capacity volume s.journal S store → due_of store client number ≡ due S client number
+  same_due S s store client number knows =
+      let rs : List Record = store.vat.sessions.records.items in
+      let records : map said_record store.vat.sessions.records.items ≡ S.records = ap (λ (b : Table_). b.records) knows.table ∙ knows.stands.tells.records in
+      let count : length store.vat.sessions.records.items ≡ length S.records = sym (length-map store.vat.sessions.records.items said_record) ∙ ap (λ (xs : List ClientRecord). length xs) records in
+      λ i. due_by number (count i) (record_of client ((kept_said store.vat.sessions.records.items ∙ records) i))
+
+  -- ---- requests
+
+  module _ (S : State) (r : Request) (during : Situation) (a : Answer) (behind : Situation) (new : due S r.client r.number ≡ New) where
+    abbrev delivery : Delivery
+    delivery = medium.Delivery.Delivered (medium.Message.Asks r)
+
+    abbrev IsNew : Effect → Type 0
+    IsNew effect = AnswersNew S (length during.journal) volume (need spelled S r) r (said_answer a) effect
+
+    new_row : (effect : Effect) → IsNew effect → Row (need spelled) S (length during.journal) volume delivery (Some (said_answer a)) effect
+    new_row effect row = subst (λ (d : Due). AnswersDue S (length during.journal) volume (need spelled S r) r d (said_answer a) effect) (sym new) row
+
+    -- the journal went on
+    moved : (done : List Request) (row : IsNew (record { done = done; blocks = length behind.journal - length during.journal })) → length during.journal ≤ length behind.journal
+        → Advances udf during.capacity volume during.journal S behind.journal (after S done) → behind.capacity ≡ during.capacity
+        → ((store : Store) → IsOpen behind store → Knows behind.capacity volume behind.journal (after S done) store) → IsStep volume delivery S during (Some (said_answer a)) (after S done) behind
+    moved done row grows advances capacity knows = record {
+      effect = record { done = done; blocks = length behind.journal - length during.journal };
+      row = new_row (record { done = done; blocks = length behind.journal - length during.journal }) row;
+      blocks = omega (arith, grows);
+      state = refl;
+      advances = advances;
+      capacity = capacity;
+      at = record { once = advances.once; stands = subst (λ (c : ℕ). Stands udf c volume (held behind.journal) (after S done)) (sym capacity) advances.moves.ends; knows = knows };
+    }
+
+    module _ (kept : Store) (store : behind.store ≡ Some kept) (capacity : behind.capacity ≡ during.capacity) where
+      knows_kept : (T : State) → StillKnows during.capacity volume behind.journal T kept → (x : Store) → IsOpen behind x → Knows behind.capacity volume behind.journal T x
+      knows_kept T still = kept_knows volume T behind kept store (subst (λ (c : ℕ). StillKnows c volume behind.journal T kept) (sym capacity) still)
+
+      when_done : (reply : _) → IsDone during.capacity volume during.journal S r reply behind.journal kept → a ≡ answer.Reply reply → (S' : State) × IsStep volume delivery S during (Some (said_answer a)) S' behind
+      when_done reply d is =
+          let effect : Effect = record { done = r ∷ []; blocks = length behind.journal - length during.journal } in
+          let told_is : said_answer a ≡ medium.Answer.Replied (reply_to S r) = ap said_answer is ∙ ap (λ x. medium.Answer.Replied x) d.reply_is in
+          let row : IsNew (record { done = r ∷ []; blocks = length behind.journal - length during.journal }) =
+          subst (λ (x : medium.Answer). AnswersNew S (length during.journal) volume (need spelled S r) r x (record { done = r ∷ []; blocks = length behind.journal - length during.journal })) (sym told_is)
+          (committed (record { done = r ∷ []; blocks = length behind.journal - length during.journal }) refl (omega (arith, d.some)) (omega (arith, d.few)) d.room) in
+          (after S (r ∷ []), moved (r ∷ []) row (omega (arith, d.some)) d.advances capacity (knows_kept (after S (r ∷ [])) d.knows))
+
+      when_failed : IsFailed during.capacity volume during.journal S r behind.journal kept → a ≡ answer.Fault → length during.journal ≤ length behind.journal → (S' : State) × IsStep volume delivery S during (Some (said_answer a)) S' behind
+      when_failed f is grows =
+          let told_is : said_answer a ≡ medium.Answer.Fault = ap said_answer is in
+          let row : IsNew (record { done = f.done; blocks = length behind.journal - length during.journal }) =
+          subst (λ (x : medium.Answer). AnswersNew S (length during.journal) volume (need spelled S r) r x (record { done = f.done; blocks = length behind.journal - length during.journal })) (sym told_is)
+          (fails (record { done = f.done; blocks = length behind.journal - length during.journal }) (whether f.whether) (omega (arith, f.few)) (λ some. f.room (omega (arith, some)))) in
+          (after S f.done, moved f.done row grows f.advances capacity (knows_kept (after S f.done) f.knows))
+        where
+          whether : (f.done ≡ []) ⊎ ((f.done ≡ r ∷ []) × (length during.journal < length behind.journal)) → (f.done ≡ []) ⊎ ((f.done ≡ r ∷ []) × (1 ≤ length behind.journal - length during.journal))
+          whether (inl none) = inl none
+          whether (inr (one, some)) = inr (one, omega (arith, some))
+
+      when_left : Once during.journal → Stands udf during.capacity volume (held during.journal) S → IsLeft during.capacity volume during.journal S behind.journal kept → IsNew nothing → (S' : State) × IsStep volume delivery S during (Some (said_answer a)) S' behind
+      when_left once stands left row =
+          (S, quiet delivery (Some (said_answer a)) S during behind (new_row nothing row) once stands left.journal capacity (knows_kept S left.knows))
+
+      as_new : (x : medium.Answer) (effect : Effect) → said_answer a ≡ x → AnswersNew S (length during.journal) volume (need spelled S r) r x effect → IsNew effect
+      as_new x effect e row = subst (λ (y : medium.Answer). AnswersNew S (length during.journal) volume (need spelled S r) r y effect) (sym e) row
+
+      when_applied : Once during.journal → Stands udf during.capacity volume (held during.journal) S → (result : _) → Applies during.capacity volume during.journal S r result behind.journal kept → a ≡ applied result
+          → (S' : State) × IsStep volume delivery S during (Some (said_answer a)) S' behind
+      when_applied once stands (Ok reply) d is = when_done reply d is
+      when_applied once stands (Err refusal) (inl (e, f)) is = when_failed f (is ∙ ap refused e) (front_grows during.journal behind.journal f.advances.front)
+      when_applied once stands (Err refusal) (inr (inl (e, left))) is = when_left once stands left (as_new medium.Answer.Memory nothing (ap said_answer (is ∙ ap refused e)) (no_memory nothing (refl, refl)))
+      when_applied once stands (Err refusal) (inr (inr (e, left, over))) is = when_left once stands left (as_new medium.Answer.Full nothing (ap said_answer (is ∙ ap refused e)) (full nothing (refl, refl) over))
+
+  -- a request for which another thing is due
+  settled : (S : State) (r : Request) (during : Situation) (store : Store) (a : Answer) (behind : Situation) → Knows during.capacity volume during.journal S store → behind ≡ with_store (Some store) during
+      → AnswersDue S (length during.journal) volume (need spelled S r) r (due S r.client r.number) (said_answer a) nothing
+      → IsStep volume (medium.Delivery.Delivered (medium.Message.Asks r)) S during (Some (said_answer a)) S behind
+  settled S r during store a behind knows same row =
+      subst (λ (s : Situation). IsStep volume (medium.Delivery.Delivered (medium.Message.Asks r)) S during (Some (said_answer a)) S s) (sym same)
+      (quiet (medium.Delivery.Delivered (medium.Message.Asks r)) (Some (said_answer a)) S during (with_store (Some store) during) row knows.once knows.stands refl refl
+      (kept_knows volume S (with_store (Some store) during) store refl (λ here. knows)))
+
+  due_row : (S : State) (r : Request) (during : Situation) (a : Answer) (d : Due) → d ≡ due S r.client r.number → AnswersDue S (length during.journal) volume (need spelled S r) r d (said_answer a) nothing
+      → AnswersDue S (length during.journal) volume (need spelled S r) r (due S r.client r.number) (said_answer a) nothing
+  due_row S r during a d e row = subst (λ (x : Due). AnswersDue S (length during.journal) volume (need spelled S r) r x (said_answer a) nothing) e row
+
+  dealt : (d : Due) (S : State) (r : asking.Request) (during : Situation) (store : Store) (a : Answer) (behind : Situation) → d ≡ due S r.client r.number → Knows during.capacity volume during.journal S store
+      → IsDealt d volume S r during store a behind → (S' : State) × IsStep volume (medium.Delivery.Delivered (medium.Message.Asks (said_request r))) S during (Some (said_answer a)) S' behind
+  dealt (Repeat kept) S r during store a behind e knows (reply, is, same, stays) =
+      (S, settled S (said_request r) during store a behind knows stays (due_row S (said_request r) during a (Repeat kept) e (inl (ap said_answer is ∙ ap (λ x. medium.Answer.Replied x) same), (refl, refl))))
+  dealt (Stale latest) S r during store a behind e knows (is, stays) = (S, settled S (said_request r) during store a behind knows stays (due_row S (said_request r) during a (Stale latest) e (inl (ap said_answer is), (refl, refl))))
+  dealt (Gap latest) S r during store a behind e knows (is, stays) = (S, settled S (said_request r) during store a behind knows stays (due_row S (said_request r) during a (Gap latest) e (inl (ap said_answer is), (refl, refl))))
+  dealt ClientsFull S r during store a behind e knows (is, stays) = (S, settled S (said_request r) during store a behind knows stays (due_row S (said_request r) during a ClientsFull e (inl (ap said_answer is), (refl, refl))))
+  dealt New S r during store a behind e knows done = when_applied S (said_request r) during a behind (sym e) done.kept done.store done.capacity knows.once knows.stands done.result done.applies done.told
+
+  -- ---- messages
+
+  use_step : (d : Delivery) (S : State) (before during : Situation) (store : Store) (a : Option medium.Answer) (behind : Situation) → Uses volume S before during store
+      → (S' : State) × IsStep volume d S during a S' behind → (S' : State) × IsStep volume d S before a S' behind
+  use_step d S before during store a behind uses (S', step) = (S', step_from d a S S' before during behind uses.journal uses.capacity step)
+
+  calls_step : (m : Message) (S : State) (before : Situation) (a : Answer) (behind : Situation) → IsAt volume S before → Calls volume m S before a behind
+      → (S' : State) × IsStep volume (medium.Delivery.Delivered (said_message m)) S before (Some (said_answer a)) S' behind
+  calls_step (message.Malformed cause) S before a behind at (is, same) = (
+    S,
+    subst (λ (s : Situation). IsStep volume (medium.Delivery.Delivered (said_message (message.Malformed cause))) S before (Some (said_answer a)) S s) (sym same)
+        (quiet _ (Some (said_answer a)) S before before (inl (ap said_answer is), (refl, refl)) at.once at.stands refl refl at.knows),
+  )
+  calls_step message.NoMemory S before a behind at (is, same) = (
+    S,
+    subst (λ (s : Situation). IsStep volume (medium.Delivery.Delivered medium.Message.NoMemory) S before (Some (said_answer a)) S s) (sym same)
+        (quiet _ (Some (said_answer a)) S before before (ap said_answer is, (refl, refl)) at.once at.stands refl refl at.knows),
+  )
+  calls_step (message.Query q) S before a behind at (inl short) = short_step _ S before a behind at short (inr (short_fails before a behind short), (refl, refl))
+  calls_step (message.Query q) S before a behind at (inr (during, store, uses, read)) =
+      use_step _ S before during store _ behind uses (
+        S,
+        quiet (medium.Delivery.Delivered (medium.Message.Queries (said_query q))) (Some (said_answer a)) S during behind (query_told S q a read.result, (refl, refl)) uses.knows.once uses.knows.stands read.journal read.capacity
+            (kept_knows volume S behind read.kept read.store read.knows),
+      )
+  calls_step (message.Request r) S before a behind at (inl short) =
+      short_step _ S before a behind at short
+      (short_due S (length before.journal) volume (need spelled S (said_request r)) (said_request r) (due S r.client r.number) (said_answer a) (short_fails before a behind short))
+  calls_step (message.Request r) S before a behind at (inr (during, store, uses, done)) =
+      use_step _ S before during store _ behind uses
+      (dealt (due_of store r.client r.number) S r during store a behind (same_due S during store r.client r.number uses.knows) uses.knows done)
+
+pub calls_are_steps : CallsAreSteps
+calls_are_steps volume m S before a behind at calls = calls_step volume m S before a behind at calls
+
+pub restarts_are_steps : RestartsAreSteps
+restarts_are_steps volume S before at =
+    quiet volume medium.Delivery.Restart None S before (with_store None before) (refl, refl) at.once at.stands refl refl (none_knows volume S (with_store None before) refl)

@@ -1,0 +1,89 @@
+-- A run on an honest drive, one delivery more at a time.
+use Rattle.std.proofs.Common.{◌≡◌, ℕ, List, [], ◌∷◌, ◌++◌, Option, Some, None, refl, sym, ap, ◌∙◌, subst, append_assoc, append-nil}
+use Rattle.std.specs.Option.{option_to_list}
+use Rattle.request.specs.declared.answer.Answer.{Answer}
+use Rattle.model.specs.Session.{State}
+use Rattle.medium.specs.Runs.{Delivery}
+use Rattle.medium.specs.Runs as medium
+use Rattle.engine.specs.declared.runs.Delivery as delivered
+use Rattle.engine.specs.declared.runs.Delivery.TheVariants.{Frame, Restart}
+use Rattle.engine.specs.Situation.{Situation, situation}
+use Rattle.engine.specs.Said.{IsSaid, AllSaid, said_answer, said_message}
+use Rattle.engine.specs.Steps.{IsAt, IsStep, AllSteps}
+use Rattle.engine.specs.Headline.{DeliversBy, said_answers, RunsBegin, RunsGoOn, RunsAreHeld}
+use Rattle.engine.proofs.Calling.{none_knows, calls_are_steps, restarts_are_steps}
+use Rattle.engine.proofs.Holding.{steps_hold}
+
+abbrev said_told : Option Answer → Option medium.Answer
+said_told None = None
+said_told (Some a) = Some (said_answer a)
+
+-- a delivery by its calls is a step
+delivers_step : (volume : ℕ) (d : delivered.Delivery) (S : State) (before : Situation) (told : Option Answer) (behind : Situation) → IsAt volume S before → DeliversBy volume d S before told behind
+    → (said : Delivery) × IsSaid d said × (S' : State) × IsStep volume said S before (said_told told) S' behind
+delivers_step volume Restart S before None behind at is =
+    (medium.Delivery.Restart, refl, S, subst (λ (s : Situation). IsStep volume medium.Delivery.Restart S before None S s) (sym is) (restarts_are_steps volume S before at))
+delivers_step volume Restart S before (Some a) behind at is = absurd is
+delivers_step volume (Frame payload) S before None behind at is = absurd is
+delivers_step volume (Frame payload) S before (Some a) behind at (m, tells, calls) =
+    let step = calls_are_steps volume m S before a behind at calls in
+    (medium.Delivery.Delivered (said_message m), (m, tells, refl), step.0, step.1)
+
+module _ (volume : ℕ) where
+  -- what stands behind the last step
+  at_end : (ds : List Delivery) (S : State) (before : Situation) (answers : List medium.Answer) (T : State) (behind : Situation) → IsAt volume S before → AllSteps volume ds S before answers T behind → IsAt volume T behind
+  at_end [] S before answers T behind at (none, state, same) = subst (λ (U : State). IsAt volume U behind) (sym state) (subst (λ (s : Situation). IsAt volume S s) (sym same) at)
+  at_end (d ∷ ds) S before answers T behind at (a, U, during, rest, step, told, steps) = at_end ds U during rest T behind step.at steps
+
+  steps_more : (ds : List Delivery) (S : State) (before : Situation) (answers : List medium.Answer) (T : State) (during : Situation) (d : Delivery) (a : Option medium.Answer) (S' : State) (behind : Situation)
+      → AllSteps volume ds S before answers T during → IsStep volume d T during a S' behind → AllSteps volume (ds ++ d ∷ []) S before (answers ++ option_to_list a) S' behind
+  steps_more [] S before answers T during d a S' behind (none, state, same) step = (
+    a,
+    S',
+    behind,
+    [],
+    subst (λ (U : State). IsStep volume d U before a S' behind) state (subst (λ (s : Situation). IsStep volume d T s a S' behind) same step),
+    ap (λ (xs : List medium.Answer). xs ++ option_to_list a) none ∙ sym (append-nil (option_to_list a)),
+    (refl, refl, refl),
+  )
+  steps_more (e ∷ ds) S before answers T during d a S' behind (b, U, mid, rest, first, told, steps) step = (
+    b,
+    U,
+    mid,
+    rest ++ option_to_list a,
+    first,
+    ap (λ (xs : List medium.Answer). xs ++ option_to_list a) told ∙ append_assoc (option_to_list b) rest (option_to_list a),
+    steps_more ds U mid rest T during d a S' behind steps step,
+  )
+
+said_more : (answers : List Answer) (told : Option Answer) → said_answers answers ++ option_to_list (said_told told) ≡ said_answers (answers ++ option_to_list told)
+said_more [] None = refl
+said_more [] (Some a) = refl
+said_more (b ∷ answers) told = ap (λ (xs : List medium.Answer). said_answer b ∷ xs) (said_more answers told)
+
+all_said_more : (deliveries : List delivered.Delivery) (ds : List Delivery) (one : delivered.Delivery) (d : Delivery) → AllSaid deliveries ds → IsSaid one d → AllSaid (deliveries ++ one ∷ []) (ds ++ d ∷ [])
+all_said_more [] [] one d all is = (is, tt)
+all_said_more [] (e ∷ ds) one d all is = absurd all
+all_said_more (x ∷ deliveries) [] one d all is = absurd all
+all_said_more (x ∷ deliveries) (e ∷ ds) one d all is = (all.0, all_said_more deliveries ds one d all.1 is)
+
+pub runs_begin : RunsBegin
+runs_begin volume S journal failures capacity honest once stands = (
+  record { once = once; stands = stands; knows = none_knows volume S (situation None journal failures capacity honest) refl },
+  record { said = []; are_said = tt; state = S; steps = (refl, refl, refl) },
+)
+
+pub runs_go_on : RunsGoOn
+runs_go_on volume deliveries S before answers during at run d told behind delivers =
+    let one = delivers_step volume d run.state during told behind (at_end volume run.said S before (said_answers answers) run.state during at run.steps) delivers in
+    record {
+      said = run.said ++ one.0 ∷ [];
+      are_said = all_said_more deliveries run.said d one.0 run.are_said one.1;
+      state = one.2;
+      steps = subst (λ (xs : List medium.Answer). AllSteps volume (run.said ++ one.0 ∷ []) S before xs one.2 behind) (said_more answers told)
+          (steps_more volume run.said S before (said_answers answers) run.state during one.0 (said_told told) one.2 behind run.steps one.3);
+    }
+
+pub runs_are_held : RunsAreHeld
+runs_are_held volume deliveries S before answers behind at run =
+    record { said = run.said; are_said = run.are_said; holds = steps_hold volume run.said S before (said_answers answers) run.state behind at run.steps }

@@ -1,0 +1,136 @@
+-- What an engine makes of its store's calls on an honest drive.
+use Rattle.std.specs.Prelude.{◌≡◌, ◌⊎◌, ℕ, List, Result, Ok, Err, Some, None}
+use Rattle.recover.specs.declared.fault.StoreFault.{StoreFault}
+use Rattle.recover.specs.declared.fault.StoreFault.TheVariants as fault
+use Rattle.recover.specs.Faults.{IsShortage}
+use Rattle.request.specs.declared.message.Message.{Message}
+use Rattle.request.specs.declared.message.Message.TheVariants as message
+use Rattle.request.specs.declared.message.Query as asked
+use Rattle.request.specs.declared.message.Query.TheVariants as query
+use Rattle.request.specs.declared.message.Request as asking
+use Rattle.request.specs.declared.answer.Answer.{Answer}
+use Rattle.request.specs.declared.answer.Answer.TheVariants as answer
+use Rattle.request.specs.declared.answer.Reply.{Reply}
+use Rattle.request.specs.declared.answer.Listed.{Listed}
+use Rattle.request.specs.declared.answer.NodeStatus.{NodeStatus}
+use Rattle.model.specs.Session.{State, Due}
+use Rattle.model.specs.Session.Due.{Repeat, Stale, Gap, ClientsFull, New}
+use Rattle.medium.specs.Runs.{Delivery}
+use Rattle.medium.specs.Runs as medium
+use Rattle.store.specs.declared.store.Store.{Store}
+use Rattle.store.specs.Asked.{said_request}
+use Rattle.store.specs.Calls.{Knows, StillKnows, Applies, Gets, Lists, Stats}
+use Rattle.store.specs.Sessions.{reply_said}
+use Rattle.engine.specs.Situation.{Situation}
+use Rattle.engine.specs.Answered.{due_of}
+use Rattle.engine.specs.Delivered.{with_store}
+use Rattle.engine.specs.Said.{said_message, said_answer}
+use Rattle.engine.specs.Steps.{IsAt, IsStep}
+
+-- ---- answers, by what the store gave
+
+abbrev pub failed : StoreFault → Answer
+failed fault.Device = answer.Fault
+failed fault.Memory = answer.Memory
+failed other = answer.Damaged
+
+abbrev pub refused : StoreFault → Answer
+refused fault.Full = answer.Full
+refused other = failed other
+
+abbrev pub applied : Result Reply StoreFault → Answer
+applied (Ok reply) = answer.Reply reply
+applied (Err refusal) = refused refusal
+
+abbrev pub get_refused : StoreFault → Answer
+get_refused fault.NotFound = answer.NotFound
+get_refused fault.IsDirectory = answer.IsDirectory
+get_refused other = failed other
+
+abbrev pub got : Result (List ℕ) StoreFault → Answer
+got (Ok bytes) = answer.Data bytes
+got (Err refusal) = get_refused refusal
+
+abbrev pub list_refused : StoreFault → Answer
+list_refused fault.NotFound = answer.NotFound
+list_refused fault.NotDirectory = answer.NotDirectory
+list_refused other = failed other
+
+abbrev pub listed : Result (List Listed) StoreFault → Answer
+listed (Ok names) = answer.Names names
+listed (Err refusal) = list_refused refusal
+
+abbrev pub stat_refused : StoreFault → Answer
+stat_refused fault.NotFound = answer.NotFound
+stat_refused other = failed other
+
+abbrev pub shown : Result NodeStatus StoreFault → Answer
+shown (Ok status) = answer.Node status
+shown (Err refusal) = stat_refused refusal
+
+-- ---- what a message gets at the state that stands
+
+-- No store could be opened, and nothing was written.
+pub record IsShort (before : Situation) (a : Answer) (behind : Situation) : Type 0 where
+  pub refusal : StoreFault
+  pub shortage : IsShortage refusal
+  pub told : a ≡ failed refusal
+  pub journal : behind.journal ≡ before.journal
+  pub capacity : behind.capacity ≡ before.capacity
+  pub store : behind.store ≡ None
+
+-- A store is open that keeps the state: the one that was, or one that was opened. Nothing was written.
+pub record Uses (volume : ℕ) (S : State) (before during : Situation) (store : Store) : Type 0 where
+  pub journal : during.journal ≡ before.journal
+  pub capacity : during.capacity ≡ before.capacity
+  pub knows : Knows during.capacity volume during.journal S store
+
+-- A new request was given to the store.
+pub record IsApplied (volume : ℕ) (S : State) (request : asking.Request) (during : Situation) (a : Answer) (behind : Situation) : Type 0 where
+  pub result : Result Reply StoreFault
+  pub told : a ≡ applied result
+  pub kept : Store
+  pub store : behind.store ≡ Some kept
+  pub applies : Applies during.capacity volume during.journal S (said_request request) result behind.journal kept
+  pub capacity : behind.capacity ≡ during.capacity
+
+-- a request, by what is due for its number
+abbrev pub IsDealt : Due → ℕ → State → asking.Request → Situation → Store → Answer → Situation → Type 0
+IsDealt (Repeat kept) volume S request during store a behind = (reply : Reply) × (a ≡ answer.Reply reply) × (reply_said reply ≡ kept) × (behind ≡ with_store (Some store) during)
+IsDealt (Stale latest) volume S request during store a behind = (a ≡ answer.Stale latest) × (behind ≡ with_store (Some store) during)
+IsDealt (Gap latest) volume S request during store a behind = (a ≡ answer.Gap latest) × (behind ≡ with_store (Some store) during)
+IsDealt ClientsFull volume S request during store a behind = (a ≡ answer.ClientsFull) × (behind ≡ with_store (Some store) during)
+IsDealt New volume S request during store a behind = IsApplied volume S request during a behind
+
+-- a query's result
+abbrev pub IsQueried : State → asked.Query → Answer → Type 0
+IsQueried S (query.Get path) a = (result : Result (List ℕ) StoreFault) × Gets S path result × (a ≡ got result)
+IsQueried S (query.List path) a = (result : Result (List Listed) StoreFault) × Lists S path result × (a ≡ listed result)
+IsQueried S (query.Stat path) a = (result : Result NodeStatus StoreFault) × Stats S path result × (a ≡ shown result)
+
+-- A query was given to the store, and nothing was written.
+pub record IsRead (volume : ℕ) (S : State) (asked : asked.Query) (during : Situation) (a : Answer) (behind : Situation) : Type 0 where
+  pub result : IsQueried S asked a
+  pub kept : Store
+  pub store : behind.store ≡ Some kept
+  pub journal : behind.journal ≡ during.journal
+  pub capacity : behind.capacity ≡ during.capacity
+  pub knows : StillKnows behind.capacity volume behind.journal S kept
+
+-- each message, by the calls that it makes
+abbrev pub Calls : ℕ → Message → State → Situation → Answer → Situation → Type 0
+Calls volume (message.Malformed cause) S before a behind = (a ≡ answer.Malformed cause) × (behind ≡ before)
+Calls volume message.NoMemory S before a behind = (a ≡ answer.Memory) × (behind ≡ before)
+Calls volume (message.Query asked) S before a behind = IsShort before a behind ⊎ ((during : Situation) × (store : Store) × Uses volume S before during store × IsRead volume S asked during a behind)
+Calls volume (message.Request request) S before a behind =
+    IsShort before a behind ⊎ ((during : Situation) × (store : Store) × Uses volume S before during store × IsDealt (due_of store request.client request.number) volume S request during store a behind)
+
+-- they make a step that is a row of the medium's
+abbrev pub CallsAreSteps : Type 0
+CallsAreSteps =
+    (volume : ℕ) (m : Message) (S : State) (before : Situation) (a : Answer) (behind : Situation) → IsAt volume S before → Calls volume m S before a behind
+    → (S' : State) × IsStep volume (medium.Delivery.Delivered (said_message m)) S before (Some (said_answer a)) S' behind
+
+-- and so does a restart
+abbrev pub RestartsAreSteps : Type 0
+RestartsAreSteps = (volume : ℕ) (S : State) (before : Situation) → IsAt volume S before → IsStep volume medium.Delivery.Restart S before None S (with_store None before)

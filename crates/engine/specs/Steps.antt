@@ -1,0 +1,43 @@
+-- The steps of an engine on an honest drive, as rows of the medium's runs.
+use Rattle.std.specs.Prelude.{◌≡◌, ℕ, ◌+◌, List, [], ◌∷◌, ◌++◌, length, Option}
+use Rattle.std.specs.Option.{option_to_list}
+use Rattle.drive.specs.Journal.{held, Once}
+use Rattle.model.specs.Session.{State, after}
+use Rattle.medium.specs.Volume.{Stands}
+use Rattle.medium.specs.Commit.{need}
+use Rattle.medium.specs.Journal.{Advances, HoldsOnJournal}
+use Rattle.medium.specs.Runs.{Delivery, Answer, Effect, Row}
+use Rattle.udf.specs.Udf.{udf, spelled}
+use Rattle.store.specs.declared.store.Store.{Store}
+use Rattle.store.specs.Calls.{Knows}
+use Rattle.engine.specs.Situation.{Situation, IsOpen}
+
+-- The state stands on the drive's journal, and a store that is open keeps it.
+pub record IsAt (volume : ℕ) (S : State) (s : Situation) : Type 0 where
+  pub once : Once s.journal
+  pub stands : Stands udf s.capacity volume (held s.journal) S
+  pub knows : (store : Store) → IsOpen s store → Knows s.capacity volume s.journal S store
+
+-- A delivery gets an answer, none at a restart, by a row of the medium's, and the journal goes on as the row says.
+pub record IsStep (volume : ℕ) (d : Delivery) (S : State) (before : Situation) (a : Option Answer) (S' : State) (behind : Situation) : Type 0 where
+  pub effect : Effect
+  pub row : Row (need spelled) S (length before.journal) volume d a effect
+  pub blocks : length behind.journal ≡ length before.journal + effect.blocks
+  pub state : S' ≡ after S effect.done
+  pub advances : Advances udf before.capacity volume before.journal S behind.journal S'
+  pub capacity : behind.capacity ≡ before.capacity
+  pub at : IsAt volume S' behind
+
+-- each delivery in turn
+abbrev pub AllSteps : ℕ → List Delivery → State → Situation → List Answer → State → Situation → Type 0
+AllSteps volume [] S before answers S' behind = (answers ≡ []) × (S' ≡ S) × (behind ≡ before)
+AllSteps volume (d ∷ ds) S before answers S' behind =
+    (a : Option Answer) × (T : State) × (during : Situation) × (rest : List Answer) × IsStep volume d S before a T during
+    × (answers ≡ option_to_list a ++ rest) × AllSteps volume ds T during rest S' behind
+
+-- so what stands at each front of the journal is the state after the first of the requests that were committed
+abbrev pub StepsHold : Type 0
+StepsHold =
+    (volume : ℕ) (deliveries : List Delivery) (S : State) (before : Situation) (answers : List Answer) (S' : State) (behind : Situation) → IsAt volume S before
+    → AllSteps volume deliveries S before answers S' behind
+    → HoldsOnJournal udf (need spelled) before.capacity volume S before.journal behind.journal deliveries answers

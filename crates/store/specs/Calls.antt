@@ -1,0 +1,102 @@
+-- What the calls of a store say on a drive that is honest, of the state that stands on its journal.
+use Rattle.std.specs.Prelude.{◌≡◌, ◌⊎◌, ℕ, ◌+◌, ◌<◌, ◌≤◌, false, List, [], ◌∷◌, length, Result, Ok, Err}
+use Rattle.drive.specs.Journal.{Event, held, Once}
+use Rattle.request.specs.declared.answer.Reply as told
+use Rattle.request.specs.declared.answer.Listed.{Listed}
+use Rattle.request.specs.declared.answer.NodeStatus.{NodeStatus}
+use Rattle.recover.specs.declared.fault.StoreFault.{StoreFault}
+use Rattle.recover.specs.declared.fault.StoreFault.TheVariants as fault
+use Rattle.recover.specs.Faults.{IsShortage}
+use Rattle.model.specs.Tree.{Path}
+use Rattle.model.specs.Session.{State, Request, reply_to, after_one, after}
+use Rattle.medium.specs.Volume.{Stands}
+use Rattle.medium.specs.Commit.{need}
+use Rattle.medium.specs.Journal.{Advances}
+use Rattle.medium.specs.Runs.{Answer, told as shows}
+use Rattle.medium.specs.Runs.Answer.{NotFound, IsDirectory, NotDirectory, Data, Names, NodeIs}
+use Rattle.medium.specs.Runs.Query.{Get, List_, Stat}
+use Rattle.udf.specs.Udf.{udf, spelled}
+use Rattle.udf.specs.Said.{said_table}
+use Rattle.vat.specs.Table.{view}
+use Rattle.store.specs.declared.store.Store.{Store}
+use Rattle.store.specs.Asked.{is_directory, said_names}
+use Rattle.store.specs.Sessions.{reply_said}
+
+-- The state stands on the journal, in which each address is written once, and the store keeps what the last table says.
+pub record Knows (capacity volume : ℕ) (journal : List Event) (S : State) (store : Store) : Type 0 where
+  pub once : Once journal
+  pub stands : Stands udf capacity volume (held journal) S
+  pub at : store.at ≡ stands.at
+  pub table : said_table (view store.vat) ≡ stands.tells.table
+  pub capacity_is : store.capacity ≡ volume
+
+-- so it does as long as it is not stopped
+abbrev pub StillKnows : (capacity volume : ℕ) → List Event → State → Store → Type 0
+StillKnows capacity volume journal S store = store.is_stopped ≡ false → Knows capacity volume journal S store
+
+-- ---- opening
+
+-- the drive is opened, unless it fails or memory is short
+abbrev pub Opens : (capacity volume : ℕ) → List Event → State → Result Store StoreFault → Type 0
+Opens capacity volume journal S (Ok store) = Knows capacity volume journal S store × (store.is_stopped ≡ false)
+Opens capacity volume journal S (Err refusal) = IsShortage refusal
+
+-- ---- a new request
+
+-- It was committed, with its own reply, in no more blocks than it may need, and there was room for as many.
+pub record IsDone (capacity volume : ℕ) (before : List Event) (S : State) (request : Request) (reply : told.Reply) (behind : List Event) (store : Store) : Type 0 where
+  pub reply_is : reply_said reply ≡ reply_to S request
+  pub advances : Advances udf capacity volume before S behind (after_one S request)
+  pub some : length before < length behind
+  pub few : length behind ≤ length before + need spelled S request
+  pub room : length before + need spelled S request ≤ volume
+  pub knows : StillKnows capacity volume behind (after_one S request) store
+
+-- The drive failed: a front of its blocks may be written, and the request committed where all are.
+pub record IsFailed (capacity volume : ℕ) (before : List Event) (S : State) (request : Request) (behind : List Event) (store : Store) : Type 0 where
+  pub done : List Request
+  pub whether : (done ≡ []) ⊎ ((done ≡ request ∷ []) × (length before < length behind))
+  pub advances : Advances udf capacity volume before S behind (after S done)
+  pub few : length behind ≤ length before + need spelled S request
+  pub room : length before < length behind → length before + need spelled S request ≤ volume
+  pub knows : StillKnows capacity volume behind (after S done) store
+
+-- Nothing was written.
+pub record IsLeft (capacity volume : ℕ) (before : List Event) (S : State) (behind : List Event) (store : Store) : Type 0 where
+  pub journal : behind ≡ before
+  pub knows : StillKnows capacity volume behind S store
+
+abbrev pub Refuses : (capacity volume : ℕ) → List Event → State → Request → StoreFault → List Event → Store → Type 0
+Refuses capacity volume before S request refusal behind store =
+    ((refusal ≡ fault.Device) × IsFailed capacity volume before S request behind store)
+    ⊎ (((refusal ≡ fault.Memory) × IsLeft capacity volume before S behind store)
+    ⊎ ((refusal ≡ fault.Full) × IsLeft capacity volume before S behind store × (volume < length before + need spelled S request)))
+
+-- what became of a new request at the state that stands
+abbrev pub Applies : (capacity volume : ℕ) → List Event → State → Request → Result told.Reply StoreFault → List Event → Store → Type 0
+Applies capacity volume before S request (Ok reply) behind store = IsDone capacity volume before S request reply behind store
+Applies capacity volume before S request (Err refusal) behind store = Refuses capacity volume before S request refusal behind store
+
+-- ---- queries
+
+-- Each query is told what the tree shows, unless the drive fails or memory is short.
+abbrev pub GetRefuses : Answer → StoreFault → Type 0
+GetRefuses shown refusal = IsShortage refusal ⊎ (((refusal ≡ fault.NotFound) × (shown ≡ NotFound)) ⊎ ((refusal ≡ fault.IsDirectory) × (shown ≡ IsDirectory)))
+
+abbrev pub ListRefuses : Answer → StoreFault → Type 0
+ListRefuses shown refusal = IsShortage refusal ⊎ (((refusal ≡ fault.NotFound) × (shown ≡ NotFound)) ⊎ ((refusal ≡ fault.NotDirectory) × (shown ≡ NotDirectory)))
+
+abbrev pub StatRefuses : Answer → StoreFault → Type 0
+StatRefuses shown refusal = IsShortage refusal ⊎ ((refusal ≡ fault.NotFound) × (shown ≡ NotFound))
+
+abbrev pub Gets : State → Path → Result (List ℕ) StoreFault → Type 0
+Gets S path (Ok bytes) = shows S.tree (Get path) ≡ Data bytes
+Gets S path (Err refusal) = GetRefuses (shows S.tree (Get path)) refusal
+
+abbrev pub Lists : State → Path → Result (List Listed) StoreFault → Type 0
+Lists S path (Ok names) = shows S.tree (List_ path) ≡ Names (said_names names)
+Lists S path (Err refusal) = ListRefuses (shows S.tree (List_ path)) refusal
+
+abbrev pub Stats : State → Path → Result NodeStatus StoreFault → Type 0
+Stats S path (Ok status) = shows S.tree (Stat path) ≡ NodeIs (is_directory status.kind) status.moment status.size
+Stats S path (Err refusal) = StatRefuses (shows S.tree (Stat path)) refusal
