@@ -5,33 +5,37 @@ use Rattle.std.specs.Option.{SomeIff}
 use Rattle.std.proofs.lemmas.Bool.{false≢true}
 use Rattle.drive.specs.Journal.{Event, next_of, written, AddsFront}
 use Rattle.request.specs.declared.answer.Reply.{Reply}
+use Rattle.request.specs.declared.message.Request.{Request}
+use Rattle.store.specs.declared.change.Change.{Change}
 use Rattle.store.specs.declared.plan.Plan.{Plan}
 use Rattle.store.specs.declared.store.Store.{Store}
 use Rattle.store.specs.Plan.{IsPlan, plan_blocks}
-use Rattle.store.specs.Putting.{WritesPlan, StopsInPlan}
+use Rattle.store.specs.Putting.{Makes, WritesPlan, StopsInPlan}
 
 pub if_ok : {T E : Type 0} (r : Result T E) (P Q : T → Type 0) → ((x : T) → P x → Q x) → IfOk r P → IfOk r Q
 if_ok (Ok x) P Q f h = f x h
 if_ok (Err e) P Q f h = h
 
-pub writes_plan : {E : Type 0} (r : Result Reply E) (K J J' : List Event) (moment capacity : ℕ) (plan : Plan) (store : Store) → K ≡ J → plan.moment ≡ moment → IsPlan (next_of J) capacity plan
+pub writes_plan : {E : Type 0} (r : Result Reply E) (K J J' : List Event) (before : Store) (request : Request) (capacity : ℕ) (change : Change) (plan : Plan) (store : Store) → K ≡ J → Makes before request change plan → IsPlan (next_of J) capacity plan
     → IfOk r (λ reply. reply ≡ plan.reply) → OnOk r (store.at ≡ plan.table.at) → OnOk r (store.vat ≡ plan.table.vat) → OnOk r (J' ≡ K ++ written (next_of K) (plan_blocks plan))
-    → IfOk r (WritesPlan moment capacity J J' store)
-writes_plan (Ok reply) K J J' moment capacity plan store same of_moment is said at vat journal = record {
+    → IfOk r (WritesPlan before request capacity J J' store)
+writes_plan (Ok reply) K J J' before request capacity change plan store same makes is said at vat journal = record {
+  change = change;
   plan = plan;
   is = is;
-  moment_is = of_moment;
+  makes = makes;
   reply_is = said;
   at = at;
   vat = vat;
   journal = journal ∙ ap (λ (L : List Event). L ++ written (next_of L) (plan_blocks plan)) same;
 }
-writes_plan (Err e) K J J' moment capacity plan store same of_moment is said at vat journal = said
+writes_plan (Err e) K J J' before request capacity change plan store same makes is said at vat journal = said
 
-pub stops_in_plan : {T E : Type 0} (r : Result T E) (K J J' : List Event) (moment capacity : ℕ) (plan : Plan) → K ≡ J → plan.moment ≡ moment → IsPlan (next_of J) capacity plan
-    → OnErr r (AddsFront K (next_of K) (plan_blocks plan) J') → OnErr r ((J' ≡ J) ⊎ StopsInPlan moment capacity J J')
-stops_in_plan (Ok x) K J J' moment capacity plan same of_moment is front = front
-stops_in_plan (Err e) K J J' moment capacity plan same of_moment is front = inr (record { plan = plan; is = is; moment_is = of_moment; front = subst (λ (L : List Event). AddsFront L (next_of L) (plan_blocks plan) J') same front })
+pub stops_in_plan : {T E : Type 0} (r : Result T E) (K J J' : List Event) (before : Store) (request : Request) (capacity : ℕ) (change : Change) (plan : Plan) → K ≡ J → Makes before request change plan → IsPlan (next_of J) capacity plan
+    → OnErr r (AddsFront K (next_of K) (plan_blocks plan) J') → OnErr r ((J' ≡ J) ⊎ StopsInPlan before request capacity J J')
+stops_in_plan (Ok x) K J J' before request capacity change plan same makes is front = front
+stops_in_plan (Err e) K J J' before request capacity change plan same makes is front =
+    inr (record { change = change; plan = plan; is = is; makes = makes; front = subst (λ (L : List Event). AddsFront L (next_of L) (plan_blocks plan) J') same front })
 
 -- a store is stopped where it answers an error
 pub goes_on : {T E : Type 0} (r : Result T E) (b : Bool) → b ≡ is_err r → OnOk r (b ≡ false)

@@ -10,6 +10,9 @@ use Rattle.udf.specs.Udf.{udf}
 use Rattle.store.specs.declared.placed.PlacedDirectory.{PlacedDirectory}
 use Rattle.store.specs.declared.change.NewDirectory.{NewDirectory}
 use Rattle.store.specs.declared.plan.Plan.{Plan}
+use Rattle.vat.specs.Table.{Table}
+use Rattle.store.specs.NextTable.{all_placed}
+use Rattle.store.specs.TableChange.{placed}
 use Rattle.store.specs.Needs.{directory_need, directories_need}
 use Rattle.store.specs.Plan.{directory_list, directories_list, directories_writings, directories_written, node_list, table_data, plan_blocks, IsLaid, AreLaid, IsPlan}
 use Rattle.store.specs.Writings.{directory_writing}
@@ -48,6 +51,19 @@ pub laid_push : (ps : List PlacedDirectory) (p : PlacedDirectory) (start now : �
 laid_push [] p start now at laid one = (subst (λ n. IsLaid n p) (let begins : now ≡ start = omega (arith, at) in begins) one, tt)
 laid_push (x ∷ ps) p start now at laid one =
     (laid.0, laid_push ps p (start + length (directory_list x)) now (omega (arith, at, length-append (directory_list x) (directories_list ps))) laid.1 one)
+
+pub placed_append : (xs ys : List Written) (t : Table) → all_placed (xs ++ ys) t ≡ all_placed ys (all_placed xs t)
+placed_append [] ys t = refl
+placed_append (x ∷ xs) ys t = placed_append xs ys (placed x.address x.number t)
+
+pub table_push : (ps : List PlacedDirectory) (p : PlacedDirectory) (t now next : Table) → now ≡ all_placed (directories_written ps) t → next ≡ placed p.directory.address p.number now
+    → next ≡ all_placed (directories_written (ps ++ p ∷ [])) t
+table_push ps p t now next is moved =
+    let last : Written = record { address = p.directory.address; number = p.number } in
+    moved
+    ∙ ap (placed p.directory.address p.number) is
+    ∙ sym (placed_append (directories_written ps) (last ∷ []) t)
+    ∙ sym (ap (λ (ws : List Written). all_placed ws t) (numbers_push ps p))
 
 -- ---- the directories so far
 

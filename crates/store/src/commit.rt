@@ -153,8 +153,8 @@ impl Store {
         requires next { IsNext request.now.client request.now.number self.old.vat.sessions.records.items }
         ensures agrees { Agrees (D.journal drive.new) (D.capacity drive.new) self.new }
         ensures commit { IfOk result (λ reply. reply.commit ≡ self.old.vat.sessions.commits + 1) }
-        ensures written { IfOk result (λ reply. WritesPlan request.now.moment (D.capacity drive.old) (D.journal drive.old) (D.journal drive.new) self.new reply) }
-        ensures front { OnErr result ((D.journal drive.new ≡ D.journal drive.old) ⊎ StopsInPlan request.now.moment (D.capacity drive.old) (D.journal drive.old) (D.journal drive.new)) }
+        ensures written { IfOk result (λ reply. WritesPlan self.old request.now (D.capacity drive.old) (D.journal drive.old) (D.journal drive.new) self.new reply) }
+        ensures front { OnErr result ((D.journal drive.new ≡ D.journal drive.old) ⊎ StopsInPlan self.old request.now (D.capacity drive.old) (D.journal drive.old) (D.journal drive.new)) }
         ensures refused { OnErr result (self.new.is_stopped ≡ false → D.journal drive.new ≡ D.journal drive.old) }
         ensures stopped { self.old.is_stopped ≡ true → result ≡ Err Stopped }
         ensures goes_on { OnOk result (self.new.is_stopped ≡ false) }

@@ -13,10 +13,12 @@ ghost use Rattle.medium.specs.Plan.{WritesNodes};
 ghost use Rattle.udf.specs.Udf.{udf};
 ghost use Rattle.vat.specs.Table.{Fits, view};
 ghost use Rattle.recover.specs.Faults.{Counts, devices};
+ghost use Rattle.request.specs.Numbers.{code_number};
 ghost use Rattle.store.specs.Agrees.{Agrees, Keeps};
 ghost use Rattle.store.specs.Below.{AreBelow};
 ghost use Rattle.store.specs.Needs as needs;
-ghost use Rattle.store.specs.Plan.{IsPlan, IsTablePlaced, AreLaid, file_list, file_writings, file_written, directories_list, directories_writings, directories_written, plan_writings};
+ghost use Rattle.store.specs.Plan.{IsPlan, IsTablePlaced, AreLaid, file_list, file_writings, file_written, directories_list, directories_writings, directories_written, plan_writings, plan_written};
+ghost use Rattle.store.specs.NextTable.{all_placed, begun, next_table, without_gone};
 ghost use Rattle.store.specs.TableChange.{IsNext};
 ghost use Rattle.store.specs.Writings.{IsProper, new_file, new_directories, change_writings};
 
@@ -80,9 +82,11 @@ impl Store {
         requires agrees { Agrees (D.journal drive.old) (D.capacity drive.old) self.now }
         requires next { IsNext request.now.client request.now.number self.now.vat.sessions.records.items }
         ensures plan { IfOk result (IsPlan (next_of (D.journal drive.old)) (D.capacity drive.old)) }
-        ensures reply { IfOk result (λ p. p.reply.commit ≡ self.now.vat.sessions.commits + 1) }
+        ensures code { IfOk result (λ p. p.reply.code ≡ change.entry.code) }
+        ensures commit { IfOk result (λ p. p.reply.commit ≡ self.now.vat.sessions.commits + 1) }
         ensures moment { IfOk result (λ p. p.moment ≡ moment) }
         ensures writings { IfOk result (λ p. plan_writings p ≡ change_writings moment change.entry) }
+        ensures table { IfOk result (λ p. view p.table.vat ≡ next_table self.now.at request.now.client request.now.number (code_number change.entry.code) change.entry.made (plan_written p) change.entry.removed (view self.now.vat)) }
         ensures journal { D.journal drive.new ≡ D.journal drive.old }
         ensures capacity { D.capacity drive.new ≡ D.capacity drive.old }
         ensures honest { IsTrue (D.honest drive.new) → IsTrue (D.honest drive.old) }
@@ -130,6 +134,7 @@ impl Store {
     ) -> Result<Vat, StoreFault>
         requires keeps { Keeps self.now.at self.now.vat }
         requires next { IsNext request.now.client request.now.number self.now.vat.sessions.records.items }
+        ensures table { IfOk result (λ vat. view vat ≡ begun self.now.at request.now.client request.now.number (code_number change.now.code) change.now.made (view self.now.vat)) }
         ensures fits { IfOk result (λ vat. Fits (view vat)) }
         ensures below { IfOk result (λ vat. AreBelow self.now.at vat.entries.items) }
         ensures previous { IfOk result (λ vat. vat.previous ≡ Some (self.now.at - 257)) }
@@ -240,6 +245,7 @@ fn place_file<'r>(
     ensures previous { OnOk result (vat.new.previous ≡ vat.old.previous) }
     ensures commits { OnOk result (vat.new.sessions.commits ≡ vat.old.sessions.commits) }
     ensures unique { OnOk result (vat.new.sessions.next_unique ≡ vat.old.sessions.next_unique) }
+    ensures table { IfOk result (λ placed. view vat.new ≡ all_placed (file_written placed) (view vat.old)) }
     ensures writings { IfOk result (λ placed. file_writings moment placed ≡ new_file moment file.entry) }
     ensures written { IfOk result (λ placed. WritesNodes udf (file_writings moment placed) numbers.old.next (file_list placed) (file_written placed)) }
     ensures next { IfOk result (λ placed. numbers.new.next ≡ numbers.old.next + length (file_list placed)) }
@@ -272,6 +278,7 @@ fn place_directories(
     ensures previous { OnOk result (vat.new.previous ≡ vat.old.previous) }
     ensures commits { OnOk result (vat.new.sessions.commits ≡ vat.old.sessions.commits) }
     ensures unique { OnOk result (vat.new.sessions.next_unique ≡ vat.old.sessions.next_unique) }
+    ensures table { IfOk result (λ placed. view vat.new ≡ all_placed (directories_written placed.items) (view vat.old)) }
     ensures writings { IfOk result (λ placed. directories_writings placed.items ≡ new_directories directories.items) }
     ensures laid { IfOk result (λ placed. AreLaid numbers.old.next placed.items) }
     ensures written { IfOk result (λ placed. WritesNodes udf (directories_writings placed.items) numbers.old.next (directories_list placed.items) (directories_written placed.items)) }
@@ -294,6 +301,7 @@ fn place_directories(
 /// Takes a node away, if one goes. The table of the state before stands at `at`.
 fn take_away(vat: &mut Vat, removed: Option<Node>, at: u32) -> Result<(), StoreFault>
     requires fits { Fits (view vat.old) }
+    ensures table { OnOk result (view vat.new ≡ without_gone removed (view vat.old)) }
     ensures fits { OnOk result (Fits (view vat.new)) }
     ensures below { OnOk result ((at : ℕ) → AreBelow at vat.old.entries.items → AreBelow at vat.new.entries.items) }
     ensures previous { OnOk result (vat.new.previous ≡ vat.old.previous) }

@@ -17,7 +17,7 @@ returns-in-Err-Full-clause-due g c = committed_due _ _ _ _ c.in-New.ensures (inr
 pub returns-in-Err-Full-clause-follows : goal.returns-in-Err-Full-clause-follows
 returns-in-Err-Full-clause-follows g c = record {
   ready = c.in-Err-Full.ensures.agrees;
-  front = behind_front _ _ _ _ c.in-Err-Full.ensures.front;
+  front = behind_front _ _ _ _ _ c.in-Err-Full.ensures.front;
   capacity = c.in-Err-Full.ensures.capacity;
   honest = c.in-Err-Full.ensures.honest;
 }
@@ -27,7 +27,7 @@ returns-in-Err g c = record {
   due = committed_due _ _ _ _ c.in-New.ensures (inr (inr c.failure.ensures.fails, c.in-Err.ensures.refused));
   follows = record {
     ready = c.in-Err.ensures.agrees;
-    front = behind_front _ _ _ _ c.in-Err.ensures.front;
+    front = behind_front _ _ _ _ _ c.in-Err.ensures.front;
     capacity = c.in-Err.ensures.capacity;
     honest = c.in-Err.ensures.honest;
   };

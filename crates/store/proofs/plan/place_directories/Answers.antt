@@ -9,7 +9,10 @@ use Rattle.store.specs.Plan.{AreLaid, directory_list, directories_list, director
 use Rattle.store.specs.Writings.{IsProper, directory_writing, new_directories}
 use Rattle.store.proofs.BelowLemmas.{below_later}
 use Rattle.store.proofs.Names.{all_next, nothing}
-use Rattle.store.proofs.Plans.{list_push, writings_push, written_push, laid_push}
+use Rattle.store.proofs.Plans.{list_push, writings_push, written_push, laid_push, table_push}
+use Rattle.vat.specs.Table.{view}
+use Rattle.store.specs.NextTable.{all_placed}
+use Rattle.store.specs.TableChange.{placed}
 use Rattle.store.proofs.Writings.{node_ends}
 use Rattle.store.proofs.plan.place_directories.Goals as goal
 
@@ -27,6 +30,7 @@ loop-directory-init c =
       left = subst (λ (ds : List NewDirectory). All (λ d. IsProper d.content.dir) ds) (sym gives.0) c.requires.proper;
       count = omega (arith, gives.1, ap length gives.0);
       writings = ap new_directories (sym gives.0) ∙ subst (λ (ps : List PlacedDirectory). new_directories (into_iter_items c.into_iter-directory-iterator.result) ≡ directories_writings ps ++ new_directories (into_iter_items c.into_iter-directory-iterator.result)) (sym none) refl;
+      table = subst (λ (ps : List PlacedDirectory). view c.args.vat.now ≡ all_placed (directories_written ps) (view c.args.vat.now)) (sym none) refl;
       fits = c.requires.fits;
       below = λ h. h;
       previous = refl;
@@ -62,11 +66,13 @@ loop-directory-preserved c =
     ∙ ap (λ (x : NewDirectory). directories_writings all ++ (directory_writing x ∷ rest)) (sym c.in_ok-placed.ensures.directory)
     ∙ sym (append_assoc (directories_writings all) (directory_writing p.directory ∷ []) rest)
     ∙ ap (λ (ws : List Writing). ws ++ rest) (sym (writings_push all p)) in
+    let moved : view c.place_node.new.vat ≡ placed p.directory.address p.number (view c.loop-directory.vat) = search rules in
     let pushed : all ++ p ∷ [] ≡ c.push.new.self.items = sym c.in_ok-push.ensures.items in
     record {
       left = (all_next (λ (d : NewDirectory). IsProper d.content.dir) (into_iter_items c.loop-directory.directory-iterator) (into_iter_items c.next.new.self) c.in-Some.directory c.in-Some.ensures.steps.0 c.loop-directory.invariant.left).1;
       count = omega (arith, c.loop-directory.invariant.count, ap length c.in-Some.ensures.steps.0, c.in-Some.ensures.steps.1);
       writings = subst (λ (ps : List PlacedDirectory). new_directories c.args.directories.items ≡ directories_writings ps ++ new_directories (into_iter_items c.next.new.self)) pushed written;
+      table = subst (λ (ps : List PlacedDirectory). view c.place_node.new.vat ≡ all_placed (directories_written ps) (view c.args.vat.now)) pushed (table_push all p (view c.args.vat.now) (view c.loop-directory.vat) (view c.place_node.new.vat) c.loop-directory.invariant.table moved);
       fits = c.place_node.ensures.fits;
       below = λ h. c.place_node.ensures.below (next + 257) number (below_later (now + 257) (next + 257) c.loop-directory.vat.entries.items later (c.loop-directory.invariant.below h));
       previous = search rules;

@@ -6,6 +6,7 @@ use Rattle.udf.specs.Udf.{udf}
 use Rattle.vat.specs.Table.{Fits, view}
 use Rattle.store.specs.Below.{AreBelow}
 use Rattle.store.specs.Plan.{AreLaid, directories_list, directories_writings, directories_written}
+use Rattle.store.specs.NextTable.{all_placed}
 use Rattle.store.specs.Writings.{IsProper, new_directories}
 use Rattle.store.proofs.plan.place_directories.Given as goal
 
@@ -15,6 +16,7 @@ invariant-loop-directory l = record {
   left : All (λ d. IsProper d.content.dir) (into_iter_items l.directory-iterator);
   count : into_iter_len l.directory-iterator ≡ length (into_iter_items l.directory-iterator);
   writings : new_directories l.fn.directories.items ≡ directories_writings l.all.items ++ new_directories (into_iter_items l.directory-iterator);
+  table : view l.vat ≡ all_placed (directories_written l.all.items) (view l.fn.vat);
   fits : Fits (view l.vat);
   below : AreBelow (l.fn.numbers.next + 257) l.fn.vat.entries.items → AreBelow (l.numbers.next + 257) l.vat.entries.items;
   previous : l.vat.previous ≡ l.fn.vat.previous;

@@ -3,6 +3,8 @@ use Rattle.std.proofs.lemmas.Bool.{false≢true}
 use Rattle.drive.specs.Journal.{Event, next_of}
 use Rattle.request.specs.declared.answer.Reply.{Reply}
 use Rattle.store.specs.Plan.{IsPlan}
+use Rattle.store.specs.Putting.{Makes}
+use Rattle.store.specs.Writings.{change_writings}
 use Rattle.store.proofs.Commits.{if_ok, writes_plan, stops_in_plan, goes_on, is_stopped, some_is}
 use Rattle.store.proofs.store.Store.apply.Goals as goal
 
@@ -21,7 +23,7 @@ pub returns-clause-commit : goal.returns-clause-commit
 returns-clause-commit g c =
     let plan = c.in_ok-plan.plan in
     let commits = c.args.self.now.vat.sessions.commits in
-    if_ok c.commit.result (λ (reply : Reply). reply ≡ plan.reply) (λ (reply : Reply). reply.commit ≡ commits + 1) (λ reply same. ap (λ (r : Reply). r.commit) same ∙ c.in_ok-plan.ensures.reply) c.commit.ensures.reply
+    if_ok c.commit.result (λ (reply : Reply). reply ≡ plan.reply) (λ (reply : Reply). reply.commit ≡ commits + 1) (λ reply same. ap (λ (r : Reply). r.commit) same ∙ c.in_ok-plan.ensures.commit) c.commit.ensures.reply
 
 pub returns-clause-written : goal.returns-clause-written
 returns-clause-written g c =
@@ -31,8 +33,16 @@ returns-clause-written g c =
     let plan = c.in_ok-plan.plan in
     let is : IsPlan (next_of J) capacity plan =
     subst (λ n. IsPlan (next_of J) n plan) c.change.ensures.capacity (subst (λ (L : List Event). IsPlan (next_of L) (g.D.Drive.capacity c.change.new.drive) plan) c.change.ensures.journal c.in_ok-plan.ensures.plan) in
-    let of_moment : plan.moment ≡ c.args.request.now.moment = c.in_ok-plan.ensures.moment ∙ some_is c.of.result c.unwrap-moment.result c.args.request.now.moment _ (search rules) c.of.ensures in
-    writes_plan c.commit.result K J (g.D.Drive.journal c.commit.new.drive) c.args.request.now.moment capacity plan c.commit.new.self (c.plan.ensures.journal ∙ c.change.ensures.journal) of_moment is c.commit.ensures.reply c.commit.ensures.at c.commit.ensures.vat c.commit.ensures.written
+    let change = c.in_ok-change.change in
+    let of_moment : c.unwrap-moment.result ≡ c.args.request.now.moment = some_is c.of.result c.unwrap-moment.result c.args.request.now.moment _ (search rules) c.of.ensures in
+    let makes : Makes c.args.self.now c.args.request.now change plan = record {
+      moment = c.in_ok-plan.ensures.moment ∙ of_moment;
+      code = c.in_ok-plan.ensures.code;
+      commit = c.in_ok-plan.ensures.commit;
+      writings = c.in_ok-plan.ensures.writings ∙ ap (λ m. change_writings m change) of_moment;
+      table = c.in_ok-plan.ensures.table;
+    } in
+    writes_plan c.commit.result K J (g.D.Drive.journal c.commit.new.drive) c.args.self.now c.args.request.now capacity change plan c.commit.new.self (c.plan.ensures.journal ∙ c.change.ensures.journal) makes is c.commit.ensures.reply c.commit.ensures.at c.commit.ensures.vat c.commit.ensures.written
 
 pub returns-clause-front : goal.returns-clause-front
 returns-clause-front g c =
@@ -42,8 +52,16 @@ returns-clause-front g c =
     let plan = c.in_ok-plan.plan in
     let is : IsPlan (next_of J) capacity plan =
     subst (λ n. IsPlan (next_of J) n plan) c.change.ensures.capacity (subst (λ (L : List Event). IsPlan (next_of L) (g.D.Drive.capacity c.change.new.drive) plan) c.change.ensures.journal c.in_ok-plan.ensures.plan) in
-    let of_moment : plan.moment ≡ c.args.request.now.moment = c.in_ok-plan.ensures.moment ∙ some_is c.of.result c.unwrap-moment.result c.args.request.now.moment _ (search rules) c.of.ensures in
-    stops_in_plan c.commit.result K J (g.D.Drive.journal c.commit.new.drive) c.args.request.now.moment capacity plan (c.plan.ensures.journal ∙ c.change.ensures.journal) of_moment is c.commit.ensures.front
+    let change = c.in_ok-change.change in
+    let of_moment : c.unwrap-moment.result ≡ c.args.request.now.moment = some_is c.of.result c.unwrap-moment.result c.args.request.now.moment _ (search rules) c.of.ensures in
+    let makes : Makes c.args.self.now c.args.request.now change plan = record {
+      moment = c.in_ok-plan.ensures.moment ∙ of_moment;
+      code = c.in_ok-plan.ensures.code;
+      commit = c.in_ok-plan.ensures.commit;
+      writings = c.in_ok-plan.ensures.writings ∙ ap (λ m. change_writings m change) of_moment;
+      table = c.in_ok-plan.ensures.table;
+    } in
+    stops_in_plan c.commit.result K J (g.D.Drive.journal c.commit.new.drive) c.args.self.now c.args.request.now capacity change plan (c.plan.ensures.journal ∙ c.change.ensures.journal) makes is c.commit.ensures.front
 
 pub returns-clause-refused : goal.returns-clause-refused
 returns-clause-refused g c = is_stopped c.commit.result c.commit.new.self.is_stopped (g.D.Drive.journal c.commit.new.drive ≡ g.D.Drive.journal c.args.drive.now) c.commit.ensures.stopped

@@ -7,9 +7,10 @@ use Rattle.vat.specs.declared.table.Vat.{Vat}
 use Rattle.vat.specs.Table.{Fits, view}
 use Rattle.store.specs.Below.{AreBelow}
 use Rattle.store.specs.Plan.{AreLaid, IsTablePlaced, file_list, file_writings, file_written, directories_list, directories_writings, directories_written}
+use Rattle.store.specs.NextTable.{all_placed, without_gone}
 use Rattle.store.specs.Writings.{new_file}
 use Rattle.store.proofs.BelowLemmas.{below_later}
-use Rattle.store.proofs.Plans.{length-padded}
+use Rattle.store.proofs.Plans.{length-padded, placed_append}
 use Rattle.store.proofs.Writings.{writes-append}
 use Rattle.store.proofs.store.Store.plan.Goals as goal
 
@@ -29,8 +30,11 @@ place_table-requires-clause-previous g c =
     omega (arith, c.in-Ok.ensures.next, c.new-numbers.ensures.next, c.in_ok-file.ensures.next, c.in_ok-directories.ensures.next, c.requires.agrees.on, c.requires.agrees.keeps.low) in
     subst (λ (p : Option ℕ). IfSome p (λ n. n < end)) (sym previous) low
 
-pub returns-clause-reply : goal.returns-clause-reply
-returns-clause-reply g c = c.in_ok-vat.ensures.commits
+pub returns-clause-code : goal.returns-clause-code
+returns-clause-code g c = refl
+
+pub returns-clause-commit : goal.returns-clause-commit
+returns-clause-commit g c = c.in_ok-vat.ensures.commits
 
 pub returns-clause-plan : goal.returns-clause-plan
 returns-clause-plan g c =
@@ -81,3 +85,14 @@ returns-clause-writings g c =
     let m = c.args.moment in
     ap (λ (ws : List Writing). ws ++ directories_writings c.in_ok-directories.directories.items) c.in_ok-file.ensures.writings
     ∙ ap (λ (ws : List Writing). new_file m c.args.change.file ++ ws) c.in_ok-directories.ensures.writings
+
+pub returns-clause-table : goal.returns-clause-table
+returns-clause-table g c =
+    let file = file_written c.in_ok-file.file in
+    let directories = directories_written c.in_ok-directories.directories.items in
+    let removed = c.args.change.removed in
+    let before = view c.in_ok-vat.vat in
+    ap view c.in_ok-table.ensures.vat
+    ∙ c.in_ok-take_away.ensures.table
+    ∙ ap (without_gone removed) (c.in_ok-directories.ensures.table ∙ ap (all_placed directories) c.in_ok-file.ensures.table ∙ sym (placed_append file directories before))
+    ∙ ap (λ t. without_gone removed (all_placed (file ++ directories) t)) c.in_ok-vat.ensures.table
