@@ -3,6 +3,7 @@ pub mod Forests
 pub mod Fronts
 pub mod Held
 pub mod Nodes
+pub mod Refusals
 pub mod Sets
 pub mod States
 pub mod Tables

@@ -27,7 +27,7 @@ use Rattle.recover.specs.Forest.{Adds, AreDrawn, IsWhole, IsWalked, by_address, 
 use Rattle.recover.specs.Forest.Forest.{End, Seen}
 use Rattle.recover.specs.Laws.{LastStands}
 use Rattle.recover.specs.Nodes.{is_directory}
-use Rattle.recover.specs.State.{HasFileSet, HasTree, IsCounted, IsShown}
+use Rattle.recover.specs.State.{HasTree, IsCounted, IsDescribed, IsShown}
 use Rattle.recover.specs.Tables.{HasDataBelow, IsEntryAt, data_of, table_fields}
 use Rattle.recover.specs.Walk.{Visits, reached_in, uniques_in}
 use Rattle.recover.proofs.Trees.{tree_of, makes_tree, is_tree, has_identities, files_are, directories_are}
@@ -111,12 +111,15 @@ has_table medium at entry is vat long below table = record {
       tables_agree (view vat) (at - 257) _ (subst (IsTableAt (at - 257) (view vat)) same table);
 }
 
-pub is_shown : (capacity : ℕ) (medium : List (List ℕ)) (at : ℕ) (state : State) (entry : TableEntry) (bytes : List ℕ) (formatted : ℕ) → 257 ≤ at → at < length medium
-    → IsEntryAt medium at entry → HasDataBelow at entry → bytes ≡ data_of medium entry → IsTableAt (at - 257) (view state.vat) bytes → entry.moment ≡ state.moment
-    → state.vat.label ≡ state.label → IsFront state.label formatted state.capacity (take 257 medium) → state.capacity ≤ capacity
-    → HasFileSet (take at medium) state.vat.entries.items state.label formatted → HasTree (take at medium) state.vat → IsCounted at state.vat → IsShown capacity medium at state
-is_shown capacity medium at state entry bytes formatted low long is below same table moment label front fits set tree counted =
-    let read = subst (IsTableAt (at - 257) (view state.vat)) same table in
+pub is_shown : (capacity : ℕ) (medium : List (List ℕ)) (at : ℕ) (state : State) → 257 ≤ at → at < length medium → IsDescribed capacity medium at state
+    → HasTree (take at medium) state.vat → IsCounted at state.vat → IsShown capacity medium at state
+is_shown capacity medium at state low long described tree counted =
+    let entry = described.entry in
+    let is = described.is_entry in
+    let label = described.label in
+    let formatted = described.formatted in
+    let front = described.front in
+    let set = described.set in
     record {
       said = record {
         tree = tree.tree;
@@ -130,14 +133,14 @@ is_shown capacity medium at state entry bytes formatted low long is below same t
       there = is.there;
       tells = record {
         table = said_table (view state.vat);
-        has = has_table medium at entry is state.vat (omega (arith, long)) below read;
+        has = has_table medium at entry is state.vat (omega (arith, long)) described.below described.table;
         commits = refl;
         next_identity = refl;
         records = refl;
         table_length = refl;
         formatted = formatted;
         front = subst (λ (l : List ℕ). IsFront l formatted state.capacity (take 257 (take at medium))) (sym label) (subst (IsFront state.label formatted state.capacity) (sym (part_below 0 257 at medium low)) front);
-        fits = fits;
+        fits = described.fits;
         set_number = set.number;
         set_used = set.used;
         set_block = set.block;
@@ -151,7 +154,7 @@ is_shown capacity medium at state entry bytes formatted low long is below same t
         few_commits = counted.few_commits;
         few_identities = counted.few_unique;
       };
-      moment = moment;
+      moment = described.moment;
       table = refl;
       label = label;
     }

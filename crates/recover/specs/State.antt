@@ -12,8 +12,10 @@ use Rattle.vat.specs.declared.table.Vat.{Vat}
 use Rattle.vat.specs.Table.{IsTableAt, view}
 use Rattle.volume.specs.Front.{IsFront}
 use Rattle.recover.specs.declared.fault.StoreFault.{StoreFault}
-use Rattle.recover.specs.declared.fault.StoreFault.TheVariants.{Device, Damaged}
+use Rattle.recover.specs.declared.fault.StoreFault.TheVariants.{Device, Memory, Damaged}
 use Rattle.recover.specs.declared.state.State.{State}
+use Rattle.recover.specs.declared.table.TableEntry.{TableEntry}
+use Rattle.recover.specs.Tables.{HasDataBelow, IsEntryAt, data_of}
 
 -- the table counts the root, and no more commits and unique IDs than the blocks below its entry leave room for
 pub record IsCounted (at : ℕ) (vat : Vat) : Type 0 where
@@ -46,6 +48,25 @@ pub record HasFileSet (medium : List (List ℕ)) (entries : List (Option ℕ)) (
   pub there : slice_get medium (number + 257) ≡ Some block
   pub is : IsFileSet (record { label = label; moment = moment }) block
 
+-- why the file set was not read: there is none with this label and moment
+abbrev pub IsSetRefused : List (List ℕ) → List (Option ℕ) → List ℕ → ℕ → StoreFault → Type 0
+IsSetRefused medium entries label moment Device = ⊤
+IsSetRefused medium entries label moment (Damaged block cause) = HasFileSet medium entries label moment → ⊥
+IsSetRefused medium entries label moment _ = ⊥
+
+-- what stands there, but for the tree, on a drive of this capacity
+pub record IsDescribed (capacity : ℕ) (medium : List (List ℕ)) (at : ℕ) (state : State) : Type 0 where
+  pub entry : TableEntry
+  pub is_entry : IsEntryAt medium at entry
+  pub below : HasDataBelow at entry
+  pub table : IsTableAt (at - 257) (view state.vat) (data_of medium entry)
+  pub moment : entry.moment ≡ state.moment
+  pub label : state.vat.label ≡ state.label
+  pub formatted : ℕ  -- the moment of the format
+  pub front : IsFront state.label formatted state.capacity (take 257 medium)
+  pub fits : state.capacity ≤ capacity
+  pub set : HasFileSet (take at medium) state.vat.entries.items state.label formatted
+
 -- the nodes that a table leads to make a tree, which the table counts
 pub record HasTree (medium : List (List ℕ)) (vat : Vat) : Type 0 where
   pub tree : Tree
@@ -65,3 +86,14 @@ pub record IsShown (capacity : ℕ) (medium : List (List ℕ)) (at : ℕ) (state
   pub moment : said.moment ≡ state.moment
   pub table : tells.table ≡ said_table (view state.vat)
   pub label : state.vat.label ≡ state.label
+
+-- no state is told there, on a drive of this capacity
+abbrev pub IsUntold : ℕ → List (List ℕ) → ℕ → Type 0
+IsUntold capacity medium at = (volume : ℕ) (block : List ℕ) (said : ModelState) → slice_get medium at ≡ Some block → Tells udf capacity volume (take at medium) at block said → ⊥
+
+-- why no state was read: the drive failed, memory was short, or none is told
+abbrev pub IsStateRefused : ℕ → List (List ℕ) → ℕ → StoreFault → Type 0
+IsStateRefused capacity medium at Device = ⊤
+IsStateRefused capacity medium at Memory = ⊤
+IsStateRefused capacity medium at (Damaged block cause) = IsUntold capacity medium at
+IsStateRefused capacity medium at _ = ⊥

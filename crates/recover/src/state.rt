@@ -1,15 +1,16 @@
 //! The state that stands where a table's entry does.
 
-ghost use Rattle.std.specs.Prelude.{◌≡◌, ◌<◌, ◌≤◌, ◌+◌, IsTrue, IfOk, IfErr, OnOk, take};
+ghost use Rattle.std.specs.Prelude.{◌≡◌, ℕ, ◌<◌, ◌≤◌, ◌+◌, ◌-◌, List, IsTrue, IfOk, IfErr, OnOk, take};
 ghost use Rattle.drive.specs.Journal.{held, next_of};
+ghost use Rattle.vat.specs.Table.{IsTableAt, view};
 ghost use Rattle.volume.specs.Front.{IsFront};
 ghost use Rattle.recover.specs.Faults.{Counts, devices};
-ghost use Rattle.recover.specs.State.{HasFileSet, IsFrontRefused, HasTree, IsCounted, IsShown, IsSound};
+ghost use Rattle.recover.specs.State.{HasFileSet, HasTree, IsCounted, IsDescribed, IsFrontRefused, IsSetRefused, IsShown, IsSound, IsStateRefused};
 
 use crate::cause;
 use crate::fault::{StoreFault, damaged};
 use crate::reading::{PARTITION_START, read_block};
-use crate::table::{read_table, table_entry};
+use crate::table::{address_below, read_table, table_entry};
 use crate::walk::{Named, Walk};
 use drive::Drive;
 use ecma::Timestamp;
@@ -52,6 +53,24 @@ pub fn state_at<D: Drive>(alloc: Global, drive: &mut D, at: u32) -> Result<State
     ensures honest { IsTrue (D.honest drive.new) → IsTrue (D.honest drive.old) }
     ensures failures { Counts (devices result) (D.failures drive.old) (D.failures drive.new) }
 {
+    let (state, data_at) = described(alloc, drive, at)?;
+    check_tree(alloc, drive, &state.vat, at, data_at)?;
+    Ok(state)
+}
+
+/// What stands there but for the tree, beside the address of the first block of the table's data.
+fn described<D: Drive>(alloc: Global, drive: &mut D, at: u32) -> Result<(State, u32), StoreFault>
+    requires low { 257 ≤ at }
+    requires within { at < next_of (D.journal drive.old) }
+    ensures described { IfOk result (λ found. IsTrue (D.honest drive.new) → IsDescribed (D.capacity drive.old) (held (D.journal drive.old)) at found.0) }
+    ensures refused { IfErr result (λ fault. IsTrue (D.honest drive.new) → IsStateRefused (D.capacity drive.old) (held (D.journal drive.old)) at fault) }
+    ensures limits { IfOk result (λ found. (512 ≤ found.0.capacity) × (found.0.capacity ≤ 450_000) × (found.0.capacity ≤ D.capacity drive.old)) }
+    ensures table { IfOk result (λ found. (bytes : List ℕ) × IsTableAt (at - 257) (view found.0.vat) bytes) }
+    ensures journal { D.journal drive.new ≡ D.journal drive.old }
+    ensures capacity { D.capacity drive.new ≡ D.capacity drive.old }
+    ensures honest { IsTrue (D.honest drive.new) → IsTrue (D.honest drive.old) }
+    ensures failures { Counts (devices result) (D.failures drive.old) (D.failures drive.new) }
+{
     let entry = table_entry(drive, at)?;
     let front = read_front(drive)?;
     if front.capacity > drive.capacity() {
@@ -63,13 +82,13 @@ pub fn state_at<D: Drive>(alloc: Global, drive: &mut D, at: u32) -> Result<State
         return Err(damaged(data_at, cause::LABEL));
     }
     check_file_set(drive, &front, &vat, at, data_at)?;
-    check_tree(alloc, drive, &vat, at, data_at)?;
-    Ok(State {
+    let state = State {
         moment: entry.moment,
         capacity: front.capacity,
         label: front.label,
         vat,
-    })
+    };
+    Ok((state, data_at))
 }
 
 /// Reads the front, block by block.
@@ -110,16 +129,16 @@ fn check_file_set<D: Drive>(
     requires low { 257 ≤ at }
     requires within { at < next_of (D.journal drive.old) }
     ensures set { OnOk result (IsTrue (D.honest drive.new) → HasFileSet (take at (held (D.journal drive.old))) vat.now.entries.items front.now.label front.now.moment) }
+    ensures refused { IfErr result (λ fault. IsTrue (D.honest drive.new) → IsSetRefused (take at (held (D.journal drive.old))) vat.now.entries.items front.now.label front.now.moment fault) }
     ensures journal { D.journal drive.new ≡ D.journal drive.old }
     ensures capacity { D.capacity drive.new ≡ D.capacity drive.old }
     ensures honest { IsTrue (D.honest drive.new) → IsTrue (D.honest drive.old) }
     ensures failures { Counts (devices result) (D.failures drive.old) (D.failures drive.new) }
 {
-    let number = match vat.entries.get(0) {
-        Some(Some(number)) if *number < at - PARTITION_START => *number,
-        _ => return Err(damaged(data_at, cause::RANGE)),
+    let set_at = match address_below(&vat.entries, 0, at) {
+        Some(set_at) => set_at,
+        None => return Err(damaged(data_at, cause::RANGE)),
     };
-    let set_at = number + PARTITION_START;
     let block = read_block(drive, set_at)?;
     let set = match decode_fsd(&block) {
         Ok(set) => set,

@@ -9,6 +9,7 @@ ghost use Rattle.icb.specs.Entry.Place.{Extent};
 ghost use Rattle.vat.specs.Table.{IsTableAt, view};
 ghost use Rattle.recover.specs.Faults.{Counts, devices};
 ghost use Rattle.recover.specs.Tables.{HasDataBelow, IsBefore, IsEntryAt, IsEntryRefused, IsLast, IsTableRefused, HasTable, IsAtRefused, IsLinkRefused, data_of};
+ghost use Rattle.recover.specs.Walk.{LeadsTo};
 
 use crate::cause::{CHAIN, RANGE};
 use crate::fault::{StoreFault, damaged};
@@ -178,6 +179,27 @@ pub fn linked<D: Drive>(
         return Err(damaged(at, CHAIN));
     }
     Ok(vat)
+}
+
+/// The address to which a table's entry for a virtual address leads, if that is below `at`.
+pub(crate) fn address_below(entries: &[Option<u32>], address: u32, at: u32) -> Option<u32>
+    requires low { 257 ≤ at }
+    ensures some { IfSome result (LeadsTo entries.now address) }
+    ensures below { IfSome result (λ there. (257 ≤ there) × (there < at)) }
+    ensures none { IfNone result ((there : ℕ) → LeadsTo entries.now address there → at ≤ there) }
+{
+    let entry = match entries.get(address as usize) {
+        Some(entry) => *entry,
+        None => return None,
+    };
+    let number = match entry {
+        Some(number) => number,
+        None => return None,
+    };
+    if number >= at - PARTITION_START {
+        return None;
+    }
+    Some(number + PARTITION_START)
 }
 
 /// The address of the entry of the table before the one whose entry stands at `at`, by one step of the chain; none where

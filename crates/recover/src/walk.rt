@@ -12,7 +12,7 @@ use crate::cause;
 use crate::directory::{Extent, link_count, read_directory};
 use crate::fault::{StoreFault, damaged};
 use crate::reading::{PARTITION_START, read_block};
-use crate::table::lies_below;
+use crate::table::{address_below, lies_below};
 use dir::{Dir, Entry, Kind};
 use drive::Drive;
 use icb::{FileEntry, Place, decode_fe};
@@ -201,9 +201,9 @@ impl<'a> Walk<'a> {
         ensures directories { self.new.directories ≡ self.old.directories }
         ensures device { devices result ≡ 0 }
     {
-        let entry_at = match self.entries.get(node.address as usize) {
-            Some(Some(number)) if *number < self.at - PARTITION_START => *number + PARTITION_START,
-            _ => return Err(damaged(node.named_at, cause::RANGE)),
+        let entry_at = match address_below(self.entries, node.address, self.at) {
+            Some(entry_at) => entry_at,
+            None => return Err(damaged(node.named_at, cause::RANGE)),
         };
         if !self.reached.insert(node.address)? {
             return Err(damaged(entry_at, cause::REACHED_TWICE));
