@@ -1,3 +1,4 @@
+pub mod Adding
 pub mod Asking
 pub mod BelowLemmas
 pub mod Caches
@@ -7,6 +8,7 @@ pub mod NodeChanges
 pub mod Plans
 pub mod Puttings
 pub mod RecordChanges
+pub mod Removing
 pub mod Replacing
 pub mod Sessions
 pub mod StoredNodes
