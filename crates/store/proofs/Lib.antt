@@ -1,3 +1,4 @@
+pub mod Adding
 pub mod Asking
 pub mod BelowLemmas
 pub mod Caches
@@ -22,6 +23,7 @@ pub mod Plans
 pub mod Puttings
 pub mod Reckoning
 pub mod RecordChanges
+pub mod Removing
 pub mod Replacing
 pub mod SaidRecords
 pub mod Sessions

@@ -1,25 +1,23 @@
 -- A walk from the root: what each directory says of a name, and what that says of the tree.
-use Rattle.std.proofs.Common.{◌≡◌, ℕ, ◌+◌, ◌<◌, ◌≤◌, ◌⊎◌, inl, inr, Bool, true, false, List, [], ◌∷◌, ◌++◌, length, map, take, drop, get_or, Contains, Option, Some, None, is_some, refl, sym, ap, subst, ◌∙◌, arith}
+use Rattle.std.proofs.Common.{◌≡◌, ℕ, ◌+◌, ◌<◌, inl, inr, Bool, true, false, List, [], ◌∷◌, ◌++◌, length, map, take, drop, get_or, Contains, Option, Some, None, refl, sym, ap, subst, ◌∙◌}
 use Rattle.std.specs.Prelude.{nat_eq, IsSome, IfSome, IsTrue}
-use Rattle.std.specs.Map.{lookup, keys_of}
+use Rattle.std.specs.Map.{lookup}
 use Rattle.std.specs.FinMap.{get}
 use Rattle.std.specs.Cmp.Lexicographic.{pointwise, same_text}
 use Rattle.std.proofs.lemmas.Cmp.{nat_list_eq_equiv}
 use Rattle.std.proofs.lemmas.Bool.{false≢true}
-use Rattle.std.proofs.lemmas.List.{take_more, take_all, take-append-drop}
+use Rattle.std.proofs.lemmas.List.{take_more, take-append-drop}
 use Rattle.std.proofs.lemmas.Map.Views.{Contains-from_lookup, IsSome-lookup_from_Contains}
 use Rattle.drive.specs.Journal.{Event, held}
 use Rattle.recover.specs.Faults.{IsShortage}
 use Rattle.recover.specs.Nodes.{IsDirectoryRefused, data_of}
-use Rattle.recover.specs.declared.directory.Extent.{Extent}
 use Rattle.recover.specs.declared.fault.StoreFault.{StoreFault}
 use Rattle.recover.specs.declared.fault.StoreFault.TheVariants as fault
 use Rattle.dir.specs.declared.entry.Entry.{Entry as DirEntry}
 use Rattle.dir.specs.declared.entry.Kind.TheVariants as kinds
-use Rattle.model.specs.Tree.{Name, Path, Node as TreeNode, Tree, IsTree, Has, has_names, names_in, names_at, found_directory, found_names, found_identity, is_directory_at, identity_at}
-use Rattle.model.specs.Graph.{Graph, Stored, Body, Entry, MakesTree, IsFunctional, Names, Leads, Reach, entries_in, entries_of, content_in, content_of, node_of, is_directory}
+use Rattle.model.specs.Tree.{Name, Path, Tree, IsTree, Has, has_names, names_in, names_at, found_directory, found_names, found_identity, is_directory_at, identity_at}
+use Rattle.model.specs.Graph.{Graph, Stored, Body, Entry, MakesTree, IsFunctional, Names, Leads, entries_in, entries_of, content_in, content_of, node_of, is_directory}
 use Rattle.model.specs.Graph.Body.{Bytes, Entries}
-use Rattle.model.specs.Change.{Found}
 use Rattle.model.proofs.Lists.{contains_map, not_in_nil}
 use Rattle.model.proofs.Maps.{none_at, not_none, some_at, has_front}
 use Rattle.model.proofs.Made.{has_stored, has_root}
@@ -32,7 +30,7 @@ use Rattle.udf.proofs.Said.{directories_agree}
 use Rattle.store.specs.declared.content.Content.{Content}
 use Rattle.store.specs.declared.nodes.Placed.{Placed}
 use Rattle.store.specs.declared.nodes.Node.{Node}
-use Rattle.store.specs.Cache.{LiesThere}
+use Rattle.store.specs.Cache.{AreKept, LiesThere}
 use Rattle.store.specs.declared.directories.Directories.{Directories}
 use Rattle.store.specs.Shows.{graph_below, LiesIn, IsOpened, IsAt, IsFound, IsFoundDirectory, Shows}
 
@@ -153,6 +151,15 @@ module _ (graph : Graph) (tree : Tree) (one : IsFunctional graph) (is : IsTree t
 -- a drive that is honest later was before
 pub shows_before : (later earlier : Bool) (J : List Event) (directories : Directories) (at : ℕ) (entries : List (Option ℕ)) (tree : Tree) → (IsTrue later → IsTrue earlier) → Shows later J directories at entries tree → Shows earlier J directories at entries tree
 shows_before later earlier J directories at entries tree h s = record { honest = h s.honest; kept = s.kept; tree = s.tree; makes = s.makes; root = s.root }
+
+-- what is kept behind a call, on the same journal
+pub kept_on : (J J' : List Event) (directories next : Directories) → J' ≡ J → (AreKept J' directories → AreKept J' next) → AreKept J directories → AreKept J next
+kept_on J J' directories next same kept = subst (λ (K : List Event). AreKept K directories → AreKept K next) same kept
+
+-- and so all is as it was at the next call
+pub shows_on : (later : Bool) (J J' : List Event) (directories next : Directories) (at : ℕ) (entries : List (Option ℕ)) (tree : Tree) → J' ≡ J → AreKept J next → Shows later J directories at entries tree → Shows later J' next at entries tree
+shows_on later J J' directories next at entries tree same kept s =
+    subst (λ (K : List Event). Shows later K next at entries tree) (sym same) (record { honest = s.honest; kept = kept; tree = s.tree; makes = s.makes; root = s.root })
 
 -- what a directory says of the next name
 abbrev pub IsNext : Graph → Tree → Path → ℕ → Option DirEntry → Type 0

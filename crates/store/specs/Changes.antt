@@ -1,6 +1,7 @@
 -- What a request does to the nodes, in the model's words.
-use Rattle.std.specs.Prelude.{◌≡◌, ℕ, List, [], ◌∷◌, ◌++◌, map, Option, Some, None}
-use Rattle.model.specs.Tree.{Tree}
+use Rattle.std.specs.Prelude.{◌≡◌, ℕ, Bool, List, [], ◌∷◌, ◌++◌, map, Option, Some, None, if◌then◌else◌, nat_le}
+use Rattle.model.specs.Tree.{Path, Tree, Content}
+use Rattle.model.specs.Tree.Content.{File as FileContent, Directory as DirectoryContent}
 use Rattle.model.specs.Graph.{Graph}
 use Rattle.model.specs.Operation.{Operation, code_of}
 use Rattle.model.specs.Operation.Operation.{Create, Replace, MakeDir, Rename, Remove}
@@ -11,6 +12,8 @@ use Rattle.request.specs.declared.message.Op.{Op}
 use Rattle.request.specs.declared.message.Op.TheVariants as op
 use Rattle.store.specs.declared.change.Change.{Change}
 use Rattle.store.specs.declared.change.NewFile.{NewFile}
+use Rattle.store.specs.declared.change.Thing.{Thing}
+use Rattle.store.specs.declared.change.Thing.TheVariants as thing
 use Rattle.store.specs.declared.nodes.Node.{Node}
 use Rattle.store.specs.Writings.{file_writing, directory_writing}
 
@@ -21,6 +24,19 @@ operation_of (op.Replace path bytes) = Replace path bytes
 operation_of (op.MakeDir path) = MakeDir path
 operation_of (op.Rename from to) = Rename from to
 operation_of (op.Remove path) = Remove path
+
+-- a new path with this at it
+abbrev pub addition : Path → Thing → Operation
+addition path (thing.File bytes) = Create path bytes.now
+addition path thing.Directory = MakeDir path
+
+abbrev pub content_of_thing : Thing → Content
+content_of_thing (thing.File bytes) = FileContent bytes.now
+content_of_thing thing.Directory = DirectoryContent []
+
+-- the code of an addition, by whether the directory has the name, how many names it has, and how many nodes there are
+abbrev pub code_by_names : Bool → ℕ → ℕ → ℕ
+code_by_names has names nodes = if has then 3 else (if nat_le 512 names then 9 else (if nat_le 4096 nodes then 10 else 0))
 
 abbrev pub files_in : ℕ → Option NewFile → List Writing
 files_in moment None = []

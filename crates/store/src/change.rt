@@ -1,15 +1,22 @@
 //! What a request does to the nodes, before any place is chosen.
 
-ghost use Rattle.std.specs.Prelude.{◌≡◌, ◌<◌, ◌≤◌, ℕ, IsTrue, IfOk, IfErr, length};
+ghost use Rattle.std.specs.Prelude.{◌≡◌, ◌<◌, ◌≤◌, ℕ, [], ◌∷◌, IsTrue, IfOk, IfErr, None, is_some, length, nat_eq, nat_lt};
+ghost use Rattle.std.specs.Cmp.Lexicographic.{pointwise};
+ghost use Rattle.std.specs.Map.{lookup};
 ghost use Rattle.drive.specs.Journal.{next_of};
 ghost use Rattle.model.specs.Addresses as addresses;
+ghost use Rattle.model.specs.Change.{new_body};
+ghost use Rattle.model.specs.Graph.{Stored, entries_of, is_directory, whole};
 ghost use Rattle.model.specs.Operation.Operation.{Replace};
-ghost use Rattle.model.specs.Tree.{Tree};
+ghost use Rattle.model.specs.Tree.{Tree, has_names};
 ghost use Rattle.recover.specs.Faults.{Counts, IsShortage, devices};
+ghost use Rattle.recover.specs.declared.fault.StoreFault.TheVariants.{Memory};
 ghost use Rattle.store.specs.Below.{AreBelow};
 ghost use Rattle.store.specs.Cache.{AreKept};
-ghost use Rattle.store.specs.Changes.{Does, IsRefusal};
+ghost use Rattle.store.specs.Changes.{Does, IsRefusal, code_by_names, content_of_thing, writings_of};
 ghost use Rattle.store.specs.Shows.{Shows, graph_below};
+ghost use Rattle.request.specs.Numbers.{code_number};
+ghost use Rattle.udf.specs.Said.{names_directory};
 ghost use Rattle.request.specs.declared.answer.Code.TheVariants.{Done};
 
 use crate::content::Content;
@@ -444,12 +451,15 @@ impl Directories {
     ) -> Result<bool, StoreFault>
         requires below { AreBelow before.now.nodes.at before.now.nodes.entries.now }
         requires within { before.now.nodes.at ≤ next_of (D.journal drive.old) }
+        ensures has { IfOk result (λ has. IsTrue (D.honest drive.new) → AreKept (D.journal drive.old) self.old → (s : Stored) → graph_below before.now.nodes.at before.now.nodes.entries.now (D.journal drive.old) node.address s → names_directory node.kind ≡ is_directory s → has ≡ nat_lt 0 (length (entries_of s))) }
+        ensures short { IfErr result (λ fault. IsTrue (D.honest drive.new) → (s : Stored) → graph_below before.now.nodes.at before.now.nodes.entries.now (D.journal drive.old) node.address s → names_directory node.kind ≡ is_directory s → IsShortage fault) }
+        ensures kept { IsTrue (D.honest drive.new) → AreKept (D.journal drive.old) self.old → AreKept (D.journal drive.old) self.new }
         ensures journal { D.journal drive.new ≡ D.journal drive.old }
         ensures capacity { D.capacity drive.new ≡ D.capacity drive.old }
         ensures honest { IsTrue (D.honest drive.new) → IsTrue (D.honest drive.old) }
         ensures failures { Counts (devices result) (D.failures drive.old) (D.failures drive.new) }
     {
-        if node.kind == Kind::File {
+        if !node.is_directory() {
             return Ok(false);
         }
         let (placed, content) = self.open(alloc, drive, &before.nodes, node.address)?;
@@ -470,7 +480,13 @@ impl<'r> Change<'r> {
         thing: Thing<'r>,
         moment: Timestamp,
     ) -> Result<Kind, StoreFault>
-        ensures { devices result ≡ 0 }
+        // The node comes first, where nothing is written yet.
+        ensures put { IfOk result (λ kind. self.old.file ≡ None → self.old.directories.items ≡ [] → writings_of moment self.new ≡ record { address = address; stored = whole before.now.next_unique moment (new_body parent.address (content_of_thing thing.entry)) } ∷ []) }
+        ensures kind { IfOk result (λ kind. names_directory kind ≡ has_names (content_of_thing thing.entry)) }
+        ensures code { self.new.code ≡ self.old.code }
+        ensures removed { self.new.removed ≡ self.old.removed }
+        ensures memory { IfErr result (λ fault. fault ≡ Memory) }
+        ensures device { devices result ≡ 0 }
     {
         let unique = before.next_unique;
         let kind = match thing {
@@ -504,7 +520,8 @@ impl<'r> Change<'r> {
 
 /// Whether a name can be added to a directory.
 fn code_of_addition(before: &Before<'_>, content: &Content, name: &Name) -> Code
-    ensures { result ≡ Done → length content.now.dir.entries.entries < 512 }
+    ensures code { code_number result ≡ code_by_names (is_some (lookup (pointwise nat_eq name.now) content.now.dir.entries.entries)) (length content.now.dir.entries.entries) before.now.node_count }
+    ensures room { result ≡ Done → length content.now.dir.entries.entries < 512 }
 {
     if content.dir.entries.contains_key(name) {
         return Code::Exists;
@@ -519,7 +536,12 @@ fn code_of_addition(before: &Before<'_>, content: &Content, name: &Name) -> Code
 }
 
 /// A directory with other names.
-fn written(node: Node, moment: Timestamp, content: Content) -> NewDirectory {
+fn written(node: Node, moment: Timestamp, content: Content) -> NewDirectory
+    ensures address { result.address ≡ node.address }
+    ensures unique { result.unique ≡ node.unique }
+    ensures moment { result.moment ≡ moment }
+    ensures content { result.content ≡ content }
+{
     NewDirectory {
         address: node.address,
         unique: node.unique,
