@@ -1,5 +1,5 @@
 -- What is kept by a state that was read back from a medium, and what it says.
-use Rattle.std.specs.Prelude.{◌≡◌, ℕ, ◌+◌, ◌-◌, ◌*◌, ◌≤◌, ⊤, List, length, take, Option, Some, slice_get}
+use Rattle.std.specs.Prelude.{◌≡◌, ℕ, ◌+◌, ◌-◌, ◌*◌, ◌≤◌, ◌⊎◌, ⊤, List, length, take, Option, Some, slice_get}
 use Rattle.icb.specs.FileSet.{IsFileSet}
 use Rattle.model.specs.Graph.{MakesTree}
 use Rattle.model.specs.Identities.{HasIdentities}
@@ -97,3 +97,7 @@ IsStateRefused capacity medium at Device = ⊤
 IsStateRefused capacity medium at Memory = ⊤
 IsStateRefused capacity medium at (Damaged block cause) = IsUntold capacity medium at
 IsStateRefused capacity medium at _ = ⊥
+
+-- why no state was read there: so it was refused, or what stands but for the tree is there
+abbrev pub IsReadRefused : ℕ → List (List ℕ) → ℕ → StoreFault → Type 0
+IsReadRefused capacity medium at fault = IsStateRefused capacity medium at fault ⊎ ((state : State) × IsDescribed capacity medium at state)

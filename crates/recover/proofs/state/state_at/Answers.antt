@@ -1,4 +1,5 @@
-use Rattle.std.proofs.Common.{List, length, ◌<◌, take, subst, arith}
+use Rattle.std.proofs.lemmas.Result.{err_from_is_err_and}
+use Rattle.std.proofs.Common.{inl, inr, List, length, ◌<◌, take, subst, arith}
 use Rattle.drive.specs.Journal.{Event, held}
 use Rattle.recover.specs.State.{HasTree}
 use Rattle.recover.proofs.Held.{length-held}
@@ -11,3 +12,13 @@ returns-clause-shown g c = λ h.
     let tree = subst (λ (K : List Event). HasTree (take c.args.at (held K)) c.in_ok-state.state.vat) c.described.ensures.journal (c.in_ok-check_tree.ensures.tree h) in
     let long : c.args.at < length (held J) = omega (arith, length-held J, c.requires.within) in
     is_shown _ (held J) c.args.at _ c.requires.low long (c.in_ok-state.ensures.described (c.check_tree.ensures.honest h)) tree c.in_ok-check_tree.ensures.counts
+
+pub returns-in_err-state-clause-refused : goal.returns-in_err-state-clause-refused
+returns-in_err-state-clause-refused g c =
+    let q = err_from_is_err_and c.from_residual.result c.from_residual.ensures.1 in
+    rw (q.1, q.2) (λ h. inl (c.in_err-state.ensures.refused h))
+
+pub returns-in_err-check_tree-clause-refused : goal.returns-in_err-check_tree-clause-refused
+returns-in_err-check_tree-clause-refused g c =
+    let q = err_from_is_err_and c.from_residual-in_err-check_tree.result c.from_residual-in_err-check_tree.ensures.1 in
+    rw (q.1, q.2) (λ h. inr (c.in_ok-state.state, c.in_ok-state.ensures.described (c.check_tree.ensures.honest h)))
