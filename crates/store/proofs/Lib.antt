@@ -3,6 +3,8 @@ pub mod BelowLemmas
 pub mod Caches
 pub mod EntryChanges
 pub mod FileBytes
+pub mod FileSizes
+pub mod Listings
 pub mod NodeChanges
 pub mod Plans
 pub mod Puttings
