@@ -9,9 +9,11 @@ pub mod Counting
 pub mod DirectoryBytes
 pub mod EntryChanges
 pub mod FileBytes
+pub mod FileSizes
 pub mod FormatJournals
 pub mod Histories
 pub mod Keeping
+pub mod Listings
 pub mod Names
 pub mod NewVolumes
 pub mod NextSizes

@@ -77,7 +77,7 @@ said_names (e ∷ es) = ap (λ (names : List Name). e.0 ∷ names) (said_names e
 
 -- ---- steps of the walk
 
-leads_push : (graph : Graph) (q : Path) (v w : ℕ) (name : Name) (to : ℕ) → Leads graph v q w → Names graph w name to → Leads graph v (q ++ name ∷ []) to
+pub leads_push : (graph : Graph) (q : Path) (v w : ℕ) (name : Name) (to : ℕ) → Leads graph v q w → Names graph w name to → Leads graph v (q ++ name ∷ []) to
 leads_push graph [] v w name to l n = (to, subst (λ x. Names graph x name to) (sym l) n, refl)
 leads_push graph (x ∷ q) v w name to l n = (l.0, l.1, leads_push graph q l.0 w name to l.2 n)
 

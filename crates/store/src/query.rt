@@ -1,17 +1,18 @@
 //! Questions about the tree. What the medium holds is not trusted: a structure that is no such structure is refused.
 
-ghost use Rattle.std.specs.Prelude.{◌≡◌, ◌<◌, ◌≤◌, IsTrue, IfOk, IfErr, length, Err, false};
+ghost use Rattle.std.specs.Prelude.{◌≡◌, ℕ, ◌<◌, ◌≤◌, List, IsTrue, IfOk, IfErr, length, map, Err, false, true};
 ghost use Rattle.drive.specs.Journal.{next_of};
 ghost use Rattle.medium.specs.Runs as runs;
 ghost use Rattle.model.specs.Tree.{Tree};
-ghost use Rattle.model.specs.Graph.{Stored, is_directory};
-ghost use Rattle.model.specs.Graph.Body.{Bytes};
+ghost use Rattle.model.specs.Graph.{Stored, entries_of, is_directory};
+ghost use Rattle.model.specs.Graph.Body.{Bytes, Entries};
 ghost use Rattle.recover.specs.Faults.{Counts, IsShortage, devices};
 ghost use Rattle.recover.specs.declared.fault.StoreFault.TheVariants.{Stopped};
+ghost use Rattle.udf.specs.Said.{names_directory, said_entries};
 ghost use Rattle.store.specs.Agrees.{Agrees};
 ghost use Rattle.store.specs.Below.{AreBelow};
-ghost use Rattle.store.specs.Cache.{AreKept};
-ghost use Rattle.store.specs.Queries.{IsMissing, IsRefused, SameVolume};
+ghost use Rattle.store.specs.Cache.{AreKept, LiesThere};
+ghost use Rattle.store.specs.Queries.{AreWhole, IsMissing, IsRefused, SameVolume, name_told, names_told, tells_directory};
 ghost use Rattle.store.specs.Shows.{IsAt, Shows, graph_below};
 
 use crate::content::Content;
@@ -63,6 +64,9 @@ impl Store {
         path: &Path,
     ) -> Result<Listing, StoreFault>
         requires agrees { Agrees (D.journal drive.old) (D.capacity drive.old) self.old }
+        ensures told { (tree : Tree) → Shows (D.honest drive.new) (D.journal drive.old) self.old.directories self.old.at self.old.vat.entries.items tree → IfOk result (λ listing. runs.told tree (runs.Query.List_ path.now) ≡ runs.Answer.Names (names_told listing)) }
+        ensures refused { (tree : Tree) → Shows (D.honest drive.new) (D.journal drive.old) self.old.directories self.old.at self.old.vat.entries.items tree → self.old.is_stopped ≡ false → IfErr result (IsRefused (runs.told tree (runs.Query.List_ path.now))) }
+        ensures kept { IsTrue (D.honest drive.new) → AreKept (D.journal drive.old) self.old.directories → AreKept (D.journal drive.old) self.new.directories }
         ensures stopped { IsTrue self.old.is_stopped → result ≡ Err Stopped }
         ensures same { SameVolume self.old self.new }
         ensures agrees { Agrees (D.journal drive.new) (D.capacity drive.new) self.new }
@@ -72,7 +76,7 @@ impl Store {
         ensures failures { Counts (devices result) (D.failures drive.old) (D.failures drive.new) }
     {
         let node = self.node(alloc, drive, path)?;
-        if node.kind == Kind::File {
+        if !node.is_directory() {
             return Err(StoreFault::NotDirectory);
         }
         let (extent, content) = self.content(alloc, drive, node.address)?;
@@ -89,6 +93,10 @@ impl Store {
         path: &Path,
     ) -> Result<NodeStatus, StoreFault>
         requires agrees { Agrees (D.journal drive.old) (D.capacity drive.old) self.old }
+        // The size of a file is that of its bytes where each block of the medium has all of its own.
+        ensures told { (tree : Tree) → AreWhole (D.journal drive.old) → Shows (D.honest drive.new) (D.journal drive.old) self.old.directories self.old.at self.old.vat.entries.items tree → IfOk result (λ status. runs.told tree (runs.Query.Stat path.now) ≡ runs.Answer.NodeIs (tells_directory status.kind) status.moment status.size) }
+        ensures refused { (tree : Tree) → Shows (D.honest drive.new) (D.journal drive.old) self.old.directories self.old.at self.old.vat.entries.items tree → self.old.is_stopped ≡ false → IfErr result (IsRefused (runs.told tree (runs.Query.Stat path.now))) }
+        ensures kept { IsTrue (D.honest drive.new) → AreKept (D.journal drive.old) self.old.directories → AreKept (D.journal drive.old) self.new.directories }
         ensures stopped { IsTrue self.old.is_stopped → result ≡ Err Stopped }
         ensures same { SameVolume self.old self.new }
         ensures agrees { Agrees (D.journal drive.new) (D.capacity drive.new) self.new }
@@ -99,7 +107,7 @@ impl Store {
     {
         let node = self.node(alloc, drive, path)?;
         let (moment, bytes) = self.moment_and_size(drive, node.address)?;
-        if node.kind == Kind::File {
+        if !node.is_directory() {
             return Ok(NodeStatus {
                 kind: NodeKind::File,
                 moment,
@@ -154,6 +162,10 @@ impl Store {
         address: u32,
     ) -> Result<(Extent, Content), StoreFault>
         requires agrees { Agrees (D.journal drive.old) (D.capacity drive.old) self.old }
+        ensures opened { IfOk result (λ read. IsTrue (D.honest drive.new) → AreKept (D.journal drive.old) self.old.directories → (s : Stored) → graph_below self.old.at self.old.vat.entries.items (D.journal drive.old) address s → is_directory s ≡ true → s.body ≡ Entries read.1.dir.parent (said_entries read.1.dir.entries.entries)) }
+        ensures lies { IfOk result (λ read. IsTrue (D.honest drive.new) → AreKept (D.journal drive.old) self.old.directories → LiesThere (D.journal drive.old) read.0 read.1) }
+        ensures short { IfErr result (λ fault. IsTrue (D.honest drive.new) → (s : Stored) → graph_below self.old.at self.old.vat.entries.items (D.journal drive.old) address s → is_directory s ≡ true → IsShortage fault) }
+        ensures kept { IsTrue (D.honest drive.new) → AreKept (D.journal drive.old) self.old.directories → AreKept (D.journal drive.old) self.new.directories }
         ensures same { SameVolume self.old self.new }
         ensures agrees { Agrees (D.journal drive.new) (D.capacity drive.new) self.new }
         ensures journal { D.journal drive.new ≡ D.journal drive.old }
@@ -165,8 +177,7 @@ impl Store {
             at: self.at,
             entries: &self.vat.entries,
         };
-        let placed = nodes.directory(drive, address)?;
-        let content = self.directories.take(alloc, drive, placed.extent)?;
+        let (placed, content) = self.directories.open(alloc, drive, &nodes, address)?;
         Ok((placed.extent, content))
     }
 
@@ -178,6 +189,9 @@ impl Store {
         address: u32,
     ) -> Result<u64, StoreFault>
         requires agrees { Agrees (D.journal drive.old) (D.capacity drive.old) self.old }
+        ensures count { IfOk result (λ count. IsTrue (D.honest drive.new) → AreKept (D.journal drive.old) self.old.directories → (s : Stored) → graph_below self.old.at self.old.vat.entries.items (D.journal drive.old) address s → is_directory s ≡ true → count ≡ length (entries_of s)) }
+        ensures short { IfErr result (λ fault. IsTrue (D.honest drive.new) → (s : Stored) → graph_below self.old.at self.old.vat.entries.items (D.journal drive.old) address s → is_directory s ≡ true → IsShortage fault) }
+        ensures kept { IsTrue (D.honest drive.new) → AreKept (D.journal drive.old) self.old.directories → AreKept (D.journal drive.old) self.new.directories }
         ensures same { SameVolume self.old self.new }
         ensures agrees { Agrees (D.journal drive.new) (D.capacity drive.new) self.new }
         ensures journal { D.journal drive.new ≡ D.journal drive.old }
@@ -198,6 +212,9 @@ impl Store {
         address: u32,
     ) -> Result<(u64, u32), StoreFault>
         requires agrees { Agrees (D.journal drive.old) (D.capacity drive.old) self.now }
+        ensures moment { IfOk result (λ read. IsTrue (D.honest drive.new) → (s : Stored) → graph_below self.now.at self.now.vat.entries.items (D.journal drive.old) address s → read.0 ≡ s.moment) }
+        ensures size { IfOk result (λ read. IsTrue (D.honest drive.new) → AreWhole (D.journal drive.old) → (s : Stored) → graph_below self.now.at self.now.vat.entries.items (D.journal drive.old) address s → (bytes : List ℕ) → s.body ≡ Bytes bytes → read.1 ≡ length bytes) }
+        ensures short { IfErr result (λ fault. IsTrue (D.honest drive.new) → (s : Stored) → graph_below self.now.at self.now.vat.entries.items (D.journal drive.old) address s → IsShortage fault) }
         ensures journal { D.journal drive.new ≡ D.journal drive.old }
         ensures capacity { D.capacity drive.new ≡ D.capacity drive.old }
         ensures honest { IsTrue (D.honest drive.new) → IsTrue (D.honest drive.old) }
@@ -252,23 +269,25 @@ fn file_data<D: Drive>(
 /// The names of a directory, in their stored order.
 fn listing_of(alloc: Global, content: &Content) -> Result<Listing, StoreFault>
     ensures failures { devices result ≡ 0 }
-    ensures count { IfOk result (λ listing. length listing ≡ length content.now.dir.entries.entries) }
+    ensures short { IfErr result IsShortage }
+    ensures names { IfOk result (λ listing. names_told listing ≡ map name_told content.now.dir.entries.entries) }
 {
     let entries = &content.dir.entries;
     let mut listing = Listing::new(alloc);
     for index in 0..entries.len() {
-        if let Some((name, entry)) = entries.get_index(index) {
-            listing.push(Listed {
-                kind: told(entry.kind),
-                name: name.clone()?,
-            })?;
-        }
+        let (name, entry) = entries.get_index(index).unwrap();
+        listing.push(Listed {
+            kind: told(entry.kind),
+            name: name.clone()?,
+        })?;
     }
     Ok(listing)
 }
 
 /// A kind as it is told.
-fn told(kind: Kind) -> NodeKind {
+fn told(kind: Kind) -> NodeKind
+    ensures { tells_directory result ≡ names_directory kind }
+{
     match kind {
         Kind::File => NodeKind::File,
         Kind::Directory => NodeKind::Directory,
