@@ -26,3 +26,6 @@ returns-clause-agrees g c =
 
 pub returns-clause-kept : goal.returns-clause-kept
 returns-clause-kept g c = c.in_ok-new.ensures.kept (g.D.Drive.journal c.state_at.new.drive)
+
+pub returns-clause-honest : goal.returns-clause-honest
+returns-clause-honest g c = λ h. c.last.ensures.honest (c.state_at.ensures.honest h)
