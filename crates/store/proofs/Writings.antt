@@ -1,5 +1,5 @@
 -- What is written of a node, and where.
-use Rattle.std.proofs.Common.{◌≡◌, ℕ, ◌+◌, ◌-◌, ◌^◌, ◌<◌, ◌≤◌, Bool, List, [], ◌∷◌, ◌++◌, length, replicate, refl, sym, ap, subst, ◌∙◌, arith, length-append, append_assoc, append-nil}
+use Rattle.std.proofs.Common.{◌≡◌, ℕ, ◌+◌, ◌-◌, ◌/◌, ◌^◌, ◌<◌, ◌≤◌, Bool, List, [], ◌∷◌, ◌++◌, length, replicate, refl, sym, ap, subst, ◌∙◌, arith, length-append, append_assoc, append-nil}
 use Rattle.std.specs.Prelude.{if◌then◌else◌, fold}
 use Rattle.std.specs.Map.{values_of}
 use Rattle.std.proofs.lemmas.List.{length-replicate}
@@ -10,6 +10,8 @@ use Rattle.dir.specs.declared.entry.Kind.TheVariants.{File, Directory}
 use Rattle.dir.specs.Directory.{identifiers, directory_blocks, directory_size, IsDirectory}
 use Rattle.dir.specs.Layout.{laid}
 use Rattle.dir.proofs.Once.{laid_directory}
+use Rattle.dir.specs.Size.{name_sizes, plain_sizes}
+use Rattle.dir.proofs.Short.{directories_short}
 use Rattle.dir.proofs.Sizes.{data_sized}
 use Rattle.model.specs.Graph.{links_in, Entry as GraphEntry}
 use Rattle.model.specs.Graph.Body.{Entries}
@@ -55,13 +57,23 @@ counts_agree n (e ∷ es) =
 pub links_agree : (parent : ℕ) (es : List (List ℕ × Entry)) → links_of es ≡ links_in (Entries parent (said_entries es))
 links_agree parent es = ap (λ n. 1 + n) (counts_agree 0 es)
 
+is_laid : (d : Dir) (first size : ℕ) → d.parent < 2 ^ 32 → length d.entries.entries ≤ 512 → IsProper d → size ≡ directory_size d → IsDirectory d.parent d.entries.entries first size (directory_blocks d first)
+is_laid d first size low few proper same =
+    let es = d.entries.entries in
+    let laid_size : length (laid first 0 (identifiers d.parent es)) ≡ size = data_sized first d.parent es proper.named ∙ sym (data_sized 0 d.parent es proper.named) ∙ sym same in
+    subst (λ n. IsDirectory d.parent es first n (directory_blocks d first)) laid_size (laid_directory d.parent first es low few proper.named proper.distinct)
+
 pub holds_directory : (d : Dir) (first size : ℕ) → d.parent < 2 ^ 32 → length d.entries.entries ≤ 512 → IsProper d → first ≤ 449_743 → size ≡ directory_size d
     → HoldsDirectory d.parent (said_entries d.entries.entries) first size (directory_blocks d first)
 holds_directory d first size low few proper room same =
     let es = d.entries.entries in
-    let laid_size : length (laid first 0 (identifiers d.parent es)) ≡ size = data_sized first d.parent es proper.named ∙ sym (data_sized 0 d.parent es proper.named) ∙ sym same in
-    let is = subst (λ n. IsDirectory d.parent es first n (directory_blocks d first)) laid_size (laid_directory d.parent first es low few proper.named proper.distinct) in
-    (directories_agree d.parent first size es (directory_blocks d first) (directory_bytes d.parent first es proper.named) room).0 is
+    (directories_agree d.parent first size es (directory_blocks d first) (directory_bytes d.parent first es proper.named) room).0 (is_laid d first size low few proper same)
+
+-- it takes no more blocks than the lengths of its names allow
+pub directory_short : (d : Dir) (first : ℕ) → d.parent < 2 ^ 32 → length d.entries.entries ≤ 512 → IsProper d → length (directory_blocks d first) ≤ 1 + (40 + plain_sizes (name_sizes d.entries.entries)) / 1720
+directory_short d first low few proper =
+    let es = d.entries.entries in
+    directories_short d.parent first (directory_size d) es (directory_blocks d first) (λ k b lt. (directory_bytes d.parent first es proper.named k b lt).size) (is_laid d first (directory_size d) low few proper refl)
 
 -- ---- nodes one behind another
 

@@ -3,6 +3,7 @@ pub mod Asked
 pub mod Below
 pub mod Calls
 pub mod Commits
+pub mod Full
 pub mod Need
 pub mod Needs
 pub mod NextTable
