@@ -21,6 +21,16 @@ table_few t fits =
 pub table_some : (t : Table) → Fits t → 0 < length (table_bytes t)
 table_some t fits = omega (arith, takes_so_many t (table_bytes t) (record { fits = fits; whole = refl }))
 
+-- and no more than its records and entries take
+pub table_long : (t : Table) → Fits t → length (table_bytes t) ≤ 196 + 48 * length t.records + 4 * length t.entries
+table_long t fits =
+    let size = takes_so_many t (table_bytes t) (record { fits = fits; whole = refl }) in
+    by t.version size
+  where
+    by : (v : Version) → length (table_bytes t) ≡ 196 + (record_size v * length t.records + 4 * length t.entries) → length (table_bytes t) ≤ 196 + 48 * length t.records + 4 * length t.entries
+    by One size = omega (arith, size)
+    by Two size = omega (arith, size)
+
 -- all that a table names lies below the block number of its entry
 pub table_at : (t : Table) (from number : ℕ) (bytes : List ℕ) → Fits t → bytes ≡ table_bytes t → IfSome t.previous (λ p. p < from) → AreBelow (from + 257) t.entries → from ≤ number → IsTableAt number t bytes
 table_at t from number bytes fits is previous below later = record {

@@ -1,5 +1,5 @@
 -- What is written of a node, and where.
-use Rattle.std.proofs.Common.{◌≡◌, ℕ, ◌+◌, ◌-◌, ◌^◌, ◌<◌, ◌≤◌, Bool, List, [], ◌∷◌, ◌++◌, length, replicate, refl, sym, ap, subst, ◌∙◌, arith, length-append, append_assoc, append-nil}
+use Rattle.std.proofs.Common.{◌≡◌, ℕ, ◌+◌, ◌-◌, ◌/◌, ◌^◌, ◌<◌, ◌≤◌, Bool, List, [], ◌∷◌, ◌++◌, length, replicate, refl, sym, ap, subst, ◌∙◌, arith, length-append, append_assoc, append-nil}
 use Rattle.std.specs.Prelude.{if◌then◌else◌, fold}
 use Rattle.std.specs.Map.{values_of}
 use Rattle.std.proofs.lemmas.List.{length-replicate}
@@ -10,6 +10,8 @@ use Rattle.dir.specs.declared.entry.Kind.TheVariants.{File, Directory}
 use Rattle.dir.specs.Directory.{identifiers, directory_blocks, directory_size, IsDirectory}
 use Rattle.dir.specs.Layout.{laid}
 use Rattle.dir.proofs.Once.{laid_directory}
+use Rattle.dir.specs.Size.{name_sizes, plain_sizes}
+use Rattle.dir.proofs.Short.{directories_short}
 use Rattle.dir.proofs.Sizes.{data_sized}
 use Rattle.model.specs.Graph.{links_in, Entry as GraphEntry}
 use Rattle.model.specs.Graph.Body.{Entries}
@@ -66,8 +68,13 @@ pub holds_directory : (d : Dir) (first size : ℕ) → d.parent < 2 ^ 32 → len
     → HoldsDirectory d.parent (said_entries d.entries.entries) first size (directory_blocks d first)
 holds_directory d first size low few proper room same =
     let es = d.entries.entries in
-    let is = laid_there d first size low few proper same in
-    (directories_agree d.parent first size es (directory_blocks d first) (directory_bytes d.parent first es proper.named) room).0 is
+    (directories_agree d.parent first size es (directory_blocks d first) (directory_bytes d.parent first es proper.named) room).0 (laid_there d first size low few proper same)
+
+-- it takes no more blocks than the lengths of its names allow
+pub directory_short : (d : Dir) (first : ℕ) → d.parent < 2 ^ 32 → length d.entries.entries ≤ 512 → IsProper d → length (directory_blocks d first) ≤ 1 + (40 + plain_sizes (name_sizes d.entries.entries)) / 1720
+directory_short d first low few proper =
+    let es = d.entries.entries in
+    directories_short d.parent first (directory_size d) es (directory_blocks d first) (λ k b lt. (directory_bytes d.parent first es proper.named k b lt).size) (laid_there d first (directory_size d) low few proper refl)
 
 -- ---- nodes one behind another
 

@@ -5,6 +5,7 @@ pub mod Cache
 pub mod Calls
 pub mod Changes
 pub mod Commits
+pub mod Full
 pub mod History
 pub mod Need
 pub mod Needs

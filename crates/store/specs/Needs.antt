@@ -2,14 +2,15 @@
 use Rattle.std.specs.Prelude.{ℕ, ◌+◌, ◌*◌, ◌/◌, List, [], ◌∷◌, length, Option, Some, None}
 use Rattle.std.specs.Int.{div_ceil}
 use Rattle.dir.specs.Size.{name_sizes, plain_sizes}
-use Rattle.vat.specs.declared.table.Vat.{Vat}
+use Rattle.vat.specs.Table.{Table}
 use Rattle.store.specs.Outside.{outside}
+use Rattle.store.specs.declared.change.Change.{Change}
 use Rattle.store.specs.declared.change.NewFile.{NewFile}
 use Rattle.store.specs.declared.change.NewDirectory.{NewDirectory}
 
 -- before data there may be as many blocks of zeros
-abbrev pub table_need : Vat → ℕ
-table_need vat = 2 * div_ceil (196 + 48 * length vat.sessions.records.items + 4 * length vat.entries.items) 2048 + 1
+abbrev pub table_need : Table → ℕ
+table_need t = 2 * div_ceil (196 + 48 * length t.records + 4 * length t.entries) 2048 + 1
 
 abbrev pub file_need : Option NewFile → ℕ
 file_need None = 0
@@ -22,3 +23,7 @@ directory_need d = 2 + (40 + plain_sizes (name_sizes d.content.dir.entries.entri
 abbrev pub directories_need : List NewDirectory → ℕ
 directories_need [] = 0
 directories_need (d ∷ ds) = directory_need d + directories_need ds
+
+-- for a change, where the table is as long as this one
+abbrev pub change_need : Change → Table → ℕ
+change_need change t = table_need t + file_need change.file + directories_need change.directories.items

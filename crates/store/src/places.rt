@@ -1,12 +1,12 @@
 //! Where the blocks of a commit lie.
 
-ghost use Rattle.std.specs.Prelude.{◌≡◌, ℕ, ◌+◌, ◌<◌, ◌≤◌, List, [], ◌∷◌, ◌++◌, length, IfOk, OnOk};
+ghost use Rattle.std.specs.Prelude.{◌≡◌, ℕ, ◌+◌, ◌*◌, ◌<◌, ◌≤◌, List, [], ◌∷◌, ◌++◌, length, Some};
 ghost use Rattle.std.specs.Int.{div_ceil};
 ghost use Rattle.icb.specs.Entry.{FitsPlace, place_of};
 ghost use Rattle.icb.specs.declared.entry.Kind.TheVariants.{File};
 ghost use Rattle.dir.specs.Directory.{directory_blocks, directory_size};
 ghost use Rattle.medium.specs.Plan.{packed, IsClearStart, IsPlaced, PlacesFile, WritesNode};
-ghost use Rattle.recover.specs.Faults.{devices};
+ghost use Rattle.store.specs.Needs as needs;
 ghost use Rattle.store.specs.Outside.{outside};
 ghost use Rattle.store.specs.Plan.{file_data, directory_data, IsLaid};
 ghost use Rattle.store.specs.Writings.{IsProper, file_writing, directory_writing};
@@ -17,7 +17,7 @@ use crate::change::{NewDirectory, NewFile};
 use crate::placed::{PlacedDirectory, PlacedFile};
 use ecma::{Block, Timestamp};
 use icb::{FileEntry, Kind, Place, encode_fe};
-use recover::{Extent, StoreFault, block_count, link_count};
+use recover::{Extent, block_count, link_count};
 use vat::clear_start;
 
 /// The most bytes of a file that stand inside its entry.
@@ -54,88 +54,79 @@ impl Numbers {
         self.next
     }
 
-    /// Gives out so many numbers.
-    pub(crate) fn take(&mut self, count: u32) -> Result<(), StoreFault>
-        ensures next { OnOk result (self.new.next ≡ self.old.next + count) }
+    /// Gives out so many numbers, for which there is room.
+    pub(crate) fn take(&mut self, count: u32)
+        requires room { self.old.next + count ≤ self.old.end }
+        ensures next { self.new.next ≡ self.old.next + count }
         ensures end { self.new.end ≡ self.old.end }
-        ensures device { devices result ≡ 0 }
     {
-        if count > self.end - self.next {
-            return Err(StoreFault::Full);
-        }
         self.next += count;
-        Ok(())
     }
 
     /// Places bytes at the least clear start, and says where it is.
-    pub(crate) fn place_bytes(&mut self, bytes: &[u8]) -> Result<u32, StoreFault>
-        requires { length bytes.now ≤ 1_048_576 }
-        ensures start { IfOk result (λ first. IsClearStart udf (packed bytes.now) self.old.next first) }
-        ensures next { IfOk result (λ first. self.new.next ≡ first + div_ceil (length bytes.now) 2048) }
-        ensures room { OnOk result (self.new.next ≤ self.new.end) }
+    pub(crate) fn place_bytes(&mut self, bytes: &[u8]) -> u32
+        requires few { length bytes.now ≤ 1_048_576 }
+        requires room { self.old.next + 2 * div_ceil (length bytes.now) 2048 ≤ self.old.end }
+        ensures start { IsClearStart udf (packed bytes.now) self.old.next result }
+        ensures next { self.new.next ≡ result + div_ceil (length bytes.now) 2048 }
+        ensures most { self.new.next ≤ self.old.next + 2 * div_ceil (length bytes.now) 2048 }
         ensures end { self.new.end ≡ self.old.end }
-        ensures device { devices result ≡ 0 }
     {
         let start = self.next;
         let first = clear_start(bytes, start);
-        self.take(first - start + block_count(bytes.len() as u32))?;
-        Ok(first)
+        self.take(first - start + block_count(bytes.len() as u32));
+        first
     }
 
     /// Places a file: its bytes, where they are outside its entry, and the entry, of this moment.
-    pub(crate) fn place_file<'r>(
-        &mut self,
-        file: NewFile<'r>,
-        moment: Timestamp,
-    ) -> Result<PlacedFile<'r>, StoreFault>
-        ensures address { IfOk result (λ p. p.file.address ≡ file.entry.address) }
-        ensures unique { IfOk result (λ p. p.file.unique ≡ file.entry.unique) }
-        ensures bytes { IfOk result (λ p. p.file.bytes.now ≡ file.entry.bytes.now) }
-        ensures written { IfOk result (λ p. WritesNode udf (file_writing moment p.file) self.old.next (file_data p ++ p.entry ∷ []) p.number) }
-        ensures next { IfOk result (λ p. self.new.next ≡ p.number + 1) }
+    pub(crate) fn place_file<'r>(&mut self, file: NewFile<'r>, moment: Timestamp) -> PlacedFile<'r>
+        requires room { self.old.next + needs.file_need (Some file) ≤ self.old.end }
+        ensures address { result.file.address ≡ file.entry.address }
+        ensures unique { result.file.unique ≡ file.entry.unique }
+        ensures bytes { result.file.bytes.now ≡ file.entry.bytes.now }
+        ensures written { WritesNode udf (file_writing moment result.file) self.old.next (file_data result ++ result.entry ∷ []) result.number }
+        ensures next { self.new.next ≡ result.number + 1 }
+        ensures most { self.new.next ≤ self.old.next + needs.file_need (Some file.entry) }
         ensures end { self.new.end ≡ self.old.end }
-        ensures device { devices result ≡ 0 }
     {
         let start = self.next;
-        let first = self.place_bytes(outside_of(file.bytes.as_slice()))?;
+        let first = self.place_bytes(outside_of(file.bytes.as_slice()));
         let number = self.next;
-        self.take(1)?;
-        Ok(PlacedFile {
+        self.take(1);
+        PlacedFile {
             file,
             gap: first - start,
             entry: file_entry(&file, moment, first),
             number,
-        })
+        }
     }
 
     /// Places a directory: its data and its entry.
-    pub(crate) fn place_directory(
-        &mut self,
-        directory: NewDirectory,
-    ) -> Result<PlacedDirectory, StoreFault>
+    pub(crate) fn place_directory(&mut self, directory: NewDirectory) -> PlacedDirectory
         requires proper { IsProper directory.content.dir }
-        ensures directory { IfOk result (λ p. p.directory ≡ directory) }
-        ensures laid { IfOk result (IsLaid self.old.next) }
-        ensures written { IfOk result (λ p. WritesNode udf (directory_writing p.directory) self.old.next (directory_data p ++ p.entry ∷ []) p.number) }
-        ensures next { IfOk result (λ p. self.new.next ≡ p.number + 1) }
+        requires room { self.old.next + needs.directory_need directory ≤ self.old.end }
+        ensures directory { result.directory ≡ directory }
+        ensures laid { IsLaid self.old.next result }
+        ensures written { WritesNode udf (directory_writing result.directory) self.old.next (directory_data result ++ result.entry ∷ []) result.number }
+        ensures next { self.new.next ≡ result.number + 1 }
+        ensures most { self.new.next ≤ self.old.next + needs.directory_need directory }
         ensures end { self.new.end ≡ self.old.end }
-        ensures device { devices result ≡ 0 }
     {
         let size = directory.content.dir.data_size();
         let extent = Extent {
             first: self.next,
             size: size.bytes() as u32,
         };
-        self.take(size.blocks())?;
+        self.take(size.blocks());
         let number = self.next;
-        self.take(1)?;
+        self.take(1);
         let entry = directory_entry(&directory, extent);
-        Ok(PlacedDirectory {
+        PlacedDirectory {
             directory,
             extent,
             entry,
             number,
-        })
+        }
     }
 }
 

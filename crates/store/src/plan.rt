@@ -1,6 +1,6 @@
 //! A commit, planned whole: which blocks it writes, and where.
 
-ghost use Rattle.std.specs.Prelude.{min, ◌≡◌, ℕ, ◌+◌, ◌-◌, ◌*◌, ◌<◌, ◌≤◌, ◌^◌, Some, IsTrue, IfOk, OnOk, IfSome, All, length};
+ghost use Rattle.std.specs.Prelude.{min, ◌≡◌, ℕ, ◌+◌, ◌-◌, ◌*◌, ◌<◌, ◌≤◌, ◌^◌, Some, IsTrue, IfOk, OnOk, IfSome, All, Err, false, length};
 ghost use Rattle.std.specs.Int.{div_ceil};
 ghost use Rattle.drive.specs.Journal.{next_of};
 ghost use Rattle.osta.specs.Compressed.{compressed};
@@ -10,12 +10,14 @@ ghost use Rattle.dir.specs.Size.{name_sizes, plain_sizes};
 ghost use Rattle.medium.specs.Formats.Kind.{Table};
 ghost use Rattle.medium.specs.Formats.Place.{Extent};
 ghost use Rattle.medium.specs.Plan.{WritesNodes};
+ghost use Rattle.recover.specs.declared.fault.StoreFault.TheVariants.{Full};
 ghost use Rattle.udf.specs.Udf.{udf};
 ghost use Rattle.vat.specs.Table.{Fits, view};
 ghost use Rattle.recover.specs.Faults.{Counts, devices};
 ghost use Rattle.request.specs.Numbers.{code_number};
 ghost use Rattle.store.specs.Agrees.{Agrees, Keeps};
 ghost use Rattle.store.specs.Below.{AreBelow};
+ghost use Rattle.store.specs.Full.{is_full};
 ghost use Rattle.store.specs.Needs as needs;
 ghost use Rattle.store.specs.Plan.{IsPlan, IsTablePlaced, AreLaid, file_list, file_writings, file_written, directories_list, directories_writings, directories_written, plan_writings, plan_written};
 ghost use Rattle.store.specs.NextTable.{all_placed, begun, next_table, without_gone};
@@ -87,6 +89,8 @@ impl Store {
         ensures moment { IfOk result (λ p. p.moment ≡ moment) }
         ensures writings { IfOk result (λ p. plan_writings p ≡ change_writings moment change.entry) }
         ensures table { IfOk result (λ p. view p.table.vat ≡ next_table self.now.at request.now.client request.now.number (code_number change.entry.code) change.entry.made (plan_written p) change.entry.removed (view self.now.vat)) }
+        ensures room { OnOk result (next_of (D.journal drive.old) + needs.change_need change.entry (begun self.now.at request.now.client request.now.number (code_number change.entry.code) change.entry.made (view self.now.vat)) ≤ self.now.capacity) }
+        ensures full { result ≡ Err Full → self.now.capacity < next_of (D.journal drive.old) + needs.change_need change.entry (begun self.now.at request.now.client request.now.number (code_number change.entry.code) change.entry.made (view self.now.vat)) }
         ensures journal { D.journal drive.new ≡ D.journal drive.old }
         ensures capacity { D.capacity drive.new ≡ D.capacity drive.old }
         ensures honest { IsTrue (D.honest drive.new) → IsTrue (D.honest drive.old) }
@@ -140,6 +144,7 @@ impl Store {
         ensures previous { IfOk result (λ vat. vat.previous ≡ Some (self.now.at - 257)) }
         ensures commits { IfOk result (λ vat. vat.sessions.commits ≡ self.now.vat.sessions.commits + 1) }
         ensures unique { IfOk result (λ vat. vat.sessions.next_unique ≤ 16 + vat.sessions.commits) }
+        ensures full { is_full result ≡ false }
         ensures device { devices result ≡ 0 }
     {
         let at = self.at;
@@ -163,7 +168,7 @@ impl Store {
 /// The most blocks that a commit may take, from sizes alone.
 fn need(change: &Change<'_>, vat: &Vat) -> u64
     requires { Fits (view vat.now) }
-    ensures value { result ≡ min (needs.table_need vat.now + needs.file_need change.now.file + needs.directories_need change.now.directories.items) (2 ^ 64 - 1) }
+    ensures value { result ≡ min (needs.change_need change.now (view vat.now)) (2 ^ 64 - 1) }
     ensures proper { All (λ d. IsProper d.content.dir) change.now.directories.items }
 {
     let nodes = directories_need(&change.directories);
@@ -173,7 +178,7 @@ fn need(change: &Change<'_>, vat: &Vat) -> u64
 /// The most blocks for a table.
 fn table_need(vat: &Vat) -> u64
     requires { Fits (view vat.now) }
-    ensures value { result ≡ needs.table_need vat.now }
+    ensures value { result ≡ needs.table_need (view vat.now) }
     ensures few { result ≤ 1_000 }
 {
     let size = 196 + 48 * vat.sessions.records.len() as u64 + 4 * vat.entries.len() as u64;
@@ -240,6 +245,7 @@ fn place_file<'r>(
     at: u32,
 ) -> Result<Option<PlacedFile<'r>>, StoreFault>
     requires fits { Fits (view vat.old) }
+    requires room { numbers.old.next + needs.file_need file ≤ numbers.old.end }
     ensures fits { OnOk result (Fits (view vat.new)) }
     ensures below { OnOk result (AreBelow (numbers.old.next + 257) vat.old.entries.items → AreBelow (numbers.new.next + 257) vat.new.entries.items) }
     ensures previous { OnOk result (vat.new.previous ≡ vat.old.previous) }
@@ -250,13 +256,16 @@ fn place_file<'r>(
     ensures written { IfOk result (λ placed. WritesNodes udf (file_writings moment placed) numbers.old.next (file_list placed) (file_written placed)) }
     ensures next { IfOk result (λ placed. numbers.new.next ≡ numbers.old.next + length (file_list placed)) }
     ensures end { numbers.new.end ≡ numbers.old.end }
+    ensures most { OnOk result (numbers.new.next ≤ numbers.old.next + needs.file_need file.entry) }
+    ensures need { OnOk result (needs.table_need (view vat.new) ≡ needs.table_need (view vat.old)) }
+    ensures full { is_full result ≡ false }
     ensures device { devices result ≡ 0 }
 {
     let Some(file) = file else {
         return Ok(None);
     };
     let address = file.address;
-    let placed = numbers.place_file(file, moment)?;
+    let placed = numbers.place_file(file, moment);
     if !place_node(vat, address, placed.number) {
         return Err(damaged(at, cause::IDENTITY));
     }
@@ -273,6 +282,7 @@ fn place_directories(
 ) -> Result<Vec<PlacedDirectory>, StoreFault>
     requires fits { Fits (view vat.old) }
     requires proper { All (λ d. IsProper d.content.dir) directories.items }
+    requires room { numbers.old.next + needs.directories_need directories.items ≤ numbers.old.end }
     ensures fits { OnOk result (Fits (view vat.new)) }
     ensures below { OnOk result (AreBelow (numbers.old.next + 257) vat.old.entries.items → AreBelow (numbers.new.next + 257) vat.new.entries.items) }
     ensures previous { OnOk result (vat.new.previous ≡ vat.old.previous) }
@@ -284,12 +294,15 @@ fn place_directories(
     ensures written { IfOk result (λ placed. WritesNodes udf (directories_writings placed.items) numbers.old.next (directories_list placed.items) (directories_written placed.items)) }
     ensures next { IfOk result (λ placed. numbers.new.next ≡ numbers.old.next + length (directories_list placed.items)) }
     ensures end { numbers.new.end ≡ numbers.old.end }
+    ensures most { OnOk result (numbers.new.next ≤ numbers.old.next + needs.directories_need directories.items) }
+    ensures need { OnOk result (needs.table_need (view vat.new) ≡ needs.table_need (view vat.old)) }
+    ensures full { is_full result ≡ false }
     ensures device { devices result ≡ 0 }
 {
     let mut all = Vec::with_capacity(alloc, directories.len())?;
     for directory in directories {
         let address = directory.address;
-        let placed = numbers.place_directory(directory)?;
+        let placed = numbers.place_directory(directory);
         if !place_node(vat, address, placed.number) {
             return Err(damaged(at, cause::IDENTITY));
         }
@@ -307,6 +320,8 @@ fn take_away(vat: &mut Vat, removed: Option<Node>, at: u32) -> Result<(), StoreF
     ensures previous { OnOk result (vat.new.previous ≡ vat.old.previous) }
     ensures commits { OnOk result (vat.new.sessions.commits ≡ vat.old.sessions.commits) }
     ensures unique { OnOk result (vat.new.sessions.next_unique ≡ vat.old.sessions.next_unique) }
+    ensures need { OnOk result (needs.table_need (view vat.new) ≡ needs.table_need (view vat.old)) }
+    ensures full { is_full result ≡ false }
     ensures device { devices result ≡ 0 }
 {
     let Some(node) = removed else {
@@ -328,17 +343,19 @@ fn place_table(
     requires fits { Fits (view vat) }
     requires below { AreBelow (numbers.old.next + 257) vat.entries.items }
     requires previous { IfSome vat.previous (λ previous. previous < numbers.old.next) }
+    requires room { numbers.old.next + needs.table_need (view vat) ≤ numbers.old.end }
     ensures vat { IfOk result (λ t. t.vat ≡ vat) }
     ensures placed { IfOk result (IsTablePlaced numbers.old.next moment) }
     ensures some { IfOk result (λ t. 0 < length t.bytes.items) }
     ensures within { IfOk result (λ t. t.at < numbers.old.end + 257) }
+    ensures full { is_full result ≡ false }
     ensures device { devices result ≡ 0 }
 {
     let bytes = encode_vat(alloc, &vat)?;
     let start = numbers.next();
-    let first = numbers.place_bytes(&bytes)?;
+    let first = numbers.place_bytes(&bytes);
     let number = numbers.next();
-    numbers.take(1)?;
+    numbers.take(1);
     let entry = table_entry(bytes.len() as u32, first, number, moment);
     Ok(PlacedTable {
         vat,

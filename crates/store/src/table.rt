@@ -1,8 +1,10 @@
 //! The table that a commit writes: the one before, with the reply and the nodes.
 
-ghost use Rattle.std.specs.Prelude.{◌≡◌, ◌≢◌, ◌+◌, ◌^◌, ◌<◌, ◌≤◌, ◌↔◌, ℕ, length, slice_index_or, Some, IsTrue, IfOk, IfSome, IfNone, All, AllPairs, if◌then◌else◌};
+ghost use Rattle.std.specs.Prelude.{◌≡◌, ◌≢◌, ◌+◌, ◌^◌, ◌<◌, ◌≤◌, ◌↔◌, ℕ, length, slice_index_or, Some, IsTrue, IfOk, IfSome, IfNone, All, AllPairs, if◌then◌else◌, false};
 ghost use Rattle.recover.specs.Faults.{devices};
 ghost use Rattle.store.specs.Below.{AreBelow, IsUsed};
+ghost use Rattle.store.specs.Full.{is_full};
+ghost use Rattle.store.specs.Needs.{table_need};
 ghost use Rattle.store.specs.TableChange as spec;
 ghost use Rattle.vat.specs.declared.record.Record.{Record};
 ghost use Rattle.vat.specs.Table.{Fits, view};
@@ -18,6 +20,7 @@ const MOST_ADDRESSES: usize = 4097;
 /// A copy of a table.
 pub(crate) fn copied(alloc: Global, vat: &Vat) -> Result<Vat, StoreFault>
     ensures same { IfOk result (λ copy. view copy ≡ view vat.now) }
+    ensures full { is_full result ≡ false }
     ensures failures { devices result ≡ 0 }
 {
     let records = Vec::from_slice(alloc, &vat.sessions.records)?;
@@ -59,6 +62,7 @@ fn answer(
 ) -> Result<(), StoreFault>
     requires { AllPairs (λ a b. a.client ≢ b.client) records.old.items }
     ensures kept { IfOk result (λ _. records.new.items ≡ spec.with_reply client number reply records.old.items) }
+    ensures full { is_full result ≡ false }
     ensures failures { devices result ≡ 0 }
 {
     match place_of(records, client) {
@@ -100,6 +104,7 @@ pub(crate) fn keep_reply(
     requires next { spec.IsNext client number vat.old.sessions.records.items }
     ensures kept { IfOk result (λ _. view vat.new ≡ spec.committed at client number code (view vat.old)) }
     ensures fits { IfOk result (λ _. Fits (view vat.new)) }
+    ensures full { is_full result ≡ false }
     ensures failures { devices result ≡ 0 }
 {
     let commit = vat.sessions.commits + 1;
@@ -119,6 +124,7 @@ pub(crate) fn keep_reply(
 fn take_entry(entries: &mut Vec<Option<u32>>, address: u32, number: u32) -> Result<bool, StoreFault>
     ensures free { IfOk result (λ taken. IsTrue taken ↔ spec.IsFree address entries.old.items) }
     ensures entry { IfOk result (λ taken. entries.new.items ≡ (if taken then spec.with_entry address (Some number) entries.old.items else entries.old.items)) }
+    ensures full { is_full result ≡ false }
     ensures failures { devices result ≡ 0 }
 {
     let place = address as usize;
@@ -139,6 +145,7 @@ fn take_entry(entries: &mut Vec<Option<u32>>, address: u32, number: u32) -> Resu
 /// Puts another entry in the place of a node's, if the address has one.
 fn set_entry(entries: &mut Vec<Option<u32>>, address: u32, entry: Option<u32>) -> bool
     ensures used { IsTrue result ↔ IsUsed address entries.old.items }
+    ensures long { length entries.new.items ≡ length entries.old.items }
     ensures entry { entries.new.items ≡ (if result then spec.with_entry address entry entries.old.items else entries.old.items) }
 {
     let place = address as usize;
@@ -168,6 +175,7 @@ pub(crate) fn add_node(
     ensures table { IfOk result (λ made. view vat.new ≡ (if made then spec.added kind address number (view vat.old) else view vat.old)) }
     ensures fits { IfOk result (λ _. Fits (view vat.new)) }
     ensures below { IfOk result (λ _. (at : ℕ) → number + 257 < at → AreBelow at vat.old.entries.items → AreBelow at vat.new.entries.items) }
+    ensures full { is_full result ≡ false }
     ensures failures { devices result ≡ 0 }
 {
     if !take_entry(&mut vat.entries, address, number)? {
@@ -187,6 +195,7 @@ pub(crate) fn place_node(vat: &mut Vat, address: u32, number: u32) -> bool
     requires number { number < 0xFFFF_FFFF }
     ensures used { IsTrue result ↔ IsUsed address vat.old.entries.items }
     ensures table { view vat.new ≡ (if result then spec.placed address number (view vat.old) else view vat.old) }
+    ensures need { table_need (view vat.new) ≡ table_need (view vat.old) }
     ensures fits { Fits (view vat.new) }
     ensures commits { vat.new.sessions.commits ≡ vat.old.sessions.commits }
     ensures unique { vat.new.sessions.next_unique ≡ vat.old.sessions.next_unique }
@@ -210,6 +219,7 @@ pub(crate) fn remove_node(vat: &mut Vat, kind: Kind, address: u32) -> bool
     requires fits { Fits (view vat.old) }
     ensures removed { IsTrue result ↔ spec.IsRemovable kind address (view vat.old) }
     ensures table { view vat.new ≡ (if result then spec.removed kind address (view vat.old) else view vat.old) }
+    ensures need { table_need (view vat.new) ≡ table_need (view vat.old) }
     ensures fits { Fits (view vat.new) }
     ensures below { (at : ℕ) → AreBelow at vat.old.entries.items → AreBelow at vat.new.entries.items }
 {

@@ -5,19 +5,21 @@ use Rattle.medium.specs.Plan.{Writing, WritesNodes}
 use Rattle.udf.specs.Udf.{udf}
 use Rattle.store.specs.declared.change.NewDirectory.{NewDirectory}
 use Rattle.store.specs.declared.placed.PlacedDirectory.{PlacedDirectory}
+use Rattle.vat.specs.Table.{view}
+use Rattle.store.specs.Needs.{directories_need}
+use Rattle.store.specs.NextTable.{all_placed}
+use Rattle.store.specs.TableChange.{placed}
 use Rattle.store.specs.Plan.{AreLaid, directory_list, directories_list, directories_writings, directories_written}
 use Rattle.store.specs.Writings.{IsProper, directory_writing, new_directories}
 use Rattle.store.proofs.BelowLemmas.{below_later}
 use Rattle.store.proofs.Names.{all_next, nothing}
 use Rattle.store.proofs.Plans.{list_push, writings_push, written_push, laid_push, table_push}
-use Rattle.vat.specs.Table.{view}
-use Rattle.store.specs.NextTable.{all_placed}
-use Rattle.store.specs.TableChange.{placed}
 use Rattle.store.proofs.Writings.{node_ends}
 use Rattle.store.proofs.plan.place_directories.Goals as goal
 
-pub place_directory-requires : goal.place_directory-requires
-place_directory-requires c = record {
+pub place_directory-placed-requires : goal.place_directory-placed-requires
+place_directory-placed-requires c = record {
+  room = omega (arith, c.loop-directory.invariant.room, c.loop-directory.invariant.end, c.requires.room, ap directories_need c.in-Some.ensures.steps.0);
   proper = (all_next (λ (d : NewDirectory). IsProper d.content.dir) (into_iter_items c.loop-directory.directory-iterator) (into_iter_items c.next.new.self) c.in-Some.directory c.in-Some.ensures.steps.0 c.loop-directory.invariant.left).0;
 }
 
@@ -38,6 +40,8 @@ loop-directory-init c =
       unique = refl;
       written = subst (λ (ps : List PlacedDirectory). WritesNodes udf (directories_writings ps) start (directories_list ps) (directories_written ps)) (sym none) (refl, refl);
       laid = subst (λ (ps : List PlacedDirectory). AreLaid start ps) (sym none) tt;
+      room = omega (arith, ap directories_need gives.0);
+      need = refl;
       next = subst (λ (ps : List PlacedDirectory). start ≡ start + length (directories_list ps)) (sym none) (omega arith);
       end = refl;
     }
@@ -52,18 +56,18 @@ pub loop-directory-preserved : goal.loop-directory-preserved
 loop-directory-preserved c =
     let start = c.args.numbers.now.next in
     let now = c.loop-directory.numbers.next in
-    let next = c.place_directory.new.self.next in
+    let next = c.place_directory-placed.new.self.next in
     let all = c.loop-directory.all.items in
-    let p = c.in_ok-placed.placed in
-    let ends = node_ends (directory_writing p.directory) now (directory_list p) p.number c.in_ok-placed.ensures.written in
-    let later : now + 257 ≤ next + 257 = omega (arith, ends, c.in_ok-placed.ensures.next) in
-    let number : p.number + 257 < next + 257 = omega (arith, c.in_ok-placed.ensures.next) in
+    let p = c.place_directory-placed.result in
+    let ends = node_ends (directory_writing p.directory) now (directory_list p) p.number c.place_directory-placed.ensures.written in
+    let later : now + 257 ≤ next + 257 = omega (arith, ends, c.place_directory-placed.ensures.next) in
+    let number : p.number + 257 < next + 257 = omega (arith, c.place_directory-placed.ensures.next) in
     let d = c.in-Some.directory in
     let rest = new_directories (into_iter_items c.next.new.self) in
     let written : new_directories c.args.directories.items ≡ directories_writings (all ++ p ∷ []) ++ rest =
     c.loop-directory.invariant.writings
     ∙ ap (λ (ds : List NewDirectory). directories_writings all ++ new_directories ds) c.in-Some.ensures.steps.0
-    ∙ ap (λ (x : NewDirectory). directories_writings all ++ (directory_writing x ∷ rest)) (sym c.in_ok-placed.ensures.directory)
+    ∙ ap (λ (x : NewDirectory). directories_writings all ++ (directory_writing x ∷ rest)) (sym c.place_directory-placed.ensures.directory)
     ∙ sym (append_assoc (directories_writings all) (directory_writing p.directory ∷ []) rest)
     ∙ ap (λ (ws : List Writing). ws ++ rest) (sym (writings_push all p)) in
     let moved : view c.place_node.new.vat ≡ placed p.directory.address p.number (view c.loop-directory.vat) = search rules in
@@ -78,8 +82,10 @@ loop-directory-preserved c =
       previous = search rules;
       commits = c.place_node.ensures.commits ∙ c.loop-directory.invariant.commits;
       unique = c.place_node.ensures.unique ∙ c.loop-directory.invariant.unique;
-      written = subst (λ (ps : List PlacedDirectory). WritesNodes udf (directories_writings ps) start (directories_list ps) (directories_written ps)) pushed (written_push all p start now c.loop-directory.invariant.next c.loop-directory.invariant.written c.in_ok-placed.ensures.written);
-      laid = subst (λ (ps : List PlacedDirectory). AreLaid start ps) pushed (laid_push all p start now c.loop-directory.invariant.next c.loop-directory.invariant.laid c.in_ok-placed.ensures.laid);
-      next = subst (λ (ps : List PlacedDirectory). next ≡ start + length (directories_list ps)) pushed (omega (arith, ends, c.in_ok-placed.ensures.next, c.loop-directory.invariant.next, ap length (list_push all p), length-append (directories_list all) (directory_list p)));
-      end = c.in_ok-placed.ensures.end ∙ c.loop-directory.invariant.end;
+      written = subst (λ (ps : List PlacedDirectory). WritesNodes udf (directories_writings ps) start (directories_list ps) (directories_written ps)) pushed (written_push all p start now c.loop-directory.invariant.next c.loop-directory.invariant.written c.place_directory-placed.ensures.written);
+      laid = subst (λ (ps : List PlacedDirectory). AreLaid start ps) pushed (laid_push all p start now c.loop-directory.invariant.next c.loop-directory.invariant.laid c.place_directory-placed.ensures.laid);
+      room = omega (arith, c.loop-directory.invariant.room, ap directories_need c.in-Some.ensures.steps.0, c.place_directory-placed.ensures.most);
+      need = c.place_node.ensures.need ∙ c.loop-directory.invariant.need;
+      next = subst (λ (ps : List PlacedDirectory). next ≡ start + length (directories_list ps)) pushed (omega (arith, ends, c.place_directory-placed.ensures.next, c.loop-directory.invariant.next, ap length (list_push all p), length-append (directories_list all) (directory_list p)));
+      end = c.place_directory-placed.ensures.end ∙ c.loop-directory.invariant.end;
     }

@@ -1,4 +1,4 @@
-use Rattle.std.proofs.Common.{◌≡◌, ◌+◌, ◌++◌, length}
+use Rattle.std.proofs.Common.{◌≡◌, ◌+◌, ◌≤◌, ◌++◌, length}
 use Rattle.std.specs.Prelude.{All}
 use Rattle.std.specs.Vec.Iter.{into_iter_items, into_iter_len}
 use Rattle.medium.specs.Plan.{WritesNodes}
@@ -6,6 +6,7 @@ use Rattle.udf.specs.Udf.{udf}
 use Rattle.vat.specs.Table.{Fits, view}
 use Rattle.store.specs.Below.{AreBelow}
 use Rattle.store.specs.Plan.{AreLaid, directories_list, directories_writings, directories_written}
+use Rattle.store.specs.Needs.{table_need, directories_need}
 use Rattle.store.specs.NextTable.{all_placed}
 use Rattle.store.specs.Writings.{IsProper, new_directories}
 use Rattle.store.proofs.plan.place_directories.Given as goal
@@ -24,6 +25,8 @@ invariant-loop-directory l = record {
   unique : l.vat.sessions.next_unique ≡ l.fn.vat.sessions.next_unique;
   written : WritesNodes udf (directories_writings l.all.items) l.fn.numbers.next (directories_list l.all.items) (directories_written l.all.items);
   laid : AreLaid l.fn.numbers.next l.all.items;
+  room : l.numbers.next + directories_need (into_iter_items l.directory-iterator) ≤ l.fn.numbers.next + directories_need l.fn.directories.items;
+  need : table_need (view l.vat) ≡ table_need (view l.fn.vat);
   next : l.numbers.next ≡ l.fn.numbers.next + length (directories_list l.all.items);
   end : l.numbers.end ≡ l.fn.numbers.end;
 }

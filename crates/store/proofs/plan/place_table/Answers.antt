@@ -7,12 +7,12 @@ use Rattle.medium.specs.Plan.{zeros, packed, IsClearStart, IsPlaced}
 use Rattle.udf.specs.Said.{said_table}
 use Rattle.udf.specs.Udf.{udf}
 use Rattle.udf.proofs.Said.{tables_agree}
-use Rattle.store.proofs.Tables.{table_few, table_some, table_at}
+use Rattle.store.proofs.Tables.{table_few, table_long, table_some, table_at}
 use Rattle.store.proofs.Writings.{placed_at, length-placed}
 use Rattle.store.proofs.plan.place_table.Goals as goal
 
-pub place_bytes-requires : goal.place_bytes-requires
-place_bytes-requires c = omega (arith, ap length c.deref.ensures.value, ap length c.in_ok-bytes.ensures, table_few (view c.args.vat) c.requires.fits)
+pub place_bytes-first-requires-clause-few : goal.place_bytes-first-requires-clause-few
+place_bytes-first-requires-clause-few c = omega (arith, ap length c.deref.ensures.value, ap length c.in_ok-bytes.ensures, table_few (view c.args.vat) c.requires.fits)
 
 pub table_entry-entry-requires-clause-some : goal.table_entry-entry-requires-clause-some
 table_entry-entry-requires-clause-some c = omega (arith, ap length c.in_ok-bytes.ensures, table_some (view c.args.vat) c.requires.fits)
@@ -23,14 +23,14 @@ table_entry-entry-requires-clause-few c = omega (arith, ap length c.in_ok-bytes.
 pub returns-clause-placed : goal.returns-clause-placed
 returns-clause-placed c =
     let from = c.args.numbers.now.next in
-    let first = c.in_ok-first.first in
+    let first = c.place_bytes-first.result in
     let number = c.next-number.result in
     let bytes = c.in_ok-bytes.bytes.items in
     let same : c.deref.result.now ≡ bytes = c.deref.ensures.value in
-    let start = subst (λ (bs : List ℕ). IsClearStart udf (packed bs) from first) same c.in_ok-first.ensures.start in
+    let start = subst (λ (bs : List ℕ). IsClearStart udf (packed bs) from first) same c.place_bytes-first.ensures.start in
     let placed = subst (λ n. IsPlaced udf bytes from first (replicate (first - n) zeros ++ packed bytes)) (sym c.next-start.ensures.next) (placed_at bytes from first start) in
     let long = length-placed bytes from first (replicate (first - c.next-start.result) zeros ++ packed bytes) placed in
-    let next : number ≡ first + div_ceil (length bytes) 2048 = c.next-number.ensures.next ∙ c.in_ok-first.ensures.next ∙ ap (λ (bs : List ℕ). first + div_ceil (length bs) 2048) same in
+    let next : number ≡ first + div_ceil (length bytes) 2048 = c.next-number.ensures.next ∙ c.place_bytes-first.ensures.next ∙ ap (λ (bs : List ℕ). first + div_ceil (length bs) 2048) same in
     let size : c.len.result ≡ length bytes = omega arith in
     let at : number + 257 - 257 ≡ number = omega arith in
     let later : from ≤ number = omega (arith, next, long) in
@@ -45,3 +45,9 @@ returns-clause-placed c =
 
 pub returns-clause-some : goal.returns-clause-some
 returns-clause-some c = omega (arith, ap length c.in_ok-bytes.ensures, table_some (view c.args.vat) c.requires.fits)
+
+pub place_bytes-first-requires-clause-room : goal.place_bytes-first-requires-clause-room
+place_bytes-first-requires-clause-room c = omega (arith, c.requires.room, ap length c.deref.ensures.value, ap length c.in_ok-bytes.ensures, table_long (view c.args.vat) c.requires.fits)
+
+pub take-requires : goal.take-requires
+take-requires c = record { room = omega (arith, c.requires.room, c.place_bytes-first.ensures.most, c.place_bytes-first.ensures.end, ap length c.deref.ensures.value, ap length c.in_ok-bytes.ensures, table_long (view c.args.vat) c.requires.fits) }

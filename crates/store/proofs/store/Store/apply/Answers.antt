@@ -74,3 +74,10 @@ returns-clause-goes_on g c = goes_on c.commit.result c.commit.new.self.is_stoppe
 
 pub returns-clause-honest : goal.returns-clause-honest
 returns-clause-honest g c h = c.change.ensures.honest (c.plan.ensures.honest (c.commit.ensures.honest h))
+
+pub returns-clause-failures : goal.returns-clause-failures
+returns-clause-failures g c most =
+    let last = c.commit.ensures.failures most in
+    let second = c.in_ok-plan.ensures.failures (omega (arith, most, last)) in
+    let first = c.in_ok-change.ensures.failures (omega (arith, most, last, second)) in
+    omega (arith, last, second, first)

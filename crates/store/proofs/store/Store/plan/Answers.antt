@@ -4,9 +4,10 @@ use Rattle.drive.specs.Journal.{next_of}
 use Rattle.medium.specs.Plan.{Writing, WritesNodes}
 use Rattle.udf.specs.Udf.{udf}
 use Rattle.vat.specs.declared.table.Vat.{Vat}
-use Rattle.vat.specs.Table.{Fits, view}
+use Rattle.vat.specs.Table.{Table, Fits, view}
 use Rattle.store.specs.Below.{AreBelow}
 use Rattle.store.specs.Plan.{AreLaid, IsTablePlaced, file_list, file_writings, file_written, directories_list, directories_writings, directories_written}
+use Rattle.store.specs.Needs.{change_need}
 use Rattle.store.specs.NextTable.{all_placed, without_gone}
 use Rattle.store.specs.Writings.{new_file}
 use Rattle.store.proofs.BelowLemmas.{below_later}
@@ -96,3 +97,8 @@ returns-clause-table g c =
     ∙ c.in_ok-take_away.ensures.table
     ∙ ap (without_gone removed) (c.in_ok-directories.ensures.table ∙ ap (all_placed directories) c.in_ok-file.ensures.table ∙ sym (placed_append file directories before))
     ∙ ap (λ t. without_gone removed (all_placed (file ++ directories) t)) c.in_ok-vat.ensures.table
+
+pub returns-clause-room : goal.returns-clause-room
+returns-clause-room g c =
+    let same = ap (λ (t : Table). change_need c.args.change t) c.in_ok-vat.ensures.table in
+    omega (arith, same, c.need.ensures.value, c.saturating_add.ensures, c.from.ensures, c.from-2.ensures, c.if-saturating_add-from.false, c.in-Ok.ensures.next, c.requires.agrees.most)
