@@ -1,5 +1,5 @@
 -- A message that needed the store was answered.
-use Rattle.std.proofs.Common.{◌≡◌, ℕ, ◌+◌, ◌<◌, ◌≤◌, ◌++◌, List, Option, Some, None, Bool, false, IsTrue, refl, sym, ap, subst, ◌∙◌, inl, inr, arith}
+use Rattle.std.proofs.Common.{◌≡◌, ℕ, ◌+◌, ◌≤◌, ◌++◌, List, Option, Bool, IsTrue, sym, ap, subst, ◌∙◌, inr, arith}
 use Rattle.drive.specs.Journal.{Event}
 use Rattle.model.specs.Session.{Due}
 use Rattle.model.specs.Session.Due.{New}
@@ -8,9 +8,8 @@ use Rattle.request.specs.declared.answer.Answer.{Answer}
 use Rattle.request.specs.declared.message.Message.{Message}
 use Rattle.request.specs.declared.message.Message.TheVariants as message
 use Rattle.request.specs.declared.message.Request.{Request}
-use Rattle.request.specs.declared.message.Query.{Query}
 use Rattle.store.specs.declared.store.Store.{Store}
-use Rattle.engine.specs.Situation.{Situation, IsOpen, Follows, situation}
+use Rattle.engine.specs.Situation.{Situation, Follows, situation}
 use Rattle.engine.specs.Answered.{Answered, due_of, IsCommitted, IsDue, Opens, Row, faults}
 
 -- the same store beside a drive that was not called

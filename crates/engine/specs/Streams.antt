@@ -1,5 +1,5 @@
 -- What was read from a stream and written to one, where its bytes are known.
-use Rattle.std.specs.Prelude.{◌≡◌, ℕ, List, [], length, take, Option}
+use Rattle.std.specs.Prelude.{◌≡◌, ℕ, List, [], take, Option}
 use Rattle.std.specs.Io.KnownBytes.{Appends, Consumes, IsAtEnd}
 
 -- these bytes were read, and there are none at the end alone

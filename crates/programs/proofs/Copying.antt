@@ -3,7 +3,7 @@ use Rattle.std.proofs.Common.{◌≡◌, ℕ, List, [], ◌++◌, Option, subst}
 use Rattle.std.specs.Io.KnownBytes.{Appends, Consumes, Keeps}
 use Rattle.std.proofs.lemmas.List.{append-nil}
 use Rattle.engine.specs.Streams.{TakesPiece}
-use Rattle.engine.proofs.Messages.{appends_more, consumes_more, nothing_more, nothing_read, filled}
+use Rattle.engine.proofs.Messages.{appends_more, consumes_more, nothing_more, nothing_read}
 use Rattle.engine.proofs.Pieces.{keeps_on}
 use Rattle.programs.specs.Copies.{CopiesAll}
 

@@ -1,12 +1,12 @@
 -- What a path's node says in answer to a query.
-use Rattle.std.proofs.Common.{◌≡◌, ℕ, Bool, true, false, List, [], take, Option, Some, None, refl, sym, ap, subst, ◌∙◌}
+use Rattle.std.proofs.Common.{◌≡◌, ℕ, true, List, take, Option, Some, None, refl, sym, ap, subst, ◌∙◌}
 use Rattle.std.proofs.lemmas.Bool.{false≢true}
 use Rattle.std.specs.FinMap.{get}
 use Rattle.drive.specs.Journal.{Event, held}
 use Rattle.model.specs.Tree.{Path, Tree, IsTree, has_names}
-use Rattle.model.specs.Graph.{Graph, Stored, Body, MakesTree, is_directory, content_in}
+use Rattle.model.specs.Graph.{Body, MakesTree, content_in}
 use Rattle.model.specs.Graph.Body.{Bytes, Entries}
-use Rattle.medium.specs.Runs.{Answer, got, told}
+use Rattle.medium.specs.Runs.{got, told}
 use Rattle.medium.specs.Runs.Answer.{Data, NotFound, IsDirectory}
 use Rattle.medium.specs.Runs.Query.{Get}
 use Rattle.medium.proofs.Stored.{stored_one}

@@ -1,6 +1,6 @@
 -- What a format leaves on a drive's journal.
 use Rattle.std.proofs.Common.{◌≡◌, ◌≢◌, ℕ, zero, suc, ◌+◌, ◌-◌, ◌<◌, ◌≤◌, Bool, true, false, IsTrue, List, [], ◌∷◌, ◌++◌, length, take, drop, get_or, Option, Some, None, inl, inr, refl, sym, ap, subst, ◌∙◌, arith, append_assoc, append-nil, length-append, length-drop, eq-eqb, ne_eqb}
-use Rattle.std.specs.Prelude.{All, nat_eq, not, slice_get, unwrap_or}
+use Rattle.std.specs.Prelude.{nat_eq, not, slice_get, unwrap_or}
 use Rattle.std.specs.Cmp.Lexicographic.{pointwise, same_text, other_text}
 use Rattle.std.proofs.Math.ListN.{get_or-append}
 use Rattle.std.proofs.Math.Seq.{take-add, take-length}

@@ -1,5 +1,5 @@
 -- What a path's node says in answer to a listing and to a question of its status.
-use Rattle.std.proofs.Common.{◌≡◌, ℕ, ◌+◌, ◌<◌, Bool, true, false, List, [], ◌∷◌, ◌++◌, length, map, take, get_or, Contains, Option, Some, None, slice_get, refl, sym, ap, subst, ◌∙◌, arith}
+use Rattle.std.proofs.Common.{◌≡◌, ℕ, ◌+◌, true, false, List, [], ◌∷◌, ◌++◌, length, map, take, Contains, Option, Some, None, slice_get, refl, sym, ap, subst, ◌∙◌}
 use Rattle.std.proofs.lemmas.Bool.{true≢false}
 use Rattle.std.proofs.lemmas.List.{length-map, map-append, take_more}
 use Rattle.std.proofs.lemmas.Option.{slice_get_within, get_or_from_slice_get}
@@ -8,11 +8,11 @@ use Rattle.drive.specs.Journal.{Event, held}
 use Rattle.dir.specs.declared.entry.Entry.{Entry as DirEntry}
 use Rattle.request.specs.declared.answer.Listed.{Listed}
 use Rattle.model.specs.Tree.{Name, Path, Tree, IsTree, has_names, found_directory, is_directory_at}
-use Rattle.model.specs.Graph.{Graph, Stored, Body, Entry, MakesTree, IsFunctional, entries_in, entries_of, content_in}
+use Rattle.model.specs.Graph.{Graph, Body, Entry, MakesTree, IsFunctional, entries_in, entries_of, content_in}
 use Rattle.model.specs.Graph.Body.{Bytes, Entries}
 use Rattle.model.proofs.Lists.{contains_here, contains_there, contains_map}
 use Rattle.model.proofs.Made.{has_stored}
-use Rattle.medium.specs.Runs.{Answer, listed, shown, told}
+use Rattle.medium.specs.Runs.{listed, shown, told}
 use Rattle.medium.specs.Runs.Answer.{Names, NodeIs, NotFound, NotDirectory}
 use Rattle.medium.specs.Runs.Query.{List_, Stat}
 use Rattle.medium.proofs.Stored.{stored_one}

@@ -1,12 +1,12 @@
 -- What replacing a file's bytes does.
-use Rattle.std.proofs.Common.{◌≡◌, ℕ, zero, suc, ◌+◌, ◌==◌, if◌then◌else◌, not, Bool, true, false, List, [], ◌∷◌, ◌++◌, length, map, take, Option, Some, None, is_some, refl, sym, ap, subst, ◌∙◌, arith}
+use Rattle.std.proofs.Common.{◌≡◌, ℕ, suc, ◌==◌, if◌then◌else◌, not, Bool, true, false, List, [], ◌∷◌, ◌++◌, length, map, take, Option, Some, None, is_some, sym, ap, ◌∙◌, arith}
 use Rattle.std.specs.FinMap.{get, contains_key}
-use Rattle.model.specs.Tree.{Path, Tree, IsTree, is_directory_at, found_directory}
+use Rattle.model.specs.Tree.{Path, Tree, IsTree, is_directory_at}
 use Rattle.model.specs.Graph.{Graph, MakesTree, whole}
 use Rattle.model.specs.Graph.Body.{Bytes}
 use Rattle.model.specs.Operation.{Operation, code_of}
 use Rattle.model.specs.Operation.Operation.{Replace}
-use Rattle.medium.specs.Plan.{Writing, Plans}
+use Rattle.medium.specs.Plan.{Writing}
 use Rattle.medium.proofs.Stored.{stored_one}
 use Rattle.drive.specs.Journal.{Event, held}
 use Rattle.request.specs.Numbers.{code_number}
@@ -17,7 +17,6 @@ use Rattle.udf.specs.Said.{names_directory}
 use Rattle.udf.proofs.Formats.{exact}
 use Rattle.store.specs.declared.change.Change.{Change}
 use Rattle.store.specs.declared.change.NewFile.{NewFile}
-use Rattle.store.specs.declared.change.NewDirectory.{NewDirectory}
 use Rattle.store.specs.declared.nodes.Node.{Node}
 use Rattle.store.specs.Shows.{graph_below, IsAt}
 use Rattle.store.specs.Writings.{file_writing, directory_writing}

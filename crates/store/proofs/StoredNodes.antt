@@ -1,14 +1,13 @@
 -- What is read where something is stored.
-use Rattle.std.proofs.Common.{◌≡◌, ℕ, zero, suc, ◌+◌, ◌-◌, ◌<◌, ◌≤◌, ◌⊎◌, inl, inr, Bool, true, false, List, [], ◌∷◌, ◌++◌, length, length-take, take, drop, slice_get, Option, Some, None, refl, sym, ap, subst, ◌∙◌, arith}
+use Rattle.std.proofs.Common.{◌≡◌, ℕ, zero, suc, ◌+◌, ◌<◌, ◌≤◌, true, List, [], ◌∷◌, length, length-take, take, drop, slice_get, Option, Some, None, refl, sym, ap, subst, ◌∙◌, arith}
 use Rattle.std.specs.Int.{div_ceil}
-use Rattle.std.specs.Prelude.{Result, Ok, Err, IfErr, IsOkAnd}
+use Rattle.std.specs.Prelude.{Result, IsOkAnd}
 use Rattle.std.proofs.lemmas.Bool.{false≢true}
 use Rattle.std.proofs.lemmas.List.{take-append-drop}
 use Rattle.std.proofs.lemmas.Option.{same_Some, slice_get_within}
 use Rattle.drive.specs.Journal.{Event, held, last_at, next_of}
-use Rattle.recover.specs.declared.directory.Extent.{Extent}
 use Rattle.recover.specs.Nodes.{data_of}
-use Rattle.recover.proofs.Held.{length-held, held_at}
+use Rattle.recover.proofs.Held.{held_at}
 use Rattle.icb.specs.declared.entry.FileEntry.{FileEntry}
 use Rattle.icb.specs.declared.fault.IcbFault.{IcbFault}
 use Rattle.icb.specs.declared.entry.Place as source
@@ -20,12 +19,11 @@ use Rattle.model.specs.Graph.{Stored, Body, Entry, is_directory, content_in}
 use Rattle.model.specs.Graph.Body.{Bytes, Entries}
 use Rattle.medium.specs.Formats.{Block, Place, Fields}
 use Rattle.medium.specs.Formats.Place.{Nowhere, Extent as Extent_, Inside}
-use Rattle.medium.specs.Volume.{Medium, partition_start, HoldsBody, HoldsDirectory, IsStoredAt}
+use Rattle.medium.specs.Volume.{Medium, HoldsBody, HoldsDirectory}
 use Rattle.medium.proofs.Lists.{get-take, part-append}
 use Rattle.udf.specs.Udf.{udf}
 use Rattle.udf.specs.Words.{fields_of, place_of}
 use Rattle.store.specs.Shows.{graph_below, LiesIn}
-use Rattle.store.specs.declared.nodes.Placed.{Placed}
 
 pub shorter : {X : Type 0} (n : ℕ) (xs : List X) → length (take n xs) ≤ n
 shorter n xs = omega (arith, length-take n xs)

@@ -1,5 +1,5 @@
 -- What a store keeps, and the drive that it is lent.
-use Rattle.std.specs.Prelude.{◌≡◌, ℕ, ◌+◌, ◌*◌, ◌<◌, ◌≤◌, List, IfSome}
+use Rattle.std.specs.Prelude.{ℕ, ◌+◌, ◌*◌, ◌<◌, ◌≤◌, List}
 use Rattle.drive.specs.Journal.{Event, next_of}
 use Rattle.vat.specs.Table.{Fits, view}
 use Rattle.vat.specs.declared.table.Vat.{Vat}

@@ -1,5 +1,5 @@
 -- The directories that are kept: each is the one that lies in its extent.
-use Rattle.std.specs.Prelude.{ℕ, ◌+◌, ◌≤◌, List, Contains}
+use Rattle.std.specs.Prelude.{◌+◌, ◌≤◌, List, Contains}
 use Rattle.std.specs.Int.{div_ceil}
 use Rattle.drive.specs.Journal.{Event, held, next_of}
 use Rattle.dir.specs.Directory.{IsDirectory}

@@ -1,5 +1,5 @@
 -- A table's sessions, and what is due by them, in the model's words.
-use Rattle.std.specs.Prelude.{ℕ, ◌≤◌, map}
+use Rattle.std.specs.Prelude.{◌≤◌, map}
 use Rattle.request.specs.declared.answer.Reply as told
 use Rattle.request.specs.Numbers.{code_number}
 use Rattle.vat.specs.declared.record.Reply as table

@@ -1,12 +1,11 @@
 -- What stands at the nodes of a state, and what a walk through them finds.
-use Rattle.std.specs.Prelude.{◌≡◌, ℕ, ◌+◌, ◌≤◌, Bool, true, false, IsTrue, List, [], take, Option, Some, None}
+use Rattle.std.specs.Prelude.{◌≡◌, ℕ, Bool, true, false, IsTrue, List, [], take, Option, Some, None}
 use Rattle.std.specs.FinMap.{get}
 use Rattle.drive.specs.Journal.{Event, held}
-use Rattle.recover.specs.declared.directory.Extent.{Extent}
 use Rattle.recover.specs.Nodes.{data_of}
 use Rattle.model.specs.Tree.{Path, Tree, IsTree, is_directory_at, identity_at}
-use Rattle.model.specs.Graph.{Graph, Stored, Body, Entry, MakesTree, is_directory}
-use Rattle.model.specs.Graph.Body.{Bytes, Entries}
+use Rattle.model.specs.Graph.{Graph, Stored, Entry, MakesTree, is_directory}
+use Rattle.model.specs.Graph.Body.{Entries}
 use Rattle.model.specs.Change.{Found}
 use Rattle.medium.specs.Volume.{graph_of}
 use Rattle.udf.specs.Udf.{udf}

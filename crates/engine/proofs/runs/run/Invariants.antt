@@ -1,4 +1,4 @@
-use Rattle.std.proofs.Common.{◌≡◌, ◌≤◌, None, length, take, vec_len}
+use Rattle.std.proofs.Common.{◌≤◌, None, length, take, vec_len}
 use Rattle.std.specs.Vec.{vec_capacity}
 use Rattle.engine.specs.Situation.{IsReady, seen, situation}
 use Rattle.engine.specs.Delivered.{AllDelivered}

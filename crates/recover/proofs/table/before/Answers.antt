@@ -1,4 +1,4 @@
-use Rattle.std.proofs.Common.{◌≡◌, ◌+◌, refl, arith}
+use Rattle.std.proofs.Common.{refl}
 use Rattle.vat.specs.Table.{view}
 use Rattle.recover.proofs.table.before.Goals as goal
 

@@ -1,4 +1,4 @@
-use Rattle.std.proofs.Common.{◌≡◌, ◌+◌, ◌∙◌, ◌<◌, ℕ, slice_index_or, length, arith}
+use Rattle.std.proofs.Common.{◌∙◌, ◌<◌, length, arith}
 use Rattle.drive.specs.Journal.{held}
 use Rattle.recover.specs.Faults.{Counts}
 use Rattle.recover.specs.State.{IsShown}

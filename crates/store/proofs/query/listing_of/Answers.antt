@@ -1,4 +1,4 @@
-use Rattle.std.proofs.Common.{◌≡◌, ◌+◌, ◌++◌, ◌∷◌, [], ◌∙◌, sym, ap, length, List, arith}
+use Rattle.std.proofs.Common.{◌∷◌, [], sym, ap, length, List, arith}
 use Rattle.std.proofs.lemmas.List.{length-append}
 use Rattle.request.specs.declared.answer.Listed.{Listed}
 use Rattle.store.proofs.Listings.{names_next}

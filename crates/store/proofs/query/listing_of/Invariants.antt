@@ -1,4 +1,4 @@
-use Rattle.std.proofs.Common.{◌≡◌, ◌≤◌, length, map, take}
+use Rattle.std.proofs.Common.{◌≡◌, length, map, take}
 use Rattle.store.specs.Queries.{name_told, names_told}
 use Rattle.store.proofs.query.listing_of.Given as goal
 

@@ -1,7 +1,5 @@
-use Rattle.std.proofs.Common.{rules, Some, refl, sym, subst, ap, ◌∙◌}
-use Rattle.request.specs.declared.message.Message.{Message}
+use Rattle.std.proofs.Common.{rules, Some, refl}
 use Rattle.engine.specs.Situation.{situation}
-use Rattle.engine.specs.Answered.{Answered}
 use Rattle.engine.proofs.Rows.{request_answered, same_situation}
 use Rattle.engine.proofs.engine.Engine.answer.Goals as goal
 

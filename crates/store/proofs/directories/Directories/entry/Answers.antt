@@ -1,4 +1,4 @@
-use Rattle.std.proofs.Common.{◌≡◌, ◌∙◌}
+use Rattle.std.proofs.Common.{◌∙◌}
 use Rattle.store.proofs.directories.Directories.entry.Goals as goal
 
 pub returns-clause-found : goal.returns-clause-found

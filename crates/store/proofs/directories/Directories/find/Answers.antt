@@ -1,21 +1,14 @@
-use Rattle.std.proofs.Common.{◌≡◌, ◌+◌, ◌∙◌, sym, ap, subst, refl, inl, List, Option, ℕ, Some, None, true, false, take, get_or, length, IsTrue, rules, arith, ◌<◌, ◌≤◌}
-use Rattle.std.specs.Prelude.{nat_eq}
-use Rattle.std.specs.Map.{lookup}
-use Rattle.std.specs.Cmp.Lexicographic.{pointwise}
+use Rattle.std.proofs.Common.{◌∙◌, sym, subst, refl, inl, List, Option, ℕ, take, arith}
 use Rattle.std.proofs.lemmas.Result.{err_from_is_err_and}
 use Rattle.std.proofs.lemmas.List.{take_all}
-use Rattle.drive.specs.Journal.{Event, held}
+use Rattle.drive.specs.Journal.{Event}
 use Rattle.recover.specs.Faults.{IsShortage}
-use Rattle.recover.specs.Nodes.{IsDirectoryRefused, data_of}
 use Rattle.recover.specs.declared.fault.StoreFault.{StoreFault}
-use Rattle.model.specs.Tree.{Tree, Path}
-use Rattle.udf.specs.Said.{names_directory}
+use Rattle.model.specs.Tree.{Path}
 use Rattle.dir.specs.declared.entry.Entry.{Entry}
-use Rattle.dir.specs.declared.entry.Kind.{Kind}
-use Rattle.store.specs.declared.content.Content.{Content}
-use Rattle.store.specs.Cache.{AreKept, LiesThere}
-use Rattle.store.specs.Shows.{Shows, IsAt, IsFound, graph_below}
-use Rattle.store.proofs.Walks.{IsNext, shows_before, lies_at, next_at, file_at, root_at, refused_at}
+use Rattle.store.specs.Cache.{AreKept}
+use Rattle.store.specs.Shows.{IsAt, graph_below}
+use Rattle.store.proofs.Walks.{IsNext, shows_before, next_at, file_at, root_at, refused_at}
 use Rattle.store.proofs.directories.Directories.find.Goals as goal
 
 pub loop-name-init : goal.loop-name-init

@@ -1,7 +1,5 @@
-use Rattle.std.proofs.Common.{◌≡◌, IsTrue, List, take}
-use Rattle.drive.specs.Journal.{Event}
-use Rattle.model.specs.Tree.{Tree, IsTree}
-use Rattle.model.specs.Graph.{MakesTree}
+use Rattle.std.proofs.Common.{◌≡◌, IsTrue, take}
+use Rattle.model.specs.Tree.{Tree}
 use Rattle.recover.specs.Faults.{Counts}
 use Rattle.store.specs.Cache.{AreKept}
 use Rattle.store.specs.Shows.{Shows, IsAt, graph_below}

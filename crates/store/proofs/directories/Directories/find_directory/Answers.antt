@@ -1,8 +1,7 @@
-use Rattle.std.proofs.Common.{◌≡◌, ◌∙◌, sym, ap, subst, refl, List, Option, Some, None, true, false}
-use Rattle.drive.specs.Journal.{Event, held}
+use Rattle.std.proofs.Common.{◌∙◌, sym, ap, subst, refl, Option, Some}
 use Rattle.model.specs.Tree.{found_directory}
 use Rattle.store.specs.declared.nodes.Node.{Node}
-use Rattle.store.specs.Shows.{Shows, IsAt, IsFound, graph_below}
+use Rattle.store.specs.Shows.{IsFound, graph_below}
 use Rattle.store.proofs.Walks.{no_directory}
 use Rattle.store.proofs.directories.Directories.find_directory.Goals as goal
 

@@ -1,4 +1,3 @@
-use Rattle.std.proofs.Common.{rules, ◌≡◌, sym, ◌∙◌}
 use Rattle.store.proofs.Caches.{kept_put, same_extent, extents_exact}
 use Rattle.store.proofs.directories.Directories.keep.Goals as goal
 

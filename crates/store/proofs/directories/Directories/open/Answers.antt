@@ -1,4 +1,4 @@
-use Rattle.std.proofs.Common.{◌≡◌, ◌∙◌, sym, subst, List, inl}
+use Rattle.std.proofs.Common.{◌∙◌, sym, subst, List, inl}
 use Rattle.std.proofs.lemmas.Result.{err_from_is_err_and}
 use Rattle.drive.specs.Journal.{Event, held}
 use Rattle.recover.specs.Faults.{IsShortage}

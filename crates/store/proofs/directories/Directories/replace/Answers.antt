@@ -1,12 +1,11 @@
-use Rattle.std.proofs.Common.{◌≡◌, ◌∙◌, sym, ap, subst, refl, List, Option, Some, None, true, false}
-use Rattle.drive.specs.Journal.{Event, held}
+use Rattle.std.proofs.Common.{◌∙◌, sym, subst, refl, Option, Some}
 use Rattle.model.specs.Addresses.{free_address}
 use Rattle.model.specs.Operation.Operation.{Replace}
 use Rattle.request.specs.declared.answer.Code.TheVariants as code
 use Rattle.store.specs.declared.change.Change.{Change}
 use Rattle.store.specs.declared.change.NewFile.{NewFile}
 use Rattle.store.specs.declared.nodes.Node.{Node}
-use Rattle.store.specs.Shows.{Shows, IsAt, IsFound, graph_below}
+use Rattle.store.specs.Shows.{IsFound, graph_below}
 use Rattle.store.proofs.Replacing.{refuses, replace_root, replace_missing, replace_directory, replaces}
 use Rattle.store.proofs.directories.Directories.replace.Goals as goal
 

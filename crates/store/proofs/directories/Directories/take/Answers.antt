@@ -1,4 +1,4 @@
-use Rattle.std.proofs.Common.{rules, ◌≡◌, sym, ◌∙◌}
+use Rattle.std.proofs.Common.{sym, ◌∙◌}
 use Rattle.store.proofs.Caches.{kept_without, kept_found, same_extent, extents_exact}
 use Rattle.store.proofs.directories.Directories.take.Goals as goal
 

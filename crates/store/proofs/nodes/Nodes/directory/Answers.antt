@@ -1,12 +1,10 @@
-use Rattle.std.proofs.Common.{◌≡◌, ◌+◌, ◌≤◌, ◌∙◌, rules, subst, sym, ap, true, refl}
+use Rattle.std.proofs.Common.{◌≡◌, ◌+◌, ◌≤◌, ◌∙◌, rules, subst, sym}
 use Rattle.std.specs.Int.{div_ceil}
-use Rattle.std.specs.Prelude.{IfErr, IsOkAnd}
+use Rattle.std.specs.Prelude.{IsOkAnd}
 use Rattle.std.proofs.lemmas.Bool.{false≢true}
 use Rattle.std.proofs.lemmas.Result.{err_from_is_err_and}
-use Rattle.model.specs.Graph.{Stored, is_directory}
 use Rattle.icb.specs.Entry as icb
 use Rattle.udf.specs.Words.{fields_of}
-use Rattle.store.specs.Shows.{graph_below}
 use Rattle.store.proofs.BelowLemmas.{extent_bounds}
 use Rattle.store.proofs.StoredNodes.{has_data, decoded, lies_in, lies_below, extent_of}
 use Rattle.store.proofs.nodes.Nodes.directory.Goals as goal

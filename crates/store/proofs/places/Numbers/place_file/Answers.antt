@@ -1,4 +1,4 @@
-use Rattle.std.proofs.Common.{◌≡◌, List, ℕ, ◌+◌, ◌*◌, ◌≤◌, ◌-◌, ◌++◌, ◌∷◌, ◌∙◌, [], length, replicate, ap, subst, arith}
+use Rattle.std.proofs.Common.{◌≡◌, List, ℕ, ◌+◌, ◌-◌, ◌++◌, ◌∷◌, ◌∙◌, [], length, replicate, ap, subst, arith}
 use Rattle.std.specs.Int.{div_ceil}
 use Rattle.medium.specs.Plan.{zeros, packed, IsClearStart, WritesNode}
 use Rattle.udf.specs.Udf.{udf}

@@ -1,4 +1,3 @@
-use Rattle.drive.specs.Journal.{held}
 use Rattle.store.proofs.store.Store.as_of.Goals as goal
 
 pub returns-clause-table : goal.returns-clause-table

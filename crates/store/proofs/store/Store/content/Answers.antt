@@ -1,4 +1,4 @@
-use Rattle.std.proofs.Common.{◌≡◌, sym, subst}
+use Rattle.std.proofs.Common.{sym, subst}
 use Rattle.std.proofs.lemmas.Result.{err_from_is_err_and}
 use Rattle.recover.specs.Faults.{IsShortage}
 use Rattle.recover.specs.declared.fault.StoreFault.{StoreFault}

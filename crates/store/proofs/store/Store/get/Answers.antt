@@ -1,10 +1,8 @@
-use Rattle.std.proofs.Common.{◌≡◌, ◌∙◌, sym, ap, subst, refl, List, Option, Some, None, true, false, inl, inr}
+use Rattle.std.proofs.Common.{◌∙◌, sym, ap, subst, refl, inl, inr}
 use Rattle.std.proofs.lemmas.Result.{err_from_is_err_and, IfOk-weaker, IfErr-weaker}
 use Rattle.recover.specs.Faults.{IsShortage}
 use Rattle.recover.specs.declared.fault.StoreFault.{StoreFault}
 use Rattle.vat.specs.declared.table.Vat.{Vat}
-use Rattle.store.specs.declared.nodes.Node.{Node}
-use Rattle.store.specs.Shows.{Shows, IsAt, IsFound, graph_below}
 use Rattle.store.proofs.Walks.{shows_before}
 use Rattle.store.proofs.Asking.{told_none, told_file, told_directory, there_too}
 use Rattle.store.proofs.store.Store.get.Goals as goal

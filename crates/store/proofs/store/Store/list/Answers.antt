@@ -1,4 +1,4 @@
-use Rattle.std.proofs.Common.{◌≡◌, ◌∙◌, sym, ap, subst, refl, List, Option, true, false, inl, inr}
+use Rattle.std.proofs.Common.{◌∙◌, sym, ap, subst, refl, List, inl, inr}
 use Rattle.std.proofs.lemmas.Result.{err_from_is_err_and}
 use Rattle.drive.specs.Journal.{Event}
 use Rattle.recover.specs.Faults.{IsShortage}
@@ -6,10 +6,9 @@ use Rattle.recover.specs.declared.fault.StoreFault.{StoreFault}
 use Rattle.medium.specs.Runs.Answer.{Names}
 use Rattle.vat.specs.declared.table.Vat.{Vat}
 use Rattle.store.specs.Cache.{AreKept, LiesThere}
-use Rattle.store.specs.Shows.{Shows, IsAt, graph_below}
 use Rattle.store.proofs.Walks.{shows_before}
 use Rattle.store.proofs.Asking.{there_too}
-use Rattle.store.proofs.Listings.{listed_none, listed_file, listed_directory}
+use Rattle.store.proofs.Listings.{listed_file, listed_directory}
 use Rattle.store.proofs.store.Store.list.Goals as goal
 
 pub returns-then-not-is_directory-clause-refused : goal.returns-then-not-is_directory-clause-refused

@@ -1,13 +1,7 @@
-use Rattle.std.proofs.Common.{◌≡◌, ◌∙◌, sym, ap, subst, refl, List, Option, ℕ, Some, None, true, false, inl, inr}
-use Rattle.std.proofs.lemmas.Result.{err_from_is_err_and, IfOk-weaker, IfErr-weaker}
-use Rattle.recover.specs.Faults.{IsShortage}
-use Rattle.recover.specs.declared.fault.StoreFault.{StoreFault}
+use Rattle.std.proofs.Common.{sym, subst, refl, List, Option, ℕ, inl}
 use Rattle.model.specs.Tree.{Path}
-use Rattle.vat.specs.declared.table.Vat.{Vat}
 use Rattle.store.specs.declared.nodes.Node.{Node}
-use Rattle.store.specs.Shows.{Shows, IsAt, IsFound, graph_below}
-use Rattle.store.proofs.Walks.{shows_before}
-use Rattle.store.proofs.Asking.{told_none, told_file, told_directory, there_too}
+use Rattle.store.specs.Shows.{Shows, IsFound, graph_below}
 use Rattle.store.proofs.store.Store.node.Goals as goal
 
 pub returns-in-Some-clause-found : goal.returns-in-Some-clause-found

@@ -1,8 +1,6 @@
-use Rattle.std.proofs.Common.{◌≡◌, ◌+◌, ◌<◌, ◌≤◌, ◌∙◌, ℕ, Option, Some, subst, ap, arith}
+use Rattle.std.proofs.Common.{◌<◌, ◌≤◌, ℕ, Option, subst, arith}
 use Rattle.std.specs.Prelude.{IfSome}
-use Rattle.std.proofs.lemmas.Result.{err_from_is_err_and}
 use Rattle.drive.specs.Journal.{next_of}
-use Rattle.recover.specs.Faults.{devices}
 use Rattle.store.proofs.BelowLemmas.{below_entry}
 use Rattle.store.proofs.store.Store.open.Goals as goal
 

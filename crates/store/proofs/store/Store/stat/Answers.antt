@@ -1,4 +1,4 @@
-use Rattle.std.proofs.Common.{◌≡◌, ◌∙◌, sym, ap, subst, refl, List, Option, true, false, inl, inr}
+use Rattle.std.proofs.Common.{◌∙◌, sym, ap, subst, List, inr}
 use Rattle.std.proofs.lemmas.Result.{err_from_is_err_and}
 use Rattle.drive.specs.Journal.{Event}
 use Rattle.recover.specs.Faults.{IsShortage}
@@ -6,10 +6,9 @@ use Rattle.recover.specs.declared.fault.StoreFault.{StoreFault}
 use Rattle.vat.specs.declared.table.Vat.{Vat}
 use Rattle.store.specs.Cache.{AreKept}
 use Rattle.store.specs.Queries.{AreWhole}
-use Rattle.store.specs.Shows.{Shows, graph_below}
 use Rattle.store.proofs.Walks.{shows_before}
 use Rattle.store.proofs.Asking.{there_too}
-use Rattle.store.proofs.Listings.{shown_none, shown_file, shown_directory}
+use Rattle.store.proofs.Listings.{shown_file, shown_directory}
 use Rattle.store.proofs.store.Store.stat.Goals as goal
 
 pub returns-in_err-moment-clause-refused : goal.returns-in_err-moment-clause-refused

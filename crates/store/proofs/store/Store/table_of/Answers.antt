@@ -1,4 +1,4 @@
-use Rattle.std.proofs.Common.{◌≡◌, ◌+◌, ◌<◌, ◌≤◌, ◌^◌, ◌∙◌, refl, suc, arith}
+use Rattle.std.proofs.Common.{◌+◌, ◌<◌, ◌≤◌, ◌^◌, ◌∙◌, refl, suc, arith}
 use Rattle.drive.specs.Journal.{held, next_of}
 use Rattle.vat.specs.Table.{view}
 use Rattle.recover.specs.Faults.{Counts}
