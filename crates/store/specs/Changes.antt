@@ -4,26 +4,16 @@ use Rattle.model.specs.Tree.{Path, Tree, Content}
 use Rattle.model.specs.Tree.Content.{File as FileContent, Directory as DirectoryContent}
 use Rattle.model.specs.Graph.{Graph}
 use Rattle.model.specs.Operation.{Operation, code_of}
-use Rattle.model.specs.Operation.Operation.{Create, Replace, MakeDir, Rename, Remove}
+use Rattle.model.specs.Operation.Operation.{Create, MakeDir}
 use Rattle.medium.specs.Plan.{Writing, Plans}
 use Rattle.request.specs.Numbers.{code_number}
 use Rattle.request.specs.declared.answer.Code.{Code}
-use Rattle.request.specs.declared.message.Op.{Op}
-use Rattle.request.specs.declared.message.Op.TheVariants as op
 use Rattle.store.specs.declared.change.Change.{Change}
 use Rattle.store.specs.declared.change.NewFile.{NewFile}
 use Rattle.store.specs.declared.change.Thing.{Thing}
 use Rattle.store.specs.declared.change.Thing.TheVariants as thing
 use Rattle.store.specs.declared.nodes.Node.{Node}
 use Rattle.store.specs.Writings.{file_writing, directory_writing}
-
--- what a request asks for
-abbrev pub operation_of : Op → Operation
-operation_of (op.Create path bytes) = Create path bytes
-operation_of (op.Replace path bytes) = Replace path bytes
-operation_of (op.MakeDir path) = MakeDir path
-operation_of (op.Rename from to) = Rename from to
-operation_of (op.Remove path) = Remove path
 
 -- a new path with this at it
 abbrev pub addition : Path → Thing → Operation
