@@ -1,7 +1,7 @@
 //! What was written to a drive in memory.
-ghost use Rattle.std.specs.Prelude.{◌≡◌, ◌+◌, ◌^◌, ◌≤◌, ◌<◌, ◌++◌, [], ℕ, length, take, IsTrue, IfOk, OnOk, OnErr};
+ghost use Rattle.std.specs.Prelude.{◌≡◌, ◌+◌, ◌^◌, ◌≤◌, ◌<◌, ◌++◌, [], ℕ, length, take, All, IsTrue, IfOk, OnOk, OnErr};
 ghost use Rattle.std.specs.Option.{option_copied};
-ghost use Rattle.drive.specs.Journal.{written, next_of, last_at, InOrder};
+ghost use Rattle.drive.specs.Journal.{written, next_of, last_at, AreWhole, InOrder};
 
 use crate::Block;
 use std::alloc::{AllocError, Global};
@@ -14,6 +14,7 @@ pub(crate) struct Events {
     in_order: bool,
     ghost next_is: { next ≡ next_of list.items },
     ghost ordered: { IsTrue in_order → InOrder list.items },
+    ghost whole: { AreWhole list.items },
 }
 
 impl Events {
@@ -122,6 +123,7 @@ fn last_block(events: &[(u32, Block)], at: u32) -> Option<&Block>
 
 fn push_all(events: &mut Vec<(u32, Block)>, at: u32, blocks: &[Block]) -> Result<(), AllocError>
     requires { at + length blocks.now < 2 ^ 32 }
+    ensures blocks { All (λ block. length block ≡ 2048) blocks.now }
     ensures ok { OnOk result (events.new.items ≡ events.old.items ++ written at blocks.now) }
     ensures err { OnErr result (events.new.items ≡ events.old.items) }
 {

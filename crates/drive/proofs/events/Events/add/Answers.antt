@@ -2,6 +2,8 @@ use Rattle.std.proofs.Common.{◌<◌, ◌≡◌, ◌∙◌, ap, max, length, ar
 use Rattle.std.proofs.lemmas.Bool.Decides.{nat_tests}
 use Rattle.drive.proofs.Journals.{next_after_write}
 use Rattle.drive.proofs.Once.{in_order_write}
+use Rattle.drive.proofs.Whole.{whole-append, whole-written}
+use Rattle.drive.specs.Journal.{written}
 use Rattle.drive.proofs.events.Events.add.Goals as goal
 use Rattle.drive.proofs.events.Events.add.Goals.{then-self, else-self}
 
@@ -16,4 +18,5 @@ invariant_of-self-then-not-is_empty c =
             rw c.in_ok-push_all.ensures.ok (in_order_write c.args.self.now.list.items c.args.at c.args.blocks.now (c.args.self.now.ordered w.if-self.true) here)
         | else-self w ↦ λ is. cc (is, w.self-is, w.if-self.false)
       ];
+      whole = rw c.in_ok-push_all.ensures.ok (whole-append c.args.self.now.list.items (written c.args.at c.args.blocks.now) c.args.self.now.whole (whole-written c.args.at c.args.blocks.now c.push_all.ensures.blocks));
     }
