@@ -11,7 +11,7 @@ use Rattle.model.proofs.Lists.{contains_here, contains_there, contains_cons, not
 use Rattle.recover.specs.Forest.{Forest, IsSeen, IsWalked, IsDrawn, AreDrawn, At, Numbers, Puts, Adds, named, height}
 use Rattle.recover.specs.Forest.Forest.{End, Seen}
 
-head_same : (a b : Name) (p q : Path) → a ∷ p ≡ b ∷ q → a ≡ b
+pub head_same : (a b : Name) (p q : Path) → a ∷ p ≡ b ∷ q → a ≡ b
 head_same a b p q e = ap (λ (r : Path). first r a) e
   where
     first : Path → Name → Name
@@ -147,6 +147,13 @@ put_kept p q n x h t = h.1 x ∙ go (x == n)
     go true = refl
     go false = t
 
+put_only : (p q : Numbers) (n x : ℕ) → Puts p n q → q x ≡ true → (p x ≡ true) ⊎ (x ≡ n)
+put_only p q n x h t = go (n_case x n)
+  where
+    go : ((nat_eq x n ≡ true) × (x ≡ n)) ⊎ (nat_eq x n ≡ false) → (p x ≡ true) ⊎ (x ≡ n)
+    go (inl e) = inr e.1
+    go (inr f) = inl (sym (h.1 x ∙ ap (λ (b : Bool). if b then true else p x) f) ∙ t)
+
 put_has : (p q : Numbers) (n : ℕ) → Puts p n q → q n ≡ true
 put_has p q n h = h.1 n ∙ ap (λ (b : Bool). if b then true else p n) (nat_eq_equiv.refl n)
 
@@ -155,6 +162,27 @@ module _ (key : ℕ → Stored → ℕ) where
   adds_kept p q End x h t = h x ∙ t
   adds_kept p q (Seen n a s b r) x (here, put, under, low, later) t =
       adds_kept under q r x later (adds_kept here under b x low (put_kept p here (key a s) x put t))
+
+  -- a node with this number
+  abbrev pub Brings : Forest → ℕ → Type 0
+  Brings f x = (path : Path) × (a : ℕ) × (s : Stored) × At f path a s × (key a s ≡ x)
+
+  -- a number that was not there before is that of a node
+  pub adds_only : (p q : Numbers) (f : Forest) (x : ℕ) → Adds key p f q → q x ≡ true → (p x ≡ true) ⊎ Brings f x
+  adds_only p q End x h t = inl (sym (h x) ∙ t)
+  adds_only p q (Seen n i u b r) x (here, put, under, low, later) t = go (adds_only here under b x low) (adds_only under q r x later t)
+    where
+      first : (p x ≡ true) ⊎ (x ≡ key i u) → (p x ≡ true) ⊎ Brings (Seen n i u b r) x
+      first (inl old) = inl old
+      first (inr same) = inr (n ∷ [], i, u, inl (refl, refl, refl), sym same)
+
+      lower : (here x ≡ true) ⊎ Brings b x → (p x ≡ true) ⊎ Brings (Seen n i u b r) x
+      lower (inl h) = first (put_only p here (key i u) x put h)
+      lower (inr (path, a, s, at, same)) = inr (n ∷ path, a, s, inr (inl (path, refl, at)), same)
+
+      go : (under x ≡ true → (here x ≡ true) ⊎ Brings b x) → (under x ≡ true) ⊎ Brings r x → (p x ≡ true) ⊎ Brings (Seen n i u b r) x
+      go deeper (inl h) = lower (deeper h)
+      go deeper (inr (path, a, s, at, same)) = inr (path, a, s, inr (inr at), same)
 
   pub adds_has : (p q : Numbers) (f : Forest) (path : Path) (a : ℕ) (s : Stored) → Adds key p f q → At f path a s → q (key a s) ≡ true
   adds_has p q End path a s h at = absurd at

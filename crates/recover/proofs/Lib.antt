@@ -1,11 +1,15 @@
 pub mod Blocks
+pub mod Expected
 pub mod Forests
 pub mod Fronts
 pub mod Held
 pub mod Nodes
+pub mod Refused
 pub mod Refusals
 pub mod Sets
 pub mod States
+pub mod Taken
 pub mod Tables
+pub mod Told
 pub mod Trees
 pub mod Walks

@@ -1,5 +1,5 @@
 -- Where a state is not read, none is told.
-use Rattle.std.proofs.Common.{◌≡◌, ℕ, ◌+◌, ◌-◌, ◌<◌, ◌≤◌, inl, inr, Bool, true, not, nat_eq, List, length, take, Some, sym, ap, subst, ◌∙◌, arith}
+use Rattle.std.proofs.Common.{◌≡◌, ℕ, ◌+◌, ◌*◌, ◌-◌, ◌<◌, ◌≤◌, inl, inr, Bool, true, not, nat_eq, List, length, take, Some, sym, ap, subst, ◌∙◌, arith}
 use Rattle.std.specs.Prelude.{slice_get}
 use Rattle.std.specs.Int.{div_ceil}
 use Rattle.std.specs.List.{flat_map}
@@ -8,11 +8,13 @@ use Rattle.std.proofs.lemmas.Bool.{true≢false}
 use Rattle.std.proofs.lemmas.List.{length-take}
 use Rattle.std.proofs.lemmas.Option.{same_Some}
 use Rattle.ecma.proofs.Faults.{no_fault}
+use Rattle.model.specs.Graph.{MakesTree}
+use Rattle.model.specs.Identities.{HasIdentities}
 use Rattle.model.specs.Session.{State as ModelState}
 use Rattle.model.proofs.Lists.{bytes_eq-itself}
 use Rattle.medium.specs.Formats.{Fields, Place, Table_}
 use Rattle.medium.specs.Formats.Place.{Nowhere, Extent, Inside}
-use Rattle.medium.specs.Volume.{HasTable, IsWithin, Tells, bytes_in, extent}
+use Rattle.medium.specs.Volume.{HasTable, IsWithin, Tells, bytes_in, extent, graph_of}
 use Rattle.udf.specs.Said.{said_fields, said_table}
 use Rattle.udf.specs.Udf.{udf}
 use Rattle.udf.specs.Words.{fields_of, kind_of, table_of}
@@ -28,7 +30,7 @@ use Rattle.volume.proofs.ReadingLaws.{front_tells, one_told}
 use Rattle.recover.specs.declared.fault.StoreFault.{StoreFault}
 use Rattle.recover.specs.declared.fault.StoreFault.TheVariants.{Device, Memory, Damaged}
 use Rattle.recover.specs.declared.table.TableEntry.{TableEntry}
-use Rattle.recover.specs.State.{HasFileSet, IsFrontRefused, IsSetRefused, IsStateRefused, IsUntold}
+use Rattle.recover.specs.State.{HasFileSet, HasTree, IsFrontRefused, IsSetRefused, IsStateRefused, IsTreeRefused, IsUntold}
 use Rattle.recover.specs.Tables.{HasDataBelow, HasEntry, IsEntryAt, IsEntryRefused, IsTableRefused, data_of, table_fields}
 use Rattle.recover.proofs.Walks.{part_below}
 
@@ -58,14 +60,14 @@ module _ (M : List (List ℕ)) (at : ℕ) (low : 257 ≤ at) (long : at < length
     same_size : h.fields.size ≡ e.size
     same_size = ap (λ (f : Fields). f.size) same_fields
 
-    data_below : HasDataBelow at e
+    pub data_below : HasDataBelow at e
     data_below =
         let within : IsWithin (take at M) e.first e.size = subst (λ (n : ℕ). IsWithin (take at M) n e.size) same_first (subst (λ (n : ℕ). IsWithin (take at M) h.first n) same_size h.within) in
         let l = length-take at M in
         omega (arith, within, l, long)
 
     -- its data
-    told_table : udf.IsTable table (at - 257) (data_of M e)
+    pub told_table : udf.IsTable table (at - 257) (data_of M e)
     told_table =
         let below = data_below in
         let part = part_below (e.first + 257) (div_ceil e.size 2048) at M below in
@@ -74,13 +76,23 @@ module _ (M : List (List ℕ)) (at : ℕ) (low : 257 ≤ at) (long : at < length
         (subst (λ (n : ℕ). udf.IsTable table (at - 257) (bytes_in e.size (extent (take at M) n e.size))) same_first
         (subst (λ (n : ℕ). udf.IsTable table (at - 257) (bytes_in n (extent (take at M) h.first n))) same_size h.is))
 
+  -- a table that is there is not refused
+  pub entry_is_read : (block : List ℕ) (table : Table_) (moment : ℕ) → slice_get M at ≡ Some block → HasTable udf (take at M) at block table moment → (b c : ℕ) → IsEntryRefused M at (Damaged b c) → ⊥
+  entry_is_read block table moment there h b c r =
+      elim r.1 [
+        | inl none ↦ no_table_entry block table moment there none.1 h
+        | inr far ↦ far.3 (data_below far.1 far.2 block table moment there h)
+      ]
+
+  pub table_is_read : (block : List ℕ) (table : Table_) (moment : ℕ) → slice_get M at ≡ Some block → HasTable udf (take at M) at block table moment → (e : TableEntry) → IsEntryAt M at e
+      → (b c : ℕ) → IsTableRefused (at - 257) e (data_of M e) (Damaged b c) → ⊥
+  table_is_read block table moment there h e is b c r =
+      let told = told_table e is block table moment there h in
+      no_fault (table_rules (at - 257) (data_of M e)) r.1 r.3 (rules_hold (at - 257) (table_of told.0 table) (data_of M e) told.1)
+
   pub entry_refused : (capacity : ℕ) (fault : StoreFault) → IsEntryRefused M at fault → IsStateRefused capacity M at fault
   entry_refused capacity Device r = tt
-  entry_refused capacity (Damaged b c) r = λ volume block said there tells.
-      elim r.1 [
-        | inl none ↦ no_table_entry block tells.table said.moment there none.1 tells.has
-        | inr far ↦ far.3 (data_below far.1 far.2 block tells.table said.moment there tells.has)
-      ]
+  entry_refused capacity (Damaged b c) r = λ volume block said there tells. entry_is_read block tells.table said.moment there tells.has b c r
   entry_refused capacity _ r = absurd r
 
   -- ---- the front
@@ -121,9 +133,7 @@ module _ (M : List (List ℕ)) (at : ℕ) (low : 257 ≤ at) (long : at < length
   pub no_table : (capacity : ℕ) (e : TableEntry) → IsEntryAt M at e → (fault : StoreFault) → IsTableRefused (at - 257) e (data_of M e) fault → IsStateRefused capacity M at fault
   no_table capacity e is Device r = tt
   no_table capacity e is Memory r = tt
-  no_table capacity e is (Damaged b c) r = λ volume block said there tells.
-      let told = told_table e is block tells.table said.moment there tells.has in
-      no_fault (table_rules (at - 257) (data_of M e)) r.1 r.3 (rules_hold (at - 257) (table_of told.0 tells.table) (data_of M e) told.1)
+  no_table capacity e is (Damaged b c) r = λ volume block said there tells. table_is_read block tells.table said.moment there tells.has e is b c r
   no_table capacity e is _ r = absurd r
 
   module _ (e : TableEntry) (is : IsEntryAt M at e) (vat : Vat) (read : IsTableAt (at - 257) (view vat) (data_of M e)) (capacity volume : ℕ) (block : List ℕ) (said : ModelState)
@@ -158,3 +168,31 @@ module _ (M : List (List ℕ)) (at : ℕ) (low : 257 ≤ at) (long : at < length
     set_refused Device r = tt
     set_refused (Damaged b c) r = λ volume block said there tells. r (told_set volume block said there tells)
     set_refused _ r = absurd r
+
+    -- ---- the tree
+
+    told_tree : (volume : ℕ) (block : List ℕ) (said : ModelState) → slice_get M at ≡ Some block → Tells udf capacity volume (take at M) at block said
+        → HasTree (take at M) vat × (2 * vat.sessions.commits + 261 ≤ at) × (vat.sessions.next_unique ≤ 16 + vat.sessions.commits)
+    told_tree volume block said there tells =
+        let table = one_table e is vat read capacity volume block said there tells in
+        let next : said.next_identity ≡ vat.sessions.next_unique = sym tells.next_identity ∙ ap (λ (t : Table_). t.next_identity) table in
+        let commits : said.commits ≡ vat.sessions.commits = sym tells.commits ∙ ap (λ (t : Table_). t.commits) table in
+        let few_commits = tells.few_commits in
+        let few_identities = tells.few_identities in (
+          record {
+            tree = said.tree;
+            is = tells.tree;
+            makes = subst (λ (t : Table_). MakesTree (graph_of udf (take at M) t.entries) said.tree) table tells.makes;
+            identities = subst (HasIdentities said.tree) next tells.identities;
+            files = sym (ap (λ (t : Table_). t.files) table) ∙ tells.files;
+            directories = sym (ap (λ (t : Table_). t.directories) table) ∙ tells.directories;
+          },
+          omega (arith, few_commits, commits),
+          omega (arith, few_identities, commits, next),
+        )
+
+    pub no_tree : (fault : StoreFault) → IsTreeRefused (take at M) at vat fault → IsStateRefused capacity M at fault
+    no_tree Device r = tt
+    no_tree Memory r = tt
+    no_tree (Damaged b c) r = λ volume block said there tells. let told = told_tree volume block said there tells in r told.0 told.1 told.2
+    no_tree _ r = absurd r

@@ -8,7 +8,10 @@ use Rattle.std.proofs.lemmas.List.{length-take}
 use Rattle.std.proofs.lemmas.Option.{same_Some}
 use Rattle.dir.specs.declared.entry.Kind.TheVariants.{Directory}
 use Rattle.model.specs.Graph.{IsFunctional}
+use Rattle.model.specs.Identities.{HasIdentities}
+use Rattle.model.specs.Tree.{files_of, directories_of}
 use Rattle.model.proofs.Lists.{bytes_same}
+use Rattle.model.proofs.Made.{one_tree}
 use Rattle.medium.specs.Volume.{HasTable, bytes_in, extent, graph_of}
 use Rattle.medium.proofs.Stored.{stored_one}
 use Rattle.udf.specs.Said.{said_fields, said_table}
@@ -17,19 +20,23 @@ use Rattle.udf.proofs.Formats.{bounded, exact}
 use Rattle.icb.specs.VatIcb.{IsVatIcb}
 use Rattle.udf.proofs.Said.{imitation_agrees, entries_agree, tables_agree}
 use Rattle.vat.specs.declared.table.Vat.{Vat}
-use Rattle.vat.specs.Table.{IsTableAt, view}
+use Rattle.vat.specs.Table.{IsTableAt, Table, view}
 use Rattle.volume.specs.Front.{IsFront}
+use Rattle.recover.specs.declared.fault.StoreFault.{StoreFault}
+use Rattle.recover.specs.declared.fault.StoreFault.TheVariants.{Device, Memory, Damaged}
 use Rattle.recover.specs.declared.state.State.{State}
 use Rattle.recover.specs.declared.table.TableEntry.{TableEntry}
 use Rattle.recover.specs.declared.walk.Named.{Named}
 use Rattle.recover.specs.declared.walk.Walk.{Walk}
-use Rattle.recover.specs.Forest.{Adds, AreDrawn, IsWhole, IsWalked, by_address, by_identity, whole}
+use Rattle.recover.specs.Forest.{Adds, AreDrawn, IsWhole, IsWalked, by_address, by_identity, directories_in, files_in, whole}
 use Rattle.recover.specs.Forest.Forest.{End, Seen}
 use Rattle.recover.specs.Laws.{LastStands}
 use Rattle.recover.specs.Nodes.{is_directory}
-use Rattle.recover.specs.State.{HasTree, IsCounted, IsDescribed, IsShown}
+use Rattle.recover.specs.State.{HasTree, IsCounted, IsDescribed, IsShown, IsTreeRefused}
+use Rattle.recover.specs.Refused.{IsVisitRefused}
 use Rattle.recover.specs.Tables.{HasDataBelow, IsEntryAt, data_of, table_fields}
 use Rattle.recover.specs.Walk.{Visits, reached_in, uniques_in}
+use Rattle.recover.proofs.Refused.{root_expects}
 use Rattle.recover.proofs.Trees.{tree_of, makes_tree, is_tree, has_identities, files_are, directories_are}
 use Rattle.recover.proofs.Walks.{adds_from, part_below}
 
@@ -92,12 +99,40 @@ module _ (medium : List (List ℕ)) (vat : Vat) (before after : Walk) (node : Na
         directories = omega (arith, directories, no_directories, seen_directories, counted_directories);
       }
 
+  -- what was counted is what the table counts, where the nodes make a tree that it counts
+  pub counts_agree : vat.files + vat.directories ≤ 4096 → before.files ≡ 0 → before.directories ≡ 0 → HasTree medium vat → (after.files ≡ vat.files) × (after.directories ≡ vat.directories)
+  counts_agree few no_files no_directories has =
+      let w = is_whole in
+      let graph = graph_of udf medium vat.entries.items in
+      let made = makes_tree graph functional vat.sessions.next_unique visits.stored visits.below w in
+      let same : tree_of visits.stored visits.below ≡ has.tree = one_tree graph (tree_of visits.stored visits.below) has.tree made has.makes in
+      let files : files_in (whole visits.stored visits.below) ≡ vat.files = sym (files_are graph functional vat.sessions.next_unique visits.stored visits.below w) ∙ ap files_of same ∙ sym has.files in
+      let directories : directories_in (whole visits.stored visits.below) ≡ vat.directories =
+      sym (directories_are graph functional vat.sessions.next_unique visits.stored visits.below w) ∙ ap directories_of same ∙ sym has.directories in
+      let few_files = visits.counts.files.2 in
+      let few_directories = visits.counts.directories.2 in
+      let all_files = visits.counts.files.1 (omega (arith, few_files, files, few, no_files)) in
+      let all_directories = visits.counts.directories.1 (omega (arith, few_directories, directories, few, no_directories)) in
+      (omega (arith, all_files, files, no_files), omega (arith, all_directories, directories, no_directories))
+
+-- the nodes were refused
+pub tree_refused : (medium : List (List ℕ)) (at : ℕ) (vat : Vat) (before : Walk) (node : Named) → ((x : ℕ) → reached_in before x ≡ false) → ((x : ℕ) → uniques_in before x ≡ false) → node.kind ≡ Directory
+    → node.address ≡ 1 → node.unique ≡ 0 → node.above ≡ 1 → node.depth ≡ 0 → before.next_unique ≡ vat.sessions.next_unique → (fault : StoreFault)
+    → IsVisitRefused (graph_of udf medium vat.entries.items) before node fault → IsTreeRefused medium at vat fault
+tree_refused medium at vat before node none_reached none_unique kind address unique above depth next Device r = tt
+tree_refused medium at vat before node none_reached none_unique kind address unique above depth next Memory r = tt
+tree_refused medium at vat before node none_reached none_unique kind address unique above depth next (Damaged block cause) r = λ has commits few_unique.
+    let identities = subst (HasIdentities has.tree) (sym next) has.identities in
+    r has.tree [] has.is has.makes identities
+    (root_expects (graph_of udf medium vat.entries.items) has.tree has.is has.makes before identities node none_reached none_unique kind address unique above depth)
+tree_refused medium at vat before node none_reached none_unique kind address unique above depth next _ r = absurd r
+
 -- ---- all of it
 
 -- the table of an entry that was read, on the blocks below it
-has_table : (medium : List (List ℕ)) (at : ℕ) (entry : TableEntry) (is : IsEntryAt medium at entry) (vat : Vat) → at ≤ length medium → HasDataBelow at entry
-    → IsTableAt (at - 257) (view vat) (data_of medium entry) → HasTable udf (take at medium) at is.block (said_table (view vat)) entry.moment
-has_table medium at entry is vat long below table = record {
+pub has_table : (medium : List (List ℕ)) (at : ℕ) (entry : TableEntry) (is : IsEntryAt medium at entry) (read : Table) → at ≤ length medium → HasDataBelow at entry
+    → IsTableAt (at - 257) read (data_of medium entry) → HasTable udf (take at medium) at is.block (said_table read) entry.moment
+has_table medium at entry is read long below table = record {
   fields = said_fields (table_fields entry);
   kind = refl;
   entry = (entries_agree (table_fields entry) is.block (at - 257)).0 is.is;
@@ -108,7 +143,7 @@ has_table medium at entry is vat long below table = record {
   is =
       let part = part_below (entry.first + 257) (div_ceil entry.size 2048) at medium below in
       let same : data_of medium entry ≡ bytes_in entry.size (extent (take at medium) entry.first entry.size) = ap (λ (blocks : List (List ℕ)). take entry.size (flat_map (λ b. b) blocks)) (sym part) in
-      tables_agree (view vat) (at - 257) _ (subst (IsTableAt (at - 257) (view vat)) same table);
+      tables_agree read (at - 257) _ (subst (IsTableAt (at - 257) read) same table);
 }
 
 pub is_shown : (capacity : ℕ) (medium : List (List ℕ)) (at : ℕ) (state : State) → 257 ≤ at → at < length medium → IsDescribed capacity medium at state
@@ -133,7 +168,7 @@ is_shown capacity medium at state low long described tree counted =
       there = is.there;
       tells = record {
         table = said_table (view state.vat);
-        has = has_table medium at entry is state.vat (omega (arith, long)) described.below described.table;
+        has = has_table medium at entry is (view state.vat) (omega (arith, long)) described.below described.table;
         commits = refl;
         next_identity = refl;
         records = refl;

@@ -45,7 +45,7 @@ none_more M at block there never none other from h =
       | inr le ↦ none_here M at block there never (subst (HasEntry M) (let same : other ≡ at = omega arith in same) h)
     ]
 
-fields_are : (k : Kind) (m l u s : ℕ) (p : Place) (first : ℕ) → k ≡ kinds.Vat → l ≡ 0 → u ≡ 0 → p ≡ Extent first
+pub fields_are : (k : Kind) (m l u s : ℕ) (p : Place) (first : ℕ) → k ≡ kinds.Vat → l ≡ 0 → u ≡ 0 → p ≡ Extent first
     → ◌≡◌ {A = Fields} (record { kind = k; moment = m; links = l; unique = u; size = s; place = p }) (record { kind = kinds.Vat; moment = m; links = 0; unique = 0; size = s; place = Extent first })
 fields_are k m l u s p first a b c d = cc
 

@@ -223,7 +223,7 @@ names-content (Bytes bytes) = refl
 names-content (Entries parent entries) = refl
 
 module _ (graph : Graph) where
-  leads_push : (q : Path) (v w : ℕ) (name : Name) (to : ℕ) → Leads graph v q w → Names graph w name to → Leads graph v (q ++ name ∷ []) to
+  pub leads_push : (q : Path) (v w : ℕ) (name : Name) (to : ℕ) → Leads graph v q w → Names graph w name to → Leads graph v (q ++ name ∷ []) to
   leads_push [] v w name to l n = (to, subst (λ x. Names graph x name to) (sym l) n, refl)
   leads_push (x ∷ q) v w name to l n = (l.0, l.1, leads_push q l.0 w name to l.2 n)
 

@@ -107,12 +107,13 @@ module _ (key : ℕ → Stored → ℕ) where
       (here, put, r, adds_beside here under r f (Seen n i t b End) low (adds_from under q r (Seen n i t b End) (λ x. sym (last x)) k), λ x. refl)
 
 tallied_same : (a b m n : ℕ) → Tallied a m b → m ≡ n → Tallied a n b
-tallied_same a b m n t e = (t.0, λ lt. let r = t.1 lt in omega (arith, r, e))
+tallied_same a b m n t e = (t.0, (λ lt. let r = t.1 lt in omega (arith, r, e)), let r = t.2 in omega (arith, r, e))
 
 tallied_more : (a b c m n k : ℕ) → Tallied a m b → Tallied b n c → k ≡ m + n → Tallied a k c
 tallied_more a b c m n k t u e = (
   (let x = t.0 in let y = u.0 in omega (arith, x, y)),
-  λ lt. let y = u.0 in let v = u.1 lt in let w = t.1 (omega (arith, y, lt)) in omega (arith, v, w, e),
+  (λ lt. let y = u.0 in let v = u.1 lt in let w = t.1 (omega (arith, y, lt)) in omega (arith, v, w, e)),
+  (let x = t.2 in let y = u.2 in omega (arith, x, y, e)),
 )
 
 -- a node, before those below it
@@ -206,11 +207,11 @@ module _ (M : List (List ℕ)) (table : List (Option ℕ)) (node : Named) (body 
         refl,
       )
 
-kinds_same : (k : Kind) → is_directory k ≡ names_directory k
+pub kinds_same : (k : Kind) → is_directory k ≡ names_directory k
 kinds_same File = refl
 kinds_same Directory = refl
 
-links_said : (es : List (List ℕ × DirEntry)) → count_by (λ (entry : DirEntry). is_directory entry.kind) (values_of es) ≡ count_by (λ (e : Entry). e.is_directory) (said_entries es)
+pub links_said : (es : List (List ℕ × DirEntry)) → count_by (λ (entry : DirEntry). is_directory entry.kind) (values_of es) ≡ count_by (λ (e : Entry). e.is_directory) (said_entries es)
 links_said [] = refl
 links_said (e ∷ es) =
     let one = sum_by-cons (λ (x : DirEntry). cond (is_directory x.kind) 1 0) e.1 (values_of es) in
@@ -219,7 +220,7 @@ links_said (e ∷ es) =
     let rest = links_said es in
     omega (arith, one, two, same, rest)
 
-names_said : (es : List (List ℕ × DirEntry)) → map (λ (e : Entry). e.name) (said_entries es) ≡ keys_of es
+pub names_said : (es : List (List ℕ × DirEntry)) → map (λ (e : Entry). e.name) (said_entries es) ≡ keys_of es
 names_said [] = refl
 names_said (e ∷ es) = ap (λ ks. e.0 ∷ ks) (names_said es)
 

@@ -3,6 +3,7 @@ pub mod Faults
 pub mod Forest
 pub mod Laws
 pub mod Nodes
+pub mod Refused
 pub mod State
 pub mod Tables
 pub mod Walk

@@ -1,5 +1,5 @@
 -- What is kept by a state that was read back from a medium, and what it says.
-use Rattle.std.specs.Prelude.{◌≡◌, ℕ, ◌+◌, ◌-◌, ◌*◌, ◌≤◌, ◌⊎◌, ⊤, List, length, take, Option, Some, slice_get}
+use Rattle.std.specs.Prelude.{◌≡◌, ℕ, ◌+◌, ◌-◌, ◌*◌, ◌≤◌, ⊤, List, length, take, Option, Some, slice_get}
 use Rattle.icb.specs.FileSet.{IsFileSet}
 use Rattle.model.specs.Graph.{MakesTree}
 use Rattle.model.specs.Identities.{HasIdentities}
@@ -76,6 +76,13 @@ pub record HasTree (medium : List (List ℕ)) (vat : Vat) : Type 0 where
   pub files : vat.files ≡ files_of tree
   pub directories : vat.directories ≡ directories_of tree
 
+-- why the nodes were refused: they make no tree that the table counts, or there is no room for its commits and unique IDs
+abbrev pub IsTreeRefused : List (List ℕ) → ℕ → Vat → StoreFault → Type 0
+IsTreeRefused medium at vat Device = ⊤
+IsTreeRefused medium at vat Memory = ⊤
+IsTreeRefused medium at vat (Damaged block cause) = HasTree medium vat → 2 * vat.sessions.commits + 261 ≤ at → vat.sessions.next_unique ≤ 16 + vat.sessions.commits → ⊥
+IsTreeRefused medium at vat _ = ⊥
+
 -- What was read is what stands where a table's entry does: the state that the blocks below it tell, on a drive of this
 -- capacity, by this table.
 pub record IsShown (capacity : ℕ) (medium : List (List ℕ)) (at : ℕ) (state : State) : Type 0 where
@@ -97,7 +104,3 @@ IsStateRefused capacity medium at Device = ⊤
 IsStateRefused capacity medium at Memory = ⊤
 IsStateRefused capacity medium at (Damaged block cause) = IsUntold capacity medium at
 IsStateRefused capacity medium at _ = ⊥
-
--- why no state was read there: so it was refused, or what stands but for the tree is there
-abbrev pub IsReadRefused : ℕ → List (List ℕ) → ℕ → StoreFault → Type 0
-IsReadRefused capacity medium at fault = IsStateRefused capacity medium at fault ⊎ ((state : State) × IsDescribed capacity medium at state)

@@ -76,7 +76,7 @@ nodes_of journal walk = graph_of udf (take walk.at (held journal)) walk.entries.
 
 -- so many were counted, while the count is below its top
 abbrev pub Tallied : ℕ → ℕ → ℕ → Type 0
-Tallied before n after = (before ≤ after) × (after < 2 ^ 32 - 1 → after ≡ before + n)
+Tallied before n after = (before ≤ after) × (after < 2 ^ 32 - 1 → after ≡ before + n) × (after ≤ before + n)
 
 -- what the walk keeps of the nodes that it saw between two states, at a depth
 pub record Counts (before after : Walk) (depth : ℕ) (forest : Forest) : Type 0 where

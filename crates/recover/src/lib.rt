@@ -5,7 +5,7 @@
 //! of the drive is told only where the drive counted a failure. On a drive whose reads are honest `last` finds the last entry
 //! of a table, from the end, and what is read is what the medium has. `state_at` looks at every node that a table leads to,
 //! and what it gives is the state that the blocks below the table's entry tell, which stands where that entry is the last.
-//! Where it tells of damage no state is told there, or all but the tree is.
+//! Where it tells of damage no state is told there.
 //!
 //! Left to others: whatever is written, and what is asked of a state.
 #![tactic(auto)]

@@ -3,7 +3,7 @@
 ghost use Rattle.std.specs.Prelude.{◌≡◌, ◌+◌, ◌<◌, ◌≤◌, ◌^◌, IsTrue, IfOk, IfErr, Some, vec_len, All, slice_index, ℕ};
 ghost use Rattle.udf.specs.Udf.{IsBlock};
 ghost use Rattle.std.specs.Int.{div_ceil};
-ghost use Rattle.drive.specs.Journal.{held, last_at, next_of};
+ghost use Rattle.drive.specs.Journal.{AreWhole, held, last_at, next_of};
 ghost use Rattle.recover.specs.declared.fault.StoreFault.TheVariants.{Device};
 ghost use Rattle.recover.specs.Blocks.{blocks_at, bytes_at};
 ghost use Rattle.recover.specs.Faults.{Counts, IsShortage, devices};
@@ -31,6 +31,7 @@ pub fn read_block<D: Drive>(drive: &mut D, at: u32) -> Result<Block, StoreFault>
     requires { at < next_of (D.journal drive.old) }
     ensures read { IfOk result (λ block. IsTrue (D.honest drive.new) → last_at (D.journal drive.old) at ≡ Some block) }
     ensures block { IfOk result IsBlock }
+    ensures whole { AreWhole (D.journal drive.old) }
     ensures device { IfErr result (λ fault. fault ≡ Device) }
     ensures journal { D.journal drive.new ≡ D.journal drive.old }
     ensures capacity { D.capacity drive.new ≡ D.capacity drive.old }

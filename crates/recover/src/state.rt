@@ -5,7 +5,7 @@ ghost use Rattle.drive.specs.Journal.{held, next_of};
 ghost use Rattle.vat.specs.Table.{IsTableAt, view};
 ghost use Rattle.volume.specs.Front.{IsFront};
 ghost use Rattle.recover.specs.Faults.{Counts, devices};
-ghost use Rattle.recover.specs.State.{HasFileSet, HasTree, IsCounted, IsDescribed, IsFrontRefused, IsReadRefused, IsSetRefused, IsShown, IsSound, IsStateRefused};
+ghost use Rattle.recover.specs.State.{HasFileSet, HasTree, IsCounted, IsDescribed, IsFrontRefused, IsSetRefused, IsShown, IsSound, IsStateRefused, IsTreeRefused};
 
 use crate::cause;
 use crate::fault::{StoreFault, damaged};
@@ -47,8 +47,8 @@ pub fn state_at<D: Drive>(alloc: Global, drive: &mut D, at: u32) -> Result<State
     requires within { at < next_of (D.journal drive.old) }
     // What is told there.
     ensures shown { IfOk result (λ state. IsTrue (D.honest drive.new) → IsShown (D.capacity drive.old) (held (D.journal drive.old)) at state) }
-    // Where it is refused none is told there, unless it is the tree that is at fault.
-    ensures refused { IfErr result (λ fault. IsTrue (D.honest drive.new) → IsReadRefused (D.capacity drive.old) (held (D.journal drive.old)) at fault) }
+    // Where it is refused none is told there, unless the drive failed or memory was short.
+    ensures refused { IfErr result (λ fault. IsTrue (D.honest drive.new) → IsStateRefused (D.capacity drive.old) (held (D.journal drive.old)) at fault) }
     ensures sound { IfOk result (IsSound at (D.capacity drive.old)) }
     ensures journal { D.journal drive.new ≡ D.journal drive.old }
     ensures capacity { D.capacity drive.new ≡ D.capacity drive.old }
@@ -170,6 +170,7 @@ fn check_tree<D: Drive>(
     requires few { vat.now.files + vat.now.directories ≤ 4_096 }
     ensures tree { OnOk result (IsTrue (D.honest drive.new) → HasTree (take at (held (D.journal drive.old))) vat.now) }
     ensures counts { OnOk result (IsCounted at vat.now) }
+    ensures refused { IfErr result (λ fault. IsTrue (D.honest drive.new) → IsTreeRefused (take at (held (D.journal drive.old))) at vat.now fault) }
     ensures journal { D.journal drive.new ≡ D.journal drive.old }
     ensures capacity { D.capacity drive.new ≡ D.capacity drive.old }
     ensures honest { IsTrue (D.honest drive.new) → IsTrue (D.honest drive.old) }

@@ -8,6 +8,7 @@ ghost use Rattle.icb.specs.Entry.{Fits, fields_of, place_of};
 ghost use Rattle.icb.specs.Entry.Place.{Extent};
 ghost use Rattle.vat.specs.Table.{IsTableAt, view};
 ghost use Rattle.recover.specs.Faults.{Counts, devices};
+ghost use Rattle.recover.specs.declared.fault.StoreFault.TheVariants.{Device};
 ghost use Rattle.recover.specs.Tables.{HasDataBelow, IsBefore, IsEntryAt, IsEntryRefused, IsLast, IsTableRefused, HasTable, IsAtRefused, IsLinkRefused, data_of};
 ghost use Rattle.recover.specs.Walk.{LeadsTo};
 
@@ -35,6 +36,7 @@ pub struct TableEntry {
 pub fn last<D: Drive>(drive: &mut D) -> Result<Option<u32>, StoreFault>
     ensures last { IfOk result (λ found. IsTrue (D.honest drive.new) → IsLast (held (D.journal drive.old)) found) }
     ensures within { IfOk result (λ found. IfSome found (λ at. (257 ≤ at) × (at < next_of (D.journal drive.old)))) }
+    ensures device { IfErr result (λ fault. fault ≡ Device) }
     ensures journal { D.journal drive.new ≡ D.journal drive.old }
     ensures capacity { D.capacity drive.new ≡ D.capacity drive.old }
     ensures honest { IsTrue (D.honest drive.new) → IsTrue (D.honest drive.old) }

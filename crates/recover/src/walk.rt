@@ -1,9 +1,10 @@
 //! The walk through all nodes that a table leads to, depth first and in stored order.
 
-ghost use Rattle.std.specs.Prelude.{◌≡◌, ◌+◌, ◌<◌, ◌≤◌, ◌^◌, IsTrue, IfOk, IfSome, OnOk};
+ghost use Rattle.std.specs.Prelude.{◌≡◌, ◌↔◌, ◌+◌, ◌<◌, ◌≤◌, ◌^◌, IsTrue, IfOk, IfErr, IfSome, OnOk};
 ghost use Rattle.std.specs.Int.{div_ceil};
 ghost use Rattle.drive.specs.Journal.{held, next_of};
 ghost use Rattle.recover.specs.Faults.{Counts, devices};
+ghost use Rattle.recover.specs.Refused.{IsNamesRefused};
 ghost use Rattle.recover.specs.Walk.{HasNames, LiesBelow, extent_in, icb_kind};
 ghost use Rattle.icb.specs.Entry.{place_of};
 ghost use Rattle.dir.specs.declared.entry.Kind.TheVariants.{Directory, File};
@@ -108,11 +109,13 @@ pub(crate) struct Walk<'a> {
 }
 
 impl<'a> Walk<'a> {
-    ghost use Rattle.std.specs.Prelude.{◌≡◌, ◌+◌, ◌<◌, ◌≤◌, ◌^◌, ℕ, IsTrue, IfOk, IfSome, OnOk, false, take};
+    ghost use Rattle.std.specs.Prelude.{◌≡◌, ◌+◌, ◌<◌, ◌≤◌, ◌^◌, ℕ, IsTrue, IfOk, IfErr, IfSome, OnOk, false, take};
     ghost use Rattle.std.specs.Int.{div_ceil};
     ghost use Rattle.drive.specs.Journal.{held, next_of};
     ghost use Rattle.recover.specs.Faults.{Counts, devices};
+    ghost use Rattle.recover.specs.declared.fault.StoreFault.TheVariants.{Memory};
     ghost use Rattle.recover.specs.Forest.{IsDrawn, Puts};
+    ghost use Rattle.recover.specs.Refused.{IsBodyRefused, IsReachRefused, IsVisitRefused};
     ghost use Rattle.recover.specs.Walk.{HasEntry, LeadsTo, LiesBelow, Visits, nodes_of, reached_in, uniques_in};
     ghost use Rattle.dir.specs.declared.entry.Kind.TheVariants.{Directory};
 
@@ -153,6 +156,7 @@ impl<'a> Walk<'a> {
         requires low { 257 ≤ self.old.at }
         requires within { self.old.at < next_of (D.journal drive.old) }
         requires depth { node.depth ≤ 17 }
+        ensures refused { IfErr result (λ fault. IsTrue (D.honest drive.new) → IsVisitRefused (nodes_of (D.journal drive.old) self.old) self.old node fault) }
         ensures visits { OnOk result (IsTrue (D.honest drive.new) → Visits (nodes_of (D.journal drive.old) self.old) self.old self.new node) }
         ensures at { self.new.at ≡ self.old.at }
         ensures entries { self.new.entries.now ≡ self.old.entries.now }
@@ -193,6 +197,7 @@ impl<'a> Walk<'a> {
         ensures leads { IfOk result (λ entry_at. LeadsTo self.old.entries.now node.now.address entry_at) }
         ensures reached { OnOk result (Puts (reached_in self.old) node.now.address (reached_in self.new)) }
         ensures depth { OnOk result (node.now.depth ≤ PATH_NAMES) }
+        ensures refused { IfErr result (IsReachRefused self.old node.now) }
         ensures at { self.new.at ≡ self.old.at }
         ensures entries { self.new.entries ≡ self.old.entries }
         ensures next_unique { self.new.next_unique ≡ self.old.next_unique }
@@ -225,6 +230,7 @@ impl<'a> Walk<'a> {
         requires within { entry_at < next_of (D.journal drive.old) }
         ensures entry { IfOk result (λ body. IsTrue (D.honest drive.new) → HasEntry (take self.old.at (held (D.journal drive.old))) entry_at node.now body) }
         ensures extent { IfOk result (λ body. IfSome body.extent (LiesBelow self.old.at)) }
+        ensures refused { IfErr result (λ fault. IsTrue (D.honest drive.new) → IsBodyRefused (take self.old.at (held (D.journal drive.old))) self.old entry_at node.now fault) }
         ensures drawn { OnOk result (IsDrawn self.old.next_unique node.now.address node.now.unique) }
         ensures uniques { OnOk result (Puts (uniques_in self.old) node.now.unique (uniques_in self.new)) }
         ensures at { self.new.at ≡ self.old.at }
@@ -264,6 +270,8 @@ impl<'a> Walk<'a> {
     fn is_new_unique(&mut self, node: &Named) -> Result<bool, StoreFault>
         ensures drawn { IfOk result (λ is. IsTrue is → IsDrawn self.old.next_unique node.now.address node.now.unique) }
         ensures uniques { IfOk result (λ is. IsTrue is → Puts (uniques_in self.old) node.now.unique (uniques_in self.new)) }
+        ensures only { IfOk result (λ is. IsDrawn self.old.next_unique node.now.address node.now.unique → uniques_in self.old node.now.unique ≡ false → IsTrue is) }
+        ensures memory { IfErr result (λ fault. fault ≡ Memory) }
         ensures at { self.new.at ≡ self.old.at }
         ensures entries { self.new.entries ≡ self.old.entries }
         ensures next_unique { self.new.next_unique ≡ self.old.next_unique }
@@ -297,6 +305,7 @@ fn read_names<D: Drive>(
     requires first { extent.first ≤ 449_743 }
     requires within { extent.first + 257 + div_ceil extent.size 2048 ≤ next_of (D.journal drive.old) }
     ensures names { IfOk result (λ directory. IsTrue (D.honest drive.new) → HasNames (held (D.journal drive.old)) above links extent directory) }
+    ensures refused { IfErr result (λ fault. IsTrue (D.honest drive.new) → IsNamesRefused (held (D.journal drive.old)) above links extent fault) }
     ensures journal { D.journal drive.new ≡ D.journal drive.old }
     ensures capacity { D.capacity drive.new ≡ D.capacity drive.old }
     ensures honest { IsTrue (D.honest drive.new) → IsTrue (D.honest drive.old) }
@@ -314,7 +323,7 @@ fn read_names<D: Drive>(
 
 /// Whether an entry is of what the directory says.
 fn is_kind(named: Kind, kind: icb::Kind) -> bool
-    ensures { IsTrue result → kind ≡ icb_kind named }
+    ensures { IsTrue result ↔ (kind ≡ icb_kind named) }
 {
     match named {
         Kind::File => kind == icb::Kind::File,
@@ -324,7 +333,7 @@ fn is_kind(named: Kind, kind: icb::Kind) -> bool
 
 /// Whether a node of this kind may have so many links, beside those of the directories in it: a file has one.
 fn has_links(named: Kind, links: u16) -> bool
-    ensures { IsTrue result → named ≡ File → links ≡ 1 }
+    ensures { IsTrue result ↔ (named ≡ File → links ≡ 1) }
 {
     match named {
         Kind::File => links == 1,
@@ -348,7 +357,7 @@ fn extent_of(entry: &FileEntry<'_>) -> Option<Extent>
 
 /// Whether the bytes lie below an address.
 fn is_below(extent: Option<Extent>, at: u32) -> bool
-    ensures { IsTrue result → IfSome extent (λ e. e.first + 257 + div_ceil e.size 2048 ≤ at) }
+    ensures { IsTrue result ↔ IfSome extent (λ e. e.first + 257 + div_ceil e.size 2048 ≤ at) }
 {
     match extent {
         Some(extent) => lies_below(extent.first, extent.size, at),

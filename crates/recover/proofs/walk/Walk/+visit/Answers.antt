@@ -2,11 +2,14 @@ use Rattle.std.proofs.Common.{◌≡◌, ℕ, ◌+◌, ◌≤◌, nat_eq, length
 use Rattle.std.specs.Prelude.{IfSome, slice_get, option_map}
 use Rattle.std.specs.HashSet.{contains}
 use Rattle.std.specs.Map.Iter.{deref_pair}
+use Rattle.std.proofs.lemmas.Result.{err_from_is_err_and}
 use Rattle.drive.specs.Journal.{Event, held}
 use Rattle.recover.specs.declared.directory.Extent.{Extent}
 use Rattle.recover.specs.Forest.{IsDrawn, Puts}
+use Rattle.recover.specs.Refused.{IsBodyRefused, IsNamesRefused}
 use Rattle.recover.specs.Walk.{HasEntry, HasNames, LiesBelow, Tallied, nodes_of, reached_in, uniques_in}
 use Rattle.recover.proofs.Held.{length-held}
+use Rattle.recover.proofs.Refused.{body_refused, child_refused, names_refused, reach_refused, refused_same}
 use Rattle.recover.proofs.Walks.{begun_all, begun_more, begun_none, directory_seen, file_seen, file_visits, visits_same}
 use Rattle.recover.proofs.walk.Walk.+visit.Goals as goal
 
@@ -19,10 +22,11 @@ returns-in-File-clause-visits g t c = λ h.
     let seen = file_seen (take c.args.self.now.at (held J)) c.args.self.now.entries.now c.args.node c.in_ok-body.body c.in_ok-entry_at.entry_at c.in_ok-entry_at.ensures.leads entry c.args.self.now.at long c.in-File.is below in
     let files : Tallied c.args.self.now.files 1 c.saturating_add-self.result = (
       (let e : c.args.self.now.files ≤ c.saturating_add-self.result = omega (arith, c.saturating_add-self.ensures, c.read_entry.ensures.files, c.reach.ensures.files) in e),
-      λ lt. (let e : c.saturating_add-self.result ≡ c.args.self.now.files + 1 = omega (arith, c.saturating_add-self.ensures, c.read_entry.ensures.files, c.reach.ensures.files, lt) in e),
+      (λ lt. (let e : c.saturating_add-self.result ≡ c.args.self.now.files + 1 = omega (arith, c.saturating_add-self.ensures, c.read_entry.ensures.files, c.reach.ensures.files, lt) in e)),
+      (let e : c.saturating_add-self.result ≤ c.args.self.now.files + 1 = omega (arith, c.saturating_add-self.ensures, c.read_entry.ensures.files, c.reach.ensures.files) in e),
     ) in
     let directories : Tallied c.args.self.now.directories 0 c.read_entry.new.self.directories =
-    (let same = c.read_entry.ensures.directories ∙ c.reach.ensures.directories in (omega (arith, same), λ lt. omega (arith, same))) in
+    (let same = c.read_entry.ensures.directories ∙ c.reach.ensures.directories in (omega (arith, same), (λ lt. omega (arith, same)), omega (arith, same))) in
     file_visits (nodes_of J c.args.self.now) c.args.self.now _ c.args.node (reached_in c.reach.new.self) (uniques_in c.read_entry.new.self) seen c.in-File.is
     c.in_ok-entry_at.ensures.depth (subst (λ (n : ℕ). IsDrawn n c.args.node.address c.args.node.unique) c.reach.ensures.next_unique c.in_ok-body.ensures.drawn)
     c.in_ok-entry_at.ensures.reached (λ x. ap (λ r. contains nat_eq r x) c.read_entry.ensures.reached)
@@ -41,10 +45,11 @@ loop-index-init g t c = record {
       let seen = directory_seen (held J) c.args.self.now.entries.now c.args.node c.in_ok-body.body c.in_ok-entry_at.entry_at c.args.self.now.at c.in_ok-entry_at.ensures.leads entry long c.in-Directory.is c.in-Some.extent c.in-Some.is here
       c.in_ok-directory.directory names in
       let files : Tallied c.args.self.now.files 0 c.read_entry.new.self.files =
-      (let same = c.read_entry.ensures.files ∙ c.reach.ensures.files in (omega (arith, same), λ lt. omega (arith, same))) in
+      (let same = c.read_entry.ensures.files ∙ c.reach.ensures.files in (omega (arith, same), (λ lt. omega (arith, same)), omega (arith, same))) in
       let directories : Tallied c.args.self.now.directories 1 c.saturating_add-self-2.result = (
         (let e : c.args.self.now.directories ≤ c.saturating_add-self-2.result = omega (arith, c.saturating_add-self-2.ensures, c.read_entry.ensures.directories, c.reach.ensures.directories) in e),
-        λ lt. (let e : c.saturating_add-self-2.result ≡ c.args.self.now.directories + 1 = omega (arith, c.saturating_add-self-2.ensures, c.read_entry.ensures.directories, c.reach.ensures.directories, lt) in e),
+        (λ lt. (let e : c.saturating_add-self-2.result ≡ c.args.self.now.directories + 1 = omega (arith, c.saturating_add-self-2.ensures, c.read_entry.ensures.directories, c.reach.ensures.directories, lt) in e)),
+        (let e : c.saturating_add-self-2.result ≤ c.args.self.now.directories + 1 = omega (arith, c.saturating_add-self-2.ensures, c.read_entry.ensures.directories, c.reach.ensures.directories) in e),
       ) in
       begun_none (nodes_of J c.args.self.now) c.args.self.now _ c.args.node c.in_ok-directory.directory.entries.entries (reached_in c.reach.new.self) (uniques_in c.read_entry.new.self) seen
       c.in_ok-entry_at.ensures.depth (subst (λ (n : ℕ). IsDrawn n c.args.node.address c.args.node.unique) c.reach.ensures.next_unique c.in_ok-body.ensures.drawn)
@@ -85,3 +90,40 @@ pub returns-clause-visits : goal.returns-clause-visits
 returns-clause-visits g t c = λ h.
     let long : length c.in_ok-directory.directory.entries.entries ≤ c.loop-index.index = omega (arith, c.loop-index-test.false, c.len-index-end.ensures.len) in
     begun_all (nodes_of (g.D.Drive.journal c.args.drive.now) c.args.self.now) c.args.self.now c.loop-index.self c.args.node c.in_ok-directory.directory.entries.entries c.loop-index.index long c.in-Directory.is (c.loop-index.invariant.begun h)
+
+pub returns-in_err-entry_at-clause-refused : goal.returns-in_err-entry_at-clause-refused
+returns-in_err-entry_at-clause-refused g t c =
+    let J : List Event = g.D.Drive.journal c.args.drive.now in
+    let long : length (take c.args.self.now.at (held J)) ≤ c.args.self.now.at = omega (arith, length-take c.args.self.now.at (held J)) in
+    let q = err_from_is_err_and c.from_residual.result c.from_residual.ensures.1 in
+    rw (q.1, q.2) (λ h. reach_refused (take c.args.self.now.at (held J)) c.args.self.now long c.args.node _ c.in_err-entry_at.ensures.refused)
+
+pub returns-in_err-body-clause-refused : goal.returns-in_err-body-clause-refused
+returns-in_err-body-clause-refused g t c =
+    let J : List Event = g.D.Drive.journal c.args.drive.now in
+    let long : length (take c.args.self.now.at (held J)) ≤ c.args.self.now.at = omega (arith, length-take c.args.self.now.at (held J)) in
+    let q = err_from_is_err_and c.from_residual-in_err-body.result c.from_residual-in_err-body.ensures.1 in
+    rw (q.1, q.2) (λ h.
+    body_refused (take c.args.self.now.at (held J)) c.args.self.now long c.args.node c.in_ok-entry_at.entry_at c.in_ok-entry_at.ensures.leads c.reach.new.self c.reach.ensures.at c.reach.ensures.next_unique c.reach.ensures.uniques _
+    (subst (λ (n : ℕ). IsBodyRefused (take n (held J)) c.reach.new.self c.in_ok-entry_at.entry_at c.args.node c.in_err-body.field-0.0) c.reach.ensures.at (c.in_err-body.ensures.refused h)))
+
+pub returns-in_err-directory-clause-refused : goal.returns-in_err-directory-clause-refused
+returns-in_err-directory-clause-refused g t c =
+    let J : List Event = g.D.Drive.journal c.args.drive.now in
+    let q = err_from_is_err_and c.from_residual-in_err-directory.result c.from_residual-in_err-directory.ensures.1 in
+    rw (q.1, q.2) (λ h.
+    let entry = subst (λ (n : ℕ). HasEntry (take n (held J)) c.in_ok-entry_at.entry_at c.args.node c.in_ok-body.body) c.reach.ensures.at (c.in_ok-body.ensures.entry (c.read_names.ensures.honest h)) in
+    let below = subst (λ (o : Option Extent). IfSome o (LiesBelow c.args.self.now.at)) c.in-Some.is (subst (λ (n : ℕ). IfSome c.in_ok-body.body.extent (LiesBelow n)) c.reach.ensures.at c.in_ok-body.ensures.extent) in
+    names_refused (held J) c.args.self.now c.args.node c.in_ok-entry_at.entry_at c.in_ok-entry_at.ensures.leads c.in_ok-body.body entry c.in-Directory.is c.in-Some.extent c.in-Some.is below _
+    (subst (λ (K : List Event). IsNamesRefused (held K) c.args.node.above c.in_ok-body.body.links c.in-Some.extent c.in_err-directory.field-0.0) c.read_entry.ensures.journal (c.in_err-directory.ensures.refused h)))
+
+pub returns-in_err-visit-clause-refused : goal.returns-in_err-visit-clause-refused
+returns-in_err-visit-clause-refused g t c =
+    let J : List Event = g.D.Drive.journal c.args.drive.now in
+    let q = err_from_is_err_and c.from_residual-in_err-visit.result c.from_residual-in_err-visit.ensures.1 in
+    let there : slice_get c.in_ok-directory.directory.entries.entries c.loop-index.index ≡ Some (c.unwrap.result.0.now, c.unwrap.result.1.now) = sym c.get_index.ensures.entry ∙ ap (option_map deref_pair) c.unwrap.ensures in
+    rw (q.1, q.2) (λ h.
+    child_refused (nodes_of J c.args.self.now) c.args.self.now c.loop-index.self c.args.node c.child-child.result c.in_ok-directory.directory.entries.entries c.loop-index.index
+    c.unwrap.result.0.now c.unwrap.result.1.now there c.child-child.ensures.kind c.child-child.ensures.address c.child-child.ensures.unique c.child-child.ensures.above c.child-child.ensures.depth
+    c.loop-index.invariant.next_unique (c.loop-index.invariant.begun (c.visit.ensures.honest h)) _
+    (refused_same _ _ c.loop-index.self c.args.self.now _ _ c.in_err-visit.field-0.0 c.loop-index.invariant.journal c.loop-index.invariant.at c.loop-index.invariant.entries (c.in_err-visit.ensures.refused h)))

@@ -1,0 +1,78 @@
+-- The tables that are read are those that a medium has.
+use Rattle.std.proofs.Common.{◌≡◌, ℕ, ◌-◌, ◌≤◌, inl, inr, List, take, Some, sym, ap, subst, ◌∙◌, arith}
+use Rattle.std.specs.Prelude.{slice_get}
+use Rattle.std.proofs.lemmas.Option.{same_Some, slice_get_within}
+use Rattle.icb.specs.Entry.{Fields as IcbFields, IsEntry}
+use Rattle.medium.specs.Formats.{Table_}
+use Rattle.medium.specs.Volume as volumes
+use Rattle.medium.proofs.One.{table_one}
+use Rattle.udf.specs.Said.{said_table}
+use Rattle.udf.specs.Udf.{udf}
+use Rattle.udf.specs.Words.{fields_of, kind_of, place_of, table_of}
+use Rattle.udf.proofs.Formats.{exact}
+use Rattle.udf.proofs.Said.{tables_agree}
+use Rattle.vat.specs.Table.{Table}
+use Rattle.recover.specs.declared.fault.StoreFault.TheVariants.{Damaged}
+use Rattle.recover.specs.declared.table.TableEntry.{TableEntry}
+use Rattle.recover.specs.Tables.{HasTable, IsAtRefused, IsEntryAt, data_of, table_fields}
+use Rattle.recover.proofs.Refusals.{data_below, entry_is_read, table_is_read, told_table}
+use Rattle.recover.proofs.States.{has_table}
+use Rattle.recover.proofs.Tables.{fields_are}
+
+module _ (M : List (List ℕ)) (at : ℕ) where
+  -- a block at this address is the entry of a table, on the blocks below it
+  pub record IsTold (table : Table_) : Type 0 where
+    pub block : List ℕ
+    pub moment : ℕ
+    pub low : 257 ≤ at
+    pub there : slice_get M at ≡ Some block
+    pub has : volumes.HasTable udf (take at M) at block table moment
+
+  pub told : (t : Table) → HasTable M at t → IsTold (said_table t)
+  told t h =
+      let within = slice_get_within M at h.is_entry.block h.is_entry.there in
+      let below = h.below in
+      record {
+        block = h.is_entry.block;
+        moment = h.entry.moment;
+        low = omega (arith, below);
+        there = h.is_entry.there;
+        has = has_table M at h.entry h.is_entry t (omega (arith, within)) below h.is;
+      }
+
+  -- what is told was read
+  pub read : (table : Table_) → IsTold table → (t : Table) × HasTable M at t × (said_table t ≡ table)
+  read table is =
+      let h = is.has in
+      let e : TableEntry = record { moment = h.fields.moment; first = h.first; size = h.fields.size } in
+      let none = h.entry.fits.vat (ap kind_of h.kind) in
+      let same : fields_of h.fields ≡ table_fields e =
+      fields_are (kind_of h.fields.kind) h.fields.moment h.fields.links h.fields.identity h.fields.size (place_of h.fields.place) h.first (ap kind_of h.kind) none.0 none.1 (ap place_of h.place) in
+      let entry : IsEntryAt M at e = record { block = is.block; there = is.there; is = subst (λ (f : IcbFields). IsEntry f (at - 257) is.block) same h.entry } in
+      let within = slice_get_within M at is.block is.there in
+      let bytes = told_table M at is.low within e entry is.block table is.moment is.there h in
+      let t : Table = table_of bytes.0 table in (
+        t,
+        record { entry = e; is_entry = entry; below = data_below M at is.low within e entry is.block table is.moment is.there h; is = bytes.1 },
+        exact.table (at - 257) (data_of M e) (said_table t) table (tables_agree t (at - 257) (data_of M e) bytes.1) bytes,
+      )
+
+  -- one table is told
+  pub one_told : (s t : Table_) → IsTold s → IsTold t → s ≡ t
+  one_told s t a b =
+      let same : b.block ≡ a.block = same_Some b.block a.block (sym b.there ∙ a.there) in
+      (table_one udf exact (take at M) at a.block s t a.moment b.moment a.has (subst (λ (x : List ℕ). volumes.HasTable udf (take at M) at x t b.moment) same b.has)).0
+
+  -- and one read
+  pub one_read : (t u : Table) → HasTable M at t → HasTable M at u → said_table t ≡ said_table u
+  one_read t u h k = one_told (said_table t) (said_table u) (told t h) (told u k)
+
+  -- a table that is there is not refused
+  pub is_read : (t : Table) → HasTable M at t → (b c : ℕ) → IsAtRefused M at (Damaged b c) → ⊥
+  is_read t h b c refused =
+      let is = told t h in
+      let within = slice_get_within M at is.block is.there in
+      elim refused [
+        | inl entry ↦ entry_is_read M at is.low within is.block (said_table t) is.moment is.there is.has b c entry
+        | inr table ↦ table_is_read M at is.low within is.block (said_table t) is.moment is.there is.has table.0 table.1 b c table.3
+      ]
