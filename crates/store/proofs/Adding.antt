@@ -7,7 +7,7 @@ use Rattle.std.specs.Cmp.Lexicographic.{pointwise}
 use Rattle.std.proofs.lemmas.Bool.{ne_eqb}
 use Rattle.std.proofs.lemmas.List.{length-map, length_push, map-append}
 use Rattle.model.specs.Tree.{Name, Path, Tree, IsTree, is_directory_at, names_at, names_in, has_names, parent_of, last_of}
-use Rattle.model.specs.Graph.{Graph, Body, Entry, MakesTree, IsFunctional, Reach, whole, content_in}
+use Rattle.model.specs.Graph.{Graph, Body, Entry, MakesTree, IsFunctional, Reach, whole, content_in, is_directory}
 use Rattle.model.specs.Graph.Body.{Entries}
 use Rattle.model.specs.Change.{with_entries, new_body}
 use Rattle.model.specs.Operation.{code_of}
@@ -25,9 +25,14 @@ use Rattle.store.specs.declared.content.Content.{Content}
 use Rattle.store.specs.declared.nodes.Node.{Node}
 use Rattle.store.specs.declared.nodes.Placed.{Placed}
 use Rattle.store.specs.Shows.{IsAt, IsOpened}
-use Rattle.store.specs.Writings.{directory_writing}
-use Rattle.store.specs.Changes.{addition, content_of_thing, code_by_names, files_in, addresses_in, writings_of, gone_of, Does}
+use Rattle.store.specs.Writings.{directory_writing, new_file, change_writings}
+use Rattle.store.specs.NextTable.{made_by, Takes}
+use Rattle.store.specs.Changes.{addition, content_of_thing, code_by_names, addresses_in, gone_of, Does}
 use Rattle.store.proofs.Walks.{node_at, names_stored, directory_stored, said_names, step_some, step_none}
+
+-- a directory is stored where a walk ends at one
+pub stored_directory : (graph : Graph) (path : Path) (node : Node) (here : IsAt graph path node) → names_directory node.kind ≡ true → is_directory here.found.stored ≡ true
+stored_directory graph path node here directory = sym here.kind ∙ directory
 
 -- ---- the code
 
@@ -99,18 +104,27 @@ module _ (path above : Path) (name : Name) (split : path ≡ above ++ name ∷ [
         ∙ (ap (λ (b : Bool). code_by_names b (length (names_at tree above)) (len tree)) (there (lookup (pointwise nat_eq name) content.dir.entries.entries) refl)
         ∙ ap (λ (n : ℕ). code_by_names (is_some (lookup (pointwise nat_eq name) content.dir.entries.entries)) n (len tree)) count_above)))))
 
+-- with code 0 the directory has no such name
+pub unlisted_yet : (o : Option DirEntry) (names nodes : ℕ) → code_by_names (is_some o) names nodes ≡ 0 → o ≡ None
+unlisted_yet None names nodes e = refl
+unlisted_yet (Some entry) names nodes e = absurd (omega (arith, e))
+
 -- ---- what is written
 
 -- one more directory
-pub written_more : (moment : ℕ) (before after : Change) (d : NewDirectory) → after.file ≡ before.file → after.directories.items ≡ before.directories.items ++ d ∷ [] → writings_of moment after ≡ writings_of moment before ++ directory_writing d ∷ []
+pub written_more : (moment : ℕ) (before after : Change) (d : NewDirectory) → after.file ≡ before.file → after.directories.items ≡ before.directories.items ++ d ∷ [] → change_writings moment after ≡ change_writings moment before ++ directory_writing d ∷ []
 written_more moment before after d file items =
-    (λ i. files_in moment (file i) ++ map directory_writing (items i))
-    ∙ (ap (λ (ws : List Writing). files_in moment before.file ++ ws) (map-append directory_writing before.directories.items (d ∷ []))
-    ∙ sym (append_assoc (files_in moment before.file) (map directory_writing before.directories.items) (directory_writing d ∷ [])))
+    (λ i. new_file moment (file i) ++ map directory_writing (items i))
+    ∙ (ap (λ (ws : List Writing). new_file moment before.file ++ ws) (map-append directory_writing before.directories.items (d ∷ []))
+    ∙ sym (append_assoc (new_file moment before.file) (map directory_writing before.directories.items) (directory_writing d ∷ [])))
 
 plans : (graph : Graph) (free : ℕ) (path : Path) (what : Thing) (moment identity : ℕ) (nodes : List Writing) (gone : List ℕ) → PlansAddition graph free path (content_of_thing what) moment identity nodes → gone ≡ [] → Plans graph free (addition path what) moment identity nodes gone
 plans graph free path (thing.File bytes) moment identity nodes gone p none = (p, none)
 plans graph free path thing.Directory moment identity nodes gone p none = (p, none)
+
+takes_none : (path : Path) (what : Thing) (tree : Tree) (gone : List ℕ) (taken : Option Node) → taken ≡ None → Takes (addition path what) tree gone taken
+takes_none path (thing.File bytes) tree gone taken none = none
+takes_none path thing.Directory tree gone taken none = none
 
 -- the directory above with one entry more
 pub listed : (above : Path) (name : Name) (graph : Graph) (parent : Node) (here : IsAt graph above parent) (placed : Placed) (content : Content) → IsOpened here.found.stored placed content → (moment : ℕ) (entry : DirEntry) (d : NewDirectory)
@@ -125,17 +139,17 @@ listed above name graph parent here placed content shown moment entry d address 
 
 -- the node is put there
 pub adds : (graph : Graph) (free moment identity : ℕ) (path above : Path) (name : Name) (split : path ≡ above ++ name ∷ []) (what : Thing) (tree : Tree) (parent : Node) (here : IsAt graph above parent) (placed : Placed) (content : Content)
-    → IsOpened here.found.stored placed content → (before change : Change) (entry : DirEntry) (d : NewDirectory) → code_of (addition path what) tree ≡ 0 → change.code ≡ code.Done → change.removed ≡ None
-    → writings_of moment before ≡ record { address = free; stored = whole identity moment (new_body parent.address (content_of_thing what)) } ∷ [] → change.file ≡ before.file → change.directories.items ≡ before.directories.items ++ d ∷ []
+    → IsOpened here.found.stored placed content → (before change : Change) (entry : DirEntry) (d : NewDirectory) → code_of (addition path what) tree ≡ 0 → change.code ≡ code.Done → change.made ≡ made_by (addition path what) free → change.removed ≡ None
+    → change_writings moment before ≡ record { address = free; stored = whole identity moment (new_body parent.address (content_of_thing what)) } ∷ [] → change.file ≡ before.file → change.directories.items ≡ before.directories.items ++ d ∷ []
     → d.address ≡ parent.address → d.unique ≡ parent.unique → d.moment ≡ moment → d.content.dir.parent ≡ content.dir.parent → d.content.dir.entries.entries ≡ content.dir.entries.entries ++ (name, entry) ∷ []
     → names_directory entry.kind ≡ has_names (content_of_thing what) → entry.icb ≡ free → entry.unique ≡ identity → Does graph free tree (addition path what) moment identity change
-adds graph free moment identity path above name split what tree parent here placed content shown before change entry d zero_code code_is removed first file items address unique when parent_is entries_are kind icb id =
+adds graph free moment identity path above name split what tree parent here placed content shown before change entry d zero_code code_is made removed first file items address unique when parent_is entries_are kind icb id =
     let front = sym (above_is path above name split what tree) in
     let said : said_entry (name, entry) ≡ record { name = name; is_directory = has_names (content_of_thing what); address = free; identity = identity } =
     λ i. record { name = name; is_directory = kind i; address = icb i; identity = id i } in
     let gone : gone_of change ≡ [] = ap addresses_in removed in
     let dir = listed above name graph parent here placed content shown moment entry d address unique when parent_is entries_are in
-    let nodes : writings_of moment change ≡ record { address = free; stored = whole identity moment (new_body here.found.address (content_of_thing what)) }
+    let nodes : change_writings moment change ≡ record { address = free; stored = whole identity moment (new_body here.found.address (content_of_thing what)) }
     ∷ record { address = here.found.address; stored = whole here.found.stored.identity moment (with_entries (λ entries. entries ++ record { name = name; is_directory = has_names (content_of_thing what); address = free; identity = identity } ∷ []) here.found.stored.body) } ∷ [] =
     written_more moment before change d file items
     ∙ (ap (λ (ws : List Writing). ws ++ directory_writing d ∷ []) first
@@ -143,13 +157,17 @@ adds graph free moment identity path above name split what tree parent here plac
     ∷ (dir ∙ ap (λ (e : Entry). record { address = here.found.address; stored = whole here.found.stored.identity moment (with_entries (λ entries. entries ++ e ∷ []) here.found.stored.body) }) said) i ∷ [])) in
     record {
       code_is = ap code_number code_is ∙ sym zero_code;
-      done = λ none. plans graph free path what moment identity (writings_of moment change) (gone_of change)
-          (record {
-            above = record { address = here.found.address; stored = here.found.stored; reach = subst (λ (p : Path). Reach graph p here.found.address) front here.found.reach; is = here.found.is };
-            name = name;
-            last = last_is path above name split what tree;
-            nodes_are = nodes;
-          })
-          gone;
+      done = λ none. (
+        plans graph free path what moment identity (change_writings moment change) (gone_of change)
+            (record {
+              above = record { address = here.found.address; stored = here.found.stored; reach = subst (λ (p : Path). Reach graph p here.found.address) front here.found.reach; is = here.found.is };
+              name = name;
+              last = last_is path above name split what tree;
+              nodes_are = nodes;
+            })
+            gone,
+        made,
+        takes_none path what tree (gone_of change) change.removed removed,
+      );
       refused = λ other. absurd (other zero_code);
     }

@@ -1,20 +1,40 @@
 -- What a commit says of a plan that it writes.
-use Rattle.std.proofs.Common.{◌≡◌, ℕ, ◌++◌, List, Bool, false, Result, Ok, Err, ◌⊎◌, inr, sym, ap, subst, ◌∙◌}
+use Rattle.std.proofs.Common.{◌≡◌, ℕ, ◌+◌, ◌++◌, List, Bool, false, Result, Ok, Err, ◌⊎◌, inr, sym, ap, subst, ◌∙◌}
 use Rattle.std.specs.Prelude.{is_err, IfOk, OnOk, OnErr, Option, Some}
 use Rattle.std.specs.Option.{SomeIff}
 use Rattle.std.proofs.lemmas.Bool.{false≢true}
 use Rattle.drive.specs.Journal.{Event, next_of, written, AddsFront}
+use Rattle.request.specs.Numbers.{code_number}
 use Rattle.request.specs.declared.answer.Reply.{Reply}
 use Rattle.request.specs.declared.message.Request.{Request}
 use Rattle.store.specs.declared.change.Change.{Change}
 use Rattle.store.specs.declared.plan.Plan.{Plan}
 use Rattle.store.specs.declared.store.Store.{Store}
-use Rattle.store.specs.Plan.{IsPlan, plan_blocks}
+use Rattle.vat.specs.Table.{view}
+use Rattle.store.specs.NextTable.{next_table}
+use Rattle.store.specs.Plan.{IsPlan, plan_blocks, plan_written, plan_writings}
+use Rattle.store.specs.Writings.{change_writings}
 use Rattle.store.specs.Putting.{Makes, WritesPlan, StopsInPlan}
 
 pub if_ok : {T E : Type 0} (r : Result T E) (P Q : T → Type 0) → ((x : T) → P x → Q x) → IfOk r P → IfOk r Q
 if_ok (Ok x) P Q f h = f x h
 if_ok (Err e) P Q f h = h
+
+-- what is planned at a request's moment
+pub makes_plan : (store : Store) (request : Request) (change : Change) (plan : Plan) (moment : ℕ) → moment ≡ request.moment → plan.moment ≡ moment → plan.reply.code ≡ change.code → plan.reply.commit ≡ store.vat.sessions.commits + 1
+    → plan_writings plan ≡ change_writings moment change
+    → view plan.table.vat ≡ next_table store.at request.client request.number (code_number change.code) change.made (plan_written plan) change.removed (view store.vat) → Makes store request change plan
+makes_plan store request change plan moment at said code commit writings table = record {
+  moment = said ∙ at;
+  code = code;
+  commit = commit;
+  writings = writings ∙ ap (λ (m : ℕ). change_writings m change) at;
+  table = table;
+}
+
+-- on the journal and the capacity before the change was looked for
+pub plan_is : (J K : List Event) (m n : ℕ) (plan : Plan) → K ≡ J → n ≡ m → IsPlan (next_of K) n plan → IsPlan (next_of J) m plan
+plan_is J K m n plan journal capacity is = subst (λ (x : ℕ). IsPlan (next_of J) x plan) capacity (subst (λ (L : List Event). IsPlan (next_of L) n plan) journal is)
 
 pub writes_plan : {E : Type 0} (r : Result Reply E) (K J J' : List Event) (before : Store) (request : Request) (capacity : ℕ) (change : Change) (plan : Plan) (store : Store) → K ≡ J → Makes before request change plan → IsPlan (next_of J) capacity plan
     → IfOk r (λ reply. reply ≡ plan.reply) → OnOk r (store.at ≡ plan.table.at) → OnOk r (store.vat ≡ plan.table.vat) → OnOk r (J' ≡ K ++ written (next_of K) (plan_blocks plan))

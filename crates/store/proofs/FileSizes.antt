@@ -5,7 +5,8 @@ use Rattle.std.specs.List.{All, flat_map}
 use Rattle.std.proofs.lemmas.List.{length-take, length-drop, length-append}
 use Rattle.std.proofs.lemmas.List.Elements.{All-take, All-drop}
 use Rattle.std.proofs.lemmas.Grind.{div_ceil_times}
-use Rattle.drive.specs.Journal.{Event, held}
+use Rattle.drive.specs.Journal.{Event, held, Once, AreWhole}
+use Rattle.drive.proofs.Whole.{held-whole}
 use Rattle.recover.specs.Blocks.{bytes_at}
 use Rattle.icb.specs.declared.entry.FileEntry.{FileEntry}
 use Rattle.icb.specs.declared.entry.Kind.{Kind}
@@ -16,7 +17,6 @@ use Rattle.model.specs.Graph.{Stored, Body}
 use Rattle.model.specs.Graph.Body.{Bytes, Entries}
 use Rattle.medium.specs.Formats.{Block, Fields}
 use Rattle.udf.specs.Words.{fields_of}
-use Rattle.store.specs.Queries.{AreWhole}
 use Rattle.store.proofs.FileBytes.{HasBytes, stored_nowhere, stored_inside, stored_extent}
 
 abbrev pub IsWhole : Block → Type 0
@@ -42,9 +42,12 @@ bytes_of (Bytes bytes) = bytes
 bytes_of (Entries parent entries) = []
 
 pub size_is : (at : ℕ) (J : List Event) (s : Stored) (fields : Fields) (read : FileEntry) (kind : Kind) → HasBytes (take at (held J)) s fields → icb.fields_of read ≡ fields_of fields → icb.FitsPlace kind read.size (icb.place_of read.place)
-    → AreWhole J → at ≤ length (held J) → (bytes : List ℕ) → s.body ≡ Bytes bytes → read.size ≡ length bytes
-size_is at J s fields read kind h same fits all within bytes body = by read.place refl fits
+    → Once J → AreWhole J → at ≤ length (held J) → (bytes : List ℕ) → s.body ≡ Bytes bytes → read.size ≡ length bytes
+size_is at J s fields read kind h same fits once are_whole within bytes body = by read.place refl fits
   where
+    all : All IsWhole (held J)
+    all = held-whole J once are_whole
+
     by : (p : source.Place) → read.place ≡ p → icb.FitsPlace kind read.size (icb.place_of p) → read.size ≡ length bytes
     by places.None e f = f.1 ∙ ap (λ (b : Body). length (bytes_of b)) (sym (stored_nowhere at J s fields read h same e) ∙ body)
     by (places.Inside inside) e f = sym f.3 ∙ ap (λ (b : Body). length (bytes_of b)) (sym (stored_inside at J s fields read h same inside e) ∙ body)

@@ -20,19 +20,20 @@ use Rattle.udf.specs.Udf.{udf}
 use Rattle.udf.specs.Said.{said_entry, said_entries, names_directory}
 use Rattle.udf.proofs.Formats.{exact}
 use Rattle.store.specs.declared.nodes.Node.{Node}
-use Rattle.store.specs.Queries.{name_told, names_told, tells_directory}
+use Rattle.store.specs.Asked.{is_directory, said_listed, said_names}
+use Rattle.store.specs.Queries.{name_told}
 use Rattle.store.specs.Shows.{graph_below, IsAt}
 use Rattle.store.proofs.Walks.{node_at, leads_push}
 
 -- ---- the listing that is written
 
-pub names_next : (es : List (List ℕ × DirEntry)) (i : ℕ) (old new : List Listed) (l : Listed) (e : List ℕ × DirEntry) → names_told old ≡ map name_told (take i es) → slice_get es i ≡ Some e → new ≡ old ++ l ∷ []
-    → tells_directory l.kind ≡ names_directory e.1.kind → l.name ≡ e.0 → names_told new ≡ map name_told (take (i + 1) es)
+pub names_next : (es : List (List ℕ × DirEntry)) (i : ℕ) (old new : List Listed) (l : Listed) (e : List ℕ × DirEntry) → said_names old ≡ map name_told (take i es) → slice_get es i ≡ Some e → new ≡ old ++ l ∷ []
+    → is_directory l.kind ≡ names_directory e.1.kind → l.name ≡ e.0 → said_names new ≡ map name_told (take (i + 1) es)
 names_next es i old new l e front here pushed kind name =
-    let one : (tells_directory l.kind, l.name) ∷ [] ≡ name_told e ∷ [] = λ k. (kind k, name k) ∷ [] in
+    let one : (is_directory l.kind, l.name) ∷ [] ≡ name_told e ∷ [] = λ k. (kind k, name k) ∷ [] in
     let next : take (i + 1) es ≡ take i es ++ e ∷ [] = take_more es i e (slice_get_within es i e here) ∙ ap (λ (x : List ℕ × DirEntry). take i es ++ x ∷ []) (get_or_from_slice_get es i e e here) in
-    ap names_told pushed
-    ∙ (map-append (λ (x : Listed). (tells_directory x.kind, x.name)) old (l ∷ [])
+    ap said_names pushed
+    ∙ (map-append said_listed old (l ∷ [])
     ∙ ((λ k. front k ++ one k)
     ∙ (sym (map-append name_told (take i es) (e ∷ [])) ∙ ap (λ (xs : List (List ℕ × DirEntry)). map name_told xs) (sym next))))
 

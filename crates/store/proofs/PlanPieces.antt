@@ -1,12 +1,19 @@
 -- The pieces of a commit make its plan.
-use Rattle.std.proofs.Common.{ℕ, ◌+◌, ◌-◌, List, [], ◌∷◌, ◌++◌, length, map, refl, ap, ◌∙◌}
+use Rattle.std.proofs.Common.{◌≡◌, ℕ, ◌+◌, ◌-◌, List, [], ◌∷◌, ◌++◌, length, map, refl, ap, ◌∙◌}
+use Rattle.std.specs.Prelude.{Option}
 use Rattle.model.specs.Operation.{code_of}
-use Rattle.medium.specs.Volume.{partition_start}
-use Rattle.medium.specs.Plan.{Written}
+use Rattle.model.specs.Session.{State, Request}
+use Rattle.medium.specs.Formats.{Block}
+use Rattle.medium.specs.Volume.{Medium, Stands, partition_start}
+use Rattle.medium.specs.Plan.{Writing, Written, WritesNodes}
 use Rattle.udf.specs.Said.{said_table}
+use Rattle.udf.specs.Udf.{udf}
 use Rattle.udf.proofs.Said.{tables_agree}
-use Rattle.store.specs.NextTable.{next_table}
-use Rattle.store.specs.Pieces.{NodesAreWritten, PiecesArePlanned}
+use Rattle.vat.specs.Table.{Table}
+use Rattle.store.specs.declared.change.NewNode.{NewNode}
+use Rattle.store.specs.declared.nodes.Node.{Node}
+use Rattle.store.specs.NextTable.{Changes, next_table}
+use Rattle.store.specs.Pieces.{IsTableBehind, NodesAreWritten, PiecesArePlanned}
 use Rattle.store.proofs.NextTables.{next_tables_follow}
 use Rattle.store.proofs.NextSizes.{next_tables_are_sized}
 
@@ -35,3 +42,11 @@ pieces_are_planned capacity volume medium S stands r nodes unused written made t
   spelled = tables_agree (next_table stands.at r.client r.number (code_of r.operation S.tree) made written taken t) (length medium + length (node_blocks ++ table_blocks) - partition_start) bytes behind.spelled;
   mark_is = behind.entry;
 }
+
+-- whose table is the one that the changes make
+pub pieces_table : (capacity volume : ℕ) (medium : Medium) (S : State) (stands : Stands udf capacity volume medium S) (r : Request) (nodes : List Writing) (unused : List ℕ) (written : List Written) (made : Option NewNode) (taken : Option Node) (t : Table)
+    → (is : said_table t ≡ stands.tells.table) (h : Changes capacity volume medium S stands r nodes unused written made taken) (node_blocks : List Block) (writes : WritesNodes udf nodes (length medium - partition_start) node_blocks written)
+    → (bytes : List ℕ) (first : ℕ) (table_blocks : List Block) (mark : Block) (behind : IsTableBehind medium r (next_table stands.at r.client r.number (code_of r.operation S.tree) made written taken t) node_blocks bytes first table_blocks mark)
+    → (pieces_are_planned capacity volume medium S stands r nodes unused written made taken t is h node_blocks writes bytes first table_blocks mark behind).table ≡ said_table (next_table stands.at r.client r.number (code_of r.operation S.tree) made written taken t)
+unfolding pieces_are_planned
+pieces_table capacity volume medium S stands r nodes unused written made taken t is h node_blocks writes bytes first table_blocks mark behind = refl

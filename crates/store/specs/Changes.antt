@@ -1,19 +1,19 @@
 -- What a request does to the nodes, in the model's words.
-use Rattle.std.specs.Prelude.{◌≡◌, ℕ, Bool, List, [], ◌∷◌, ◌++◌, map, Option, Some, None, if◌then◌else◌, nat_le}
+use Rattle.std.specs.Prelude.{◌≡◌, ℕ, Bool, List, [], ◌∷◌, Option, Some, None, if◌then◌else◌, nat_le}
 use Rattle.model.specs.Tree.{Path, Tree, Content}
 use Rattle.model.specs.Tree.Content.{File as FileContent, Directory as DirectoryContent}
 use Rattle.model.specs.Graph.{Graph}
 use Rattle.model.specs.Operation.{Operation, code_of}
 use Rattle.model.specs.Operation.Operation.{Create, MakeDir}
-use Rattle.medium.specs.Plan.{Writing, Plans}
+use Rattle.medium.specs.Plan.{Plans}
 use Rattle.request.specs.Numbers.{code_number}
 use Rattle.request.specs.declared.answer.Code.{Code}
 use Rattle.store.specs.declared.change.Change.{Change}
-use Rattle.store.specs.declared.change.NewFile.{NewFile}
 use Rattle.store.specs.declared.change.Thing.{Thing}
 use Rattle.store.specs.declared.change.Thing.TheVariants as thing
 use Rattle.store.specs.declared.nodes.Node.{Node}
-use Rattle.store.specs.Writings.{file_writing, directory_writing}
+use Rattle.store.specs.NextTable.{made_by, Takes}
+use Rattle.store.specs.Writings.{change_writings}
 
 -- a new path with this at it
 abbrev pub addition : Path → Thing → Operation
@@ -28,17 +28,9 @@ content_of_thing thing.Directory = DirectoryContent []
 abbrev pub code_by_names : Bool → ℕ → ℕ → ℕ
 code_by_names has names nodes = if has then 3 else (if nat_le 512 names then 9 else (if nat_le 4096 nodes then 10 else 0))
 
-abbrev pub files_in : ℕ → Option NewFile → List Writing
-files_in moment None = []
-files_in moment (Some file) = file_writing moment file ∷ []
-
 abbrev pub addresses_in : Option Node → List ℕ
 addresses_in None = []
 addresses_in (Some node) = node.address ∷ []
-
--- the nodes that are written, in their order; a file has the request's moment
-abbrev pub writings_of : ℕ → Change → List Writing
-writings_of moment change = files_in moment change.file ++ map directory_writing change.directories.items
 
 -- the addresses that are unused afterwards
 abbrev pub gone_of : Change → List ℕ
@@ -52,8 +44,11 @@ pub record IsRefusal (code : Code) (change : Change) : Type 0 where
   pub made : change.made ≡ None
   pub removed : change.removed ≡ None
 
--- The change has the operation's code. With code 0 it is the one that the operation plans, and else nothing is done.
+-- The change has the operation's code. With code 0 it is the one that the operation plans, with the node that it makes and
+-- the one that goes, and else nothing is done.
 pub record Does (graph : Graph) (free : ℕ) (tree : Tree) (operation : Operation) (moment identity : ℕ) (change : Change) : Type 0 where
   pub code_is : code_number change.code ≡ code_of operation tree
-  pub done : code_of operation tree ≡ 0 → Plans graph free operation moment identity (writings_of moment change) (gone_of change)
-  pub refused : (code_of operation tree ≡ 0 → ⊥) → (writings_of moment change ≡ []) × (gone_of change ≡ [])
+  pub done : code_of operation tree ≡ 0
+      → Plans graph free operation moment identity (change_writings moment change) (gone_of change)
+      × (change.made ≡ made_by operation free) × Takes operation tree (gone_of change) change.removed
+  pub refused : (code_of operation tree ≡ 0 → ⊥) → (change_writings moment change ≡ []) × (gone_of change ≡ []) × (change.made ≡ None) × (change.removed ≡ None)

@@ -1,8 +1,10 @@
 -- The commits of a volume, as its chain of tables tells of them.
-use Rattle.std.specs.Prelude.{◌≡◌, ℕ, zero, suc, ◌+◌, List, [], ◌∷◌, All, Option, Some, None}
+use Rattle.std.specs.Prelude.{◌≡◌, ⊤, ℕ, zero, suc, ◌+◌, ◌<◌, ◌≤◌, List, [], ◌∷◌, length, slice_index_or, All, Option, Some, None}
 use Rattle.vat.specs.Table.{Table, view}
 use Rattle.vat.specs.declared.table.Vat.{Vat}
-use Rattle.recover.specs.State.{IsShown}
+use Rattle.recover.specs.declared.fault.StoreFault.{StoreFault}
+use Rattle.recover.specs.declared.fault.StoreFault.TheVariants.{Device, Memory, Damaged}
+use Rattle.recover.specs.State.{IsShown, IsUntold}
 use Rattle.recover.specs.declared.state.State.{State}
 use Rattle.recover.specs.Tables.{HasTable, IsBefore}
 use Rattle.store.specs.declared.history.Commit.{Commit}
@@ -44,3 +46,34 @@ pub record IsChecked (capacity : ℕ) (medium : List (List ℕ)) (at : ℕ) : Ty
   pub commits : List Commit
   pub history : IsHistory medium at commits
   pub shown : AreShown capacity medium commits
+
+-- why the commits were not told: the drive failed, memory was short, or no list is all of them
+abbrev pub IsHistoryRefused : List (List ℕ) → ℕ → StoreFault → Type 0
+IsHistoryRefused medium at Device = ⊤
+IsHistoryRefused medium at Memory = ⊤
+IsHistoryRefused medium at (Damaged block cause) = (commits : List Commit) → IsHistory medium at commits → ⊥
+IsHistoryRefused medium at _ = ⊥
+
+-- from an address the chain leads to a table of more commits than these, and no further
+pub record BreaksOff (medium : List (List ℕ)) (from commits : ℕ) : Type 0 where
+  pub steps : ℕ
+  pub at : ℕ
+  pub leads : Leads medium from steps at
+  pub table : Table
+  pub there : HasTable medium at table
+  pub more : commits < table.commits
+  pub none : (earlier : ℕ) → IsBefore medium at (Some earlier) → ⊥
+
+-- why the table of so many commits was not found along the chain: the drive failed, memory was short, or it breaks off before
+abbrev pub IsWayRefused : List (List ℕ) → ℕ → ℕ → StoreFault → Type 0
+IsWayRefused medium from commits Device = ⊤
+IsWayRefused medium from commits Memory = ⊤
+IsWayRefused medium from commits (Damaged block cause) = (table : Table) → HasTable medium from table → commits ≤ table.commits → BreaksOff medium from commits
+IsWayRefused medium from commits _ = ⊥
+
+-- why the states after some commits were not shown: the drive failed, memory was short, or none is told at the address of one
+abbrev pub AreUnshown : ℕ → List (List ℕ) → List Commit → StoreFault → Type 0
+AreUnshown capacity medium commits Device = ⊤
+AreUnshown capacity medium commits Memory = ⊤
+AreUnshown capacity medium commits (Damaged block cause) = (i : ℕ) × (i < length commits) × ((c : Commit) → IsUntold capacity medium (slice_index_or commits i c).at)
+AreUnshown capacity medium commits _ = ⊥

@@ -6,12 +6,16 @@ pub mod Calls
 pub mod Changes
 pub mod Commits
 pub mod Full
+pub mod Heights
 pub mod History
+pub mod Moves
 pub mod Need
 pub mod Needs
 pub mod NewVolume
 pub mod NextTable
+pub mod Opened
 pub mod Outside
+pub mod Past
 pub mod Pieces
 pub mod Plan
 pub mod Putting

@@ -6,9 +6,8 @@ use Rattle.medium.specs.Formats.{Fields}
 use Rattle.medium.specs.Formats.Kind.{Table}
 use Rattle.medium.specs.Formats.Place.{Extent}
 use Rattle.medium.specs.Plan.{zeros, packed, Writing, Written, IsPlaced, WritesNodes}
-use Rattle.udf.specs.Said.{said_table}
 use Rattle.udf.specs.Udf.{udf}
-use Rattle.vat.specs.Table.{view}
+use Rattle.vat.specs.Table.{view, IsTableAt}
 use Rattle.store.specs.Outside.{outside}
 use Rattle.store.specs.Writings.{file_writing, directory_writing}
 use Rattle.store.specs.declared.placed.PlacedFile.{PlacedFile}
@@ -89,7 +88,7 @@ table_fields moment t = record { kind = Table; moment = moment; links = 0; ident
 pub record IsTablePlaced (from moment : ℕ) (t : PlacedTable) : Type 0 where
   pub placed : IsPlaced udf t.bytes.items from t.first (table_data t)
   pub number : t.at ≡ from + 257 + length (table_data t)
-  pub spelled : udf.IsTable (said_table (view t.vat)) (t.at - 257) t.bytes.items
+  pub spelled : IsTableAt (t.at - 257) (view t.vat) t.bytes.items
   pub mark : udf.IsEntry (table_fields moment t) t.entry (t.at - 257)
 
 -- the blocks lie behind each other from an address on, on a drive with room for so many

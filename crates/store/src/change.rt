@@ -1,20 +1,26 @@
 //! What a request does to the nodes, before any place is chosen.
 
-ghost use Rattle.std.specs.Prelude.{◌≡◌, ◌<◌, ◌≤◌, ℕ, [], ◌∷◌, IsTrue, IfOk, IfErr, None, is_some, length, nat_eq, nat_lt};
+ghost use Rattle.std.specs.Prelude.{◌≡◌, ◌<◌, ◌≤◌, ℕ, [], ◌∷◌, ◌&&◌, IsTrue, IfOk, IfErr, OnOk, None, is_some, length, nat_eq, nat_lt};
 ghost use Rattle.std.specs.Cmp.Lexicographic.{pointwise};
+ghost use Rattle.std.specs.FinMap.{len};
 ghost use Rattle.std.specs.Map.{lookup};
 ghost use Rattle.drive.specs.Journal.{next_of};
 ghost use Rattle.model.specs.Addresses as addresses;
 ghost use Rattle.model.specs.Change.{new_body};
 ghost use Rattle.model.specs.Graph.{Stored, entries_of, is_directory, whole};
-ghost use Rattle.model.specs.Operation.Operation.{Replace};
-ghost use Rattle.model.specs.Tree.{Tree, has_names};
+ghost use Rattle.model.specs.Operation.{moves_too_deep};
+ghost use Rattle.model.specs.Operation.Operation.{Remove, Rename, Replace};
+ghost use Rattle.model.specs.Tree.{Path, Tree, begins_with, has_names};
 ghost use Rattle.recover.specs.Faults.{Counts, IsShortage, devices};
 ghost use Rattle.recover.specs.declared.fault.StoreFault.TheVariants.{Memory};
 ghost use Rattle.store.specs.Below.{AreBelow};
 ghost use Rattle.store.specs.Cache.{AreKept};
-ghost use Rattle.store.specs.Changes.{Does, IsRefusal, code_by_names, content_of_thing, writings_of};
-ghost use Rattle.store.specs.Shows.{Shows, graph_below};
+ghost use Rattle.store.specs.Asked.{said_operation};
+ghost use Rattle.store.specs.NextTable.{made_by};
+ghost use Rattle.store.specs.Changes.{Does, IsRefusal, addition, code_by_names, content_of_thing};
+ghost use Rattle.store.specs.Moves.{IsBetween, IsWithin, Turns};
+ghost use Rattle.store.specs.Shows.{IsAt, Shows, graph_below};
+ghost use Rattle.store.specs.Writings.{change_writings, new_directories};
 ghost use Rattle.request.specs.Numbers.{code_number};
 ghost use Rattle.udf.specs.Said.{names_directory};
 ghost use Rattle.request.specs.declared.answer.Code.TheVariants.{Done};
@@ -115,6 +121,9 @@ impl Directories {
     ) -> Result<Change<'r>, StoreFault>
         requires below { AreBelow before.now.nodes.at before.now.nodes.entries.now }
         requires within { before.now.nodes.at ≤ next_of (D.journal drive.old) }
+        ensures does { (tree : Tree) → Shows (D.honest drive.new) (D.journal drive.old) self.old before.now.nodes.at before.now.nodes.entries.now tree → before.now.node_count ≡ len tree → IfOk result (Does (graph_below before.now.nodes.at before.now.nodes.entries.now (D.journal drive.old)) (addresses.free_address before.now.nodes.entries.now) tree (said_operation request.now.op) moment before.now.next_unique) }
+        ensures short { (tree : Tree) → Shows (D.honest drive.new) (D.journal drive.old) self.old before.now.nodes.at before.now.nodes.entries.now tree → IfErr result IsShortage }
+        ensures kept { IsTrue (D.honest drive.new) → AreKept (D.journal drive.old) self.old → AreKept (D.journal drive.old) self.new }
         ensures journal { D.journal drive.new ≡ D.journal drive.old }
         ensures capacity { D.capacity drive.new ≡ D.capacity drive.old }
         ensures honest { IsTrue (D.honest drive.new) → IsTrue (D.honest drive.old) }
@@ -156,6 +165,9 @@ impl Directories {
     ) -> Result<Change<'r>, StoreFault>
         requires below { AreBelow before.now.nodes.at before.now.nodes.entries.now }
         requires within { before.now.nodes.at ≤ next_of (D.journal drive.old) }
+        ensures does { (tree : Tree) → Shows (D.honest drive.new) (D.journal drive.old) self.old before.now.nodes.at before.now.nodes.entries.now tree → before.now.node_count ≡ len tree → IfOk result (Does (graph_below before.now.nodes.at before.now.nodes.entries.now (D.journal drive.old)) (addresses.free_address before.now.nodes.entries.now) tree (addition names.now thing.entry) moment before.now.next_unique) }
+        ensures short { (tree : Tree) → Shows (D.honest drive.new) (D.journal drive.old) self.old before.now.nodes.at before.now.nodes.entries.now tree → IfErr result IsShortage }
+        ensures kept { IsTrue (D.honest drive.new) → AreKept (D.journal drive.old) self.old → AreKept (D.journal drive.old) self.new }
         ensures journal { D.journal drive.new ≡ D.journal drive.old }
         ensures capacity { D.capacity drive.new ≡ D.capacity drive.old }
         ensures honest { IsTrue (D.honest drive.new) → IsTrue (D.honest drive.old) }
@@ -239,6 +251,9 @@ impl Directories {
     ) -> Result<Change<'r>, StoreFault>
         requires below { AreBelow before.now.nodes.at before.now.nodes.entries.now }
         requires within { before.now.nodes.at ≤ next_of (D.journal drive.old) }
+        ensures does { (tree : Tree) (identity : ℕ) → Shows (D.honest drive.new) (D.journal drive.old) self.old before.now.nodes.at before.now.nodes.entries.now tree → IfOk result (Does (graph_below before.now.nodes.at before.now.nodes.entries.now (D.journal drive.old)) (addresses.free_address before.now.nodes.entries.now) tree (Remove names.now) moment identity) }
+        ensures short { (tree : Tree) → Shows (D.honest drive.new) (D.journal drive.old) self.old before.now.nodes.at before.now.nodes.entries.now tree → IfErr result IsShortage }
+        ensures kept { IsTrue (D.honest drive.new) → AreKept (D.journal drive.old) self.old → AreKept (D.journal drive.old) self.new }
         ensures journal { D.journal drive.new ≡ D.journal drive.old }
         ensures capacity { D.capacity drive.new ≡ D.capacity drive.old }
         ensures honest { IsTrue (D.honest drive.new) → IsTrue (D.honest drive.old) }
@@ -276,30 +291,35 @@ impl Directories {
     ) -> Result<Change<'r>, StoreFault>
         requires below { AreBelow before.now.nodes.at before.now.nodes.entries.now }
         requires within { before.now.nodes.at ≤ next_of (D.journal drive.old) }
+        ensures does { (tree : Tree) (identity : ℕ) → Shows (D.honest drive.new) (D.journal drive.old) self.old before.now.nodes.at before.now.nodes.entries.now tree → IfOk result (Does (graph_below before.now.nodes.at before.now.nodes.entries.now (D.journal drive.old)) (addresses.free_address before.now.nodes.entries.now) tree (Rename from.now to.now) moment identity) }
+        ensures short { (tree : Tree) → Shows (D.honest drive.new) (D.journal drive.old) self.old before.now.nodes.at before.now.nodes.entries.now tree → IfErr result IsShortage }
+        ensures kept { IsTrue (D.honest drive.new) → AreKept (D.journal drive.old) self.old → AreKept (D.journal drive.old) self.new }
         ensures journal { D.journal drive.new ≡ D.journal drive.old }
         ensures capacity { D.capacity drive.new ≡ D.capacity drive.old }
         ensures honest { IsTrue (D.honest drive.new) → IsTrue (D.honest drive.old) }
         ensures failures { Counts (devices result) (D.failures drive.old) (D.failures drive.new) }
     {
-        let (Some((old_name, above)), Some((new_name, beyond))) = (
-            from.split_last(),
-            to.split_last(),
-        ) else {
+        let Some((old_name, above)) = from.split_last() else {
+            return Ok(Change::refused(alloc, Code::Root));
+        };
+        let Some((new_name, beyond)) = to.split_last() else {
             return Ok(Change::refused(alloc, Code::Root));
         };
         let Some(node) = self.find(alloc, drive, &before.nodes, from)? else {
             return Ok(Change::refused(alloc, Code::NotFound));
         };
-        if to.len() > from.len() && to.starts_with(from) {
+        if is_below(to, from) {
             return Ok(Change::refused(alloc, Code::IntoItself));
         }
         let Some(gains) = self.find_directory(alloc, drive, &before.nodes, beyond)? else {
             return Ok(Change::refused(alloc, Code::NoParent));
         };
-        if self.find(alloc, drive, &before.nodes, to)?.is_some() {
+        let there = self.find(alloc, drive, &before.nodes, to)?;
+        if there.is_some() {
             return Ok(Change::refused(alloc, Code::Exists));
         }
-        if self.is_too_deep(alloc, drive, before, node, from.len(), to.len())? {
+        let deep = self.is_too_deep(alloc, drive, before, node, from.len(), to.len())?;
+        if deep {
             return Ok(Change::refused(alloc, Code::TooDeep));
         }
         let Some(loses) = self.find_directory(alloc, drive, &before.nodes, above)? else {
@@ -331,6 +351,9 @@ impl Directories {
     ) -> Result<bool, StoreFault>
         requires below { AreBelow before.now.nodes.at before.now.nodes.entries.now }
         requires within { before.now.nodes.at ≤ next_of (D.journal drive.old) }
+        ensures deep { (tree : Tree) (from to : Path) → Shows (D.honest drive.new) (D.journal drive.old) self.old before.now.nodes.at before.now.nodes.entries.now tree → IsAt (graph_below before.now.nodes.at before.now.nodes.entries.now (D.journal drive.old)) from node → length from ≡ names_before → length to ≡ names_behind → IfOk result (λ deep. deep ≡ moves_too_deep from to tree) }
+        ensures short { (tree : Tree) (from : Path) → Shows (D.honest drive.new) (D.journal drive.old) self.old before.now.nodes.at before.now.nodes.entries.now tree → IsAt (graph_below before.now.nodes.at before.now.nodes.entries.now (D.journal drive.old)) from node → IfErr result IsShortage }
+        ensures kept { IsTrue (D.honest drive.new) → AreKept (D.journal drive.old) self.old → AreKept (D.journal drive.old) self.new }
         ensures journal { D.journal drive.new ≡ D.journal drive.old }
         ensures capacity { D.capacity drive.new ≡ D.capacity drive.old }
         ensures honest { IsTrue (D.honest drive.new) → IsTrue (D.honest drive.old) }
@@ -342,7 +365,7 @@ impl Directories {
         if names_behind > PATH_NAMES {
             return Ok(true);
         }
-        if node.kind == Kind::File {
+        if !node.is_directory() {
             return Ok(false);
         }
         let left = PATH_NAMES as u32 + 1;
@@ -363,6 +386,9 @@ impl Directories {
     ) -> Result<Change<'r>, StoreFault>
         requires below { AreBelow before.now.nodes.at before.now.nodes.entries.now }
         requires within { before.now.nodes.at ≤ next_of (D.journal drive.old) }
+        ensures does { (tree : Tree) (from to : Path) (identity : ℕ) → Shows (D.honest drive.new) (D.journal drive.old) self.old before.now.nodes.at before.now.nodes.entries.now tree → IsWithin (graph_below before.now.nodes.at before.now.nodes.entries.now (D.journal drive.old)) tree from to parent old_name.now new_name.now → IfOk result (Does (graph_below before.now.nodes.at before.now.nodes.entries.now (D.journal drive.old)) (addresses.free_address before.now.nodes.entries.now) tree (Rename from to) moment identity) }
+        ensures short { (tree : Tree) (from to : Path) → Shows (D.honest drive.new) (D.journal drive.old) self.old before.now.nodes.at before.now.nodes.entries.now tree → IsWithin (graph_below before.now.nodes.at before.now.nodes.entries.now (D.journal drive.old)) tree from to parent old_name.now new_name.now → IfErr result IsShortage }
+        ensures kept { IsTrue (D.honest drive.new) → AreKept (D.journal drive.old) self.old → AreKept (D.journal drive.old) self.new }
         ensures journal { D.journal drive.new ≡ D.journal drive.old }
         ensures capacity { D.capacity drive.new ≡ D.capacity drive.old }
         ensures honest { IsTrue (D.honest drive.new) → IsTrue (D.honest drive.old) }
@@ -391,6 +417,9 @@ impl Directories {
     ) -> Result<Change<'r>, StoreFault>
         requires below { AreBelow before.now.nodes.at before.now.nodes.entries.now }
         requires within { before.now.nodes.at ≤ next_of (D.journal drive.old) }
+        ensures does { (tree : Tree) (from to : Path) (identity : ℕ) → Shows (D.honest drive.new) (D.journal drive.old) self.old before.now.nodes.at before.now.nodes.entries.now tree → IsBetween (graph_below before.now.nodes.at before.now.nodes.entries.now (D.journal drive.old)) tree from to node loses.entry.0 gains.entry.0 loses.entry.1.now gains.entry.1.now → IfOk result (Does (graph_below before.now.nodes.at before.now.nodes.entries.now (D.journal drive.old)) (addresses.free_address before.now.nodes.entries.now) tree (Rename from to) moment identity) }
+        ensures short { (tree : Tree) (from to : Path) → Shows (D.honest drive.new) (D.journal drive.old) self.old before.now.nodes.at before.now.nodes.entries.now tree → IsBetween (graph_below before.now.nodes.at before.now.nodes.entries.now (D.journal drive.old)) tree from to node loses.entry.0 gains.entry.0 loses.entry.1.now gains.entry.1.now → IfErr result IsShortage }
+        ensures kept { IsTrue (D.honest drive.new) → AreKept (D.journal drive.old) self.old → AreKept (D.journal drive.old) self.new }
         ensures journal { D.journal drive.new ≡ D.journal drive.old }
         ensures capacity { D.capacity drive.new ≡ D.capacity drive.old }
         ensures honest { IsTrue (D.honest drive.new) → IsTrue (D.honest drive.old) }
@@ -425,12 +454,20 @@ impl Directories {
     ) -> Result<(), StoreFault>
         requires below { AreBelow before.now.nodes.at before.now.nodes.entries.now }
         requires within { before.now.nodes.at ≤ next_of (D.journal drive.old) }
+        // Nothing is written yet.
+        ensures set { OnOk result (change.old.directories.items ≡ [] → IsTrue (D.honest drive.new) → AreKept (D.journal drive.old) self.old → (s : Stored) → graph_below before.now.nodes.at before.now.nodes.entries.now (D.journal drive.old) node.address s → names_directory node.kind ≡ is_directory s → node.unique ≡ s.identity → Turns node.address s parent (new_directories change.new.directories.items)) }
+        ensures short { IfErr result (λ fault. IsTrue (D.honest drive.new) → (s : Stored) → graph_below before.now.nodes.at before.now.nodes.entries.now (D.journal drive.old) node.address s → names_directory node.kind ≡ is_directory s → IsShortage fault) }
+        ensures code { change.new.code ≡ change.old.code }
+        ensures file { change.new.file ≡ change.old.file }
+        ensures made { change.new.made ≡ change.old.made }
+        ensures removed { change.new.removed ≡ change.old.removed }
+        ensures kept { IsTrue (D.honest drive.new) → AreKept (D.journal drive.old) self.old → AreKept (D.journal drive.old) self.new }
         ensures journal { D.journal drive.new ≡ D.journal drive.old }
         ensures capacity { D.capacity drive.new ≡ D.capacity drive.old }
         ensures honest { IsTrue (D.honest drive.new) → IsTrue (D.honest drive.old) }
         ensures failures { Counts (devices result) (D.failures drive.old) (D.failures drive.new) }
     {
-        if node.kind == Kind::File {
+        if !node.is_directory() {
             return Ok(());
         }
         let (placed, mut content) = self.open(alloc, drive, &before.nodes, node.address)?;
@@ -481,8 +518,9 @@ impl<'r> Change<'r> {
         moment: Timestamp,
     ) -> Result<Kind, StoreFault>
         // The node comes first, where nothing is written yet.
-        ensures put { IfOk result (λ kind. self.old.file ≡ None → self.old.directories.items ≡ [] → writings_of moment self.new ≡ record { address = address; stored = whole before.now.next_unique moment (new_body parent.address (content_of_thing thing.entry)) } ∷ []) }
+        ensures put { IfOk result (λ kind. self.old.file ≡ None → self.old.directories.items ≡ [] → change_writings moment self.new ≡ record { address = address; stored = whole before.now.next_unique moment (new_body parent.address (content_of_thing thing.entry)) } ∷ []) }
         ensures kind { IfOk result (λ kind. names_directory kind ≡ has_names (content_of_thing thing.entry)) }
+        ensures made { IfOk result (λ kind. (path : Path) → self.new.made ≡ made_by (addition path thing.entry) address) }
         ensures code { self.new.code ≡ self.old.code }
         ensures removed { self.new.removed ≡ self.old.removed }
         ensures memory { IfErr result (λ fault. fault ≡ Memory) }
@@ -533,6 +571,16 @@ fn code_of_addition(before: &Before<'_>, content: &Content, name: &Name) -> Code
         return Code::TooMany;
     }
     Code::Done
+}
+
+/// Whether a path goes on behind another.
+fn is_below(path: &[Name], front: &[Name]) -> bool
+    ensures { result ≡ (nat_lt (length front.now) (length path.now) && begins_with path.now front.now) }
+{
+    if path.len() <= front.len() {
+        return false;
+    }
+    path.starts_with(front)
 }
 
 /// A directory with other names.

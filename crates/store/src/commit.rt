@@ -1,15 +1,18 @@
 //! A commit: what is planned is written, and then kept.
 
-ghost use Rattle.std.specs.Prelude.{◌≡◌, ◌+◌, ◌<◌, ◌≤◌, ◌^◌, ◌++◌, ◌⊎◌, [], ◌∷◌, false, true, Err, is_err, length, IsTrue, IfOk, OnOk, OnErr};
+ghost use Rattle.std.specs.Prelude.{◌≡◌, ℕ, ◌+◌, ◌<◌, ◌≤◌, ◌^◌, ◌++◌, ◌⊎◌, [], ◌∷◌, false, true, Err, is_err, length, IsTrue, IfOk, IfErr, OnOk, OnErr};
 ghost use Rattle.drive.specs.Journal.{Once, next_of, written, AddsFront, counted};
 ghost use Rattle.drive.specs.Waiting.{end_of, Takes, Stops};
 ghost use Rattle.recover.specs.Faults.{Counts, devices};
+ghost use Rattle.model.specs.Session.{State};
 ghost use Rattle.store.specs.Agrees.{Agrees};
+ghost use Rattle.store.specs.Asked.{said_request};
+ghost use Rattle.store.specs.Calls.{Applies, Knows};
 ghost use Rattle.store.specs.Cache.{AreKept};
 ghost use Rattle.store.specs.Plan.{IsPlan, file_list, directory_list, directories_list, table_data, plan_blocks};
 ghost use Rattle.store.specs.Putting.{WritesPlan, StopsInPlan};
 ghost use Rattle.store.specs.TableChange.{IsNext};
-ghost use Rattle.recover.specs.declared.fault.StoreFault.TheVariants.{Stopped};
+ghost use Rattle.recover.specs.declared.fault.StoreFault.TheVariants.{Device, Stopped};
 
 use crate::change::Before;
 use crate::nodes::Nodes;
@@ -151,6 +154,8 @@ impl Store {
     ) -> Result<Reply, StoreFault>
         requires agrees { Agrees (D.journal drive.old) (D.capacity drive.old) self.old }
         requires next { IsNext request.now.client request.now.number self.old.vat.sessions.records.items }
+        // What becomes of the request on an honest drive, where a state stands that the store knows.
+        ensures applies { (volume : ℕ) (S : State) → IsTrue (D.honest drive.new) → Knows (D.capacity drive.old) volume (D.journal drive.old) S self.old → self.old.is_stopped ≡ false → Applies (D.capacity drive.old) volume (D.journal drive.old) S (said_request request.now) result (D.journal drive.new) self.new }
         ensures agrees { Agrees (D.journal drive.new) (D.capacity drive.new) self.new }
         ensures commit { IfOk result (λ reply. reply.commit ≡ self.old.vat.sessions.commits + 1) }
         ensures written { IfOk result (λ reply. WritesPlan self.old request.now (D.capacity drive.old) (D.journal drive.old) (D.journal drive.new) self.new reply) }
@@ -193,6 +198,8 @@ impl Store {
         ensures front { OnErr result (AddsFront (D.journal drive.old) (next_of (D.journal drive.old)) (plan_blocks plan.entry) (D.journal drive.new)) }
         ensures kept { Once (D.journal drive.old) → AreKept (D.journal drive.old) self.old.directories → AreKept (D.journal drive.new) self.new.directories }
         ensures stopped { self.new.is_stopped ≡ is_err result }
+        ensures volume { self.new.capacity ≡ self.old.capacity }
+        ensures device { IfErr result (λ fault. fault ≡ Device) }
         ensures capacity { D.capacity drive.new ≡ D.capacity drive.old }
         ensures honest { IsTrue (D.honest drive.new) → IsTrue (D.honest drive.old) }
         ensures failures { Counts (devices result) (D.failures drive.old) (D.failures drive.new) }

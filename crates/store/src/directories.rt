@@ -9,12 +9,15 @@ ghost use Rattle.store.specs.Below.{AreBelow};
 ghost use Rattle.std.specs.Map.{lookup};
 ghost use Rattle.std.specs.Cmp.Lexicographic.{pointwise};
 ghost use Rattle.std.specs.Prelude.{nat_eq, true};
-ghost use Rattle.model.specs.Tree.{Tree};
+ghost use Rattle.model.specs.Tree.{Path, Tree};
 ghost use Rattle.model.specs.Graph.{Stored, is_directory};
 ghost use Rattle.recover.specs.Faults.{IsShortage};
 ghost use Rattle.store.specs.declared.content.Content.{Content};
 ghost use Rattle.store.specs.Cache.{AreKept, LiesThere};
-ghost use Rattle.store.specs.Shows.{IsOpened, Shows, IsFound, IsFoundDirectory, graph_below};
+ghost use Rattle.store.specs.Heights.{IsHeight};
+ghost use Rattle.store.specs.Shows.{IsAt, IsOpened, Shows, IsFound, IsFoundDirectory, graph_below};
+ghost use Rattle.udf.specs.Said.{names_directory};
+ghost use Rattle.store.specs.declared.nodes.Node.{Node};
 
 use crate::content::Content;
 use crate::nodes::{Node, Nodes, Placed, ROOT};
@@ -40,6 +43,7 @@ impl Directories {
     /// Keeps none yet.
     pub(crate) fn new(alloc: Global) -> Result<Directories, StoreFault>
         ensures kept { IfOk result (λ directories. (journal : List Event) → AreKept journal directories) }
+        ensures short { IfErr result IsShortage }
         ensures device { devices result ≡ 0 }
     {
         let count = NonZeroUsize::new(KEPT_DIRECTORIES).unwrap();
@@ -205,6 +209,9 @@ impl Directories {
         requires below { AreBelow nodes.now.at nodes.now.entries.now }
         requires within { nodes.now.at ≤ next_of (D.journal drive.old) }
         ensures bound { IfOk result (λ height. height ≤ left) }
+        ensures height { (tree : Tree) (path : Path) (node : Node) → Shows (D.honest drive.new) (D.journal drive.old) self.old nodes.now.at nodes.now.entries.now tree → IsAt (graph_below nodes.now.at nodes.now.entries.now (D.journal drive.old)) path node → names_directory node.kind ≡ true → node.address ≡ address → IfOk result (IsHeight tree path left) }
+        ensures short { (tree : Tree) (path : Path) (node : Node) → Shows (D.honest drive.new) (D.journal drive.old) self.old nodes.now.at nodes.now.entries.now tree → IsAt (graph_below nodes.now.at nodes.now.entries.now (D.journal drive.old)) path node → names_directory node.kind ≡ true → node.address ≡ address → IfErr result IsShortage }
+        ensures kept { IsTrue (D.honest drive.new) → AreKept (D.journal drive.old) self.old → AreKept (D.journal drive.old) self.new }
         ensures journal { D.journal drive.new ≡ D.journal drive.old }
         ensures capacity { D.capacity drive.new ≡ D.capacity drive.old }
         ensures honest { IsTrue (D.honest drive.new) → IsTrue (D.honest drive.old) }
@@ -215,11 +222,13 @@ impl Directories {
         }
         let (placed, content) = self.open(alloc, drive, nodes, address)?;
         let mut most = 0;
-        for (_, entry) in content.dir.entries.iter() {
-            let below = match entry.kind {
-                Kind::File => 0,
-                Kind::Directory => self.height(alloc, drive, nodes, entry.icb, left - 1)?,
+        for index in 0..content.dir.entries.len() {
+            let (_, entry) = content.dir.entries.get_index(index).unwrap();
+            let Kind::Directory = entry.kind else {
+                most = most.max(1);
+                continue;
             };
+            let below = self.height(alloc, drive, nodes, entry.icb, left - 1)?;
             most = most.max(below + 1);
         }
         self.keep(placed.extent, content);

@@ -1,18 +1,25 @@
 //! The commits of a volume, and the state after each.
 
-ghost use Rattle.std.specs.Prelude.{◌≡◌, ◌+◌, ◌<◌, ◌≤◌, ◌↔◌, ℕ, List, All, Err, IsTrue, IfOk, OnOk, false};
+ghost use Rattle.std.specs.Prelude.{◌≡◌, ◌+◌, ◌<◌, ◌≤◌, ◌↔◌, ℕ, List, All, Err, IsTrue, IfOk, IfErr, OnOk, false, length};
 ghost use Rattle.drive.specs.Journal.{held, next_of};
+ghost use Rattle.model.specs.Session as said;
 ghost use Rattle.vat.specs.Table.{view};
 ghost use Rattle.recover.specs.Faults.{Counts, devices};
 ghost use Rattle.recover.specs.State.{IsShown};
 ghost use Rattle.recover.specs.declared.state.State.{State};
 ghost use Rattle.recover.specs.declared.fault.StoreFault.TheVariants.{NoCommit, Stopped};
+ghost use Rattle.std.proofs.Props.{props};
 ghost use Rattle.store.specs.Agrees.{Agrees};
-ghost use Rattle.store.specs.History.{AreShown, IsChecked, IsHistory, IsTableOf, told_of};
+ghost use Rattle.store.specs.Below.{AreBelow};
+ghost use Rattle.store.specs.Calls.{Knows};
+ghost use Rattle.store.specs.History.{AreShown, AreUnshown, IsChecked, IsHistory, IsHistoryRefused, IsTableOf, IsWayRefused, told_of};
+ghost use Rattle.store.specs.Past.{AreWhole, IsCheckRefused, IsPast, IsPastRefused};
 
+use crate::nodes::Nodes;
 use crate::store::Store;
 use drive::Drive;
-use recover::{PARTITION_START, StoreFault, cause, damaged, linked, state_at, table_at};
+use recover::{PARTITION_START, State, StoreFault, cause, damaged, linked, state_at, table_at};
+use request::{FileData, Listing, NodeStatus, Path};
 use std::alloc::Global;
 use vat::{Sessions, Vat};
 
@@ -46,18 +53,31 @@ impl Commit {
     }
 }
 
-/// The state after a commit.
+/// The state after a commit. Its questions are lent the store, whose directories they use, and the drive.
 #[derive(Drop)]
 pub struct Snapshot {
     /// The address of its table's entry.
     at: u32,
     vat: Vat,
+    ghost few: { length vat.entries.items ≤ 4097 },
+    ghost below: { AreBelow at vat.entries.items } by { Prim.hlevel props },
 }
 
 impl Snapshot {
-    ghost use Rattle.std.specs.Prelude.{◌≡◌};
+    ghost use Rattle.std.specs.Prelude.{◌≡◌, ◌≤◌, IsTrue, IfOk, IfErr, Err, false};
+    ghost use Rattle.drive.specs.Journal.{Once, next_of};
+    ghost use Rattle.medium.specs.Runs as runs;
+    ghost use Rattle.model.specs.Tree.{Tree};
     ghost use Rattle.vat.specs.Table.{view};
+    ghost use Rattle.recover.specs.Faults.{Counts, devices};
+    ghost use Rattle.recover.specs.declared.fault.StoreFault.TheVariants.{Stopped};
+    ghost use Rattle.store.specs.Agrees.{Agrees};
+    ghost use Rattle.store.specs.Cache.{AreKept};
     ghost use Rattle.store.specs.History.{told_of};
+    ghost use Rattle.store.specs.Asked.{said_names};
+    ghost use Rattle.store.specs.Asked as asked;
+    ghost use Rattle.store.specs.Queries.{IsRefused, SameVolume};
+    ghost use Rattle.store.specs.Shows.{Shows};
 
     /// The sessions of the clients, as they were.
     pub fn sessions(&self) -> &Sessions
@@ -72,6 +92,99 @@ impl Snapshot {
     {
         Commit::of(self.at, &self.vat)
     }
+
+    /// The bytes of a file, as they were.
+    pub fn get<D: Drive>(
+        &self,
+        alloc: Global,
+        store: &mut Store,
+        drive: &mut D,
+        path: &Path,
+    ) -> Result<FileData, StoreFault>
+        requires agrees { Agrees (D.journal drive.old) (D.capacity drive.old) store.old }
+        requires within { self.now.at ≤ next_of (D.journal drive.old) }
+        ensures told { (tree : Tree) → Shows (D.honest drive.new) (D.journal drive.old) store.old.directories self.now.at self.now.vat.entries.items tree → IfOk result (λ bytes. runs.told tree (runs.Query.Get path.now) ≡ runs.Answer.Data bytes) }
+        ensures refused { (tree : Tree) → Shows (D.honest drive.new) (D.journal drive.old) store.old.directories self.now.at self.now.vat.entries.items tree → store.old.is_stopped ≡ false → IfErr result (IsRefused (runs.told tree (runs.Query.Get path.now))) }
+        ensures kept { IsTrue (D.honest drive.new) → AreKept (D.journal drive.old) store.old.directories → AreKept (D.journal drive.old) store.new.directories }
+        ensures stopped { IsTrue store.old.is_stopped → result ≡ Err Stopped }
+        ensures same { SameVolume store.old store.new }
+        ensures agrees { Agrees (D.journal drive.new) (D.capacity drive.new) store.new }
+        ensures journal { D.journal drive.new ≡ D.journal drive.old }
+        ensures capacity { D.capacity drive.new ≡ D.capacity drive.old }
+        ensures honest { IsTrue (D.honest drive.new) → IsTrue (D.honest drive.old) }
+        ensures failures { Counts (devices result) (D.failures drive.old) (D.failures drive.new) }
+    {
+        if store.is_stopped {
+            return Err(StoreFault::Stopped);
+        }
+        let nodes = Nodes {
+            at: self.at,
+            entries: &self.vat.entries,
+        };
+        store.directories.get(alloc, drive, &nodes, path)
+    }
+
+    /// The names in a directory, as they were, in their stored order.
+    pub fn list<D: Drive>(
+        &self,
+        alloc: Global,
+        store: &mut Store,
+        drive: &mut D,
+        path: &Path,
+    ) -> Result<Listing, StoreFault>
+        requires agrees { Agrees (D.journal drive.old) (D.capacity drive.old) store.old }
+        requires within { self.now.at ≤ next_of (D.journal drive.old) }
+        ensures told { (tree : Tree) → Shows (D.honest drive.new) (D.journal drive.old) store.old.directories self.now.at self.now.vat.entries.items tree → IfOk result (λ listing. runs.told tree (runs.Query.List_ path.now) ≡ runs.Answer.Names (said_names listing)) }
+        ensures refused { (tree : Tree) → Shows (D.honest drive.new) (D.journal drive.old) store.old.directories self.now.at self.now.vat.entries.items tree → store.old.is_stopped ≡ false → IfErr result (IsRefused (runs.told tree (runs.Query.List_ path.now))) }
+        ensures kept { IsTrue (D.honest drive.new) → AreKept (D.journal drive.old) store.old.directories → AreKept (D.journal drive.old) store.new.directories }
+        ensures stopped { IsTrue store.old.is_stopped → result ≡ Err Stopped }
+        ensures same { SameVolume store.old store.new }
+        ensures agrees { Agrees (D.journal drive.new) (D.capacity drive.new) store.new }
+        ensures journal { D.journal drive.new ≡ D.journal drive.old }
+        ensures capacity { D.capacity drive.new ≡ D.capacity drive.old }
+        ensures honest { IsTrue (D.honest drive.new) → IsTrue (D.honest drive.old) }
+        ensures failures { Counts (devices result) (D.failures drive.old) (D.failures drive.new) }
+    {
+        if store.is_stopped {
+            return Err(StoreFault::Stopped);
+        }
+        let nodes = Nodes {
+            at: self.at,
+            entries: &self.vat.entries,
+        };
+        store.directories.list(alloc, drive, &nodes, path)
+    }
+
+    /// What was known of a file or a directory.
+    pub fn stat<D: Drive>(
+        &self,
+        alloc: Global,
+        store: &mut Store,
+        drive: &mut D,
+        path: &Path,
+    ) -> Result<NodeStatus, StoreFault>
+        requires agrees { Agrees (D.journal drive.old) (D.capacity drive.old) store.old }
+        requires within { self.now.at ≤ next_of (D.journal drive.old) }
+        ensures told { (tree : Tree) → Once (D.journal drive.old) → Shows (D.honest drive.new) (D.journal drive.old) store.old.directories self.now.at self.now.vat.entries.items tree → IfOk result (λ status. runs.told tree (runs.Query.Stat path.now) ≡ runs.Answer.NodeIs (asked.is_directory status.kind) status.moment status.size) }
+        ensures refused { (tree : Tree) → Shows (D.honest drive.new) (D.journal drive.old) store.old.directories self.now.at self.now.vat.entries.items tree → store.old.is_stopped ≡ false → IfErr result (IsRefused (runs.told tree (runs.Query.Stat path.now))) }
+        ensures kept { IsTrue (D.honest drive.new) → AreKept (D.journal drive.old) store.old.directories → AreKept (D.journal drive.old) store.new.directories }
+        ensures stopped { IsTrue store.old.is_stopped → result ≡ Err Stopped }
+        ensures same { SameVolume store.old store.new }
+        ensures agrees { Agrees (D.journal drive.new) (D.capacity drive.new) store.new }
+        ensures journal { D.journal drive.new ≡ D.journal drive.old }
+        ensures capacity { D.capacity drive.new ≡ D.capacity drive.old }
+        ensures honest { IsTrue (D.honest drive.new) → IsTrue (D.honest drive.old) }
+        ensures failures { Counts (devices result) (D.failures drive.old) (D.failures drive.new) }
+    {
+        if store.is_stopped {
+            return Err(StoreFault::Stopped);
+        }
+        let nodes = Nodes {
+            at: self.at,
+            entries: &self.vat.entries,
+        };
+        store.directories.stat(alloc, drive, &nodes, path)
+    }
 }
 
 impl Store {
@@ -80,6 +193,10 @@ impl Store {
         requires agrees { Agrees (D.journal drive.old) (D.capacity drive.old) self.now }
         ensures stopped { IsTrue self.now.is_stopped → result ≡ Err Stopped }
         ensures history { IfOk result (λ commits. IsTrue (D.honest drive.new) → IsHistory (held (D.journal drive.old)) self.now.at commits.items) }
+        // One of each commit, and one of the format.
+        ensures all { (volume : ℕ) (T : said.State) → IsTrue (D.honest drive.new) → Knows (D.capacity drive.old) volume (D.journal drive.old) T self.now → IfOk result (λ commits. length commits.items ≡ T.commits + 1) }
+        // Where it is refused no list is the history, or the drive failed or memory was short.
+        ensures refused { self.now.is_stopped ≡ false → IfErr result (λ fault. IsTrue (D.honest drive.new) → IsHistoryRefused (held (D.journal drive.old)) self.now.at fault) }
         ensures within { IfOk result (λ commits. All (λ c. (257 ≤ c.at) × (c.at < next_of (D.journal drive.old))) commits.items) }
         ensures journal { D.journal drive.new ≡ D.journal drive.old }
         ensures capacity { D.capacity drive.new ≡ D.capacity drive.old }
@@ -109,8 +226,13 @@ impl Store {
         requires agrees { Agrees (D.journal drive.old) (D.capacity drive.old) self.now }
         ensures stopped { IsTrue self.now.is_stopped → result ≡ Err Stopped }
         ensures none { self.now.is_stopped ≡ false → self.now.vat.sessions.commits < commit → result ≡ Err NoCommit }
-        ensures table { IfOk result (λ s. IsTrue (D.honest drive.new) → IsTableOf (held (D.journal drive.old)) self.now.at commit s.at s.vat) }
-        ensures shown { IfOk result (λ s. IsTrue (D.honest drive.new) → (state : State) × IsShown (D.capacity drive.old) (held (D.journal drive.old)) s.at state) }
+        // The state that stood behind so many commits.
+        ensures past { (volume : ℕ) (T : said.State) → IsTrue (D.honest drive.new) → Knows (D.capacity drive.old) volume (D.journal drive.old) T self.now → IfOk result (λ s. (S : said.State) × IsPast (D.capacity drive.old) volume (D.journal drive.old) commit S s.at s.vat) }
+        // Where it is refused none stood, or the drive failed or memory was short.
+        ensures refused { (volume : ℕ) (T : said.State) → IsTrue (D.honest drive.new) → Knows (D.capacity drive.old) volume (D.journal drive.old) T self.now → self.now.is_stopped ≡ false → IfErr result (IsPastRefused (D.capacity drive.old) volume (held (D.journal drive.old)) T.commits commit) }
+        ensures table { IfOk result (λ s. IsTrue (D.honest drive.new) → (vat : Vat) × IsTableOf (held (D.journal drive.old)) self.now.at commit s.at vat) }
+        ensures shown { IfOk result (λ s. IsTrue (D.honest drive.new) → (state : State) × IsShown (D.capacity drive.old) (held (D.journal drive.old)) s.at state × (state.vat ≡ s.vat)) }
+        ensures within { IfOk result (λ s. s.at < next_of (D.journal drive.new)) }
         ensures journal { D.journal drive.new ≡ D.journal drive.old }
         ensures capacity { D.capacity drive.new ≡ D.capacity drive.old }
         ensures honest { IsTrue (D.honest drive.new) → IsTrue (D.honest drive.old) }
@@ -122,8 +244,8 @@ impl Store {
         if commit > self.vat.sessions.commits {
             return Err(StoreFault::NoCommit);
         }
-        let (at, vat) = self.table_of(alloc, drive, commit)?;
-        state_at(alloc, drive, at)?;
+        let (at, _) = self.table_of(alloc, drive, commit)?;
+        let State { vat, .. } = state_at(alloc, drive, at)?;
         Ok(Snapshot { at, vat })
     }
 
@@ -136,6 +258,7 @@ impl Store {
     ) -> Result<(u32, Vat), StoreFault>
         requires agrees { Agrees (D.journal drive.old) (D.capacity drive.old) self.now }
         ensures table { IfOk result (λ found. IsTrue (D.honest drive.new) → IsTableOf (held (D.journal drive.old)) self.now.at commit found.0 found.1) }
+        ensures refused { IfErr result (λ fault. IsTrue (D.honest drive.new) → IsWayRefused (held (D.journal drive.old)) self.now.at commit fault) }
         ensures within { IfOk result (λ found. (257 ≤ found.0) × (found.0 < next_of (D.journal drive.old))) }
         ensures journal { D.journal drive.new ≡ D.journal drive.old }
         ensures capacity { D.capacity drive.new ≡ D.capacity drive.old }
@@ -159,6 +282,10 @@ impl Store {
         requires agrees { Agrees (D.journal drive.old) (D.capacity drive.old) self.now }
         ensures stopped { IsTrue self.now.is_stopped → result ≡ Err Stopped }
         ensures count { IfOk result (λ n. n ≡ self.now.vat.sessions.commits) }
+        // A state stood after each.
+        ensures whole { (volume : ℕ) (T : said.State) → IsTrue (D.honest drive.new) → Knows (D.capacity drive.old) volume (D.journal drive.old) T self.now → IfOk result (λ n. (n ≡ T.commits) × AreWhole (D.capacity drive.old) volume (held (D.journal drive.old)) n) }
+        // Where it is refused none stood after one of them, or the drive failed or memory was short.
+        ensures refused { (volume : ℕ) (T : said.State) → IsTrue (D.honest drive.new) → Knows (D.capacity drive.old) volume (D.journal drive.old) T self.now → self.now.is_stopped ≡ false → IfErr result (IsCheckRefused (D.capacity drive.old) volume (held (D.journal drive.old)) T.commits) }
         ensures history { OnOk result (IsTrue (D.honest drive.new) → IsChecked (D.capacity drive.old) (held (D.journal drive.old)) self.now.at) }
         ensures journal { D.journal drive.new ≡ D.journal drive.old }
         ensures capacity { D.capacity drive.new ≡ D.capacity drive.old }
@@ -179,6 +306,7 @@ fn check_states<D: Drive>(
 ) -> Result<(), StoreFault>
     requires within { All (λ c. (257 ≤ c.at) × (c.at < next_of (D.journal drive.old))) commits.now }
     ensures shown { OnOk result (IsTrue (D.honest drive.new) → AreShown (D.capacity drive.old) (held (D.journal drive.old)) commits.now) }
+    ensures refused { IfErr result (λ fault. IsTrue (D.honest drive.new) → AreUnshown (D.capacity drive.old) (held (D.journal drive.old)) commits.now fault) }
     ensures journal { D.journal drive.new ≡ D.journal drive.old }
     ensures capacity { D.capacity drive.new ≡ D.capacity drive.old }
     ensures honest { IsTrue (D.honest drive.new) → IsTrue (D.honest drive.old) }

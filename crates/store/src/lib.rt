@@ -18,6 +18,7 @@ mod placed;
 mod places;
 mod plan;
 mod query;
+mod questions;
 mod store;
 mod table;
 #[cfg(test)]

@@ -2,7 +2,7 @@
 
 ghost use Rattle.std.specs.Prelude.{◌≡◌, ◌+◌, ◌<◌, ◌≤◌, IsTrue, IfOk, IfErr, length, true};
 ghost use Rattle.std.specs.Int.{div_ceil};
-ghost use Rattle.drive.specs.Journal.{next_of};
+ghost use Rattle.drive.specs.Journal.{AreWhole, next_of};
 ghost use Rattle.model.specs.Addresses as addresses;
 ghost use Rattle.model.specs.Graph.{Stored, is_directory};
 ghost use Rattle.recover.specs.Faults.{Counts, devices, failures_of};
@@ -74,6 +74,7 @@ impl Nodes<'_> {
         ensures block { IfOk result (λ read. IsTrue (D.honest drive.new) → (s : Stored) (there : graph_below self.now.at self.now.entries.now (D.journal drive.old) address s) → (there.block ≡ read.0) × (read.1 ≡ there.number + 257)) }
         ensures refused { IfErr result (λ fault. (s : Stored) → graph_below self.now.at self.now.entries.now (D.journal drive.old) address s → fault ≡ Device) }
         ensures used { IfOk result (λ _. IsUsed address self.now.entries.now) }
+        ensures whole { IfOk result (λ _. AreWhole (D.journal drive.old)) }
         ensures journal { D.journal drive.new ≡ D.journal drive.old }
         ensures capacity { D.capacity drive.new ≡ D.capacity drive.old }
         ensures honest { IsTrue (D.honest drive.new) → IsTrue (D.honest drive.old) }

@@ -1,6 +1,6 @@
 //! A commit, planned whole: which blocks it writes, and where.
 
-ghost use Rattle.std.specs.Prelude.{min, ◌≡◌, ℕ, ◌+◌, ◌-◌, ◌*◌, ◌<◌, ◌≤◌, ◌^◌, Some, IsTrue, IfOk, OnOk, IfSome, All, Err, false, length};
+ghost use Rattle.std.specs.Prelude.{min, ◌≡◌, ℕ, ◌+◌, ◌-◌, ◌*◌, ◌<◌, ◌≤◌, ◌^◌, Some, IsTrue, IfOk, IfErr, OnOk, IfSome, All, Err, false, is_err, length, map, List, ◌⊎◌};
 ghost use Rattle.std.specs.Int.{div_ceil};
 ghost use Rattle.drive.specs.Journal.{next_of};
 ghost use Rattle.osta.specs.Compressed.{compressed};
@@ -9,19 +9,19 @@ ghost use Rattle.dir.specs.Identifier.{plain_size};
 ghost use Rattle.dir.specs.Size.{name_sizes, plain_sizes};
 ghost use Rattle.medium.specs.Formats.Kind.{Table};
 ghost use Rattle.medium.specs.Formats.Place.{Extent};
-ghost use Rattle.medium.specs.Plan.{WritesNodes};
-ghost use Rattle.recover.specs.declared.fault.StoreFault.TheVariants.{Full};
+ghost use Rattle.medium.specs.Plan.{WritesNodes, Written};
+ghost use Rattle.recover.specs.declared.fault.StoreFault.TheVariants.{Full, Memory};
 ghost use Rattle.udf.specs.Udf.{udf};
 ghost use Rattle.vat.specs.Table.{Fits, view};
-ghost use Rattle.recover.specs.Faults.{Counts, devices};
+ghost use Rattle.recover.specs.Faults.{Counts, IsShortage, devices};
 ghost use Rattle.request.specs.Numbers.{code_number};
 ghost use Rattle.store.specs.Agrees.{Agrees, Keeps};
-ghost use Rattle.store.specs.Below.{AreBelow};
+ghost use Rattle.store.specs.Below.{AreBelow, IsUsed};
 ghost use Rattle.store.specs.Full.{is_full};
 ghost use Rattle.store.specs.Needs as needs;
 ghost use Rattle.store.specs.Plan.{IsPlan, IsTablePlaced, AreLaid, file_list, file_writings, file_written, directories_list, directories_writings, directories_written, plan_writings, plan_written};
-ghost use Rattle.store.specs.NextTable.{all_placed, begun, next_table, without_gone};
-ghost use Rattle.store.specs.TableChange.{IsNext};
+ghost use Rattle.store.specs.NextTable.{AreTaken, all_placed, begun, next_table, without_gone};
+ghost use Rattle.store.specs.TableChange.{IsFree, IsNext, IsRemovable, committed};
 ghost use Rattle.store.specs.Writings.{IsProper, new_file, new_directories, change_writings};
 
 use crate::change::{Change, NewDirectory, NewFile};
@@ -91,6 +91,8 @@ impl Store {
         ensures table { IfOk result (λ p. view p.table.vat ≡ next_table self.now.at request.now.client request.now.number (code_number change.entry.code) change.entry.made (plan_written p) change.entry.removed (view self.now.vat)) }
         ensures room { OnOk result (next_of (D.journal drive.old) + needs.change_need change.entry (begun self.now.at request.now.client request.now.number (code_number change.entry.code) change.entry.made (view self.now.vat)) ≤ self.now.capacity) }
         ensures full { result ≡ Err Full → self.now.capacity < next_of (D.journal drive.old) + needs.change_need change.entry (begun self.now.at request.now.client request.now.number (code_number change.entry.code) change.entry.made (view self.now.vat)) }
+        // Where the table takes each change, nothing else is refused.
+        ensures refused { ((written : List Written) → map (λ w. w.address) written ≡ map (λ n. n.address) (change_writings moment change.entry) → AreTaken change.entry.made written change.entry.removed (committed self.now.at request.now.client request.now.number (code_number change.entry.code) (view self.now.vat))) → IfErr result (λ fault. IsShortage fault ⊎ (fault ≡ Full)) }
         ensures journal { D.journal drive.new ≡ D.journal drive.old }
         ensures capacity { D.capacity drive.new ≡ D.capacity drive.old }
         ensures honest { IsTrue (D.honest drive.new) → IsTrue (D.honest drive.old) }
@@ -144,6 +146,7 @@ impl Store {
         ensures previous { IfOk result (λ vat. vat.previous ≡ Some (self.now.at - 257)) }
         ensures commits { IfOk result (λ vat. vat.sessions.commits ≡ self.now.vat.sessions.commits + 1) }
         ensures unique { IfOk result (λ vat. vat.sessions.next_unique ≤ 16 + vat.sessions.commits) }
+        ensures free { IfSome change.now.made (λ node. IsFree node.address self.now.vat.entries.items) → IfErr result (λ fault. fault ≡ Memory) }
         ensures full { is_full result ≡ false }
         ensures device { devices result ≡ 0 }
     {
@@ -257,6 +260,7 @@ fn place_file<'r>(
     ensures next { IfOk result (λ placed. numbers.new.next ≡ numbers.old.next + length (file_list placed)) }
     ensures end { numbers.new.end ≡ numbers.old.end }
     ensures most { OnOk result (numbers.new.next ≤ numbers.old.next + needs.file_need file.entry) }
+    ensures used { IfSome file.entry (λ f. IsUsed f.address vat.old.entries.items) → is_err result ≡ false }
     ensures need { OnOk result (needs.table_need (view vat.new) ≡ needs.table_need (view vat.old)) }
     ensures full { is_full result ≡ false }
     ensures device { devices result ≡ 0 }
@@ -296,6 +300,7 @@ fn place_directories(
     ensures end { numbers.new.end ≡ numbers.old.end }
     ensures most { OnOk result (numbers.new.next ≤ numbers.old.next + needs.directories_need directories.items) }
     ensures need { OnOk result (needs.table_need (view vat.new) ≡ needs.table_need (view vat.old)) }
+    ensures used { All (λ d. IsUsed d.address vat.old.entries.items) directories.items → IfErr result (λ fault. fault ≡ Memory) }
     ensures full { is_full result ≡ false }
     ensures device { devices result ≡ 0 }
 {
@@ -321,6 +326,7 @@ fn take_away(vat: &mut Vat, removed: Option<Node>, at: u32) -> Result<(), StoreF
     ensures commits { OnOk result (vat.new.sessions.commits ≡ vat.old.sessions.commits) }
     ensures unique { OnOk result (vat.new.sessions.next_unique ≡ vat.old.sessions.next_unique) }
     ensures need { OnOk result (needs.table_need (view vat.new) ≡ needs.table_need (view vat.old)) }
+    ensures there { IfSome removed (λ node. IsRemovable node.kind node.address (view vat.old)) → is_err result ≡ false }
     ensures full { is_full result ≡ false }
     ensures device { devices result ≡ 0 }
 {
@@ -348,6 +354,7 @@ fn place_table(
     ensures placed { IfOk result (IsTablePlaced numbers.old.next moment) }
     ensures some { IfOk result (λ t. 0 < length t.bytes.items) }
     ensures within { IfOk result (λ t. t.at < numbers.old.end + 257) }
+    ensures memory { IfErr result (λ fault. fault ≡ Memory) }
     ensures full { is_full result ≡ false }
     ensures device { devices result ≡ 0 }
 {

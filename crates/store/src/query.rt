@@ -1,28 +1,23 @@
-//! Questions about the tree. What the medium holds is not trusted: a structure that is no such structure is refused.
+//! Questions about the tree.
 
-ghost use Rattle.std.specs.Prelude.{◌≡◌, ℕ, ◌<◌, ◌≤◌, List, IsTrue, IfOk, IfErr, length, map, Err, false, true};
-ghost use Rattle.drive.specs.Journal.{next_of};
+ghost use Rattle.std.specs.Prelude.{◌≡◌, ℕ, IsTrue, IfOk, IfErr, Err, false};
+ghost use Rattle.drive.specs.Journal.{Once};
 ghost use Rattle.medium.specs.Runs as runs;
 ghost use Rattle.model.specs.Tree.{Tree};
-ghost use Rattle.model.specs.Graph.{Stored, entries_of, is_directory};
-ghost use Rattle.model.specs.Graph.Body.{Bytes, Entries};
-ghost use Rattle.recover.specs.Faults.{Counts, IsShortage, devices};
+ghost use Rattle.recover.specs.Faults.{Counts, devices};
 ghost use Rattle.recover.specs.declared.fault.StoreFault.TheVariants.{Stopped};
-ghost use Rattle.udf.specs.Said.{names_directory, said_entries};
 ghost use Rattle.store.specs.Agrees.{Agrees};
-ghost use Rattle.store.specs.Below.{AreBelow};
-ghost use Rattle.store.specs.Cache.{AreKept, LiesThere};
-ghost use Rattle.store.specs.Queries.{AreWhole, IsMissing, IsRefused, SameVolume, name_told, names_told, tells_directory};
-ghost use Rattle.store.specs.Shows.{IsAt, Shows, graph_below};
+ghost use Rattle.store.specs.Cache.{AreKept};
+ghost use Rattle.store.specs.Asked.{said_names};
+ghost use Rattle.store.specs.Asked as asked;
+ghost use Rattle.store.specs.Queries.{IsRefused, SameVolume};
+ghost use Rattle.store.specs.Shows.{Shows};
 
-use crate::content::Content;
-use crate::nodes::{Node, Nodes};
+use crate::nodes::Nodes;
 use crate::store::Store;
-use dir::Kind;
 use drive::Drive;
-use icb::{Place, decode_fe};
-use recover::{Extent, PARTITION_START, StoreFault, cause, damaged, lies_below, read_bytes};
-use request::{FileData, Listed, Listing, NodeKind, NodeStatus, Path};
+use recover::StoreFault;
+use request::{FileData, Listing, NodeStatus, Path};
 use std::alloc::Global;
 
 impl Store {
@@ -45,15 +40,14 @@ impl Store {
         ensures honest { IsTrue (D.honest drive.new) → IsTrue (D.honest drive.old) }
         ensures failures { Counts (devices result) (D.failures drive.old) (D.failures drive.new) }
     {
-        let node = self.node(alloc, drive, path)?;
-        if node.is_directory() {
-            return Err(StoreFault::IsDirectory);
+        if self.is_stopped {
+            return Err(StoreFault::Stopped);
         }
         let nodes = Nodes {
             at: self.at,
             entries: &self.vat.entries,
         };
-        file_data(alloc, drive, &nodes, node.address)
+        self.directories.get(alloc, drive, &nodes, path)
     }
 
     /// The names in a directory, in their stored order.
@@ -64,74 +58,8 @@ impl Store {
         path: &Path,
     ) -> Result<Listing, StoreFault>
         requires agrees { Agrees (D.journal drive.old) (D.capacity drive.old) self.old }
-        ensures told { (tree : Tree) → Shows (D.honest drive.new) (D.journal drive.old) self.old.directories self.old.at self.old.vat.entries.items tree → IfOk result (λ listing. runs.told tree (runs.Query.List_ path.now) ≡ runs.Answer.Names (names_told listing)) }
+        ensures told { (tree : Tree) → Shows (D.honest drive.new) (D.journal drive.old) self.old.directories self.old.at self.old.vat.entries.items tree → IfOk result (λ listing. runs.told tree (runs.Query.List_ path.now) ≡ runs.Answer.Names (said_names listing)) }
         ensures refused { (tree : Tree) → Shows (D.honest drive.new) (D.journal drive.old) self.old.directories self.old.at self.old.vat.entries.items tree → self.old.is_stopped ≡ false → IfErr result (IsRefused (runs.told tree (runs.Query.List_ path.now))) }
-        ensures kept { IsTrue (D.honest drive.new) → AreKept (D.journal drive.old) self.old.directories → AreKept (D.journal drive.old) self.new.directories }
-        ensures stopped { IsTrue self.old.is_stopped → result ≡ Err Stopped }
-        ensures same { SameVolume self.old self.new }
-        ensures agrees { Agrees (D.journal drive.new) (D.capacity drive.new) self.new }
-        ensures journal { D.journal drive.new ≡ D.journal drive.old }
-        ensures capacity { D.capacity drive.new ≡ D.capacity drive.old }
-        ensures honest { IsTrue (D.honest drive.new) → IsTrue (D.honest drive.old) }
-        ensures failures { Counts (devices result) (D.failures drive.old) (D.failures drive.new) }
-    {
-        let node = self.node(alloc, drive, path)?;
-        if !node.is_directory() {
-            return Err(StoreFault::NotDirectory);
-        }
-        let (extent, content) = self.content(alloc, drive, node.address)?;
-        let listing = listing_of(alloc, &content)?;
-        self.directories.keep(extent, content);
-        Ok(listing)
-    }
-
-    /// What is known of a file or a directory.
-    pub fn stat<D: Drive>(
-        &mut self,
-        alloc: Global,
-        drive: &mut D,
-        path: &Path,
-    ) -> Result<NodeStatus, StoreFault>
-        requires agrees { Agrees (D.journal drive.old) (D.capacity drive.old) self.old }
-        // The size of a file is that of its bytes where each block of the medium has all of its own.
-        ensures told { (tree : Tree) → AreWhole (D.journal drive.old) → Shows (D.honest drive.new) (D.journal drive.old) self.old.directories self.old.at self.old.vat.entries.items tree → IfOk result (λ status. runs.told tree (runs.Query.Stat path.now) ≡ runs.Answer.NodeIs (tells_directory status.kind) status.moment status.size) }
-        ensures refused { (tree : Tree) → Shows (D.honest drive.new) (D.journal drive.old) self.old.directories self.old.at self.old.vat.entries.items tree → self.old.is_stopped ≡ false → IfErr result (IsRefused (runs.told tree (runs.Query.Stat path.now))) }
-        ensures kept { IsTrue (D.honest drive.new) → AreKept (D.journal drive.old) self.old.directories → AreKept (D.journal drive.old) self.new.directories }
-        ensures stopped { IsTrue self.old.is_stopped → result ≡ Err Stopped }
-        ensures same { SameVolume self.old self.new }
-        ensures agrees { Agrees (D.journal drive.new) (D.capacity drive.new) self.new }
-        ensures journal { D.journal drive.new ≡ D.journal drive.old }
-        ensures capacity { D.capacity drive.new ≡ D.capacity drive.old }
-        ensures honest { IsTrue (D.honest drive.new) → IsTrue (D.honest drive.old) }
-        ensures failures { Counts (devices result) (D.failures drive.old) (D.failures drive.new) }
-    {
-        let node = self.node(alloc, drive, path)?;
-        let (moment, bytes) = self.moment_and_size(drive, node.address)?;
-        if !node.is_directory() {
-            return Ok(NodeStatus {
-                kind: NodeKind::File,
-                moment,
-                size: u64::from(bytes),
-            });
-        }
-        let size = self.name_count(alloc, drive, node.address)?;
-        Ok(NodeStatus {
-            kind: NodeKind::Directory,
-            moment,
-            size,
-        })
-    }
-
-    /// The node that a path leads to.
-    fn node<D: Drive>(
-        &mut self,
-        alloc: Global,
-        drive: &mut D,
-        path: &Path,
-    ) -> Result<Node, StoreFault>
-        requires agrees { Agrees (D.journal drive.old) (D.capacity drive.old) self.old }
-        ensures found { (tree : Tree) → Shows (D.honest drive.new) (D.journal drive.old) self.old.directories self.old.at self.old.vat.entries.items tree → IfOk result (IsAt (graph_below self.old.at self.old.vat.entries.items (D.journal drive.old)) path.now) }
-        ensures missing { (tree : Tree) → Shows (D.honest drive.new) (D.journal drive.old) self.old.directories self.old.at self.old.vat.entries.items tree → self.old.is_stopped ≡ false → IfErr result (IsMissing tree path.now) }
         ensures kept { IsTrue (D.honest drive.new) → AreKept (D.journal drive.old) self.old.directories → AreKept (D.journal drive.old) self.new.directories }
         ensures stopped { IsTrue self.old.is_stopped → result ≡ Err Stopped }
         ensures same { SameVolume self.old self.new }
@@ -148,24 +76,21 @@ impl Store {
             at: self.at,
             entries: &self.vat.entries,
         };
-        match self.directories.find(alloc, drive, &nodes, path.names())? {
-            Some(node) => Ok(node),
-            None => Err(StoreFault::NotFound),
-        }
+        self.directories.list(alloc, drive, &nodes, path)
     }
 
-    /// A directory, which is not kept any longer, and where its data lie.
-    fn content<D: Drive>(
+    /// What is known of a file or a directory.
+    pub fn stat<D: Drive>(
         &mut self,
         alloc: Global,
         drive: &mut D,
-        address: u32,
-    ) -> Result<(Extent, Content), StoreFault>
+        path: &Path,
+    ) -> Result<NodeStatus, StoreFault>
         requires agrees { Agrees (D.journal drive.old) (D.capacity drive.old) self.old }
-        ensures opened { IfOk result (λ read. IsTrue (D.honest drive.new) → AreKept (D.journal drive.old) self.old.directories → (s : Stored) → graph_below self.old.at self.old.vat.entries.items (D.journal drive.old) address s → is_directory s ≡ true → s.body ≡ Entries read.1.dir.parent (said_entries read.1.dir.entries.entries)) }
-        ensures lies { IfOk result (λ read. IsTrue (D.honest drive.new) → AreKept (D.journal drive.old) self.old.directories → LiesThere (D.journal drive.old) read.0 read.1) }
-        ensures short { IfErr result (λ fault. IsTrue (D.honest drive.new) → (s : Stored) → graph_below self.old.at self.old.vat.entries.items (D.journal drive.old) address s → is_directory s ≡ true → IsShortage fault) }
+        ensures told { (tree : Tree) → Once (D.journal drive.old) → Shows (D.honest drive.new) (D.journal drive.old) self.old.directories self.old.at self.old.vat.entries.items tree → IfOk result (λ status. runs.told tree (runs.Query.Stat path.now) ≡ runs.Answer.NodeIs (asked.is_directory status.kind) status.moment status.size) }
+        ensures refused { (tree : Tree) → Shows (D.honest drive.new) (D.journal drive.old) self.old.directories self.old.at self.old.vat.entries.items tree → self.old.is_stopped ≡ false → IfErr result (IsRefused (runs.told tree (runs.Query.Stat path.now))) }
         ensures kept { IsTrue (D.honest drive.new) → AreKept (D.journal drive.old) self.old.directories → AreKept (D.journal drive.old) self.new.directories }
+        ensures stopped { IsTrue self.old.is_stopped → result ≡ Err Stopped }
         ensures same { SameVolume self.old self.new }
         ensures agrees { Agrees (D.journal drive.new) (D.capacity drive.new) self.new }
         ensures journal { D.journal drive.new ≡ D.journal drive.old }
@@ -173,123 +98,13 @@ impl Store {
         ensures honest { IsTrue (D.honest drive.new) → IsTrue (D.honest drive.old) }
         ensures failures { Counts (devices result) (D.failures drive.old) (D.failures drive.new) }
     {
+        if self.is_stopped {
+            return Err(StoreFault::Stopped);
+        }
         let nodes = Nodes {
             at: self.at,
             entries: &self.vat.entries,
         };
-        let (placed, content) = self.directories.open(alloc, drive, &nodes, address)?;
-        Ok((placed.extent, content))
-    }
-
-    /// How many names a directory has.
-    fn name_count<D: Drive>(
-        &mut self,
-        alloc: Global,
-        drive: &mut D,
-        address: u32,
-    ) -> Result<u64, StoreFault>
-        requires agrees { Agrees (D.journal drive.old) (D.capacity drive.old) self.old }
-        ensures count { IfOk result (λ count. IsTrue (D.honest drive.new) → AreKept (D.journal drive.old) self.old.directories → (s : Stored) → graph_below self.old.at self.old.vat.entries.items (D.journal drive.old) address s → is_directory s ≡ true → count ≡ length (entries_of s)) }
-        ensures short { IfErr result (λ fault. IsTrue (D.honest drive.new) → (s : Stored) → graph_below self.old.at self.old.vat.entries.items (D.journal drive.old) address s → is_directory s ≡ true → IsShortage fault) }
-        ensures kept { IsTrue (D.honest drive.new) → AreKept (D.journal drive.old) self.old.directories → AreKept (D.journal drive.old) self.new.directories }
-        ensures same { SameVolume self.old self.new }
-        ensures agrees { Agrees (D.journal drive.new) (D.capacity drive.new) self.new }
-        ensures journal { D.journal drive.new ≡ D.journal drive.old }
-        ensures capacity { D.capacity drive.new ≡ D.capacity drive.old }
-        ensures honest { IsTrue (D.honest drive.new) → IsTrue (D.honest drive.old) }
-        ensures failures { Counts (devices result) (D.failures drive.old) (D.failures drive.new) }
-    {
-        let (extent, content) = self.content(alloc, drive, address)?;
-        let count = content.dir.entries.len() as u64;
-        self.directories.keep(extent, content);
-        Ok(count)
-    }
-
-    /// The moment of a node, in microseconds, and the bytes of its data.
-    fn moment_and_size<D: Drive>(
-        &self,
-        drive: &mut D,
-        address: u32,
-    ) -> Result<(u64, u32), StoreFault>
-        requires agrees { Agrees (D.journal drive.old) (D.capacity drive.old) self.now }
-        ensures moment { IfOk result (λ read. IsTrue (D.honest drive.new) → (s : Stored) → graph_below self.now.at self.now.vat.entries.items (D.journal drive.old) address s → read.0 ≡ s.moment) }
-        ensures size { IfOk result (λ read. IsTrue (D.honest drive.new) → AreWhole (D.journal drive.old) → (s : Stored) → graph_below self.now.at self.now.vat.entries.items (D.journal drive.old) address s → (bytes : List ℕ) → s.body ≡ Bytes bytes → read.1 ≡ length bytes) }
-        ensures short { IfErr result (λ fault. IsTrue (D.honest drive.new) → (s : Stored) → graph_below self.now.at self.now.vat.entries.items (D.journal drive.old) address s → IsShortage fault) }
-        ensures journal { D.journal drive.new ≡ D.journal drive.old }
-        ensures capacity { D.capacity drive.new ≡ D.capacity drive.old }
-        ensures honest { IsTrue (D.honest drive.new) → IsTrue (D.honest drive.old) }
-        ensures failures { Counts (devices result) (D.failures drive.old) (D.failures drive.new) }
-    {
-        let nodes = Nodes {
-            at: self.at,
-            entries: &self.vat.entries,
-        };
-        let (block, at) = nodes.entry_block(drive, address)?;
-        match decode_fe(&block, address) {
-            Ok(entry) => Ok((entry.moment.moment(), entry.size)),
-            Err(fault) => Err(damaged(at, fault as u8)),
-        }
-    }
-}
-
-/// The bytes of the file whose entry has a virtual address.
-fn file_data<D: Drive>(
-    alloc: Global,
-    drive: &mut D,
-    nodes: &Nodes<'_>,
-    address: u32,
-) -> Result<FileData, StoreFault>
-    requires below { AreBelow nodes.now.at nodes.now.entries.now }
-    requires within { nodes.now.at ≤ next_of (D.journal drive.old) }
-    ensures bytes { IfOk result (λ read. IsTrue (D.honest drive.new) → (s : Stored) → graph_below nodes.now.at nodes.now.entries.now (D.journal drive.old) address s → is_directory s ≡ false → s.body ≡ Bytes read) }
-    ensures short { IfErr result (λ fault. IsTrue (D.honest drive.new) → (s : Stored) → graph_below nodes.now.at nodes.now.entries.now (D.journal drive.old) address s → is_directory s ≡ false → IsShortage fault) }
-    ensures journal { D.journal drive.new ≡ D.journal drive.old }
-    ensures capacity { D.capacity drive.new ≡ D.capacity drive.old }
-    ensures honest { IsTrue (D.honest drive.new) → IsTrue (D.honest drive.old) }
-    ensures failures { Counts (devices result) (D.failures drive.old) (D.failures drive.new) }
-{
-    let (block, at) = nodes.entry_block(drive, address)?;
-    let entry = match decode_fe(&block, address) {
-        Ok(entry) => entry,
-        Err(fault) => return Err(damaged(at, fault as u8)),
-    };
-    match entry.place {
-        Place::None => Ok(FileData::new(Vec::new(alloc))),
-        Place::Inside(bytes) => Ok(FileData::new(bytes.to_vec(alloc)?)),
-        Place::Extent(first) => {
-            if !lies_below(first, entry.size, nodes.at) {
-                return Err(damaged(at, cause::RANGE));
-            }
-            let bytes = read_bytes(alloc, drive, first + PARTITION_START, entry.size)?;
-            Ok(FileData::new(bytes))
-        }
-    }
-}
-
-/// The names of a directory, in their stored order.
-fn listing_of(alloc: Global, content: &Content) -> Result<Listing, StoreFault>
-    ensures failures { devices result ≡ 0 }
-    ensures short { IfErr result IsShortage }
-    ensures names { IfOk result (λ listing. names_told listing ≡ map name_told content.now.dir.entries.entries) }
-{
-    let entries = &content.dir.entries;
-    let mut listing = Listing::new(alloc);
-    for index in 0..entries.len() {
-        let (name, entry) = entries.get_index(index).unwrap();
-        listing.push(Listed {
-            kind: told(entry.kind),
-            name: name.clone()?,
-        })?;
-    }
-    Ok(listing)
-}
-
-/// A kind as it is told.
-fn told(kind: Kind) -> NodeKind
-    ensures { tells_directory result ≡ names_directory kind }
-{
-    match kind {
-        Kind::File => NodeKind::File,
-        Kind::Directory => NodeKind::Directory,
+        self.directories.stat(alloc, drive, &nodes, path)
     }
 }

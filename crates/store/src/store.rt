@@ -1,8 +1,14 @@
 //! A store, and how it is opened.
 
-ghost use Rattle.std.specs.Prelude.{◌≡◌, ◌≤◌, IsTrue, IfOk, false};
+ghost use Rattle.std.specs.Prelude.{◌≡◌, ◌≤◌, ℕ, IsTrue, IfOk, IfErr, false};
 ghost use Rattle.recover.specs.Faults.{Counts, devices};
+ghost use Rattle.drive.specs.Journal.{held, Once};
+ghost use Rattle.medium.specs.Volume.{Stands};
+ghost use Rattle.model.specs.Session as said;
 ghost use Rattle.store.specs.Agrees.{Agrees};
+ghost use Rattle.store.specs.Calls.{Knows, Opens};
+ghost use Rattle.store.specs.Opened.{IsOpenRefused};
+ghost use Rattle.udf.specs.Udf.{udf};
 ghost use Rattle.store.specs.Cache.{AreKept};
 
 use crate::directories::Directories;
@@ -28,6 +34,12 @@ pub struct Store {
 impl Store {
     /// The volume on a drive, as its last table says. Nothing is written.
     pub fn open<D: Drive>(alloc: Global, drive: &mut D) -> Result<Store, StoreFault>
+        // It is opened where a state stands on an honest drive, and keeps that.
+        ensures opens { (volume : ℕ) (S : said.State) → IsTrue (D.honest drive.new) → Once (D.journal drive.old) → Stands udf (D.capacity drive.old) volume (held (D.journal drive.old)) S → Opens (D.capacity drive.old) volume (D.journal drive.old) S result }
+        // Nothing else is opened on one.
+        ensures stands { IfOk result (λ store. IsTrue (D.honest drive.new) → Once (D.journal drive.old) → (S : said.State) × Knows (D.capacity drive.old) store.capacity (D.journal drive.old) S store) }
+        // Where it is not opened, the medium is not formatted, or nothing stands there.
+        ensures refused { IfErr result (λ fault. IsTrue (D.honest drive.new) → IsOpenRefused (D.capacity drive.old) (held (D.journal drive.old)) fault) }
         ensures agrees { IfOk result (Agrees (D.journal drive.old) (D.capacity drive.old)) }
         ensures kept { IfOk result (λ store. AreKept (D.journal drive.new) store.directories) }
         ensures stopped { IfOk result (λ store. store.is_stopped ≡ false) }

@@ -1,7 +1,8 @@
 //! The table that a commit writes: the one before, with the reply and the nodes.
 
-ghost use Rattle.std.specs.Prelude.{◌≡◌, ◌≢◌, ◌+◌, ◌^◌, ◌<◌, ◌≤◌, ◌↔◌, ℕ, length, slice_index_or, Some, IsTrue, IfOk, IfSome, IfNone, All, AllPairs, if◌then◌else◌, false};
+ghost use Rattle.std.specs.Prelude.{◌≡◌, ◌≢◌, ◌+◌, ◌^◌, ◌<◌, ◌≤◌, ◌↔◌, ℕ, length, slice_index_or, Some, IsTrue, IfOk, IfErr, IfSome, IfNone, All, AllPairs, if◌then◌else◌, false};
 ghost use Rattle.recover.specs.Faults.{devices};
+ghost use Rattle.recover.specs.declared.fault.StoreFault.TheVariants.{Memory};
 ghost use Rattle.store.specs.Below.{AreBelow, IsUsed};
 ghost use Rattle.store.specs.Full.{is_full};
 ghost use Rattle.store.specs.Needs.{table_need};
@@ -22,6 +23,7 @@ pub(crate) fn copied(alloc: Global, vat: &Vat) -> Result<Vat, StoreFault>
     ensures same { IfOk result (λ copy. view copy ≡ view vat.now) }
     ensures full { is_full result ≡ false }
     ensures failures { devices result ≡ 0 }
+    ensures memory { IfErr result (λ fault. fault ≡ Memory) }
 {
     let records = Vec::from_slice(alloc, &vat.sessions.records)?;
     let entries = Vec::from_slice(alloc, &vat.entries)?;
@@ -64,6 +66,7 @@ fn answer(
     ensures kept { IfOk result (λ _. records.new.items ≡ spec.with_reply client number reply records.old.items) }
     ensures full { is_full result ≡ false }
     ensures failures { devices result ≡ 0 }
+    ensures memory { IfErr result (λ fault. fault ≡ Memory) }
 {
     match place_of(records, client) {
         Some(i) => {
@@ -106,6 +109,7 @@ pub(crate) fn keep_reply(
     ensures fits { IfOk result (λ _. Fits (view vat.new)) }
     ensures full { is_full result ≡ false }
     ensures failures { devices result ≡ 0 }
+    ensures memory { IfErr result (λ fault. fault ≡ Memory) }
 {
     let commit = vat.sessions.commits + 1;
     answer(
@@ -126,6 +130,7 @@ fn take_entry(entries: &mut Vec<Option<u32>>, address: u32, number: u32) -> Resu
     ensures entry { IfOk result (λ taken. entries.new.items ≡ (if taken then spec.with_entry address (Some number) entries.old.items else entries.old.items)) }
     ensures full { is_full result ≡ false }
     ensures failures { devices result ≡ 0 }
+    ensures memory { IfErr result (λ fault. fault ≡ Memory) }
 {
     let place = address as usize;
     if place < entries.len() {
@@ -177,6 +182,7 @@ pub(crate) fn add_node(
     ensures below { IfOk result (λ _. (at : ℕ) → number + 257 < at → AreBelow at vat.old.entries.items → AreBelow at vat.new.entries.items) }
     ensures full { is_full result ≡ false }
     ensures failures { devices result ≡ 0 }
+    ensures memory { IfErr result (λ fault. fault ≡ Memory) }
 {
     if !take_entry(&mut vat.entries, address, number)? {
         return Ok(false);

@@ -1,10 +1,12 @@
 use Rattle.std.proofs.Common.{◌∙◌, ◌<◌, length, arith}
+use Rattle.std.proofs.lemmas.Result.{err_from_is_err_and}
 use Rattle.drive.specs.Journal.{held}
 use Rattle.recover.specs.Faults.{Counts}
 use Rattle.recover.specs.State.{IsShown}
 use Rattle.recover.specs.declared.state.State.{State}
 use Rattle.store.specs.declared.history.Commit.{Commit}
 use Rattle.store.proofs.Histories.{one_more}
+use Rattle.store.proofs.Wholes.{unshown_at}
 use Rattle.store.proofs.history.check_states.Goals as goal
 
 pub loop-i-preserved : goal.loop-i-preserved
@@ -18,3 +20,10 @@ loop-i-preserved g c = record {
   honest = λ h. c.loop-i.invariant.honest (c.state_at.ensures.honest h);
   failures = (let failures : Counts 0 (g.D.Drive.failures c.args.drive.now) (g.D.Drive.failures c.state_at.new.drive) = λ few. omega (arith, c.in_ok-state_at.ensures.failures, c.loop-i.invariant.failures) in failures);
 }
+
+pub returns-in_err-state_at-clause-refused : goal.returns-in_err-state_at-clause-refused
+returns-in_err-state_at-clause-refused g c =
+    let q = err_from_is_err_and c.from_residual.result c.from_residual.ensures.1 in
+    let there : c.loop-i.i < length c.args.commits.now = omega (arith, c.loop-i-test.true) in
+    rw (q.1, q.2) (λ h. unshown_at (held (g.D.Drive.journal c.args.drive.now)) (g.D.Drive.capacity c.args.drive.now) c.args.commits.now c.loop-i.i _ there _
+    (rw c.loop-i.invariant.capacity at (rw c.loop-i.invariant.journal at (c.in_err-state_at.ensures.refused h))))

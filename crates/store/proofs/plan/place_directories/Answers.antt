@@ -1,11 +1,13 @@
-use Rattle.std.proofs.Common.{◌≡◌, List, [], ◌∷◌, ◌++◌, ◌+◌, ◌<◌, ◌≤◌, ◌∙◌, length, refl, append_assoc, append-nil, sym, ap, subst, arith, length-append, rules}
+use Rattle.std.proofs.Common.{◌≡◌, ℕ, Option, List, [], ◌∷◌, ◌++◌, ◌+◌, ◌<◌, ◌≤◌, ◌∙◌, length, refl, append_assoc, append-nil, sym, ap, subst, arith, length-append, rules}
 use Rattle.std.specs.Prelude.{All}
+use Rattle.std.proofs.lemmas.Bool.{false≢true}
 use Rattle.std.specs.Vec.Iter.{into_iter_items}
 use Rattle.medium.specs.Plan.{Writing, WritesNodes}
 use Rattle.udf.specs.Udf.{udf}
 use Rattle.store.specs.declared.change.NewDirectory.{NewDirectory}
 use Rattle.store.specs.declared.placed.PlacedDirectory.{PlacedDirectory}
-use Rattle.vat.specs.Table.{view}
+use Rattle.vat.specs.Table.{Table, view}
+use Rattle.store.specs.Below.{IsUsed}
 use Rattle.store.specs.Needs.{directories_need}
 use Rattle.store.specs.NextTable.{all_placed}
 use Rattle.store.specs.TableChange.{placed}
@@ -14,6 +16,7 @@ use Rattle.store.specs.Writings.{IsProper, directory_writing, new_directories}
 use Rattle.store.proofs.BelowLemmas.{below_later}
 use Rattle.store.proofs.Names.{all_next, nothing}
 use Rattle.store.proofs.Plans.{list_push, writings_push, written_push, laid_push, table_push}
+use Rattle.store.proofs.Taking.{still_all}
 use Rattle.store.proofs.Writings.{node_ends}
 use Rattle.store.proofs.plan.place_directories.Goals as goal
 
@@ -30,6 +33,7 @@ loop-directory-init c =
     let gives = c.into_iter-directory-iterator.ensures.into_iter_gives in
     record {
       left = subst (λ (ds : List NewDirectory). All (λ d. IsProper d.content.dir) ds) (sym gives.0) c.requires.proper;
+      used = λ h. subst (λ (ds : List NewDirectory). All (λ d. IsUsed d.address c.args.vat.now.entries.items) ds) (sym gives.0) h;
       count = omega (arith, gives.1, ap length gives.0);
       writings = ap new_directories (sym gives.0) ∙ subst (λ (ps : List PlacedDirectory). new_directories (into_iter_items c.into_iter-directory-iterator.result) ≡ directories_writings ps ++ new_directories (into_iter_items c.into_iter-directory-iterator.result)) (sym none) refl;
       table = subst (λ (ps : List PlacedDirectory). view c.args.vat.now ≡ all_placed (directories_written ps) (view c.args.vat.now)) (sym none) refl;
@@ -74,6 +78,13 @@ loop-directory-preserved c =
     let pushed : all ++ p ∷ [] ≡ c.push.new.self.items = sym c.in_ok-push.ensures.items in
     record {
       left = (all_next (λ (d : NewDirectory). IsProper d.content.dir) (into_iter_items c.loop-directory.directory-iterator) (into_iter_items c.next.new.self) c.in-Some.directory c.in-Some.ensures.steps.0 c.loop-directory.invariant.left).1;
+      used = λ h.
+          let xs = c.loop-directory.vat.entries.items in
+          let here = all_next (λ (e : NewDirectory). IsUsed e.address xs) (into_iter_items c.loop-directory.directory-iterator) (into_iter_items c.next.new.self) d c.in-Some.ensures.steps.0 (c.loop-directory.invariant.used h) in
+          let address : d.address ≡ p.directory.address = ap (λ (e : NewDirectory). e.address) (sym c.place_directory-placed.ensures.directory) in
+          let used : IsUsed p.directory.address xs = subst (λ (a : ℕ). IsUsed a xs) address here.0 in
+          subst (λ (ys : List (Option ℕ)). All (λ (e : NewDirectory). IsUsed e.address ys) (into_iter_items c.next.new.self)) (sym (ap (λ (t : Table). t.entries) moved))
+          (still_all (into_iter_items c.next.new.self) xs p.directory.address p.number used here.1);
       count = omega (arith, c.loop-directory.invariant.count, ap length c.in-Some.ensures.steps.0, c.in-Some.ensures.steps.1);
       writings = subst (λ (ps : List PlacedDirectory). new_directories c.args.directories.items ≡ directories_writings ps ++ new_directories (into_iter_items c.next.new.self)) pushed written;
       table = subst (λ (ps : List PlacedDirectory). view c.place_node.new.vat ≡ all_placed (directories_written ps) (view c.args.vat.now)) pushed (table_push all p (view c.args.vat.now) (view c.loop-directory.vat) (view c.place_node.new.vat) c.loop-directory.invariant.table moved);
@@ -89,3 +100,8 @@ loop-directory-preserved c =
       next = subst (λ (ps : List PlacedDirectory). next ≡ start + length (directories_list ps)) pushed (omega (arith, ends, c.place_directory-placed.ensures.next, c.loop-directory.invariant.next, ap length (list_push all p), length-append (directories_list all) (directory_list p)));
       end = c.place_directory-placed.ensures.end ∙ c.loop-directory.invariant.end;
     }
+
+pub returns-then-not-place_node-clause-used : goal.returns-then-not-place_node-clause-used
+returns-then-not-place_node-clause-used c h =
+    let here = all_next (λ (e : NewDirectory). IsUsed e.address c.loop-directory.vat.entries.items) (into_iter_items c.loop-directory.directory-iterator) (into_iter_items c.next.new.self) c.in-Some.directory c.in-Some.ensures.steps.0 (c.loop-directory.invariant.used h) in
+    absurd (false≢true (sym c.if-not-place_node.true ∙ c.place_node.ensures.used.1 here.0))

@@ -4,7 +4,7 @@ use Rattle.std.specs.Vec.Iter.{into_iter_items, into_iter_len}
 use Rattle.medium.specs.Plan.{WritesNodes}
 use Rattle.udf.specs.Udf.{udf}
 use Rattle.vat.specs.Table.{Fits, view}
-use Rattle.store.specs.Below.{AreBelow}
+use Rattle.store.specs.Below.{AreBelow, IsUsed}
 use Rattle.store.specs.Plan.{AreLaid, directories_list, directories_writings, directories_written}
 use Rattle.store.specs.Needs.{table_need, directories_need}
 use Rattle.store.specs.NextTable.{all_placed}
@@ -15,6 +15,7 @@ use Rattle.store.proofs.plan.place_directories.Given as goal
 abbrev pub invariant-loop-directory : goal.invariant-loop-directory
 invariant-loop-directory l = record {
   left : All (λ d. IsProper d.content.dir) (into_iter_items l.directory-iterator);
+  used : All (λ d. IsUsed d.address l.fn.vat.entries.items) l.fn.directories.items → All (λ d. IsUsed d.address l.vat.entries.items) (into_iter_items l.directory-iterator);
   count : into_iter_len l.directory-iterator ≡ length (into_iter_items l.directory-iterator);
   writings : new_directories l.fn.directories.items ≡ directories_writings l.all.items ++ new_directories (into_iter_items l.directory-iterator);
   table : view l.vat ≡ all_placed (directories_written l.all.items) (view l.fn.vat);

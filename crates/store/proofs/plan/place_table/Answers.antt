@@ -1,12 +1,10 @@
 use Rattle.std.proofs.Common.{◌++◌, ◌+◌, replicate, ◌≡◌, ◌-◌, ◌≤◌, List, ℕ, length, ap, ◌∙◌, sym, subst, arith}
 use Rattle.std.specs.Int.{div_ceil}
-use Rattle.vat.specs.Table.{view}
+use Rattle.vat.specs.Table.{view, IsTableAt}
 use Rattle.medium.specs.Formats.Kind.{Table}
 use Rattle.medium.specs.Formats.Place.{Extent}
 use Rattle.medium.specs.Plan.{zeros, packed, IsClearStart, IsPlaced}
-use Rattle.udf.specs.Said.{said_table}
 use Rattle.udf.specs.Udf.{udf}
-use Rattle.udf.proofs.Said.{tables_agree}
 use Rattle.store.proofs.Tables.{table_few, table_long, table_some, table_at}
 use Rattle.store.proofs.Writings.{placed_at, length-placed}
 use Rattle.store.proofs.plan.place_table.Goals as goal
@@ -34,11 +32,11 @@ returns-clause-placed c =
     let size : c.len.result ≡ length bytes = omega arith in
     let at : number + 257 - 257 ≡ number = omega arith in
     let later : from ≤ number = omega (arith, next, long) in
-    let table = tables_agree (view c.args.vat) number bytes (table_at (view c.args.vat) from number bytes c.requires.fits c.in_ok-bytes.ensures c.requires.previous c.requires.below later) in
+    let table = table_at (view c.args.vat) from number bytes c.requires.fits c.in_ok-bytes.ensures c.requires.previous c.requires.below later in
     record {
       placed = placed;
       number = omega (arith, long, next);
-      spelled = subst (λ n. udf.IsTable (said_table (view c.args.vat)) n bytes) (sym at) table;
+      spelled = subst (λ n. IsTableAt n (view c.args.vat) bytes) (sym at) table;
       mark = subst (λ n. udf.IsEntry (record { kind = Table; moment = c.args.moment; links = 0; identity = 0; size = length bytes; place = Extent first }) c.table_entry-entry.result n) (sym at)
           (subst (λ n. udf.IsEntry (record { kind = Table; moment = c.args.moment; links = 0; identity = 0; size = n; place = Extent first }) c.table_entry-entry.result number) size c.table_entry-entry.ensures);
     }

@@ -44,4 +44,4 @@ returns-clause-does g c tree moment identity s =
     let file : NewFile = record { address = c.in-Some.node.address; unique = c.in-Some.node.unique; bytes = c.args.bytes } in
     let change : Change = record { code = done.code; file = Some file; directories = done.directories; made = done.made; removed = done.removed } in
     replaces at entries J tree s.tree s.makes (free_address entries) moment identity c.args.names.now c.in-Some.node file done change (sym c.is_empty.ensures ∙ c.if-is_empty.false) here (sym c.is_directory.ensures ∙ c.if-is_directory.false)
-    c.refused-change.ensures refl refl refl refl refl refl
+    c.refused-change.ensures refl refl refl refl refl refl refl

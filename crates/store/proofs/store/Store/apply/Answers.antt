@@ -1,11 +1,26 @@
-use Rattle.std.proofs.Common.{◌≡◌, ◌+◌, ◌∙◌, List, sym, ap, subst, arith, rules}
+use Rattle.std.proofs.Common.{◌≡◌, ◌⊎◌, ℕ, ◌+◌, ◌<◌, ◌≤◌, ◌∙◌, List, refl, sym, ap, subst, arith, rules}
+use Rattle.std.specs.Prelude.{Err}
+use Rattle.std.specs.FinMap.{len}
 use Rattle.std.proofs.lemmas.Bool.{false≢true}
-use Rattle.drive.specs.Journal.{Event, next_of}
+use Rattle.std.proofs.lemmas.Result.{err_from_is_err_and}
+use Rattle.drive.specs.Journal.{Event, Once, next_of}
+use Rattle.recover.specs.Faults.{IsShortage}
+use Rattle.recover.specs.declared.fault.StoreFault.{StoreFault}
+use Rattle.recover.specs.declared.fault.StoreFault.TheVariants.{Full}
+use Rattle.request.specs.Numbers.{code_number}
 use Rattle.request.specs.declared.answer.Reply.{Reply}
+use Rattle.vat.specs.Table.{view}
+use Rattle.store.specs.declared.store.Store.{Store}
+use Rattle.store.specs.Cache.{AreKept}
+use Rattle.store.specs.Needs.{change_need}
+use Rattle.store.specs.NextTable.{begun}
 use Rattle.store.specs.Plan.{IsPlan}
 use Rattle.store.specs.Putting.{Makes}
-use Rattle.store.specs.Writings.{change_writings}
-use Rattle.store.proofs.Commits.{if_ok, writes_plan, stops_in_plan, goes_on, is_stopped, some_is}
+use Rattle.store.specs.TableChange.{committed}
+use Rattle.store.proofs.Commits.{if_ok, makes_plan, plan_is, writes_plan, stops_in_plan, goes_on, is_stopped, some_is}
+use Rattle.store.proofs.Applying.{applies, full, short}
+use Rattle.store.proofs.Knowing.{does_lent, few, knows_again, nodes, shows_lent, takes}
+use Rattle.store.proofs.Taking.{IsTakenBy}
 use Rattle.store.proofs.store.Store.apply.Goals as goal
 
 pub commit-requires-clause-agrees : goal.commit-requires-clause-agrees
@@ -31,17 +46,10 @@ returns-clause-written g c =
     let K = g.D.Drive.journal c.plan.new.drive in
     let capacity = g.D.Drive.capacity c.args.drive.now in
     let plan = c.in_ok-plan.plan in
-    let is : IsPlan (next_of J) capacity plan =
-    subst (λ n. IsPlan (next_of J) n plan) c.change.ensures.capacity (subst (λ (L : List Event). IsPlan (next_of L) (g.D.Drive.capacity c.change.new.drive) plan) c.change.ensures.journal c.in_ok-plan.ensures.plan) in
+    let is : IsPlan (next_of J) capacity plan = plan_is J (g.D.Drive.journal c.change.new.drive) capacity (g.D.Drive.capacity c.change.new.drive) plan c.change.ensures.journal c.change.ensures.capacity c.in_ok-plan.ensures.plan in
     let change = c.in_ok-change.change in
     let of_moment : c.unwrap-moment.result ≡ c.args.request.now.moment = some_is c.of.result c.unwrap-moment.result c.args.request.now.moment _ (search rules) c.of.ensures in
-    let makes : Makes c.args.self.now c.args.request.now change plan = record {
-      moment = c.in_ok-plan.ensures.moment ∙ of_moment;
-      code = c.in_ok-plan.ensures.code;
-      commit = c.in_ok-plan.ensures.commit;
-      writings = c.in_ok-plan.ensures.writings ∙ ap (λ m. change_writings m change) of_moment;
-      table = c.in_ok-plan.ensures.table;
-    } in
+    let makes : Makes c.args.self.now c.args.request.now change plan = makes_plan c.args.self.now c.args.request.now change plan c.unwrap-moment.result of_moment c.in_ok-plan.ensures.moment c.in_ok-plan.ensures.code c.in_ok-plan.ensures.commit c.in_ok-plan.ensures.writings c.in_ok-plan.ensures.table in
     writes_plan c.commit.result K J (g.D.Drive.journal c.commit.new.drive) c.args.self.now c.args.request.now capacity change plan c.commit.new.self (c.plan.ensures.journal ∙ c.change.ensures.journal) makes is c.commit.ensures.reply c.commit.ensures.at c.commit.ensures.vat c.commit.ensures.written
 
 pub returns-clause-front : goal.returns-clause-front
@@ -50,17 +58,10 @@ returns-clause-front g c =
     let K = g.D.Drive.journal c.plan.new.drive in
     let capacity = g.D.Drive.capacity c.args.drive.now in
     let plan = c.in_ok-plan.plan in
-    let is : IsPlan (next_of J) capacity plan =
-    subst (λ n. IsPlan (next_of J) n plan) c.change.ensures.capacity (subst (λ (L : List Event). IsPlan (next_of L) (g.D.Drive.capacity c.change.new.drive) plan) c.change.ensures.journal c.in_ok-plan.ensures.plan) in
+    let is : IsPlan (next_of J) capacity plan = plan_is J (g.D.Drive.journal c.change.new.drive) capacity (g.D.Drive.capacity c.change.new.drive) plan c.change.ensures.journal c.change.ensures.capacity c.in_ok-plan.ensures.plan in
     let change = c.in_ok-change.change in
     let of_moment : c.unwrap-moment.result ≡ c.args.request.now.moment = some_is c.of.result c.unwrap-moment.result c.args.request.now.moment _ (search rules) c.of.ensures in
-    let makes : Makes c.args.self.now c.args.request.now change plan = record {
-      moment = c.in_ok-plan.ensures.moment ∙ of_moment;
-      code = c.in_ok-plan.ensures.code;
-      commit = c.in_ok-plan.ensures.commit;
-      writings = c.in_ok-plan.ensures.writings ∙ ap (λ m. change_writings m change) of_moment;
-      table = c.in_ok-plan.ensures.table;
-    } in
+    let makes : Makes c.args.self.now c.args.request.now change plan = makes_plan c.args.self.now c.args.request.now change plan c.unwrap-moment.result of_moment c.in_ok-plan.ensures.moment c.in_ok-plan.ensures.code c.in_ok-plan.ensures.commit c.in_ok-plan.ensures.writings c.in_ok-plan.ensures.table in
     stops_in_plan c.commit.result K J (g.D.Drive.journal c.commit.new.drive) c.args.self.now c.args.request.now capacity change plan (c.plan.ensures.journal ∙ c.change.ensures.journal) makes is c.commit.ensures.front
 
 pub returns-clause-refused : goal.returns-clause-refused
@@ -81,3 +82,65 @@ returns-clause-failures g c most =
     let second = c.in_ok-plan.ensures.failures (omega (arith, most, last)) in
     let first = c.in_ok-change.ensures.failures (omega (arith, most, last, second)) in
     omega (arith, last, second, first)
+
+pub returns-then-self-clause-applies : goal.returns-then-self-clause-applies
+returns-then-self-clause-applies g c volume S honest knows going = absurd (false≢true (sym going ∙ c.if-self.true))
+
+pub returns-in_err-change-clause-applies : goal.returns-in_err-change-clause-applies
+returns-in_err-change-clause-applies g c volume S honest knows going =
+    let store = c.args.self.now in
+    let r = c.args.request.now in
+    let J = g.D.Drive.journal c.args.drive.now in
+    let capacity = g.D.Drive.capacity c.args.drive.now in
+    let now : Store = record { at = c.args.self.now.at; capacity = c.args.self.now.capacity; vat = c.args.self.now.vat; directories = c.change.new.self; is_stopped = c.args.self.now.is_stopped; most_held = c.args.self.now.most_held } in
+    let p = err_from_is_err_and c.from_residual.result c.from_residual.ensures.1 in
+    let going_on = shows_lent capacity volume J S store knows (g.D.Drive.honest c.change.new.drive) honest c.deref.result.now c.deref.ensures.value in
+    let shortage : IsShortage p.0 = subst (λ (f : StoreFault). IsShortage f) (sym p.2) (c.in_err-change.ensures.short S.tree going_on) in
+    let again = knows_again capacity volume J S store knows (g.D.Drive.journal c.change.new.drive) now c.change.ensures.journal refl refl refl (c.change.ensures.kept honest knows.kept) in
+    rw p.1 (short capacity volume J S store knows r p.0 (g.D.Drive.journal c.change.new.drive) now shortage c.change.ensures.journal again)
+
+pub returns-in_err-plan-clause-applies : goal.returns-in_err-plan-clause-applies
+returns-in_err-plan-clause-applies g c volume S honest knows going =
+    let store = c.args.self.now in
+    let r = c.args.request.now in
+    let J = g.D.Drive.journal c.args.drive.now in
+    let capacity = g.D.Drive.capacity c.args.drive.now in
+    let change = c.in_ok-change.change in
+    let now : Store = record { at = c.args.self.now.at; capacity = c.args.self.now.capacity; vat = c.args.self.now.vat; directories = c.change.new.self; is_stopped = c.args.self.now.is_stopped; most_held = c.args.self.now.most_held } in
+    let p = err_from_is_err_and c.from_residual-in_err-plan.result c.from_residual-in_err-plan.ensures.1 in
+    let after_change = c.plan.ensures.honest honest in
+    let of_moment : c.unwrap-moment.result ≡ c.args.request.now.moment = some_is c.of.result c.unwrap-moment.result c.args.request.now.moment _ (search rules) c.of.ensures in
+    let counted : c.saturating_add.result ≡ len S.tree = omega (arith, c.saturating_add.ensures, nodes capacity volume J S store knows, few capacity volume J S store knows) in
+    let going_on = shows_lent capacity volume J S store knows (g.D.Drive.honest c.change.new.drive) after_change c.deref.result.now c.deref.ensures.value in
+    let does = does_lent capacity volume J S store knows r change c.deref.result.now c.unwrap-moment.result c.deref.ensures.value of_moment (c.in_ok-change.ensures.does S.tree going_on counted) in
+    let taken = subst (λ (m : ℕ). IsTakenBy m c.in_ok-change.change (committed c.args.self.now.at c.args.request.now.client c.args.request.now.number (code_number c.in_ok-change.change.code) (view c.args.self.now.vat))) (sym of_moment) (takes capacity volume J S store knows r change does) in
+    let refused : IsShortage p.0 ⊎ (p.0 ≡ Full) = subst (λ (f : StoreFault). IsShortage f ⊎ (f ≡ Full)) (sym p.2) (c.in_err-plan.ensures.refused taken) in
+    let same = c.plan.ensures.journal ∙ c.change.ensures.journal in
+    let again = knows_again capacity volume J S store knows (g.D.Drive.journal c.plan.new.drive) now same refl refl refl (c.change.ensures.kept after_change knows.kept) in
+    let over = λ (e : p.0 ≡ Full). subst (λ (L : List Event). c.args.self.now.capacity < next_of L + change_need c.in_ok-change.change (begun c.args.self.now.at c.args.request.now.client c.args.request.now.number (code_number c.in_ok-change.change.code) c.in_ok-change.change.made (view c.args.self.now.vat))) c.change.ensures.journal
+    (c.in_err-plan.ensures.full (ap (λ (f : StoreFault). Err f) (sym p.2 ∙ e))) in
+    rw p.1 (full capacity volume J S store knows r change does p.0 (g.D.Drive.journal c.plan.new.drive) now refused over same again)
+
+pub returns-clause-applies : goal.returns-clause-applies
+returns-clause-applies g c volume S honest knows going =
+    let store = c.args.self.now in
+    let r = c.args.request.now in
+    let J = g.D.Drive.journal c.args.drive.now in
+    let K = g.D.Drive.journal c.plan.new.drive in
+    let capacity = g.D.Drive.capacity c.args.drive.now in
+    let plan = c.in_ok-plan.plan in
+    let change = c.in_ok-change.change in
+    let after_plan = c.commit.ensures.honest honest in
+    let after_change = c.plan.ensures.honest after_plan in
+    let of_moment : c.unwrap-moment.result ≡ c.args.request.now.moment = some_is c.of.result c.unwrap-moment.result c.args.request.now.moment _ (search rules) c.of.ensures in
+    let counted : c.saturating_add.result ≡ len S.tree = omega (arith, c.saturating_add.ensures, nodes capacity volume J S store knows, few capacity volume J S store knows) in
+    let going_on = shows_lent capacity volume J S store knows (g.D.Drive.honest c.change.new.drive) after_change c.deref.result.now c.deref.ensures.value in
+    let does = does_lent capacity volume J S store knows r change c.deref.result.now c.unwrap-moment.result c.deref.ensures.value of_moment (c.in_ok-change.ensures.does S.tree going_on counted) in
+    let is : IsPlan (next_of J) capacity plan = plan_is J (g.D.Drive.journal c.change.new.drive) capacity (g.D.Drive.capacity c.change.new.drive) plan c.change.ensures.journal c.change.ensures.capacity c.in_ok-plan.ensures.plan in
+    let makes : Makes c.args.self.now c.args.request.now change plan = makes_plan c.args.self.now c.args.request.now change plan c.unwrap-moment.result of_moment c.in_ok-plan.ensures.moment c.in_ok-plan.ensures.code c.in_ok-plan.ensures.commit c.in_ok-plan.ensures.writings c.in_ok-plan.ensures.table in
+    let room = subst (λ (L : List Event). next_of L + change_need c.in_ok-change.change (begun c.args.self.now.at c.args.request.now.client c.args.request.now.number (code_number c.in_ok-change.change.code) c.in_ok-change.change.made (view c.args.self.now.vat)) ≤ c.args.self.now.capacity) c.change.ensures.journal c.in_ok-plan.ensures.room in
+    let same : K ≡ J = c.plan.ensures.journal ∙ c.change.ensures.journal in
+    let once = subst (λ (L : List Event). Once L) (sym same) knows.once in
+    let kept = subst (λ (L : List Event). AreKept L c.change.new.self) (sym same) (c.change.ensures.kept after_change knows.kept) in
+    applies capacity volume J S store knows r change does plan makes is room c.commit.result K (g.D.Drive.journal c.commit.new.drive) c.commit.new.self same c.commit.ensures.reply c.commit.ensures.at c.commit.ensures.vat
+    c.commit.ensures.written c.commit.ensures.front c.commit.ensures.device c.commit.ensures.stopped c.commit.ensures.volume (c.commit.ensures.kept once kept)

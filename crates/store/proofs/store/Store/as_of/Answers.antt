@@ -1,8 +1,56 @@
+use Rattle.std.proofs.Common.{◌≤◌, ℕ, List, refl, sym, subst, arith}
+use Rattle.std.proofs.lemmas.Result.{err_from_is_err_and}
+use Rattle.drive.specs.Journal.{Event, held}
+use Rattle.recover.specs.declared.fault.StoreFault.{StoreFault}
+use Rattle.recover.specs.State.{IsStateRefused}
+use Rattle.store.specs.Past.{IsPastRefused}
+use Rattle.store.proofs.Pasts.{past_shown, state_refused, way_refused}
+use Rattle.store.proofs.BelowLemmas.{below_entry}
 use Rattle.store.proofs.store.Store.as_of.Goals as goal
 
+pub invariant_of-result : goal.invariant_of-result
+invariant_of-result g c =
+    let sound = c.in_ok-vat.ensures.sound in
+    record {
+      few = sound.table.table.fits.many;
+      below = below_entry c.in_ok-at.at c.in_ok-vat.field-0.vat.entries.items c.in_ok-at.ensures.within.0 sound.table.entries;
+    }
+
 pub returns-clause-table : goal.returns-clause-table
-returns-clause-table g c = λ h. c.in_ok-at.ensures.table (c.state_at.ensures.honest h)
+returns-clause-table g c = λ h. (c.in_ok-at.field-0-1, c.in_ok-at.ensures.table (c.state_at.ensures.honest h))
 
 pub returns-clause-shown : goal.returns-clause-shown
 returns-clause-shown g c = λ h.
-    (c.in_ok-state_at.field-0, rw c.table_of.ensures.capacity at (rw c.table_of.ensures.journal at (c.in_ok-state_at.ensures.shown h)))
+    (c.in_ok-vat.field-0, rw c.table_of.ensures.capacity at (rw c.table_of.ensures.journal at (c.in_ok-vat.ensures.shown h)), refl)
+
+pub returns-clause-past : goal.returns-clause-past
+returns-clause-past g c volume T h knows =
+    let J = g.D.Drive.journal c.args.drive.now in
+    let capacity = g.D.Drive.capacity c.args.drive.now in
+    let shown = rw c.table_of.ensures.capacity at (rw c.table_of.ensures.journal at (c.in_ok-vat.ensures.shown h)) in
+    past_shown capacity volume J T c.args.self.now knows c.args.commit c.in_ok-at.at c.in_ok-at.field-0-1 (c.in_ok-at.ensures.table (c.state_at.ensures.honest h)) c.in_ok-vat.field-0
+    c.in_ok-at.ensures.within.0 c.in_ok-at.ensures.within.1 shown
+
+pub returns-clause-honest : goal.returns-clause-honest
+returns-clause-honest g c = λ h. c.table_of.ensures.honest (c.state_at.ensures.honest h)
+
+pub returns-in_err-at-clause-refused : goal.returns-in_err-at-clause-refused
+returns-in_err-at-clause-refused g c volume T h knows going =
+    let q = err_from_is_err_and c.from_residual.result c.from_residual.ensures.1 in
+    let J = g.D.Drive.journal c.args.drive.now in
+    let capacity = g.D.Drive.capacity c.args.drive.now in
+    let enough : c.args.commit ≤ c.args.self.now.vat.sessions.commits = omega (arith, c.if-commit-self.false) in
+    let refused = subst (λ (f : StoreFault). IsPastRefused capacity volume (held J) T.commits c.args.commit f) (sym q.2)
+    (way_refused capacity volume J T c.args.self.now knows c.args.commit enough _ (c.in_err-at.ensures.refused h)) in
+    rw q.1 refused
+
+pub returns-in_err-vat-clause-refused : goal.returns-in_err-vat-clause-refused
+returns-in_err-vat-clause-refused g c volume T h knows going =
+    let q = err_from_is_err_and c.from_residual-in_err-vat.result c.from_residual-in_err-vat.ensures.1 in
+    let J = g.D.Drive.journal c.args.drive.now in
+    let capacity = g.D.Drive.capacity c.args.drive.now in
+    let unread = subst (λ (n : ℕ). IsStateRefused n (held J) c.in_ok-at.at c.in_err-vat.field-0.0) c.table_of.ensures.capacity
+    (subst (λ (K : List Event). IsStateRefused (g.D.Drive.capacity c.table_of.new.drive) (held K) c.in_ok-at.at c.in_err-vat.field-0.0) c.table_of.ensures.journal (c.in_err-vat.ensures.refused h)) in
+    let refused = subst (λ (f : StoreFault). IsPastRefused capacity volume (held J) T.commits c.args.commit f) (sym q.2)
+    (state_refused capacity volume J T c.args.self.now knows c.args.commit c.in_ok-at.at c.in_ok-at.field-0-1 (c.in_ok-at.ensures.table (c.state_at.ensures.honest h)) _ unread) in
+    rw q.1 refused

@@ -1,45 +1,11 @@
-use Rattle.std.proofs.Common.{◌∙◌, sym, ap, subst, refl, inl, inr}
-use Rattle.std.proofs.lemmas.Result.{err_from_is_err_and, IfOk-weaker, IfErr-weaker}
-use Rattle.recover.specs.Faults.{IsShortage}
-use Rattle.recover.specs.declared.fault.StoreFault.{StoreFault}
-use Rattle.vat.specs.declared.table.Vat.{Vat}
-use Rattle.store.proofs.Walks.{shows_before}
-use Rattle.store.proofs.Asking.{told_none, told_file, told_directory, there_too}
+use Rattle.std.proofs.Common.{sym, subst, List, Option, ℕ}
+use Rattle.store.specs.Shows.{Shows}
 use Rattle.store.proofs.store.Store.get.Goals as goal
-
-pub returns-in_err-node-clause-refused : goal.returns-in_err-node-clause-refused
-returns-in_err-node-clause-refused g c tree s going =
-    let p = err_from_is_err_and c.from_residual.result c.from_residual.ensures.1 in
-    rw p.1 (elim (c.in_err-node.ensures.missing tree s going) [
-      | inl none ↦ inl (p.2 ∙ none.0, told_none tree c.args.path.now none.1)
-      | inr short ↦ inr (inr (inr (subst (λ (f : StoreFault). IsShortage f) (sym p.2) short)))
-    ])
-
-pub returns-then-is_directory-clause-refused : goal.returns-then-is_directory-clause-refused
-returns-then-is_directory-clause-refused g c tree s going =
-    inr (inl (refl, told_directory c.args.self.now.at c.args.self.now.vat.entries.items (g.D.Drive.journal c.args.drive.now) tree s.tree s.makes c.args.path.now c.in_ok-node.node (c.in_ok-node.ensures.found tree s) (sym c.is_directory.ensures ∙ c.if-is_directory.true)))
 
 pub returns-clause-told : goal.returns-clause-told
 returns-clause-told g c tree s =
-    let J = g.D.Drive.journal c.args.drive.now in
-    let at = c.args.self.now.at in
-    let entries = c.args.self.now.vat.entries.items in
-    let s1 = shows_before (g.D.Drive.honest c.file_data.new.drive) (g.D.Drive.honest c.node.new.drive) J c.args.self.now.directories at entries tree c.file_data.ensures.honest s in
-    let here = c.in_ok-node.ensures.found tree s1 in
-    let same = c.in_ok-node.ensures.same in
-    let there = there_too at entries J tree s.tree s.makes c.node.new.self.at c.deref.result.now (g.D.Drive.journal c.node.new.drive) same.at (c.deref.ensures.value ∙ ap (λ (v : Vat). v.entries.items) same.vat) c.in_ok-node.ensures.journal c.args.path.now c.in_ok-node.node here in
-    IfOk-weaker c.file_data.result _ _ (λ read f. told_file at entries J tree s.tree s.makes c.args.path.now c.in_ok-node.node here read (f s.honest here.found.stored there (sym here.kind ∙ (sym c.is_directory.ensures ∙ c.if-is_directory.false)))) c.file_data.ensures.bytes
+    c.get.ensures.told tree (subst (λ (t : List (Option ℕ)). Shows (g.D.Drive.honest c.get.new.drive) (g.D.Drive.journal c.args.drive.now) c.args.self.now.directories c.args.self.now.at t tree) (sym c.deref.ensures.value) s)
 
 pub returns-clause-refused : goal.returns-clause-refused
 returns-clause-refused g c tree s going =
-    let J = g.D.Drive.journal c.args.drive.now in
-    let at = c.args.self.now.at in
-    let entries = c.args.self.now.vat.entries.items in
-    let s1 = shows_before (g.D.Drive.honest c.file_data.new.drive) (g.D.Drive.honest c.node.new.drive) J c.args.self.now.directories at entries tree c.file_data.ensures.honest s in
-    let here = c.in_ok-node.ensures.found tree s1 in
-    let same = c.in_ok-node.ensures.same in
-    let there = there_too at entries J tree s.tree s.makes c.node.new.self.at c.deref.result.now (g.D.Drive.journal c.node.new.drive) same.at (c.deref.ensures.value ∙ ap (λ (v : Vat). v.entries.items) same.vat) c.in_ok-node.ensures.journal c.args.path.now c.in_ok-node.node here in
-    IfErr-weaker c.file_data.result _ _ (λ fault f. inr (inr (inr (f s.honest here.found.stored there (sym here.kind ∙ (sym c.is_directory.ensures ∙ c.if-is_directory.false)))))) c.file_data.ensures.short
-
-pub returns-clause-kept : goal.returns-clause-kept
-returns-clause-kept g c honest kept = c.in_ok-node.ensures.kept (c.file_data.ensures.honest honest) kept
+    c.get.ensures.refused tree (subst (λ (t : List (Option ℕ)). Shows (g.D.Drive.honest c.get.new.drive) (g.D.Drive.journal c.args.drive.now) c.args.self.now.directories c.args.self.now.at t tree) (sym c.deref.ensures.value) s)

@@ -1,14 +1,17 @@
-use Rattle.std.proofs.Common.{◌≡◌, ◌+◌, ◌<◌, ◌≤◌, ◌^◌, ◌↔◌, All, IsTrue, IsNone, IfSome}
+use Rattle.std.proofs.Common.{◌≡◌, ◌+◌, ◌<◌, ◌≤◌, ◌^◌, ◌↔◌, List, All, IsTrue, IsNone, IfSome}
 use Rattle.drive.specs.Journal.{held, next_of}
 use Rattle.vat.specs.Table.{view}
 use Rattle.recover.specs.Faults.{Counts}
 use Rattle.store.specs.declared.history.Commit.{Commit}
+use Rattle.store.specs.History.{IsHistory}
 use Rattle.store.proofs.Histories.{GoesOn}
+use Rattle.store.proofs.Wholes.{Goes}
 use Rattle.store.proofs.store.Store.history.Given as goal
 
 abbrev pub invariant-loop-vat : goal.invariant-loop-vat
 invariant-loop-vat g l = record {
   found : IsTrue (g.D.Drive.honest l.drive) → GoesOn (held (g.D.Drive.journal l.fn.drive)) l.fn.self.at (view l.vat) l.commits.items;
+  goes : IsTrue (g.D.Drive.honest l.drive) → (all : List Commit) → IsHistory (held (g.D.Drive.journal l.fn.drive)) l.fn.self.at all → Goes (held (g.D.Drive.journal l.fn.drive)) (view l.vat);
   within : All (λ (c : Commit). (257 ≤ c.at) × (c.at < next_of (g.D.Drive.journal l.fn.drive))) l.commits.items;
   fits : l.fn.self.at < 2 ^ 32;
   link : IfSome l.vat.previous (λ number. number + 257 < l.fn.self.at);

@@ -1,17 +1,23 @@
-use Rattle.std.proofs.Common.{◌≡◌, ◌+◌, ◌-◌, ◌<◌, ◌≤◌, ◌++◌, ◌∙◌, ℕ, List, [], Some, length, refl, sym, subst, ap, arith, length-append}
-use Rattle.std.specs.Prelude.{Option, IfSome}
+use Rattle.std.proofs.Common.{◌≡◌, ◌+◌, ◌-◌, ◌<◌, ◌≤◌, ◌++◌, ◌∙◌, ℕ, List, [], Some, inl, inr, length, refl, sym, subst, ap, arith, length-append}
+use Rattle.std.specs.Prelude.{All, Option, IfSome}
+use Rattle.std.proofs.lemmas.Bool.{false≢true}
+use Rattle.std.proofs.lemmas.Result.{err_from_is_err_and}
 use Rattle.drive.specs.Journal.{next_of}
 use Rattle.medium.specs.Plan.{Writing, WritesNodes}
+use Rattle.request.specs.Numbers.{code_number}
 use Rattle.udf.specs.Udf.{udf}
 use Rattle.vat.specs.declared.table.Vat.{Vat}
 use Rattle.vat.specs.Table.{Table, Fits, view}
-use Rattle.store.specs.Below.{AreBelow}
+use Rattle.store.specs.Below.{AreBelow, IsUsed}
 use Rattle.store.specs.Plan.{AreLaid, IsTablePlaced, file_list, file_writings, file_written, directories_list, directories_writings, directories_written}
 use Rattle.store.specs.Needs.{change_need}
 use Rattle.store.specs.NextTable.{all_placed, without_gone}
+use Rattle.store.specs.TableChange.{IsRemovable, committed}
 use Rattle.store.specs.Writings.{new_file}
+use Rattle.store.specs.declared.change.NewDirectory.{NewDirectory}
 use Rattle.store.proofs.BelowLemmas.{below_later}
 use Rattle.store.proofs.Plans.{length-padded, placed_append}
+use Rattle.store.proofs.Taking.{directories_used, file_used, gone_there, made_free}
 use Rattle.store.proofs.Writings.{writes-append}
 use Rattle.store.proofs.store.Store.plan.Goals as goal
 
@@ -102,3 +108,34 @@ pub returns-clause-room : goal.returns-clause-room
 returns-clause-room g c =
     let same = ap (λ (t : Table). change_need c.args.change t) c.in_ok-vat.ensures.table in
     omega (arith, same, c.need.ensures.value, c.saturating_add.ensures, c.from.ensures, c.from-2.ensures, c.if-saturating_add-from.false, c.in-Ok.ensures.next, c.requires.agrees.most)
+
+pub returns-in_err-vat-clause-refused : goal.returns-in_err-vat-clause-refused
+returns-in_err-vat-clause-refused g c takes =
+    let p = err_from_is_err_and c.from_residual.result c.from_residual.ensures.1 in
+    rw p.1 (inl (inr (p.2 ∙ c.in_err-vat.ensures.free (made_free c.args.moment c.args.change (committed c.args.self.now.at c.args.request.now.client c.args.request.now.number (code_number c.args.change.code) (view c.args.self.now.vat)) takes))))
+
+pub returns-in_err-file-clause-refused : goal.returns-in_err-file-clause-refused
+returns-in_err-file-clause-refused g c takes =
+    let used = file_used c.args.moment c.args.change (committed c.args.self.now.at c.args.request.now.client c.args.request.now.number (code_number c.args.change.code) (view c.args.self.now.vat)) takes in
+    let there = subst (λ (t : Table). IfSome c.args.change.file (λ f. IsUsed f.address t.entries)) (sym c.in_ok-vat.ensures.table) used in
+    absurd (false≢true (sym (c.in_err-file.ensures.used there)))
+
+pub returns-in_err-directories-clause-refused : goal.returns-in_err-directories-clause-refused
+returns-in_err-directories-clause-refused g c takes =
+    let p = err_from_is_err_and c.from_residual-in_err-directories.result c.from_residual-in_err-directories.ensures.1 in
+    let used = directories_used c.args.moment c.args.change (committed c.args.self.now.at c.args.request.now.client c.args.request.now.number (code_number c.args.change.code) (view c.args.self.now.vat)) takes c.in_ok-file.file c.in_ok-file.ensures.writings in
+    let table = c.in_ok-file.ensures.table ∙ ap (all_placed (file_written c.in_ok-file.file)) c.in_ok-vat.ensures.table in
+    let there = subst (λ (t : Table). All (λ (d : NewDirectory). IsUsed d.address t.entries) c.args.change.directories.items) (sym table) used in
+    rw p.1 (inl (inr (p.2 ∙ c.in_err-directories.ensures.used there)))
+
+pub returns-in_err-take_away-clause-refused : goal.returns-in_err-take_away-clause-refused
+returns-in_err-take_away-clause-refused g c takes =
+    let gone = gone_there c.args.moment c.args.change (committed c.args.self.now.at c.args.request.now.client c.args.request.now.number (code_number c.args.change.code) (view c.args.self.now.vat)) takes c.in_ok-file.file c.in_ok-file.ensures.writings c.in_ok-directories.directories.items c.in_ok-directories.ensures.writings in
+    let table = c.in_ok-directories.ensures.table ∙ ap (all_placed (directories_written c.in_ok-directories.directories.items)) (c.in_ok-file.ensures.table ∙ ap (all_placed (file_written c.in_ok-file.file)) c.in_ok-vat.ensures.table) in
+    let there = subst (λ (t : Table). IfSome c.args.change.removed (λ node. IsRemovable node.kind node.address t)) (sym table) gone in
+    absurd (false≢true (sym (c.in_err-take_away.ensures.there there)))
+
+pub returns-in_err-new-clause-refused : goal.returns-in_err-new-clause-refused
+returns-in_err-new-clause-refused g c takes =
+    let p = err_from_is_err_and c.from_residual-in_err-new.result c.from_residual-in_err-new.ensures.1 in
+    rw p.1 (inl (inr p.2))

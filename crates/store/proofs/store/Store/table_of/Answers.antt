@@ -1,14 +1,21 @@
-use Rattle.std.proofs.Common.{◌+◌, ◌<◌, ◌≤◌, ◌^◌, ◌∙◌, refl, suc, arith}
-use Rattle.drive.specs.Journal.{held, next_of}
+use Rattle.std.proofs.Common.{◌+◌, ◌<◌, ◌≤◌, ◌^◌, ◌∙◌, List, refl, subst, suc, arith}
+use Rattle.std.proofs.lemmas.Result.{err_from_is_err_and}
+use Rattle.drive.specs.Journal.{Event, held, next_of}
 use Rattle.vat.specs.Table.{view}
 use Rattle.recover.specs.Faults.{Counts}
-use Rattle.store.proofs.Histories.{link_below, next_behind, one_before}
+use Rattle.medium.specs.Formats.{Table_}
+use Rattle.recover.proofs.Told.{one_read}
+use Rattle.recover.specs.Tables.{IsLinkRefused}
+use Rattle.store.proofs.Histories.{link_below, next_behind, no_link, one_before}
+use Rattle.store.proofs.Ways.{more_than, way_end, way_first, way_link}
 use Rattle.store.proofs.store.Store.table_of.Goals as goal
 
 pub loop-vat-init : goal.loop-vat-init
 loop-vat-init g c = record {
   leads = λ h. (0, refl);
   table = c.in_ok-vat.ensures.table;
+  more = λ h first there le. subst (λ (t : Table_). c.args.commit ≤ t.commits) (one_read (held (g.D.Drive.journal c.args.drive.now)) c.args.self.now.at first (view c.in_ok-vat.vat) there (c.in_ok-vat.ensures.table h)) le;
+  first = c.in_ok-vat.ensures.first;
   low = (let low : 257 ≤ c.args.self.now.at = omega (arith, c.requires.agrees.keeps.low) in low);
   high = c.requires.agrees.on;
   fits = (let fits : c.args.self.now.at < 2 ^ 32 = omega arith in fits);
@@ -41,6 +48,10 @@ loop-vat-preserved g c =
             ),
           );
       table = λ h. rw c.loop-vat.invariant.journal at (c.in_ok-vat-2.ensures.table h);
+      more = λ h first there le.
+          let less = more_than c.args.commit c.loop-vat.vat.sessions.commits (c.loop-vat.invariant.more (c.linked.ensures.honest h) first there le) c.loop-vat-test.true in
+          omega (arith, less, c.in_ok-vat-2.ensures.commits);
+      first = c.in_ok-vat-2.ensures.first;
       low = (let low : 257 ≤ c.in-Some.number + 257 = omega arith in low);
       high = (let high : c.in-Some.number + 257 < next_of (g.D.Drive.journal c.args.drive.now) = omega (arith, below, c.loop-vat.invariant.high) in high);
       fits = (let fits : c.in-Some.number + 257 < 2 ^ 32 = omega (arith, below, c.loop-vat.invariant.fits) in fits);
@@ -55,3 +66,23 @@ pub returns-clause-table : goal.returns-clause-table
 returns-clause-table g c = λ h.
     let leads = c.loop-vat.invariant.leads h in
     record { steps = leads.0; leads = leads.1; table = c.loop-vat.invariant.table h; commits_are = c.loop-vat-test.false }
+
+pub returns-in_err-vat-clause-refused : goal.returns-in_err-vat-clause-refused
+returns-in_err-vat-clause-refused g c =
+    let q = err_from_is_err_and c.from_residual.result c.from_residual.ensures.1 in
+    rw (q.1, q.2) (λ h. way_first (held (g.D.Drive.journal c.args.drive.now)) c.args.self.now.at c.args.commit _ (c.in_err-vat.ensures.refused h))
+
+pub returns-in_default-clause-refused : goal.returns-in_default-clause-refused
+returns-in_default-clause-refused g c = rw c.damaged.ensures (λ h.
+    way_end (held (g.D.Drive.journal c.args.drive.now)) c.args.self.now.at c.args.commit (view c.loop-vat.vat) (no_link _ c.in_default.not-Some) c.loop-vat.invariant.first c.loop-vat-test.true
+    (c.loop-vat.invariant.more h) 0 0)
+
+pub returns-in_err-vat-2-clause-refused : goal.returns-in_err-vat-2-clause-refused
+returns-in_err-vat-2-clause-refused g c =
+    let q = err_from_is_err_and c.from_residual-in_err-vat-2.result c.from_residual-in_err-vat-2.ensures.1 in
+    rw (q.1, q.2) (λ h.
+    let now = c.linked.ensures.honest h in
+    let leads = c.loop-vat.invariant.leads now in
+    let refused = subst (λ (K : List Event). IsLinkRefused (held K) (c.in-Some.number + 257) c.loop-vat.vat.sessions.commits c.in_err-vat-2.field-0.0) c.loop-vat.invariant.journal (c.in_err-vat-2.ensures.refused h) in
+    way_link (held (g.D.Drive.journal c.args.drive.now)) c.args.self.now.at c.args.commit leads.0 c.loop-vat.at c.in-Some.number (view c.loop-vat.vat) leads.1 (c.loop-vat.invariant.table now) c.in-Some.is
+    (λ first there le. more_than c.args.commit c.loop-vat.vat.sessions.commits (c.loop-vat.invariant.more now first there le) c.loop-vat-test.true) _ refused)

@@ -1,0 +1,163 @@
+-- What becomes of a new request, by where its commit ends.
+use Rattle.std.proofs.Common.{◌≡◌, ◌⊎◌, inl, inr, ℕ, ◌+◌, ◌<◌, ◌≤◌, true, List, [], ◌∷◌, ◌++◌, length, refl, sym, ap, subst, ◌∙◌, arith, append_assoc, append-nil}
+use Rattle.std.specs.Prelude.{Result, Ok, Err, IfOk, IfErr, OnOk, OnErr, is_err}
+use Rattle.std.proofs.lemmas.Bool.{false≢true}
+use Rattle.std.proofs.lemmas.List.{take_all}
+use Rattle.drive.specs.Journal.{AddsFront, Event, held, next_of, written}
+use Rattle.drive.proofs.Fronts.{held_write}
+use Rattle.model.specs.Addresses.{free_address}
+use Rattle.model.specs.Session.{State, after_one, reply_to}
+use Rattle.medium.specs.Commit.{need}
+use Rattle.medium.specs.Formats.{Block}
+use Rattle.medium.specs.Journal.{Advances}
+use Rattle.medium.specs.Plan.{IsPlanned}
+use Rattle.medium.specs.Volume.{Medium, Stands}
+use Rattle.recover.specs.Faults.{IsShortage}
+use Rattle.recover.specs.declared.fault.StoreFault.{StoreFault}
+use Rattle.recover.specs.declared.fault.StoreFault.TheVariants as fault
+use Rattle.request.specs.Numbers.{code_number}
+use Rattle.request.specs.declared.answer.Reply as told
+use Rattle.request.specs.declared.message.Request as asking
+use Rattle.udf.specs.Said.{said_table}
+use Rattle.udf.specs.Udf.{udf, spelled}
+use Rattle.vat.specs.Table.{view}
+use Rattle.store.specs.declared.change.Change.{Change}
+use Rattle.store.specs.declared.plan.Plan.{Plan}
+use Rattle.store.specs.declared.store.Store.{Store}
+use Rattle.store.specs.Asked.{said_operation, said_request}
+use Rattle.store.specs.Cache.{AreKept}
+use Rattle.store.specs.Calls.{Applies, IsDone, IsFailed, Knows, Refuses}
+use Rattle.store.specs.Changes.{Does}
+use Rattle.store.specs.Commits.{IsPart, IsWhole}
+use Rattle.store.specs.Needs.{change_need}
+use Rattle.store.specs.NextTable.{begun}
+use Rattle.store.specs.Plan.{IsPlan, node_list, plan_blocks, table_data}
+use Rattle.store.specs.Putting.{Makes}
+use Rattle.store.specs.Sessions.{reply_said}
+use Rattle.store.specs.Shows.{graph_below}
+use Rattle.store.proofs.Committed.{commits_are_part, commits_are_whole, tables_stand}
+use Rattle.store.proofs.Knowing.{at_is, commits, need_is, next_is, planned, planned_blocks, planned_table}
+
+module _ (capacity volume : ℕ) (J : List Event) (S : State) (store : Store) (knows : Knows capacity volume J S store) where
+  -- nothing is written
+  pub stays : Advances udf capacity volume J S J S
+  stays = record {
+    front = take_all (length J) J (omega arith);
+    once = knows.once;
+    moves = record {
+      more = ([], sym (append-nil (held J)));
+      fronts = λ k low below. absurd (omega (arith, low, below));
+      ends = knows.stands;
+      past = λ commits state h. h;
+    };
+  }
+
+  -- the drive failed before anything was written, or memory was short
+  pub short : (r : asking.Request) (refusal : StoreFault) (J' : List Event) (now : Store) → IsShortage refusal → J' ≡ J → Knows capacity volume J' S now → Refuses capacity volume J S (said_request r) refusal J' now
+  short r refusal J' now (inl device) same again = inl (
+    device,
+    record {
+      done = [];
+      whether = inl refl;
+      advances = subst (λ (K : List Event). Advances udf capacity volume J S K S) (sym same) stays;
+      few = omega (arith, ap (λ (K : List Event). length K) same);
+      room = λ more. absurd (omega (arith, more, ap (λ (K : List Event). length K) same));
+      knows = λ going. again;
+    },
+  )
+  short r refusal J' now (inr memory) same again = inr (inl (memory, record { journal = same; knows = λ going. again }))
+
+  module _ (r : asking.Request) (change : Change) (does : Does (graph_below store.at store.vat.entries.items J) (free_address store.vat.entries.items) S.tree (said_operation r.op) r.moment store.vat.sessions.next_unique change) where
+    -- so many blocks from the end of the journal on
+    abbrev most : ℕ
+    most = next_of J + change_need change (begun store.at r.client r.number (code_number change.code) change.made (view store.vat))
+
+    most_is : most ≡ length J + need spelled S (said_request r)
+    most_is = λ i. next_is capacity volume J S store knows i + need_is capacity volume J S store knows r change does i
+
+    -- there may be no room
+    pub full : (refusal : StoreFault) (J' : List Event) (now : Store) → IsShortage refusal ⊎ (refusal ≡ fault.Full) → (refusal ≡ fault.Full → store.capacity < most) → J' ≡ J → Knows capacity volume J' S now
+        → Refuses capacity volume J S (said_request r) refusal J' now
+    full refusal J' now (inl few) over same again = short r refusal J' now few same again
+    full refusal J' now (inr is) over same again = inr (inr (is, record { journal = same; knows = λ going. again }, omega (arith, over is, most_is, knows.capacity_is)))
+
+    module _ (plan : Plan) (makes : Makes store r change plan) (is : IsPlan (next_of J) capacity plan) (room : most ≤ store.capacity) where
+      abbrev blocks : List Block
+      blocks = planned_blocks capacity volume J S store knows r change does plan makes is
+
+      roomy : length J + need spelled S (said_request r) ≤ volume
+      roomy = omega (arith, room, most_is, knows.capacity_is)
+
+      all_is : plan_blocks plan ≡ blocks ++ plan.table.entry ∷ []
+      all_is = sym (append_assoc (node_list plan) (table_data plan.table) (plan.table.entry ∷ []))
+
+      next : next_of J ≡ length J
+      next = next_is capacity volume J S store knows
+
+      abbrev plans : IsPlanned udf capacity volume (held J) S knows.stands (said_request r) blocks plan.table.entry
+      plans = planned capacity volume J S store knows r change does plan makes is
+
+      -- a front is written
+      pub stopped : (J' : List Event) (now : Store) → now.is_stopped ≡ true → AddsFront J (next_of J) (plan_blocks plan) J' → IsFailed capacity volume J S (said_request r) J' now
+      stopped J' now stops front =
+          let there : AddsFront J (length J) (blocks ++ plan.table.entry ∷ []) J' = subst (λ (n : ℕ). AddsFront J n (blocks ++ plan.table.entry ∷ []) J') next (subst (λ (bs : List Block). AddsFront J (next_of J) bs J') all_is front) in
+          let part : IsPart capacity volume J S (said_request r) J' = commits_are_part capacity volume J J' S (said_request r) blocks plan.table.entry knows.once knows.stands plans there in
+          record {
+            done = part.done;
+            whether = part.whether;
+            advances = part.advances;
+            few = part.few;
+            room = λ more. roomy;
+            knows = λ going. absurd (false≢true (sym going ∙ stops));
+          }
+
+      -- all is written
+      module _ (J' : List Event) (whole_is : J' ≡ J ++ written (next_of J) (plan_blocks plan)) where
+        there_all : J' ≡ J ++ written (length J) (blocks ++ plan.table.entry ∷ [])
+        there_all = whole_is ∙ (λ i. J ++ written (next i) (all_is i))
+
+        pub whole : IsWhole capacity volume J S (said_request r) J'
+        whole = commits_are_whole capacity volume J J' S (said_request r) blocks plan.table.entry knows.once knows.stands plans there_all
+
+        -- the table that stands there is the plan's
+        stands_there : (later : Stands udf capacity volume (held J') (after_one S (said_request r))) → (later.at ≡ length (held J) + length blocks) × (later.tells.table ≡ plans.table)
+        stands_there =
+            subst (λ (M : Medium). (later : Stands udf capacity volume M (after_one S (said_request r))) → (later.at ≡ length (held J) + length blocks) × (later.tells.table ≡ plans.table))
+            (append_assoc (held J) blocks (plan.table.entry ∷ []) ∙ sym (held_write J J' (length J) (blocks ++ plan.table.entry ∷ []) knows.once refl there_all))
+            (tables_stand capacity volume (held J) S (said_request r) blocks plan.table.entry knows.stands plans (after_one S (said_request r)))
+
+        pub knows_done : (now : Store) → now.at ≡ plan.table.at → now.vat ≡ plan.table.vat → now.capacity ≡ store.capacity → AreKept J' now.directories → Knows capacity volume J' (after_one S (said_request r)) now
+        knows_done now at vat size kept =
+            let later : Stands udf capacity volume (held J') (after_one S (said_request r)) = whole.advances.moves.ends in
+            let same = stands_there later in
+            record {
+              once = whole.advances.once;
+              stands = later;
+              at = at ∙ at_is capacity volume J S store knows r change does plan makes is ∙ sym same.0;
+              table = ap (λ v. said_table (view v)) vat ∙ sym (planned_table capacity volume J S store knows r change does plan makes is) ∙ sym same.1;
+              capacity_is = size ∙ knows.capacity_is;
+              kept = kept;
+            }
+
+        pub done : (reply : told.Reply) (now : Store) → reply ≡ plan.reply → now.at ≡ plan.table.at → now.vat ≡ plan.table.vat → now.capacity ≡ store.capacity → AreKept J' now.directories
+            → IsDone capacity volume J S (said_request r) reply J' now
+        done reply now said at vat size kept = record {
+          reply_is = ap reply_said said ∙ reply_planned;
+          advances = whole.advances;
+          some = whole.some;
+          few = whole.few;
+          room = roomy;
+          knows = λ going. knows_done now at vat size kept;
+        }
+          where
+            reply_planned : reply_said plan.reply ≡ reply_to S (said_request r)
+            reply_planned = λ i. record { code = (ap code_number makes.code ∙ does.code_is) i; commit = (makes.commit ∙ ap (λ (n : ℕ). n + 1) (commits capacity volume J S store knows)) i }
+
+      -- by what the commit answered
+      pub applies : (result : Result told.Reply StoreFault) (K J' : List Event) (now : Store) → K ≡ J → IfOk result (λ reply. reply ≡ plan.reply) → OnOk result (now.at ≡ plan.table.at) → OnOk result (now.vat ≡ plan.table.vat)
+          → OnOk result (J' ≡ K ++ written (next_of K) (plan_blocks plan)) → OnErr result (AddsFront K (next_of K) (plan_blocks plan) J') → IfErr result (λ refusal. refusal ≡ fault.Device)
+          → now.is_stopped ≡ is_err result → now.capacity ≡ store.capacity → AreKept J' now.directories → Applies capacity volume J S (said_request r) result J' now
+      applies (Ok reply) K J' now same said at vat written_is front device stops size kept =
+          done J' (written_is ∙ ap (λ (L : List Event). L ++ written (next_of L) (plan_blocks plan)) same) reply now said at vat size kept
+      applies (Err refusal) K J' now same said at vat written_is front device stops size kept =
+          inl (device, stopped J' now stops (subst (λ (L : List Event). AddsFront L (next_of L) (plan_blocks plan) J') same front))

@@ -1,0 +1,20 @@
+-- Why a medium is not opened.
+use Rattle.std.specs.Prelude.{⊤, ℕ, List}
+use Rattle.model.specs.Session.{State}
+use Rattle.medium.specs.Volume.{Stands}
+use Rattle.recover.specs.declared.fault.StoreFault.{StoreFault}
+use Rattle.recover.specs.declared.fault.StoreFault.TheVariants.{Device, Memory, NotFormatted, Damaged}
+use Rattle.recover.specs.Tables.{HasNoneFrom}
+use Rattle.udf.specs.Udf.{udf}
+
+-- nothing stands on the medium, on a drive of this capacity
+abbrev pub NothingStands : ℕ → List (List ℕ) → Type 0
+NothingStands capacity medium = (volume : ℕ) (S : State) → Stands udf capacity volume medium S → ⊥
+
+-- the drive failed, memory was short, no table's entry is there, or nothing stands
+abbrev pub IsOpenRefused : ℕ → List (List ℕ) → StoreFault → Type 0
+IsOpenRefused capacity medium Device = ⊤
+IsOpenRefused capacity medium Memory = ⊤
+IsOpenRefused capacity medium NotFormatted = HasNoneFrom medium 257
+IsOpenRefused capacity medium (Damaged block cause) = NothingStands capacity medium
+IsOpenRefused capacity medium _ = ⊥

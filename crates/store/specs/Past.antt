@@ -1,0 +1,44 @@
+-- The states that stood, as a store tells of them.
+use Rattle.std.specs.Prelude.{◌≡◌, ⊤, ℕ, ◌<◌, ◌≤◌, List, []}
+use Rattle.drive.specs.Journal.{Event, held, next_of}
+use Rattle.model.specs.Graph.{MakesTree}
+use Rattle.model.specs.Session.{State}
+use Rattle.model.specs.Tree.{IsTree, identity_at}
+use Rattle.medium.specs.Volume.{Past}
+use Rattle.udf.specs.Said.{said_table}
+use Rattle.udf.specs.Udf.{udf}
+use Rattle.vat.specs.declared.table.Vat.{Vat}
+use Rattle.vat.specs.Table.{view}
+use Rattle.recover.specs.declared.fault.StoreFault.{StoreFault}
+use Rattle.recover.specs.declared.fault.StoreFault.TheVariants.{Device, Memory, Damaged, NoCommit}
+use Rattle.store.specs.Shows.{graph_below}
+
+-- the state after so many commits stood, and this table, whose entry stands at an address, leads to its nodes
+pub record IsPast (capacity volume : ℕ) (journal : List Event) (commits : ℕ) (S : State) (at : ℕ) (vat : Vat) : Type 0 where
+  pub past : Past udf capacity volume (held journal) commits S
+  pub tree : IsTree S.tree
+  pub makes : MakesTree (graph_below at vat.entries.items journal) S.tree
+  pub root : identity_at S.tree [] ≡ 0
+  pub within : at < next_of journal
+  pub records : (said_table (view vat)).records ≡ S.records
+  pub commits_are : vat.sessions.commits ≡ commits
+
+-- why the state after so many commits, of as many as there are now, is not shown: the drive failed, memory was short,
+-- there are fewer, or none stood
+abbrev pub IsPastRefused : ℕ → ℕ → List (List ℕ) → ℕ → ℕ → StoreFault → Type 0
+IsPastRefused capacity volume medium now commits Device = ⊤
+IsPastRefused capacity volume medium now commits Memory = ⊤
+IsPastRefused capacity volume medium now commits NoCommit = now < commits
+IsPastRefused capacity volume medium now commits (Damaged block cause) = (S : State) → Past udf capacity volume medium commits S → ⊥
+IsPastRefused capacity volume medium now commits _ = ⊥
+
+-- a state stood after each of so many commits
+abbrev pub AreWhole : ℕ → ℕ → List (List ℕ) → ℕ → Type 0
+AreWhole capacity volume medium commits = (k : ℕ) → k ≤ commits → (S : State) × Past udf capacity volume medium k S
+
+-- why so many commits are not told: the drive failed, memory was short, or after one of them no state stood
+abbrev pub IsCheckRefused : ℕ → ℕ → List (List ℕ) → ℕ → StoreFault → Type 0
+IsCheckRefused capacity volume medium commits Device = ⊤
+IsCheckRefused capacity volume medium commits Memory = ⊤
+IsCheckRefused capacity volume medium commits (Damaged block cause) = AreWhole capacity volume medium commits → ⊥
+IsCheckRefused capacity volume medium commits _ = ⊥
