@@ -1,6 +1,8 @@
+pub mod Opening
 pub mod Holding
 pub mod Calling
 pub mod Running
+pub mod Served
 pub mod Messages
 pub mod Delivering
 pub mod Pieces

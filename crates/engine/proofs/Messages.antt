@@ -1,5 +1,5 @@
 -- What was answered and written so far, and then a message more.
-use Rattle.std.proofs.Common.{◌≡◌, ℕ, ◌+◌, ◌<◌, List, [], ◌∷◌, ◌++◌, length, take, Option, Some, None, refl, sym, ap, subst, ◌∙◌, append_assoc, arith, length-append, inl, Bool, true, false, Result, Ok, Err, rules}
+use Rattle.std.proofs.Common.{◌≡◌, ℕ, ◌+◌, ◌<◌, List, [], ◌∷◌, ◌++◌, length, take, Option, Some, None, refl, sym, ap, subst, ◌∙◌, append_assoc, arith, length-append, inl, inr, Bool, true, false, Result, Ok, Err, rules}
 use Rattle.std.specs.Prelude.{OnErr, OnOk, is_err, is_none}
 use Rattle.std.specs.Io.KnownBytes.{Appends, Consumes, Keeps}
 use Rattle.std.proofs.lemmas.List.{append-nil}
@@ -11,14 +11,14 @@ use Rattle.request.specs.Answers.{answer_frame}
 use Rattle.request.specs.Frames.{Takes, IsIdle, MessagesAre, fed}
 use Rattle.request.proofs.FrameLaws.{feeding, taking}
 use Rattle.engine.specs.Situation.{Situation}
-use Rattle.engine.specs.Answered.{Answered}
 use Rattle.engine.specs.Streams.{PutsFront, TakesPiece}
-use Rattle.engine.specs.Served.{AllAnswered, AllTaken, frames_of, Answering, AnswersSome, Serving, ServesSome, ServesAll}
+use Rattle.engine.specs.Served.{AllAnswered, IsAnswered, AllTaken, frames_of, Answering, AnswersSome, Serving, ServesSome, ServesAll}
+use Rattle.engine.proofs.Served.{served_holds}
 
 -- one message more was answered
 pub answered_more : (messages : List Message) (answers : List Answer) (s t u : Situation) (m : Message) (a : Answer)
-    → AllAnswered messages s answers t → Answered m t a u → AllAnswered (messages ++ m ∷ []) s (answers ++ a ∷ []) u
-answered_more [] [] s t u m a h k = (u, subst (λ (x : Situation). Answered m x a u) h k, refl)
+    → AllAnswered messages s answers t → IsAnswered m t a u → AllAnswered (messages ++ m ∷ []) s (answers ++ a ∷ []) u
+answered_more [] [] s t u m a h k = (u, subst (λ (x : Situation). IsAnswered m x a u) h k, refl)
 answered_more [] (b ∷ answers) s t u m a h k = absurd h
 answered_more (n ∷ messages) [] s t u m a h k = absurd h
 answered_more (n ∷ messages) (b ∷ answers) s t u m a h k = (h.0, h.1, answered_more messages answers h.0 t u m a h.2 k)
@@ -106,7 +106,7 @@ answering_none reader s o = record { messages = []; answers = []; taken = refl; 
 
 -- one message more was taken and answered
 pub answering_more : (reader between after : Option (List ℕ)) (s t u : Situation) (o v w : Option (List ℕ)) (m : Message) (a : Answer)
-    → Answering reader between s t o v → Takes between m after → Answered m t a u → Appends v w (answer_frame a) → Answering reader after s u o w
+    → Answering reader between s t o v → Takes between m after → IsAnswered m t a u → Appends v w (answer_frame a) → Answering reader after s u o w
 answering_more reader between after s t u o v w m a h takes answered told = record {
   messages = h.messages ++ m ∷ [];
   answers = h.answers ++ a ∷ [];
@@ -118,7 +118,7 @@ answering_more reader between after s t u o v w m a h takes answered told = reco
 
 -- the same where a front of the answer's frame was written
 pub answering_some : (reader between after : Option (List ℕ)) (s t u : Situation) (o v w : Option (List ℕ)) (m : Message) (a : Answer)
-    → Answering reader between s t o v → Takes between m after → Answered m t a u → PutsFront v w (answer_frame a) → AnswersSome reader after s u o w
+    → Answering reader between s t o v → Takes between m after → IsAnswered m t a u → PutsFront v w (answer_frame a) → AnswersSome reader after s u o w
 answering_some reader between after s t u o v w m a h takes answered front = record {
   messages = h.messages ++ m ∷ [];
   answers = h.answers ++ a ∷ [];
@@ -170,17 +170,20 @@ serving_more reader between after s t u i l n o v w piece h takes e more = recor
 -- the same where a front of their answers was written
 pub serving_some : (reader between after : Option (List ℕ)) (s t u : Situation) (i l n o v w : Option (List ℕ)) (piece : List ℕ)
     → Serving reader s t i l o v → TakesPiece l n piece → between ≡ fed reader piece → AnswersSome between after t u v w → ServesSome s u i n o w
-serving_some reader between after s t u i l n o v w piece h takes e more = record {
-  bytes = h.bytes ++ piece;
-  messages = h.messages ++ more.messages;
-  answers = h.answers ++ more.answers;
-  reader = after;
-  consumed = consumes_more i l n h.bytes piece h.consumed takes.consumed;
-  messages_are = messages_taken more.messages h.messages (h.bytes ++ piece) between after
-      (subst (λ (r : Option (List ℕ)). MessagesAre (h.bytes ++ piece) h.messages r) (sym e) (feeding h.messages h.bytes piece reader h.messages_are)) more.taken;
-  answered = answered_append h.messages h.answers more.messages more.answers s t u h.answered more.answered;
-  front = subst (λ (x : List ℕ). PutsFront o w x) (sym (frames_append h.answers more.answers)) (front_more o v w (frames_of h.answers) (frames_of more.answers) h.told more.front);
-}
+serving_some reader between after s t u i l n o v w piece h takes e more =
+    let answered : AllAnswered (h.messages ++ more.messages) s (h.answers ++ more.answers) u = answered_append h.messages h.answers more.messages more.answers s t u h.answered more.answered in
+    record {
+      bytes = h.bytes ++ piece;
+      messages = h.messages ++ more.messages;
+      answers = h.answers ++ more.answers;
+      reader = after;
+      consumed = consumes_more i l n h.bytes piece h.consumed takes.consumed;
+      messages_are = messages_taken more.messages h.messages (h.bytes ++ piece) between after
+          (subst (λ (r : Option (List ℕ)). MessagesAre (h.bytes ++ piece) h.messages r) (sym e) (feeding h.messages h.bytes piece reader h.messages_are)) more.taken;
+      answered = answered;
+      holds = served_holds (h.messages ++ more.messages) s (h.answers ++ more.answers) u answered;
+      front = subst (λ (x : List ℕ). PutsFront o w x) (sym (frames_append h.answers more.answers)) (front_more o v w (frames_of h.answers) (frames_of more.answers) h.told more.front);
+    }
 
 whole_front : (a b : Option (List ℕ)) (x : List ℕ) → Appends a b x → PutsFront a b x
 whole_front a b x h = (length x, subst (λ (y : List ℕ). Appends a b y) (sym (take-length x)) h)
@@ -196,6 +199,7 @@ serving_read reader s t i l n o v piece h takes = record {
   consumed = consumes_more i l n h.bytes piece h.consumed takes.consumed;
   messages_are = feeding h.messages h.bytes piece reader h.messages_are;
   answered = h.answered;
+  holds = served_holds h.messages s h.answers t h.answered;
   front = whole_front o v (frames_of h.answers) h.told;
 }
 
@@ -215,6 +219,7 @@ serving_kept reader s t i l n o v h k = record {
   consumed = consumes_kept i l n h.bytes h.consumed k;
   messages_are = h.messages_are;
   answered = h.answered;
+  holds = served_holds h.messages s h.answers t h.answered;
   front = whole_front o v (frames_of h.answers) h.told;
 }
 
@@ -241,9 +246,14 @@ serving_ends reader s t i l n o v piece h idle takes none = record {
     answered = h.answered;
     told = h.told;
   };
+  holds = served_holds h.messages s h.answers t h.answered;
   idle = idle;
   ends = inl (takes.end none);
 }
+
+-- a frame was too long
+pub serving_over : (reader : Option (List ℕ)) (s t : Situation) (i l o v : Option (List ℕ)) → Serving reader s t i l o v → IsIdle reader → reader ≡ None → ServesAll s t i l o v
+serving_over reader s t i l o v h idle none = record { reader = reader; serving = h; holds = served_holds h.messages s h.answers t h.answered; idle = idle; ends = inr none }
 
 -- what holds of an `Err` may be shown of any
 pub on_err : {T E : Type 0} (r : Result T E) (X : Type 0) → X → OnErr r X

@@ -1,16 +1,19 @@
 -- A message that needed the store was answered.
-use Rattle.std.proofs.Common.{◌≡◌, ℕ, ◌+◌, ◌≤◌, ◌++◌, List, Option, Bool, IsTrue, sym, ap, subst, ◌∙◌, inr, arith}
+use Rattle.std.proofs.Common.{◌≡◌, ℕ, ◌+◌, ◌≤◌, ◌++◌, List, Option, Bool, IsTrue, sym, ap, subst, ◌∙◌, inl, inr, arith}
 use Rattle.drive.specs.Journal.{Event}
-use Rattle.model.specs.Session.{Due}
+use Rattle.model.specs.Session.{State, Due}
 use Rattle.model.specs.Session.Due.{New}
 use Rattle.recover.specs.Faults.{Counts}
 use Rattle.request.specs.declared.answer.Answer.{Answer}
 use Rattle.request.specs.declared.message.Message.{Message}
 use Rattle.request.specs.declared.message.Message.TheVariants as message
+use Rattle.request.specs.declared.message.Query.{Query}
 use Rattle.request.specs.declared.message.Request.{Request}
 use Rattle.store.specs.declared.store.Store.{Store}
+use Rattle.store.specs.Calls.{Knows}
 use Rattle.engine.specs.Situation.{Situation, Follows, situation}
 use Rattle.engine.specs.Answered.{Answered, due_of, IsCommitted, IsDue, Opens, Row, faults}
+use Rattle.engine.specs.Called.{Calls, IsApplied, IsDealt, IsRead, IsShort, Uses}
 
 -- the same store beside a drive that was not called
 pub same_situation : {X : Type 0} (j : X → List Event) (f c : X → ℕ) (h : X → Bool) (s t : Option Store) (d e : X)
@@ -49,5 +52,31 @@ request_answered asked request before during after store a e o due follows failu
 pub committed_due : (due : Due) (before : Situation) (a : Answer) (after : Situation) → New ≡ due → IsCommitted before a after → IsDue due before a after
 committed_due due before a after e h = subst (λ (d : Due). IsDue d before a after) e h
 
+pub dealt_new : (due : Due) (volume : ℕ) (S : State) (request : Request) (during : Situation) (store : Store) (a : Answer) (behind : Situation) → New ≡ due
+    → IsApplied volume S request during a behind → IsDealt due volume S request during store a behind
+dealt_new due volume S request during store a behind e h = subst (λ (d : Due). IsDealt d volume S request during store a behind) e h
+
 pub counts_as : (m n f g : ℕ) → m ≡ n → Counts n f g → Counts m f g
 counts_as m n f g e h = subst (λ (k : ℕ). Counts k f g) (sym e) h
+
+-- ---- at the state that stands
+
+-- what a store knows, beside a drive that shows the same
+pub knows_there : (capacity later volume : ℕ) (J K : List Event) (S : State) (store : Store) → later ≡ capacity → K ≡ J → Knows capacity volume J S store → Knows later volume K S store
+knows_there capacity later volume J K S store size journal knows =
+    subst (λ (c : ℕ). Knows c volume K S store) (sym size) (subst (λ (L : List Event). Knows capacity volume L S store) (sym journal) knows)
+
+module _ (volume : ℕ) (S : State) where
+  pub request_calls : (asked : Message) (request : Request) (before during behind : Situation) (store : Store) (a : Answer) → asked ≡ message.Request request → Uses volume S before during store
+      → IsDealt (due_of store request.client request.number) volume S request during store a behind → Calls volume asked S before a behind
+  request_calls asked request before during behind store a e uses dealt = subst (λ (m : Message). Calls volume m S before a behind) (sym e) (inr (during, store, uses, dealt))
+
+  pub request_short : (asked : Message) (request : Request) (before : Situation) (a : Answer) (behind : Situation) → asked ≡ message.Request request → IsShort before a behind → Calls volume asked S before a behind
+  request_short asked request before a behind e short = subst (λ (m : Message). Calls volume m S before a behind) (sym e) (inl short)
+
+  pub query_calls : (asked : Message) (query : Query) (before during behind : Situation) (store : Store) (a : Answer) → asked ≡ message.Query query → Uses volume S before during store
+      → IsRead volume S query during a behind → Calls volume asked S before a behind
+  query_calls asked query before during behind store a e uses read = subst (λ (m : Message). Calls volume m S before a behind) (sym e) (inr (during, store, uses, read))
+
+  pub query_short : (asked : Message) (query : Query) (before : Situation) (a : Answer) (behind : Situation) → asked ≡ message.Query query → IsShort before a behind → Calls volume asked S before a behind
+  query_short asked query before a behind e short = subst (λ (m : Message). Calls volume m S before a behind) (sym e) (inl short)

@@ -1,16 +1,22 @@
 -- A run on an honest drive, one delivery more at a time.
-use Rattle.std.proofs.Common.{◌≡◌, ℕ, List, [], ◌∷◌, ◌++◌, Option, Some, None, refl, sym, ap, ◌∙◌, subst, append_assoc, append-nil}
+use Rattle.std.proofs.Common.{◌≡◌, ℕ, ◌+◌, ◌<◌, ◌≤◌, Bool, IsTrue, List, [], ◌∷◌, ◌++◌, length, take, get_or, Option, Some, None, refl, sym, ap, ◌∙◌, subst, append_assoc, append-nil}
 use Rattle.std.specs.Option.{option_to_list}
+use Rattle.std.proofs.lemmas.List.{take_all, take_more}
+use Rattle.drive.specs.Journal.{Event, held, Once}
 use Rattle.request.specs.declared.answer.Answer.{Answer}
 use Rattle.model.specs.Session.{State}
+use Rattle.medium.specs.Volume.{Stands}
 use Rattle.medium.specs.Runs.{Delivery}
 use Rattle.medium.specs.Runs as medium
+use Rattle.udf.specs.Udf.{udf}
+use Rattle.store.specs.declared.store.Store.{Store}
 use Rattle.engine.specs.declared.runs.Delivery as delivered
 use Rattle.engine.specs.declared.runs.Delivery.TheVariants.{Frame, Restart}
 use Rattle.engine.specs.Situation.{Situation, situation}
+use Rattle.engine.specs.Delivered.{Delivers}
 use Rattle.engine.specs.Said.{IsSaid, AllSaid, said_answer, said_message}
 use Rattle.engine.specs.Steps.{IsAt, IsStep, AllSteps}
-use Rattle.engine.specs.Headline.{DeliversBy, said_answers, RunsBegin, RunsGoOn, RunsAreHeld}
+use Rattle.engine.specs.Headline.{DeliversBy, IsRun, RunHolds, said_answers, RunsBegin, RunsGoOn, RunsAreHeld}
 use Rattle.engine.proofs.Calling.{none_knows, calls_are_steps, restarts_are_steps}
 use Rattle.engine.proofs.Holding.{steps_hold}
 
@@ -31,7 +37,7 @@ delivers_step volume (Frame payload) S before (Some a) behind at (m, tells, call
 
 module _ (volume : ℕ) where
   -- what stands behind the last step
-  at_end : (ds : List Delivery) (S : State) (before : Situation) (answers : List medium.Answer) (T : State) (behind : Situation) → IsAt volume S before → AllSteps volume ds S before answers T behind → IsAt volume T behind
+  pub at_end : (ds : List Delivery) (S : State) (before : Situation) (answers : List medium.Answer) (T : State) (behind : Situation) → IsAt volume S before → AllSteps volume ds S before answers T behind → IsAt volume T behind
   at_end [] S before answers T behind at (none, state, same) = subst (λ (U : State). IsAt volume U behind) (sym state) (subst (λ (s : Situation). IsAt volume S s) (sym same) at)
   at_end (d ∷ ds) S before answers T behind at (a, U, during, rest, step, told, steps) = at_end ds U during rest T behind step.at steps
 
@@ -87,3 +93,45 @@ runs_go_on volume deliveries S before answers during at run d told behind delive
 pub runs_are_held : RunsAreHeld
 runs_are_held volume deliveries S before answers behind at run =
     record { said = run.said; are_said = run.are_said; holds = steps_hold volume run.said S before (said_answers answers) run.state behind at run.steps }
+
+-- ---- a list's deliveries, one after another
+
+-- what is honest behind a delivery was so before
+pub delivers_honest : (d : delivered.Delivery) (before : Situation) (told : Option Answer) (behind : Situation) → Delivers d before told behind → IsTrue behind.honest → IsTrue before.honest
+delivers_honest Restart before None behind is honest = subst (λ (s : Situation). IsTrue s.honest) is honest
+delivers_honest Restart before (Some a) behind is honest = absurd is
+delivers_honest (Frame payload) before None behind is honest = absurd is
+delivers_honest (Frame payload) before (Some a) behind (m, tells, answered) honest = answered.follows.honest honest
+
+-- no delivery was made yet
+pub begun_run : (volume : ℕ) (S : State) (journal : List Event) (failures capacity : ℕ) (honest : Bool) (store : Option Store) (answers : List Answer) → Once journal → Stands udf capacity volume (held journal) S
+    → store ≡ None → answers ≡ [] → IsRun volume [] S (situation None journal failures capacity honest) answers (situation store journal failures capacity honest)
+begun_run volume S journal failures capacity honest store answers once stands none no_answer =
+    let before : Situation = situation None journal failures capacity honest in
+    let begun : IsRun volume [] S before [] before = (runs_begin volume S journal failures capacity honest once stands).1 in
+    subst (λ (o : Option Store). IsRun volume [] S before answers (situation o journal failures capacity honest)) (sym none) (subst (λ (xs : List Answer). IsRun volume [] S before xs before) (sym no_answer) begun)
+
+-- and then the next of them
+pub next_run : (volume : ℕ) (deliveries : List delivered.Delivery) (i : ℕ) (d : delivered.Delivery) (S : State) (journal : List Event) (failures capacity : ℕ) (honest : Bool) (answers later : List Answer)
+    (during : Situation) (told : Option Answer) (behind : Situation) → i < length deliveries → d ≡ get_or deliveries i d → Delivers d during told behind → later ≡ answers ++ option_to_list told
+    → (IsTrue during.honest → Once journal → Stands udf capacity volume (held journal) S → IsRun volume (take i deliveries) S (situation None journal failures capacity honest) answers during)
+    → ((T : State) → IsTrue behind.honest → IsAt volume T during → DeliversBy volume d T during told behind)
+    → IsTrue behind.honest → Once journal → Stands udf capacity volume (held journal) S → IsRun volume (take (i + 1) deliveries) S (situation None journal failures capacity honest) later behind
+next_run volume deliveries i d S journal failures capacity honest answers later during told behind lt is delivers e before by so once stands =
+    let start : Situation = situation None journal failures capacity honest in
+    let at : IsAt volume S start = (runs_begin volume S journal failures capacity honest once stands).0 in
+    let run : IsRun volume (take i deliveries) S start answers during = before (delivers_honest d during told behind delivers so) once stands in
+    let one : take (i + 1) deliveries ≡ take i deliveries ++ d ∷ [] =
+    take_more deliveries i d lt ∙ ap (λ (x : delivered.Delivery). take i deliveries ++ x ∷ []) (sym is) in
+    let next = runs_go_on volume (take i deliveries) S start answers during at run d told behind (by run.state so (at_end volume run.said S start (said_answers answers) run.state during at run.steps)) in
+    subst (λ (ds : List delivered.Delivery). IsRun volume ds S start later behind) (sym one)
+    (subst (λ (xs : List Answer). IsRun volume (take i deliveries ++ d ∷ []) S start xs behind) (sym e) next)
+
+-- until all are made
+pub ended_run : (volume : ℕ) (deliveries : List delivered.Delivery) (i : ℕ) (S : State) (journal : List Event) (failures capacity : ℕ) (honest : Bool) (answers : List Answer) (behind : Situation)
+    → length deliveries ≤ i → Once journal → Stands udf capacity volume (held journal) S → IsRun volume (take i deliveries) S (situation None journal failures capacity honest) answers behind
+    → RunHolds volume capacity deliveries S journal answers behind.journal
+ended_run volume deliveries i S journal failures capacity honest answers behind all once stands run =
+    let start : Situation = situation None journal failures capacity honest in
+    runs_are_held volume deliveries S start answers behind (runs_begin volume S journal failures capacity honest once stands).0
+    (subst (λ (ds : List delivered.Delivery). IsRun volume ds S start answers behind) (take_all i deliveries all) run)

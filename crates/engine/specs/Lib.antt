@@ -1,9 +1,9 @@
 pub mod Situation
 pub mod Answered
 pub mod Streams
-pub mod Served
 pub mod Delivered
 pub mod Said
 pub mod Steps
 pub mod Called
 pub mod Headline
+pub mod Served

@@ -1,21 +1,46 @@
 -- What became of the messages of a stream, one after another.
-use Rattle.std.specs.Prelude.{◌≡◌, ◌⊎◌, ℕ, List, [], ◌∷◌, Option, None}
+use Rattle.std.specs.Prelude.{◌≡◌, ◌⊎◌, ℕ, List, [], ◌∷◌, map, Option, None, IsTrue}
 use Rattle.std.specs.List.{flat_map}
 use Rattle.std.specs.Io.KnownBytes.{Appends, Consumes, IsAtEnd}
 use Rattle.request.specs.declared.answer.Answer.{Answer}
 use Rattle.request.specs.declared.message.Message.{Message}
 use Rattle.request.specs.Answers.{answer_frame}
 use Rattle.request.specs.Frames.{Takes, IsIdle, MessagesAre}
+use Rattle.model.specs.Session.{State}
+use Rattle.medium.specs.Commit.{need}
+use Rattle.medium.specs.Journal.{HoldsOnJournal}
+use Rattle.medium.specs.Runs.{Delivery}
+use Rattle.medium.specs.Runs.Delivery.{Delivered}
+use Rattle.udf.specs.Udf.{udf, spelled}
 use Rattle.engine.specs.Situation.{Situation}
 use Rattle.engine.specs.Answered.{Answered}
+use Rattle.engine.specs.Called.{Calls}
+use Rattle.engine.specs.Headline.{said_answers}
+use Rattle.engine.specs.Said.{said_message}
+use Rattle.engine.specs.Steps.{IsAt}
 use Rattle.engine.specs.Streams.{PutsFront}
+
+-- A message got its answer: on an honest drive, where a state stands that an open store knows, by that store's calls.
+pub record IsAnswered (asked : Message) (before : Situation) (a : Answer) (behind : Situation) : Type 0 where
+  pub answered : Answered asked before a behind
+  pub calls : (volume : ℕ) (S : State) → IsTrue behind.honest → IsAt volume S before → Calls volume asked S before a behind
 
 -- each message got its answer, in order
 abbrev pub AllAnswered : List Message → Situation → List Answer → Situation → Type 0
 AllAnswered [] before [] after = after ≡ before
 AllAnswered [] before (a ∷ answers) after = ⊥
 AllAnswered (m ∷ messages) before [] after = ⊥
-AllAnswered (m ∷ messages) before (a ∷ answers) after = (during : Situation) × Answered m before a during × AllAnswered messages during answers after
+AllAnswered (m ∷ messages) before (a ∷ answers) after = (during : Situation) × IsAnswered m before a during × AllAnswered messages during answers after
+
+abbrev pub brought : List Message → List Delivery
+brought messages = map (λ m. Delivered (said_message m)) messages
+
+-- On an honest drive, where a state stands that an open store knows: what stands at each front of what was written is the
+-- state after the first of the requests that were committed.
+abbrev pub ServedHolds : List Message → Situation → List Answer → Situation → Type 0
+ServedHolds messages before answers behind =
+    (volume : ℕ) (S : State) → IsTrue behind.honest → IsAt volume S before
+    → HoldsOnJournal udf (need spelled) before.capacity volume S before.journal behind.journal (brought messages) (said_answers answers)
 
 -- a reader of frames gave these messages, in order
 abbrev pub AllTaken : Option (List ℕ) → List Message → Option (List ℕ) → Type 0
@@ -56,6 +81,7 @@ pub record Serving (reader : Option (List ℕ)) (before behind : Situation) (inp
 pub record ServesAll (before behind : Situation) (input left output written : Option (List ℕ)) : Type 0 where
   pub reader : Option (List ℕ)
   pub serving : Serving reader before behind input left output written
+  pub holds : ServedHolds serving.messages before serving.answers behind
   pub idle : IsIdle reader
   pub ends : IsAtEnd left ⊎ (reader ≡ None)
 
@@ -68,4 +94,5 @@ pub record ServesSome (before behind : Situation) (input left output written : O
   pub consumed : Consumes input left bytes
   pub messages_are : MessagesAre bytes messages reader
   pub answered : AllAnswered messages before answers behind
+  pub holds : ServedHolds messages before answers behind
   pub front : PutsFront output written (frames_of answers)

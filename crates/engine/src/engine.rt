@@ -1,10 +1,17 @@
 //! One message, answered.
 
-ghost use Rattle.std.specs.Prelude.{◌≡◌, Some, None, Ok, Err, IsTrue, IfOk, IfErr, OnErr, false};
-ghost use Rattle.recover.specs.Faults.{Counts, devices, failures_of};
+ghost use Rattle.std.specs.Prelude.{◌≡◌, ◌⊎◌, ℕ, Some, None, Ok, Err, IsTrue, IfOk, IfErr, OnErr, false};
+ghost use Rattle.model.specs.Session.{State};
+ghost use Rattle.model.specs.Tree.{Path};
+ghost use Rattle.recover.specs.Faults.{Counts, IsShortage, devices, failures_of};
+ghost use Rattle.request.specs.declared.answer.Answer.TheVariants as answers;
+ghost use Rattle.request.specs.declared.message.Query.TheVariants as queries;
 ghost use Rattle.store.specs.Agrees.{Agrees};
+ghost use Rattle.store.specs.Calls.{Knows};
 ghost use Rattle.engine.specs.Situation.{IsReady, Follows, seen, situation};
 ghost use Rattle.engine.specs.Answered.{Answered, due_of, IsDue, IsTold, MayFail, faults};
+ghost use Rattle.engine.specs.Called.{Calls, IsDealt, IsQueried, failed, refused, get_refused, list_refused, stat_refused};
+ghost use Rattle.engine.specs.Steps.{IsAt};
 
 use drive::Drive;
 use request::{Answer, Message, Query, Request};
@@ -28,7 +35,10 @@ impl Engine {
     /// The answer to a message. Where a write fails, the medium is opened again for the next message that needs it.
     pub fn answer<D: Drive>(&mut self, alloc: Global, drive: &mut D, message: Message) -> Answer
         requires { IsReady (seen self.old (D.journal drive.old) (D.failures drive.old) (D.capacity drive.old) (D.honest drive.old)) }
-        ensures { Answered message (seen self.old (D.journal drive.old) (D.failures drive.old) (D.capacity drive.old) (D.honest drive.old)) result
+        ensures answered { Answered message (seen self.old (D.journal drive.old) (D.failures drive.old) (D.capacity drive.old) (D.honest drive.old)) result
+            (seen self.new (D.journal drive.new) (D.failures drive.new) (D.capacity drive.new) (D.honest drive.new)) }
+        // On an honest drive, where a state stands that an open store knows.
+        ensures calls { (volume : ℕ) (S : State) → IsTrue (D.honest drive.new) → IsAt volume S (seen self.old (D.journal drive.old) (D.failures drive.old) (D.capacity drive.old) (D.honest drive.old)) → Calls volume message S (seen self.old (D.journal drive.old) (D.failures drive.old) (D.capacity drive.old) (D.honest drive.old)) result
             (seen self.new (D.journal drive.new) (D.failures drive.new) (D.capacity drive.new) (D.honest drive.new)) }
     {
         match message {
@@ -58,6 +68,8 @@ impl Engine {
         requires { IsReady (seen self.old (D.journal drive.old) (D.failures drive.old) (D.capacity drive.old) (D.honest drive.old)) }
         ensures agrees { IfOk result (Agrees (D.journal drive.new) (D.capacity drive.new)) }
         ensures open { IfOk result (λ store. store.is_stopped ≡ false) }
+        ensures knows { (volume : ℕ) (S : State) → IsTrue (D.honest drive.new) → IsAt volume S (seen self.old (D.journal drive.old) (D.failures drive.old) (D.capacity drive.old) (D.honest drive.old)) → IfOk result (Knows (D.capacity drive.old) volume (D.journal drive.old) S) }
+        ensures short { (volume : ℕ) (S : State) → IsTrue (D.honest drive.new) → IsAt volume S (seen self.old (D.journal drive.old) (D.failures drive.old) (D.capacity drive.old) (D.honest drive.old)) → IfErr result IsShortage }
         ensures taken { self.new.store ≡ None }
         ensures stays { (kept : _) → self.old.store ≡ Some kept → kept.is_stopped ≡ false → (result ≡ Ok kept) × (drive.new ≡ drive.old) }
         ensures journal { D.journal drive.new ≡ D.journal drive.old }
@@ -85,6 +97,8 @@ fn answer_request<D: Drive>(
         (situation (Some store.new) (D.journal drive.new) (D.failures drive.new) (D.capacity drive.new) (D.honest drive.new)) }
     ensures follows { Follows (situation (Some store.old) (D.journal drive.old) (D.failures drive.old) (D.capacity drive.old) (D.honest drive.old))
         (situation (Some store.new) (D.journal drive.new) (D.failures drive.new) (D.capacity drive.new) (D.honest drive.new)) }
+    ensures dealt { (volume : ℕ) (S : State) → IsTrue (D.honest drive.new) → Knows (D.capacity drive.old) volume (D.journal drive.old) S store.old → store.old.is_stopped ≡ false → IsDealt (due_of store.old request.now.client request.now.number) volume S request.now (situation (Some store.old) (D.journal drive.old) (D.failures drive.old) (D.capacity drive.old) (D.honest drive.old)) store.old result
+        (situation (Some store.new) (D.journal drive.new) (D.failures drive.new) (D.capacity drive.new) (D.honest drive.new)) }
     ensures failures { Counts (faults result) (D.failures drive.old) (D.failures drive.new) }
 {
     match store.due(request.client, request.number) {
@@ -94,8 +108,7 @@ fn answer_request<D: Drive>(
         Due::ClientsFull => Answer::ClientsFull,
         Due::New => match store.apply(alloc, drive, request) {
             Ok(reply) => Answer::Reply(reply),
-            Err(StoreFault::Full) => Answer::Full,
-            Err(fault) => failure(fault),
+            Err(fault) => refusal(fault),
         },
     }
 }
@@ -104,6 +117,7 @@ fn answer_request<D: Drive>(
 fn answer_query<D: Drive>(store: &mut Store, alloc: Global, drive: &mut D, query: &Query) -> Answer
     requires { Agrees (D.journal drive.old) (D.capacity drive.old) store.old }
     ensures told { IsTold query.now result }
+    ensures queried { (volume : ℕ) (S : State) → IsTrue (D.honest drive.new) → Knows (D.capacity drive.old) volume (D.journal drive.old) S store.old → store.old.is_stopped ≡ false → IsQueried S query.now result × Knows (D.capacity drive.old) volume (D.journal drive.old) S store.new }
     ensures agrees { Agrees (D.journal drive.new) (D.capacity drive.new) store.new }
     ensures journal { D.journal drive.new ≡ D.journal drive.old }
     ensures capacity { D.capacity drive.new ≡ D.capacity drive.old }
@@ -113,27 +127,73 @@ fn answer_query<D: Drive>(store: &mut Store, alloc: Global, drive: &mut D, query
     match query {
         Query::Get(path) => match store.get(alloc, drive, path) {
             Ok(data) => Answer::Data(data),
-            Err(StoreFault::NotFound) => Answer::NotFound,
-            Err(StoreFault::IsDirectory) => Answer::IsDirectory,
-            Err(fault) => failure(fault),
+            Err(fault) => get_refusal(fault),
         },
         Query::List(path) => match store.list(alloc, drive, path) {
             Ok(listing) => Answer::Names(listing),
-            Err(StoreFault::NotFound) => Answer::NotFound,
-            Err(StoreFault::NotDirectory) => Answer::NotDirectory,
-            Err(fault) => failure(fault),
+            Err(fault) => list_refusal(fault),
         },
         Query::Stat(path) => match store.stat(alloc, drive, path) {
             Ok(status) => Answer::Node(status),
-            Err(StoreFault::NotFound) => Answer::NotFound,
-            Err(fault) => failure(fault),
+            Err(fault) => stat_refusal(fault),
         },
+    }
+}
+
+/// The answer where a request is not committed.
+fn refusal(fault: StoreFault) -> Answer
+    ensures refused { result ≡ refused fault }
+    ensures may { (result ≡ answers.Full) ⊎ MayFail result }
+    ensures device { faults result ≡ failures_of fault }
+{
+    match fault {
+        StoreFault::Full => Answer::Full,
+        other => failure(other),
+    }
+}
+
+/// The answer where a file's bytes are not given.
+fn get_refusal(fault: StoreFault) -> Answer
+    ensures refused { result ≡ get_refused fault }
+    ensures told { (path : Path) → IsTold (queries.Get path) result }
+    ensures device { faults result ≡ failures_of fault }
+{
+    match fault {
+        StoreFault::NotFound => Answer::NotFound,
+        StoreFault::IsDirectory => Answer::IsDirectory,
+        other => failure(other),
+    }
+}
+
+/// The answer where a directory's names are not given.
+fn list_refusal(fault: StoreFault) -> Answer
+    ensures refused { result ≡ list_refused fault }
+    ensures told { (path : Path) → IsTold (queries.List path) result }
+    ensures device { faults result ≡ failures_of fault }
+{
+    match fault {
+        StoreFault::NotFound => Answer::NotFound,
+        StoreFault::NotDirectory => Answer::NotDirectory,
+        other => failure(other),
+    }
+}
+
+/// The answer where it is not told what a path leads to.
+fn stat_refusal(fault: StoreFault) -> Answer
+    ensures refused { result ≡ stat_refused fault }
+    ensures told { (path : Path) → IsTold (queries.Stat path) result }
+    ensures device { faults result ≡ failures_of fault }
+{
+    match fault {
+        StoreFault::NotFound => Answer::NotFound,
+        other => failure(other),
     }
 }
 
 /// The answer where the drive failed, where there was no memory, or where the medium holds no sound volume.
 fn failure(fault: StoreFault) -> Answer
     ensures fails { MayFail result }
+    ensures failed { result ≡ failed fault }
     ensures device { faults result ≡ failures_of fault }
 {
     match fault {

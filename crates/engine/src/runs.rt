@@ -1,8 +1,14 @@
 //! A whole run, as a list.
 
-ghost use Rattle.std.specs.Prelude.{◌≡◌, ◌≤◌, None, IfOk, OnErr};
+ghost use Rattle.std.specs.Prelude.{◌≡◌, ◌≤◌, ℕ, None, IsTrue, IfOk, OnErr};
+ghost use Rattle.drive.specs.Journal.{held, Once};
+ghost use Rattle.medium.specs.Volume.{Stands};
+ghost use Rattle.model.specs.Session.{State};
+ghost use Rattle.udf.specs.Udf.{udf};
 ghost use Rattle.engine.specs.Situation.{IsReady, seen, situation};
 ghost use Rattle.engine.specs.Delivered.{Delivers, Runs};
+ghost use Rattle.engine.specs.Headline.{DeliversBy, RunHolds};
+ghost use Rattle.engine.specs.Steps.{IsAt};
 
 use crate::engine::Engine;
 use drive::Drive;
@@ -28,6 +34,9 @@ pub fn run<D: Drive>(
     ensures ok { IfOk result (λ answers. Runs deliveries.now answers.items
         (situation None (D.journal drive.old) (D.failures drive.old) (D.capacity drive.old) (D.honest drive.old))
         (situation None (D.journal drive.new) (D.failures drive.new) (D.capacity drive.new) (D.honest drive.new))) }
+    // On an honest drive where a state stands: what stands at each front of what was written.
+    ensures holds { (volume : ℕ) (S : State) → IsTrue (D.honest drive.new) → Once (D.journal drive.old) → Stands udf (D.capacity drive.old) volume (held (D.journal drive.old)) S
+        → IfOk result (λ answers. RunHolds volume (D.capacity drive.old) deliveries.now S (D.journal drive.old) answers.items (D.journal drive.new)) }
     ensures err { OnErr result (situation None (D.journal drive.new) (D.failures drive.new) (D.capacity drive.new) (D.honest drive.new)
         ≡ situation None (D.journal drive.old) (D.failures drive.old) (D.capacity drive.old) (D.honest drive.old)) }
 {
@@ -50,6 +59,9 @@ fn deliver<D: Drive>(
 ) -> Option<Answer>
     requires { IsReady (seen engine.old (D.journal drive.old) (D.failures drive.old) (D.capacity drive.old) (D.honest drive.old)) }
     ensures delivers { Delivers delivery.now (seen engine.old (D.journal drive.old) (D.failures drive.old) (D.capacity drive.old) (D.honest drive.old)) result
+        (seen engine.new (D.journal drive.new) (D.failures drive.new) (D.capacity drive.new) (D.honest drive.new)) }
+    ensures by { (volume : ℕ) (S : State) → IsTrue (D.honest drive.new) → IsAt volume S (seen engine.old (D.journal drive.old) (D.failures drive.old) (D.capacity drive.old) (D.honest drive.old))
+        → DeliversBy volume delivery.now S (seen engine.old (D.journal drive.old) (D.failures drive.old) (D.capacity drive.old) (D.honest drive.old)) result
         (seen engine.new (D.journal drive.new) (D.failures drive.new) (D.capacity drive.new) (D.honest drive.new)) }
     ensures ready { IsReady (seen engine.new (D.journal drive.new) (D.failures drive.new) (D.capacity drive.new) (D.honest drive.new)) }
 {

@@ -5,4 +5,5 @@ mod commits;
 mod cuts;
 mod image;
 mod limits;
+mod random;
 mod streams;

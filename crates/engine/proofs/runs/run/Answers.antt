@@ -1,26 +1,49 @@
-use Rattle.std.proofs.Common.{rules, arith}
+use Rattle.std.proofs.Common.{rules, arith, ◌≡◌, ◌++◌}
+use Rattle.std.specs.Option.{option_to_list}
 use Rattle.engine.proofs.Delivering.{next_delivered}
+use Rattle.engine.proofs.Running.{begun_run, ended_run, next_run}
 use Rattle.engine.proofs.runs.run.Goals as goal
 use Rattle.engine.proofs.runs.run.Goals.{in-Some, in_default}
+
+pub loop-delivery-init : goal.loop-delivery-init
+loop-delivery-init g c = record {
+  delivered = search rules;
+  held = λ volume S honest once stands. begun_run volume S _ _ _ _ _ _ once stands (search rules) (search rules);
+  ready = search rules;
+  room = search rules;
+  count = search rules;
+}
 
 pub loop-delivery-preserved : goal.loop-delivery-preserved
 loop-delivery-preserved g c =
     let inv = c.loop-delivery.invariant in
     elim c.match-deliver.branch [
       | in-Some w ↦
+          let more : c.match-deliver.answers.items ≡ c.loop-delivery.answers.items ++ option_to_list c.deliver.result = search rules in
           record {
             delivered = next_delivered c.args.deliveries.now c.loop-delivery.delivery-index c.delivery-item.result c.loop-delivery.answers.items _ _ _ _
-                c.deliver.result (omega arith) c.delivery-item.is inv.delivered c.deliver.ensures.delivers (search rules);
+                c.deliver.result (omega arith) c.delivery-item.is inv.delivered c.deliver.ensures.delivers more;
+            held = λ volume S.
+                next_run volume c.args.deliveries.now c.loop-delivery.delivery-index c.delivery-item.result S _ _ _ _ c.loop-delivery.answers.items c.match-deliver.answers.items _
+                c.deliver.result _ (omega arith) c.delivery-item.is c.deliver.ensures.delivers more (inv.held volume S) (c.deliver.ensures.by volume);
             ready = c.deliver.ensures.ready;
             room = search rules;
             count = search rules;
           }
       | in_default w ↦
+          let more : c.match-deliver.answers.items ≡ c.loop-delivery.answers.items ++ option_to_list c.deliver.result = search rules in
           record {
             delivered = next_delivered c.args.deliveries.now c.loop-delivery.delivery-index c.delivery-item.result c.loop-delivery.answers.items _ _ _ _
-                c.deliver.result (omega arith) c.delivery-item.is inv.delivered c.deliver.ensures.delivers (search rules);
+                c.deliver.result (omega arith) c.delivery-item.is inv.delivered c.deliver.ensures.delivers more;
+            held = λ volume S.
+                next_run volume c.args.deliveries.now c.loop-delivery.delivery-index c.delivery-item.result S _ _ _ _ c.loop-delivery.answers.items c.match-deliver.answers.items _
+                c.deliver.result _ (omega arith) c.delivery-item.is c.deliver.ensures.delivers more (inv.held volume S) (c.deliver.ensures.by volume);
             ready = c.deliver.ensures.ready;
             room = search rules;
             count = search rules;
           }
     ]
+
+pub returns-clause-holds : goal.returns-clause-holds
+returns-clause-holds g c volume S honest once stands =
+    ended_run volume c.args.deliveries.now c.loop-delivery.delivery-index S _ _ _ _ _ _ (omega arith) once stands (c.loop-delivery.invariant.held volume S honest once stands)

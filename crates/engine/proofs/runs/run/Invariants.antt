@@ -1,12 +1,22 @@
-use Rattle.std.proofs.Common.{◌≤◌, None, length, take, vec_len}
+use Rattle.std.proofs.Common.{◌≤◌, ℕ, None, IsTrue, length, take, vec_len}
 use Rattle.std.specs.Vec.{vec_capacity}
+use Rattle.drive.specs.Journal.{held, Once}
+use Rattle.medium.specs.Volume.{Stands}
+use Rattle.model.specs.Session.{State}
+use Rattle.udf.specs.Udf.{udf}
 use Rattle.engine.specs.Situation.{IsReady, seen, situation}
 use Rattle.engine.specs.Delivered.{AllDelivered}
+use Rattle.engine.specs.Headline.{IsRun}
 use Rattle.engine.proofs.runs.run.Given as goal
 
 abbrev pub invariant-loop-delivery : goal.invariant-loop-delivery
 invariant-loop-delivery g l = record {
   delivered : AllDelivered (take l.delivery-index l.deliveries)
+      (situation None (g.D.Drive.journal l.fn.drive) (g.D.Drive.failures l.fn.drive) (g.D.Drive.capacity l.fn.drive) (g.D.Drive.honest l.fn.drive))
+      l.answers.items
+      (seen l.engine (g.D.Drive.journal l.drive) (g.D.Drive.failures l.drive) (g.D.Drive.capacity l.drive) (g.D.Drive.honest l.drive));
+  held : (volume : ℕ) (S : State) → IsTrue (g.D.Drive.honest l.drive) → Once (g.D.Drive.journal l.fn.drive) → Stands udf (g.D.Drive.capacity l.fn.drive) volume (held (g.D.Drive.journal l.fn.drive)) S
+      → IsRun volume (take l.delivery-index l.deliveries) S
       (situation None (g.D.Drive.journal l.fn.drive) (g.D.Drive.failures l.fn.drive) (g.D.Drive.capacity l.fn.drive) (g.D.Drive.honest l.fn.drive))
       l.answers.items
       (seen l.engine (g.D.Drive.journal l.drive) (g.D.Drive.failures l.drive) (g.D.Drive.capacity l.drive) (g.D.Drive.honest l.drive));

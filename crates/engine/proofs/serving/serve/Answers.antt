@@ -1,6 +1,6 @@
-use Rattle.std.proofs.Common.{rules, ◌≡◌, ℕ, List, [], Option, Some, take, refl, sym, subst, ap, inl, inr, arith, ◌∙◌}
+use Rattle.std.proofs.Common.{rules, ◌≡◌, ℕ, List, [], Option, Some, take, refl, sym, subst, ap, inl, arith, ◌∙◌}
 use Rattle.request.specs.Frames.{IsIdle, fed}
-use Rattle.engine.proofs.Messages.{serving_none, serving_more, serving_some, serving_read, serving_kept, serving_stops, serving_ends, on_err, on_ok, over, filled}
+use Rattle.engine.proofs.Messages.{serving_none, serving_more, serving_some, serving_read, serving_kept, serving_stops, serving_ends, serving_over, on_err, on_ok, over, filled}
 use Rattle.engine.proofs.serving.serve.Goals as goal
 
 pub returns-in-Err-clause-err : goal.returns-in-Err-clause-err
@@ -45,13 +45,9 @@ returns-then-is_over-clause-ok g c =
     let fed_is : c.feed.new.self ≡ fed c.loop.frames piece = fed_at ∙ ap (λ (x : List ℕ). fed c.loop.frames x)
     (c.split_at.ensures.front ∙ ap (λ (x : List ℕ). take c.in_ok-count.count x)
     (c.deref.ensures.value ∙ filled c.loop.piece.len c.read_piece.new.piece _ (search rules))) in
-    record {
-      reader = c.answer_all.new.frames;
-      serving = serving_more c.loop.frames c.feed.new.self c.answer_all.new.frames _ _ _ _ (g.R.Read.remaining c.loop.reader) _ _ (g.W.Write.contents c.loop.writer) _ piece
-          c.loop.invariant.serving c.in_ok-count.ensures.ok fed_is (search rules);
-      idle = search rules;
-      ends = inr (over _ (search rules));
-    }
+    serving_over c.answer_all.new.frames _ _ _ _ _ _
+    (serving_more c.loop.frames c.feed.new.self c.answer_all.new.frames _ _ _ _ (g.R.Read.remaining c.loop.reader) _ _ (g.W.Write.contents c.loop.writer) _ piece
+    c.loop.invariant.serving c.in_ok-count.ensures.ok fed_is (search rules)) (search rules) (over _ (search rules))
 
 pub loop-preserved : goal.loop-preserved
 loop-preserved g c =

@@ -1,10 +1,10 @@
 use Rattle.std.proofs.Common.{rules, Some, refl}
-use Rattle.engine.specs.Situation.{situation}
-use Rattle.engine.proofs.Rows.{request_answered, same_situation}
+use Rattle.engine.specs.Situation.{Situation, situation}
+use Rattle.engine.proofs.Rows.{request_answered, same_situation, knows_there, request_calls, request_short, query_calls, query_short}
 use Rattle.engine.proofs.engine.Engine.answer.Goals as goal
 
-pub returns-in-Ok : goal.returns-in-Ok
-returns-in-Ok g c =
+pub returns-in-Ok-clause-answered : goal.returns-in-Ok-clause-answered
+returns-in-Ok-clause-answered g c =
     let d = g.D.Drive in
     let drive = c.take_open.new.drive in
     let store = c.in-Ok.store in
@@ -23,3 +23,59 @@ returns-in-Ok g c =
       failures = c.in-Ok.ensures.failures;
     })
     c.answer_request-answer.ensures.due c.answer_request-answer.ensures.follows c.answer_request-answer.ensures.failures
+
+pub returns-in-Ok-clause-calls : goal.returns-in-Ok-clause-calls
+returns-in-Ok-clause-calls g c volume S honest at =
+    let d = g.D.Drive in
+    let first = c.args.drive.now in
+    let drive = c.take_open.new.drive in
+    let store = c.in-Ok.store in
+    let during : Situation = situation (Some store) (d.journal drive) (d.failures drive) (d.capacity drive) (d.honest drive) in
+    let opened = c.in-Ok.ensures in
+    let known = opened.knows volume S (c.answer_request-answer.ensures.follows.honest honest) at in
+    let knows = knows_there (d.capacity first) (d.capacity drive) volume (d.journal first) (d.journal drive) S store opened.capacity opened.journal known in
+    request_calls volume S c.args.message c.in-Request.request _ during _ store c.answer_request-answer.result c.in-Request.is (record { journal = opened.journal; capacity = opened.capacity; knows = knows })
+    (c.answer_request-answer.ensures.dealt volume S honest knows opened.open)
+
+pub returns-in-Ok-take_open-clause-calls : goal.returns-in-Ok-take_open-clause-calls
+returns-in-Ok-take_open-clause-calls g c volume S honest at =
+    let d = g.D.Drive in
+    let first = c.args.drive.now in
+    let drive = c.take_open-in-Query.new.drive in
+    let last = c.answer_query-answer.new.drive in
+    let store = c.in-Ok-take_open.store in
+    let during : Situation = situation (Some store) (d.journal drive) (d.failures drive) (d.capacity drive) (d.honest drive) in
+    let opened = c.in-Ok-take_open.ensures in
+    let read = c.answer_query-answer.ensures in
+    let known = opened.knows volume S (read.honest honest) at in
+    let knows = knows_there (d.capacity first) (d.capacity drive) volume (d.journal first) (d.journal drive) S store opened.capacity opened.journal known in
+    let queried = read.queried volume S honest knows opened.open in
+    query_calls volume S c.args.message c.in-Query.query _ during _ store c.answer_query-answer.result c.in-Query.is (record { journal = opened.journal; capacity = opened.capacity; knows = knows })
+    (record {
+      result = queried.0;
+      kept = c.answer_query-answer.new.store;
+      store = refl;
+      journal = read.journal;
+      capacity = read.capacity;
+      knows = λ still. knows_there (d.capacity drive) (d.capacity last) volume (d.journal drive) (d.journal last) S c.answer_query-answer.new.store read.capacity read.journal queried.1;
+    })
+
+pub returns-in-Request-clause-calls : goal.returns-in-Request-clause-calls
+returns-in-Request-clause-calls g c volume S honest at = request_short volume S c.args.message c.in-Request.request _ c.failure.result _ c.in-Request.is (record {
+  refusal = c.in-Err.fault;
+  shortage = c.in-Err.ensures.short volume S honest at;
+  told = c.failure.ensures.failed;
+  journal = c.in-Err.ensures.journal;
+  capacity = c.in-Err.ensures.capacity;
+  store = c.in-Err.ensures.taken;
+})
+
+pub returns-clause-calls : goal.returns-clause-calls
+returns-clause-calls g c volume S honest at = query_short volume S c.args.message c.in-Query.query _ c.failure-in-Err-take_open.result _ c.in-Query.is (record {
+  refusal = c.in-Err-take_open.fault;
+  shortage = c.in-Err-take_open.ensures.short volume S honest at;
+  told = c.failure-in-Err-take_open.ensures.failed;
+  journal = c.in-Err-take_open.ensures.journal;
+  capacity = c.in-Err-take_open.ensures.capacity;
+  store = c.in-Err-take_open.ensures.taken;
+})
