@@ -21,6 +21,10 @@ pub held_at : (J : List Event) (at : ℕ) (block : List ℕ) → at < next_of J 
 held_at J at block lt e =
     get-table (next_of J) at (λ a. unwrap_or (last_at J a) []) lt ∙ ap (λ (o : Option (List ℕ)). Some (unwrap_or o [])) e
 
+-- what lies below an address
+pub lies_there : (M : List (List ℕ)) (n at : ℕ) (block : List ℕ) → at < n → slice_get M at ≡ Some block → slice_get (take n M) at ≡ Some block
+lies_there M n at block below there = get-take n M at below ∙ there
+
 -- and so below an address behind it
 pub held_below : (J : List Event) (n at : ℕ) (block : List ℕ) → at < n → at < next_of J → last_at J at ≡ Some block → slice_get (take n (held J)) at ≡ Some block
-held_below J n at block below lt e = get-take n (held J) at below ∙ held_at J at block lt e
+held_below J n at block below lt e = lies_there (held J) n at block below (held_at J at block lt e)

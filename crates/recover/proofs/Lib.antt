@@ -3,6 +3,7 @@ pub mod Expected
 pub mod Forests
 pub mod Fronts
 pub mod Held
+pub mod Maps
 pub mod Nodes
 pub mod Refused
 pub mod Refusals

@@ -1,5 +1,5 @@
 -- What the entry of a node says of the place of its bytes.
-use Rattle.std.proofs.Common.{ℕ, ◌+◌, ◌≤◌, arith}
+use Rattle.std.proofs.Common.{ℕ, ◌+◌, ◌<◌, ◌≤◌, Option, Some, None, arith}
 use Rattle.std.specs.Prelude.{IfSome}
 use Rattle.std.specs.Int.{div_ceil}
 use Rattle.icb.specs.declared.entry.Kind.{Kind}
@@ -8,8 +8,16 @@ use Rattle.icb.specs.Entry.Place.{Nowhere, Extent as IcbExtent, Inside}
 use Rattle.recover.specs.declared.directory.Extent.{Extent}
 use Rattle.recover.specs.Walk.{LiesBelow, extent_in}
 
+-- it is not empty, and lies within the largest partition
+pub extent_fits : (kind : Kind) (size : ℕ) (place : Place) → FitsPlace kind size place → IfSome (extent_in size place) (λ (e : Extent). (0 < e.size) × (e.first ≤ 449_743))
+extent_fits kind size Nowhere fits = tt
+extent_fits kind size (IcbExtent first) fits = (fits.0, (let f = fits in omega arith))
+extent_fits kind size (Inside bytes) fits = tt
+
+pub extent_lies : (at : ℕ) (o : Option Extent) → IfSome o (λ (e : Extent). (0 < e.size) × (e.first ≤ 449_743)) → IfSome o (λ (e : Extent). e.first + 257 + div_ceil e.size 2048 ≤ at) → IfSome o (LiesBelow at)
+extent_lies at None fits below = tt
+extent_lies at (Some e) fits below = record { some = fits.0; first = fits.1; below = below }
+
 pub extent_below : (kind : Kind) (size at : ℕ) (place : Place) → FitsPlace kind size place → IfSome (extent_in size place) (λ (e : Extent). e.first + 257 + div_ceil e.size 2048 ≤ at)
     → IfSome (extent_in size place) (LiesBelow at)
-extent_below kind size at Nowhere fits below = tt
-extent_below kind size at (IcbExtent first) fits below = record { some = fits.0; first = (let f = fits in omega arith); below = below }
-extent_below kind size at (Inside bytes) fits below = tt
+extent_below kind size at place fits below = extent_lies at (extent_in size place) (extent_fits kind size place fits) below

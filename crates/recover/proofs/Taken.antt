@@ -1,24 +1,28 @@
 -- Why the entry of a node was not taken, and why the names of a directory were not.
-use Rattle.std.proofs.Common.{◌≡◌, ℕ, ◌+◌, ◌≤◌, false, List, Option, Some, None, sym, ap, ◌∙◌, subst}
+use Rattle.std.proofs.Common.{◌≡◌, ℕ, ◌+◌, ◌<◌, ◌≤◌, false, take, List, Option, Some, None, sym, ap, ◌∙◌, subst}
 use Rattle.std.specs.Prelude.{IfSome, count_by, slice_get, All}
 use Rattle.std.specs.Int.{div_ceil}
 use Rattle.std.proofs.lemmas.Option.{same_Some}
 use Rattle.dir.specs.declared.entry.Entry.{Entry as DirEntry}
 use Rattle.dir.specs.declared.entry.Kind.TheVariants.{File}
 use Rattle.dir.specs.Directory.{IsDirectory}
-use Rattle.icb.specs.declared.entry.FileEntry.{FileEntry}
-use Rattle.icb.specs.Entry.{Fields, IsEntry, fields_of}
+use Rattle.icb.specs.Entry.{Fields, IsEntry}
+use Rattle.icb.proofs.VatIcbs.{one_entry}
 use Rattle.model.specs.Graph.{Entry}
 use Rattle.udf.specs.Said.{said_entries}
 use Rattle.udf.specs.Udf.{IsBlock}
 use Rattle.udf.proofs.Formats.{exact}
 use Rattle.udf.proofs.Said.{directories_agree}
+use Rattle.model.proofs.Lists.{get-take}
 use Rattle.recover.specs.declared.directory.Extent.{Extent}
+use Rattle.recover.specs.declared.fault.StoreFault.{StoreFault}
+use Rattle.recover.specs.declared.fault.StoreFault.TheVariants.{Device, Damaged}
 use Rattle.recover.specs.declared.walk.Named.{Named}
 use Rattle.recover.specs.declared.walk.Walk.{Walk}
 use Rattle.recover.specs.Forest.{IsDrawn}
+use Rattle.recover.specs.Known.{IsUnsaid}
 use Rattle.recover.specs.Nodes.{data_of, links_of}
-use Rattle.recover.specs.Refused.{HasNoBody, HaveNoNames}
+use Rattle.recover.specs.Refused.{HasNoBody, HaveNoNames, IsBodyRefused}
 use Rattle.recover.specs.Walk.{LiesBelow, extent_in, icb_kind, uniques_in}
 use Rattle.recover.proofs.Walks.{links_said}
 
@@ -43,8 +47,15 @@ module _ (M : List (List ℕ)) (before : Walk) (entry_at : ℕ) (node : Named) (
       (has.kind, has.unique, has.file, subst (λ (o : Option Extent). IfSome o (LiesBelow before.at)) has.extent below, drawn, fresh)
 
   -- the entry that it is does not suit
-  pub other_entry : (entry : FileEntry) → ((f : Fields) → IsEntry f node.address block → fields_of entry ≡ f) → (Suits (fields_of entry) → ⊥) → HasNoBody M before entry_at node
-  other_entry entry only never = no_entry (λ f is suits. never (subst Suits (sym (only f is)) suits))
+  pub other_entry : (fields : Fields) → IsEntry fields node.address block → (Suits fields → ⊥) → HasNoBody M before entry_at node
+  other_entry fields is never = no_entry (λ f other suits. never (subst Suits (one_entry f fields node.address node.address block other is).0 suits))
+
+-- none was read there
+pub unread : (H : List (List ℕ)) (before : Walk) (entry_at : ℕ) (node : Named) → entry_at < before.at → (fault : StoreFault) → IsUnsaid H (record { at = entry_at; address = node.address }) fault
+    → IsBodyRefused (take before.at H) before entry_at node fault
+unread H before entry_at node below Device r = tt
+unread H before entry_at node below (Damaged at cause) r = λ body has lies drawn fresh. r.1 has.block has.fields (sym (get-take before.at H entry_at below) ∙ has.there) has.is
+unread H before entry_at node below _ r = absurd r
 
 -- ---- names
 

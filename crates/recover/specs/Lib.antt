@@ -1,6 +1,7 @@
 pub mod Blocks
 pub mod Faults
 pub mod Forest
+pub mod Known
 pub mod Laws
 pub mod Nodes
 pub mod Refused

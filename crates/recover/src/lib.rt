@@ -5,7 +5,8 @@
 //! of the drive is told only where the drive counted a failure. On a drive whose reads are honest `last` finds the last entry
 //! of a table, from the end, and what is read is what the medium has. `state_at` looks at every node that a table leads to,
 //! and what it gives is the state that the blocks below the table's entry tell, which stands where that entry is the last.
-//! Where it tells of damage no state is told there.
+//! Where it tells of damage no state is told there. `state_sharing` gives the same, and reads no node again that the state
+//! had for which it was called before.
 //!
 //! Left to others: whatever is written, and what is asked of a state.
 #![tactic(auto)]
@@ -13,6 +14,8 @@
 pub mod cause;
 mod directory;
 mod fault;
+mod kept;
+mod known;
 mod laws;
 mod reading;
 mod state;
@@ -21,9 +24,10 @@ mod walk;
 
 pub use directory::{Extent, link_count, read_directory};
 pub use fault::{StoreFault, damaged};
+pub use known::Known;
 pub use laws::last_state_stands;
 pub use reading::{BLOCK_BYTES, PARTITION_START, block_count, read_block, read_blocks, read_bytes};
-pub use state::{State, state_at};
+pub use state::{State, state_at, state_sharing};
 pub use table::{TableEntry, before, last, lies_below, linked, read_table, table_at, table_entry};
 pub use walk::{FIRST_UNIQUE, PATH_NAMES, ROOT_ADDRESS};
 

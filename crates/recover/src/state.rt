@@ -5,10 +5,13 @@ ghost use Rattle.drive.specs.Journal.{held, next_of};
 ghost use Rattle.vat.specs.Table.{IsTableAt, view};
 ghost use Rattle.volume.specs.Front.{IsFront};
 ghost use Rattle.recover.specs.Faults.{Counts, devices};
+ghost use Rattle.recover.specs.Known.{IsKnown};
 ghost use Rattle.recover.specs.State.{HasFileSet, HasTree, IsCounted, IsDescribed, IsFrontRefused, IsSetRefused, IsShown, IsSound, IsStateRefused, IsTreeRefused};
+ghost use Rattle.recover.specs.Tables.{HasTable};
 
 use crate::cause;
 use crate::fault::{StoreFault, damaged};
+use crate::known::Known;
 use crate::reading::{PARTITION_START, read_block};
 use crate::table::{address_below, read_table, table_entry};
 use crate::walk::{Named, Walk};
@@ -50,34 +53,70 @@ pub fn state_at<D: Drive>(alloc: Global, drive: &mut D, at: u32) -> Result<State
     // Where it is refused none is told there, unless the drive failed or memory was short.
     ensures refused { IfErr result (λ fault. IsTrue (D.honest drive.new) → IsStateRefused (D.capacity drive.old) (held (D.journal drive.old)) at fault) }
     ensures sound { IfOk result (IsSound at (D.capacity drive.old)) }
+    // The table that it keeps is the one whose entry stands there.
+    ensures table { IfOk result (λ state. IsTrue (D.honest drive.new) → HasTable (held (D.journal drive.old)) at (view state.vat)) }
     ensures journal { D.journal drive.new ≡ D.journal drive.old }
     ensures capacity { D.capacity drive.new ≡ D.capacity drive.old }
     ensures honest { IsTrue (D.honest drive.new) → IsTrue (D.honest drive.old) }
     ensures failures { Counts (devices result) (D.failures drive.old) (D.failures drive.new) }
 {
-    let (state, data_at) = described(alloc, drive, at)?;
-    check_tree(alloc, drive, &state.vat, at, data_at)?;
+    let mut known = Known::of_no_nodes(alloc);
+    state_sharing(alloc, drive, &mut known, at)
+}
+
+/// The same state. The front, and the nodes that it shares with the state for which this was called before, are not
+/// read again: each is held against this state as it is known.
+pub fn state_sharing<D: Drive>(
+    alloc: Global,
+    drive: &mut D,
+    known: &mut Known,
+    at: u32,
+) -> Result<State, StoreFault>
+    requires low { 257 ≤ at }
+    requires within { at < next_of (D.journal drive.old) }
+    requires known { IsTrue (D.honest drive.old) → IsKnown (held (D.journal drive.old)) known.old }
+    ensures shown { IfOk result (λ state. IsTrue (D.honest drive.new) → IsShown (D.capacity drive.old) (held (D.journal drive.old)) at state) }
+    ensures refused { IfErr result (λ fault. IsTrue (D.honest drive.new) → IsStateRefused (D.capacity drive.old) (held (D.journal drive.old)) at fault) }
+    ensures sound { IfOk result (IsSound at (D.capacity drive.old)) }
+    ensures table { IfOk result (λ state. IsTrue (D.honest drive.new) → HasTable (held (D.journal drive.old)) at (view state.vat)) }
+    // What is known stays so, whatever was found.
+    ensures known { IsTrue (D.honest drive.new) → IsKnown (held (D.journal drive.new)) known.new }
+    ensures journal { D.journal drive.new ≡ D.journal drive.old }
+    ensures capacity { D.capacity drive.new ≡ D.capacity drive.old }
+    ensures honest { IsTrue (D.honest drive.new) → IsTrue (D.honest drive.old) }
+    ensures failures { Counts (devices result) (D.failures drive.old) (D.failures drive.new) }
+{
+    known.begin(alloc);
+    let (state, data_at) = described(alloc, drive, known, at)?;
+    check_tree(alloc, drive, known, &state.vat, at, data_at)?;
     Ok(state)
 }
 
 /// What stands there but for the tree, beside the address of the first block of the table's data.
-fn described<D: Drive>(alloc: Global, drive: &mut D, at: u32) -> Result<(State, u32), StoreFault>
+fn described<D: Drive>(
+    alloc: Global,
+    drive: &mut D,
+    known: &mut Known,
+    at: u32,
+) -> Result<(State, u32), StoreFault>
     requires low { 257 ≤ at }
     requires within { at < next_of (D.journal drive.old) }
+    requires known { IsTrue (D.honest drive.old) → IsKnown (held (D.journal drive.old)) known.old }
     ensures described { IfOk result (λ found. IsTrue (D.honest drive.new) → IsDescribed (D.capacity drive.old) (held (D.journal drive.old)) at found.0) }
     ensures refused { IfErr result (λ fault. IsTrue (D.honest drive.new) → IsStateRefused (D.capacity drive.old) (held (D.journal drive.old)) at fault) }
     ensures limits { IfOk result (λ found. (512 ≤ found.0.capacity) × (found.0.capacity ≤ 450_000) × (found.0.capacity ≤ D.capacity drive.old)) }
     ensures table { IfOk result (λ found. (bytes : List ℕ) × IsTableAt (at - 257) (view found.0.vat) bytes) }
+    ensures known { IsTrue (D.honest drive.new) → IsKnown (held (D.journal drive.new)) known.new }
     ensures journal { D.journal drive.new ≡ D.journal drive.old }
     ensures capacity { D.capacity drive.new ≡ D.capacity drive.old }
     ensures honest { IsTrue (D.honest drive.new) → IsTrue (D.honest drive.old) }
     ensures failures { Counts (devices result) (D.failures drive.old) (D.failures drive.new) }
 {
-    let entry = table_entry(drive, at)?;
-    let front = read_front(drive)?;
+    let front = known.front(drive)?;
     if front.capacity > drive.capacity() {
         return Err(damaged(PARTITION, cause::RANGE));
     }
+    let entry = table_entry(drive, at)?;
     let vat = read_table(alloc, drive, at, &entry)?;
     let data_at = entry.first + PARTITION_START;
     if vat.label != front.label {
@@ -94,7 +133,7 @@ fn described<D: Drive>(alloc: Global, drive: &mut D, at: u32) -> Result<(State, 
 }
 
 /// Reads the front, block by block.
-fn read_front<D: Drive>(drive: &mut D) -> Result<Front, StoreFault>
+pub(crate) fn read_front<D: Drive>(drive: &mut D) -> Result<Front, StoreFault>
     requires within { 257 ≤ next_of (D.journal drive.old) }
     ensures front { IfOk result (λ front. IsTrue (D.honest drive.new) → IsFront front.label front.moment front.capacity (take 257 (held (D.journal drive.old)))) }
     ensures refused { IfErr result (λ fault. IsTrue (D.honest drive.new) → IsFrontRefused (take 257 (held (D.journal drive.old))) fault) }
@@ -160,17 +199,20 @@ fn check_file_set<D: Drive>(
 fn check_tree<D: Drive>(
     alloc: Global,
     drive: &mut D,
+    known: &mut Known,
     vat: &Vat,
     at: u32,
     data_at: u32,
 ) -> Result<(), StoreFault>
     requires low { 257 ≤ at }
     requires within { at < next_of (D.journal drive.old) }
+    requires known { IsTrue (D.honest drive.old) → IsKnown (held (D.journal drive.old)) known.old }
     requires next { 16 ≤ vat.now.sessions.next_unique }
     requires few { vat.now.files + vat.now.directories ≤ 4_096 }
     ensures tree { OnOk result (IsTrue (D.honest drive.new) → HasTree (take at (held (D.journal drive.old))) vat.now) }
     ensures counts { OnOk result (IsCounted at vat.now) }
     ensures refused { IfErr result (λ fault. IsTrue (D.honest drive.new) → IsTreeRefused (take at (held (D.journal drive.old))) at vat.now fault) }
+    ensures known { IsTrue (D.honest drive.new) → IsKnown (held (D.journal drive.new)) known.new }
     ensures journal { D.journal drive.new ≡ D.journal drive.old }
     ensures capacity { D.capacity drive.new ≡ D.capacity drive.old }
     ensures honest { IsTrue (D.honest drive.new) → IsTrue (D.honest drive.old) }
@@ -178,7 +220,7 @@ fn check_tree<D: Drive>(
 {
     let sessions = &vat.sessions;
     let mut walk = Walk::new(alloc, at, &vat.entries, sessions.next_unique);
-    walk.visit(alloc, drive, Named::root(data_at))?;
+    walk.visit(alloc, drive, known, Named::root(data_at))?;
     let commits = u64::from(sessions.commits);
     let files = walk.files;
     let directories = walk.directories;

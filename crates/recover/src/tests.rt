@@ -1,9 +1,11 @@
+//! Media made by hand, and what is read of them.
+
 ghost use Rattle.std.specs.Prelude.{◌<◌, ◌≤◌};
 
 use super::*;
 use dir::{Dir, Entry, lay};
-use drive::{Drive, Fault, MemDrive};
-use ecma::{Block, Timestamp, crc};
+use drive::{Drive, MemDrive};
+use ecma::{Block, Timestamp, seal};
 use icb::{FileEntry, FileSet, Place, encode_fe, encode_fsd};
 use indexmap::IndexMap;
 use osta::{Label, Name};
@@ -11,6 +13,14 @@ use std::alloc::Global;
 use std::process::Abort;
 use std::test::Fail;
 use volume::front_blocks;
+
+mod chains;
+mod directories;
+mod entries;
+mod relations;
+mod sharing;
+mod states;
+mod tables;
 
 const CAPACITY: u32 = 3_000;
 
@@ -45,10 +55,10 @@ fn volume_of(alloc: Global, capacity: u32, blocks: &[Block]) -> Result<MemDrive,
     Ok(drive)
 }
 
-/// The entry of a directory whose data lie in one block, at its virtual address.
+/// The entry of a directory, for its virtual address.
 fn directory_entry(unique: u64, links: u16, size: u32, first: u32, at: u32) -> Result<Block, Fail>
     requires some { 0 < size }
-    requires small { size ≤ 2_048 }
+    requires small { size ≤ 65_536 }
     requires low { first ≤ 1_000 }
 {
     let entry = FileEntry {
@@ -65,16 +75,16 @@ fn directory_entry(unique: u64, links: u16, size: u32, first: u32, at: u32) -> R
 /// The entry of the root.
 fn root_entry(links: u16, size: u32, first: u32) -> Result<Block, Fail>
     requires some { 0 < size }
-    requires small { size ≤ 2_048 }
+    requires small { size ≤ 65_536 }
     requires low { first ≤ 1_000 }
 {
     directory_entry(0, links, size, first, 1)
 }
 
-/// The entry of a table whose data lie in one block, for its block number.
+/// The entry of a table, for its block number.
 fn entry_of_table(size: u32, first: u32, number: u32) -> Result<Block, Fail>
     requires some { 0 < size }
-    requires small { size ≤ 2_048 }
+    requires small { size ≤ 65_536 }
     requires low { first ≤ 1_000 }
 {
     let entry = FileEntry {
@@ -130,7 +140,7 @@ fn table_block(
     table_with(alloc, label, numbers, none, entries)
 }
 
-/// The block of a table's data.
+/// The first block of a table's data.
 fn table_with(
     alloc: Global,
     label: &[u8; 4],
@@ -138,7 +148,19 @@ fn table_with(
     records: Records<'_>,
     entries: &[u32],
 ) -> Result<Block, Fail> {
-    let used = 44 + records.bytes.len().min(1_000) as u16;
+    let bytes = table_bytes(alloc, label, numbers, records, entries)?;
+    Ok(block_of(&bytes))
+}
+
+/// The bytes of a table.
+fn table_bytes(
+    alloc: Global,
+    label: &[u8; 4],
+    numbers: Numbers,
+    records: Records<'_>,
+    entries: &[u32],
+) -> Result<Vec<u8>, Fail> {
+    let used = 44 + records.bytes.len().min(10_000) as u16;
     let mut bytes = Vec::new(alloc);
     bytes.extend_from_slice(&(152 + used).to_le_bytes())?;
     bytes.extend_from_slice(&used.to_le_bytes())?;
@@ -159,10 +181,53 @@ fn table_with(
     for number in entries {
         bytes.extend_from_slice(&number.to_le_bytes())?;
     }
+    Ok(bytes)
+}
+
+/// The block that begins with the first 2,048 of these bytes, with zeros behind them.
+fn block_of(bytes: &[u8]) -> Block {
     let size = bytes.len().min(2048);
     let mut block = [0; 2048];
     block[..size].copy_from_slice(&bytes[..size]);
-    Ok(block)
+    block
+}
+
+/// The blocks that hold these bytes, with zeros behind them.
+fn blocks_of(alloc: Global, bytes: &[u8]) -> Result<Vec<Block>, Fail> {
+    let mut blocks = Vec::new(alloc);
+    for piece in bytes.chunks(2048) {
+        blocks.push(block_of(piece))?;
+    }
+    Ok(blocks)
+}
+
+/// A block with some of its bytes changed, each at a place and to a value.
+fn with_bytes(rt: &impl Abort, block: &Block, changes: &[(usize, u8)]) -> Block {
+    let mut changed = *block;
+    for (at, byte) in changes {
+        assert!(rt; *at < changed.len());
+        changed[*at] = *byte;
+    }
+    changed
+}
+
+/// The tag of a descriptor at the front of a block: which it is, where it stands, and where it ends in its block.
+#[derive(Clone, Copy)]
+struct Sealing {
+    id: u16,
+    location: u32,
+    end: usize,
+}
+
+/// Bytes of a block that are changed, each at a place and to a value.
+type Changes = &'static [(usize, u8)];
+
+/// The block with some bytes changed and its descriptor sealed again.
+fn resealed(rt: &impl Abort, block: &Block, changes: Changes, sealing: Sealing) -> Block {
+    let mut changed = with_bytes(rt, block, changes);
+    assert!(rt; 16 <= sealing.end && sealing.end <= 2048);
+    seal(sealing.id, sealing.location, &mut changed[..sealing.end]);
+    changed
 }
 
 /// The file set of the format.
@@ -307,63 +372,6 @@ fn damage(alloc: Global, drive: &mut MemDrive) -> Result<Option<(u32, u8)>, Fail
     }
 }
 
-#[test]
-fn a_blank_medium_has_no_table(rt: HostRuntime) {
-    let alloc = rt.alloc();
-    let mut drive = MemDrive::new(alloc, 600, Vec::new(alloc));
-    assert!(rt; last(&mut drive) == Ok(None));
-}
-
-#[test]
-fn a_format_is_that_of_the_vectors(rt: HostRuntime) -> Result<(), Fail> {
-    let alloc = rt.alloc();
-    let drive = volume_after(&rt, alloc, &[])?;
-    let mut image = Vec::new(alloc);
-    for event in drive.journal() {
-        image.extend_from_slice(&event.1)?;
-    }
-    assert!(rt; image.len() == 262 * 2048);
-    assert!(rt; crc(&image) == 0x4D12);
-    Ok(())
-}
-
-#[test]
-fn what_was_written_stands(rt: HostRuntime) -> Result<(), Fail> {
-    let alloc = rt.alloc();
-    let mut drive = volume_after(&rt, alloc, &created(&rt, alloc)?)?;
-    let at = last(&mut drive)?.ok_or("a table")?;
-    assert!(rt; at == 266);
-    let state = state_of(alloc, &mut drive, at)??;
-    assert!(rt; state.capacity == CAPACITY);
-    assert!(rt; state.label == label()?);
-    assert!(rt; state.moment == moment()?);
-    assert!(rt; state.vat.entries[..] == [Some(0), Some(7), Some(5)]);
-    assert!(rt; state.vat.files == 1);
-    let earlier = state_of(alloc, &mut drive, 261)??;
-    assert!(rt; earlier.vat.files == 0);
-    Ok(())
-}
-
-#[test]
-fn a_changed_bit_gives_the_table_before(rt: HostRuntime) -> Result<(), Fail> {
-    let alloc = rt.alloc();
-    let drive = volume_after(&rt, alloc, &created(&rt, alloc)?)?;
-    for byte in 0..2048 {
-        let mut other = changed(alloc, &drive, 266, byte)?;
-        assert!(rt; last(&mut other) == Ok(Some(261)));
-    }
-    Ok(())
-}
-
-#[test]
-fn an_entry_for_another_block_is_none(rt: HostRuntime) -> Result<(), Fail> {
-    let alloc = rt.alloc();
-    let mut drive = volume_after(&rt, alloc, &created(&rt, alloc)?)?;
-    add(&mut drive, &entry_of_table(208, 8, 9)?)?;
-    assert!(rt; last(&mut drive) == Ok(Some(266)));
-    Ok(())
-}
-
 /// The chain of a format, of a commit that makes a file, and of one that writes its table alone, by its commits.
 fn chain(rt: &impl Abort, alloc: Global, commits: u32) -> Result<MemDrive, Fail> {
     let mut drive = volume_after(rt, alloc, &created(rt, alloc)?)?;
@@ -380,71 +388,6 @@ fn chain(rt: &impl Abort, alloc: Global, commits: u32) -> Result<MemDrive, Fail>
     Ok(drive)
 }
 
-#[test]
-fn the_chain_goes_back_to_the_format(rt: HostRuntime) -> Result<(), Fail> {
-    let alloc = rt.alloc();
-    let mut drive = chain(&rt, alloc, 2)?;
-    assert!(rt; last(&mut drive) == Ok(Some(268)));
-    assert!(rt; step(alloc, &mut drive, 268)? == Ok(Some(266)));
-    assert!(rt; step(alloc, &mut drive, 266)? == Ok(Some(261)));
-    assert!(rt; step(alloc, &mut drive, 261)? == Ok(None));
-    Ok(())
-}
-
-#[test]
-fn a_broken_chain_is_told(rt: HostRuntime) -> Result<(), Fail> {
-    let alloc = rt.alloc();
-    let mut drive = chain(&rt, alloc, 3)?;
-    assert!(rt; step(alloc, &mut drive, 268)? == Err(damaged(266, cause::CHAIN)));
-    let whole = chain(&rt, alloc, 2)?;
-    let mut linkless = changed(alloc, &whole, 266, 0)?;
-    assert!(rt; step(alloc, &mut linkless, 268)? == Err(damaged(266, cause::CHAIN)));
-    let mut tableless = changed(alloc, &whole, 265, 0)?;
-    assert!(rt; step(alloc, &mut tableless, 268)? == Err(damaged(265, 41)));
-    assert!(rt; step(alloc, &mut tableless, 262)? == Err(damaged(262, cause::CHAIN)));
-    Ok(())
-}
-
-#[test]
-fn the_front_is_held_byte_by_byte(rt: HostRuntime) -> Result<(), Fail> {
-    let alloc = rt.alloc();
-    let drive = volume_after(&rt, alloc, &[])?;
-    for (at, byte) in [(0, 0), (16, 2047), (32, 30), (34, 192), (64, 80), (256, 16)] {
-        let mut other = changed(alloc, &drive, at, byte)?;
-        let seen = damage(alloc, &mut other)?;
-        assert!(rt; seen == Some((at, cause::FRONT)));
-    }
-    Ok(())
-}
-
-#[test]
-fn a_larger_volume_than_the_drive_is_told(rt: HostRuntime) -> Result<(), Fail> {
-    let alloc = rt.alloc();
-    let mut drive = volume_of(alloc, 2_999, &formatted(&rt, alloc)?)?;
-    let seen = damage(alloc, &mut drive)?;
-    assert!(rt; seen == Some((34, cause::RANGE)));
-    Ok(())
-}
-
-#[test]
-fn labels_and_moments_agree(rt: HostRuntime) -> Result<(), Fail> {
-    let alloc = rt.alloc();
-    let mut blocks = formatted(&rt, alloc)?;
-    blocks[3] = table_block(alloc, b"DISK", FORMATTED, &[0, 2])?;
-    let mut drive = volume_of(alloc, CAPACITY, &blocks)?;
-    let seen = damage(alloc, &mut drive)?;
-    assert!(rt; seen == Some((260, cause::LABEL)));
-    let mut blocks = formatted(&rt, alloc)?;
-    blocks[0] = encode_fsd(&FileSet {
-        label: label()?,
-        moment: Timestamp::of(1).ok_or("a moment")?,
-    });
-    let mut drive = volume_of(alloc, CAPACITY, &blocks)?;
-    let seen = damage(alloc, &mut drive)?;
-    assert!(rt; seen == Some((257, cause::LABEL)));
-    Ok(())
-}
-
 /// What is seen of the volume whose last commit is the one of `created` with one block put in another's place.
 fn damage_with(
     rt: &impl Abort,
@@ -458,124 +401,6 @@ fn damage_with(
     blocks[at] = block;
     let mut drive = volume_after(rt, alloc, &blocks)?;
     damage(alloc, &mut drive)
-}
-
-#[test]
-fn ranges_are_told(rt: HostRuntime) -> Result<(), Fail> {
-    let alloc = rt.alloc();
-    let unused = table_block(alloc, b"DISC", USED, &[0, 7, u32::MAX, 5])?;
-    let mut blocks = created(&rt, alloc)?;
-    blocks[3] = unused;
-    blocks[4] = entry_of_table(212, 8, 9)?;
-    let mut drive = volume_after(&rt, alloc, &blocks)?;
-    let seen = damage(alloc, &mut drive)?;
-    assert!(rt; seen == Some((263, cause::RANGE)));
-    let behind = entry_of_table(208, 9, 9)?;
-    let seen = damage_with(&rt, alloc, 4, behind)?;
-    assert!(rt; seen == Some((266, cause::RANGE)));
-    let above = root_entry(1, 80, 9)?;
-    let seen = damage_with(&rt, alloc, 2, above)?;
-    assert!(rt; seen == Some((264, cause::RANGE)));
-    Ok(())
-}
-
-#[test]
-fn identities_are_told(rt: HostRuntime) -> Result<(), Fail> {
-    let alloc = rt.alloc();
-    let seen = damage_with(&rt, alloc, 0, file(17, 2)?)?;
-    assert!(rt; seen == Some((262, cause::IDENTITY)));
-    let other_kind = directory(&rt, alloc, 6, 1, &[("a", dir::Kind::Directory, 2, 16)])?;
-    let seen = damage_with(&rt, alloc, 1, other_kind)?;
-    assert!(rt; seen == Some((264, cause::IDENTITY)));
-    let other_parent = directory(&rt, alloc, 6, 2, &[("a", dir::Kind::File, 2, 16)])?;
-    let seen = damage_with(&rt, alloc, 1, other_parent)?;
-    assert!(rt; seen == Some((263, cause::IDENTITY)));
-    let more_links = root_entry(2, 80, 6)?;
-    let seen = damage_with(&rt, alloc, 2, more_links)?;
-    assert!(rt; seen == Some((264, cause::IDENTITY)));
-    Ok(())
-}
-
-#[test]
-fn a_node_of_two_names_is_told(rt: HostRuntime) -> Result<(), Fail> {
-    let alloc = rt.alloc();
-    let items = [("a", dir::Kind::File, 2, 16), ("b", dir::Kind::File, 2, 16)];
-    let mut blocks = created(&rt, alloc)?;
-    blocks[1] = directory(&rt, alloc, 6, 1, &items)?;
-    blocks[2] = root_entry(1, 120, 6)?;
-    let mut drive = volume_after(&rt, alloc, &blocks)?;
-    let seen = damage(alloc, &mut drive)?;
-    assert!(rt; seen == Some((262, cause::REACHED_TWICE)));
-    Ok(())
-}
-
-#[test]
-fn counts_are_told(rt: HostRuntime) -> Result<(), Fail> {
-    let alloc = rt.alloc();
-    let more_files = Numbers { files: 2, ..USED };
-    let mut blocks = created(&rt, alloc)?;
-    blocks[3] = table_block(alloc, b"DISC", more_files, &[0, 7, 5, 5])?;
-    blocks[4] = entry_of_table(212, 8, 9)?;
-    let mut drive = volume_after(&rt, alloc, &blocks)?;
-    let seen = damage(alloc, &mut drive)?;
-    assert!(rt; seen == Some((265, cause::COUNTS)));
-    let many_commits = Numbers { commits: 3, ..USED };
-    let seen = damage_with(
-        &rt,
-        alloc,
-        3,
-        table_block(alloc, b"DISC", many_commits, &[0, 7, 5])?,
-    )?;
-    assert!(rt; seen == Some((265, cause::COUNTS)));
-    let many_ids = Numbers {
-        next_unique: 18,
-        ..USED
-    };
-    let seen = damage_with(
-        &rt,
-        alloc,
-        3,
-        table_block(alloc, b"DISC", many_ids, &[0, 7, 5])?,
-    )?;
-    assert!(rt; seen == Some((265, cause::COUNTS)));
-    Ok(())
-}
-
-#[test]
-fn a_structure_tells_its_own_fault(rt: HostRuntime) -> Result<(), Fail> {
-    let alloc = rt.alloc();
-    let drive = volume_after(&rt, alloc, &created(&rt, alloc)?)?;
-    let rows = [
-        (257, 0, 21),
-        (262, 0, 21),
-        (263, 0, 31),
-        (264, 2047, 27),
-        (265, 4, 42),
-    ];
-    for (at, byte, cause) in rows {
-        let mut other = changed(alloc, &drive, at, byte)?;
-        let seen = damage(alloc, &mut other)?;
-        assert!(rt; seen == Some((at, cause)));
-    }
-    Ok(())
-}
-
-#[test]
-fn a_failed_read_is_told(rt: HostRuntime) -> Result<(), Fail> {
-    let alloc = rt.alloc();
-    let mut drive = volume_after(&rt, alloc, &created(&rt, alloc)?)?;
-    // One of the table's entry, two and then all of the front, the table's data, the file set, the root and the file.
-    for read in 1..=265 {
-        drive.arm(Fault::Read(read));
-        let refused = state_of(alloc, &mut drive, 266)?.err();
-        assert!(rt; refused == Some(StoreFault::Device));
-        assert!(rt; drive.failures() == read);
-    }
-    drive.arm(Fault::Read(266));
-    assert!(rt; state_of(alloc, &mut drive, 266)?.is_ok());
-    drive.arm(Fault::Next(1));
-    assert!(rt; last(&mut drive) == Err(StoreFault::Device));
-    Ok(())
 }
 
 /// A volume whose directories lie each in the one before, so many below the root.
@@ -621,97 +446,6 @@ fn nested(rt: &impl Abort, alloc: Global, depth: u32) -> Result<MemDrive, Fail> 
     Ok(drive)
 }
 
-#[test]
-fn a_path_has_sixteen_names(rt: HostRuntime) -> Result<(), Fail> {
-    let alloc = rt.alloc();
-    let mut drive = nested(&rt, alloc, 16)?;
-    let seen = damage(alloc, &mut drive)?;
-    assert!(rt; seen.is_none());
-    let mut deeper = nested(&rt, alloc, 17)?;
-    let seen = damage(alloc, &mut deeper)?;
-    assert!(rt; seen == Some((263, cause::TOO_DEEP)));
-    Ok(())
-}
-
-#[test]
-fn unique_ids_are_looked_at(rt: HostRuntime) -> Result<(), Fail> {
-    let alloc = rt.alloc();
-    let seen = damage_with(&rt, alloc, 2, directory_entry(1, 1, 80, 6, 1)?)?;
-    assert!(rt; seen == Some((264, cause::IDENTITY)));
-    let items = [("a", dir::Kind::File, 2, 16), ("b", dir::Kind::File, 3, 16)];
-    let used = Numbers {
-        files: 2,
-        next_unique: 18,
-        commits: 2,
-        ..USED
-    };
-    let blocks = [
-        file(16, 2)?,
-        file(16, 3)?,
-        directory(&rt, alloc, 7, 1, &items)?,
-        root_entry(1, 120, 7)?,
-        table_block(alloc, b"DISC", used, &[0, 8, 5, 6])?,
-        entry_of_table(212, 9, 10)?,
-    ];
-    let mut drive = volume_after(&rt, alloc, &blocks)?;
-    let seen = damage(alloc, &mut drive)?;
-    assert!(rt; seen == Some((263, cause::IDENTITY)));
-    Ok(())
-}
-
-#[test]
-fn sessions_of_the_first_version_are_read(rt: HostRuntime) -> Result<(), Fail> {
-    let alloc = rt.alloc();
-    let mut record = Vec::new(alloc);
-    record.extend_from_slice(&7_u64.to_le_bytes())?;
-    record.extend_from_slice(&1_u64.to_le_bytes())?;
-    record.extend_from_slice(&[0, 0, 0, 0, 1, 0, 0, 0])?;
-    let records = Records {
-        version: 1,
-        count: 1,
-        bytes: &record,
-    };
-    let mut blocks = created(&rt, alloc)?;
-    blocks[3] = table_with(alloc, b"DISC", USED, records, &[0, 7, 5])?;
-    blocks[4] = entry_of_table(232, 8, 9)?;
-    let mut drive = volume_after(&rt, alloc, &blocks)?;
-    let state = state_of(alloc, &mut drive, 266)??;
-    assert!(rt; state.vat.sessions.records.len() == 1);
-    let kept = &state.vat.sessions.records[0];
-    assert!(rt; kept.client == 7 && kept.latest == 1);
-    let replies = kept.replies.as_slice();
-    assert!(rt; replies.len() == 1);
-    assert!(rt; replies[0].code == 0 && replies[0].commit == 1);
-    Ok(())
-}
-
-#[test]
-fn a_small_file_in_a_block_of_its_own_is_read(rt: HostRuntime) -> Result<(), Fail> {
-    let alloc = rt.alloc();
-    let entry = FileEntry {
-        kind: icb::Kind::File,
-        moment: moment()?,
-        links: 1,
-        unique: 16,
-        size: 5,
-        place: Place::Extent(5),
-    };
-    let mut data = [0; 2048];
-    data[..5].copy_from_slice(b"hello");
-    let blocks = [
-        data,
-        encode_fe(&entry, 2),
-        directory(&rt, alloc, 7, 1, &[("a", dir::Kind::File, 2, 16)])?,
-        root_entry(1, 80, 7)?,
-        table_block(alloc, b"DISC", USED, &[0, 8, 6])?,
-        entry_of_table(208, 9, 10)?,
-    ];
-    let mut drive = volume_after(&rt, alloc, &blocks)?;
-    let state = state_of(alloc, &mut drive, 267)??;
-    assert!(rt; state.vat.entries[..] == [Some(0), Some(8), Some(6)]);
-    Ok(())
-}
-
 /// What a commit writes that gives the file `a` of `created` the name `b`, at the addresses 267 to 270.
 fn renamed(rt: &impl Abort, alloc: Global) -> Result<[Block; 4], Fail> {
     let numbers = Numbers {
@@ -725,26 +459,4 @@ fn renamed(rt: &impl Abort, alloc: Global) -> Result<[Block; 4], Fail> {
         table_block(alloc, b"DISC", numbers, &[0, 11, 5])?,
         entry_of_table(208, 12, 13)?,
     ])
-}
-
-#[test]
-fn a_cut_leaves_the_state_before_it(rt: HostRuntime) -> Result<(), Fail> {
-    let alloc = rt.alloc();
-    let blocks = renamed(&rt, alloc)?;
-    for cut in 0..4 {
-        let mut drive = volume_after(&rt, alloc, &created(&rt, alloc)?)?;
-        for block in &blocks[..cut] {
-            add(&mut drive, block)?;
-        }
-        assert!(rt; last(&mut drive) == Ok(Some(266)));
-        assert!(rt; state_of(alloc, &mut drive, 266)??.vat.sessions.commits == 1);
-    }
-    let mut drive = volume_after(&rt, alloc, &created(&rt, alloc)?)?;
-    for block in &blocks {
-        add(&mut drive, block)?;
-    }
-    assert!(rt; last(&mut drive) == Ok(Some(270)));
-    assert!(rt; state_of(alloc, &mut drive, 270)??.vat.sessions.commits == 2);
-    assert!(rt; step(alloc, &mut drive, 270)? == Ok(Some(266)));
-    Ok(())
 }

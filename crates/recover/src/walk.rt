@@ -4,19 +4,20 @@ ghost use Rattle.std.specs.Prelude.{◌≡◌, ◌↔◌, ◌+◌, ◌<◌, ◌�
 ghost use Rattle.std.specs.Int.{div_ceil};
 ghost use Rattle.drive.specs.Journal.{held, next_of};
 ghost use Rattle.recover.specs.Faults.{Counts, devices};
+ghost use Rattle.recover.specs.Known.{IsKnown};
 ghost use Rattle.recover.specs.Refused.{IsNamesRefused};
-ghost use Rattle.recover.specs.Walk.{HasNames, LiesBelow, extent_in, icb_kind};
-ghost use Rattle.icb.specs.Entry.{place_of};
+ghost use Rattle.recover.specs.Walk.{HasNames, LiesBelow, icb_kind};
 ghost use Rattle.dir.specs.declared.entry.Kind.TheVariants.{Directory, File};
 
 use crate::cause;
-use crate::directory::{Extent, link_count, read_directory};
+use crate::directory::{Extent, link_count};
 use crate::fault::{StoreFault, damaged};
-use crate::reading::{PARTITION_START, read_block};
+use crate::kept::{EntryPlace, Names};
+use crate::known::Known;
+use crate::reading::PARTITION_START;
 use crate::table::{address_below, lies_below};
-use dir::{Dir, Entry, Kind};
+use dir::{Entry, Kind};
 use drive::Drive;
-use icb::{FileEntry, Place, decode_fe};
 use std::alloc::Global;
 use std::collections::HashSet;
 
@@ -115,6 +116,7 @@ impl<'a> Walk<'a> {
     ghost use Rattle.recover.specs.Faults.{Counts, devices};
     ghost use Rattle.recover.specs.declared.fault.StoreFault.TheVariants.{Memory};
     ghost use Rattle.recover.specs.Forest.{IsDrawn, Puts};
+    ghost use Rattle.recover.specs.Known.{IsKnown};
     ghost use Rattle.recover.specs.Refused.{IsBodyRefused, IsReachRefused, IsVisitRefused};
     ghost use Rattle.recover.specs.Walk.{HasEntry, LeadsTo, LiesBelow, Visits, nodes_of, reached_in, uniques_in};
     ghost use Rattle.dir.specs.declared.entry.Kind.TheVariants.{Directory};
@@ -146,16 +148,18 @@ impl<'a> Walk<'a> {
         }
     }
 
-    /// Looks at a node, and at all below it.
+    /// Looks at a node, and at all below it. What is known is not read.
     pub(crate) fn visit<D: Drive>(
         &mut self,
         alloc: Global,
         drive: &mut D,
+        known: &mut Known,
         node: Named,
     ) -> Result<(), StoreFault>
         requires low { 257 ≤ self.old.at }
         requires within { self.old.at < next_of (D.journal drive.old) }
         requires depth { node.depth ≤ 17 }
+        requires known { IsTrue (D.honest drive.old) → IsKnown (held (D.journal drive.old)) known.old }
         ensures refused { IfErr result (λ fault. IsTrue (D.honest drive.new) → IsVisitRefused (nodes_of (D.journal drive.old) self.old) self.old node fault) }
         ensures visits { OnOk result (IsTrue (D.honest drive.new) → Visits (nodes_of (D.journal drive.old) self.old) self.old self.new node) }
         ensures at { self.new.at ≡ self.old.at }
@@ -163,13 +167,14 @@ impl<'a> Walk<'a> {
         ensures next_unique { self.new.next_unique ≡ self.old.next_unique }
         ensures counted { OnOk result (node.kind ≡ Directory → 1 ≤ self.new.directories) }
         ensures more { self.old.directories ≤ self.new.directories }
+        ensures known { IsTrue (D.honest drive.new) → IsKnown (held (D.journal drive.new)) known.new }
         ensures journal { D.journal drive.new ≡ D.journal drive.old }
         ensures capacity { D.capacity drive.new ≡ D.capacity drive.old }
         ensures honest { IsTrue (D.honest drive.new) → IsTrue (D.honest drive.old) }
         ensures failures { Counts (devices result) (D.failures drive.old) (D.failures drive.new) }
     {
         let entry_at = self.reach(&node)?;
-        let body = self.read_entry(drive, &node, entry_at)?;
+        let body = self.read_entry(drive, known, &node, entry_at)?;
         match node.kind {
             Kind::File => {
                 self.files = self.files.saturating_add(1);
@@ -180,13 +185,16 @@ impl<'a> Walk<'a> {
         let Some(extent) = body.extent else {
             return Err(damaged(entry_at, cause::RANGE));
         };
-        let directory = read_names(alloc, drive, node.above, extent, body.links, entry_at)?;
+        let names = read_names(
+            alloc, drive, known, node.above, extent, body.links, entry_at,
+        )?;
         self.directories = self.directories.saturating_add(1);
-        for index in 0..directory.entries.len() {
-            let (_, entry) = directory.entries.get_index(index).unwrap();
+        for index in 0..names.dir.entries.len() {
+            let (_, entry) = names.dir.entries.get_index(index).unwrap();
             let child = node.child(entry, extent.first + PARTITION_START);
-            self.visit(alloc, drive, child)?;
+            self.visit(alloc, drive, known, child)?;
         }
+        known.keep_directory(extent, names);
         Ok(())
     }
 
@@ -219,15 +227,17 @@ impl<'a> Walk<'a> {
         Ok(entry_at)
     }
 
-    /// Reads the node's entry, and holds it beside what its directory says.
+    /// Holds the node's entry beside what its directory says.
     fn read_entry<D: Drive>(
         &mut self,
         drive: &mut D,
+        known: &mut Known,
         node: &Named,
         entry_at: u32,
     ) -> Result<Body, StoreFault>
         requires below { entry_at < self.old.at }
         requires within { entry_at < next_of (D.journal drive.old) }
+        requires known { IsTrue (D.honest drive.old) → IsKnown (held (D.journal drive.old)) known.old }
         ensures entry { IfOk result (λ body. IsTrue (D.honest drive.new) → HasEntry (take self.old.at (held (D.journal drive.old))) entry_at node.now body) }
         ensures extent { IfOk result (λ body. IfSome body.extent (LiesBelow self.old.at)) }
         ensures refused { IfErr result (λ fault. IsTrue (D.honest drive.new) → IsBodyRefused (take self.old.at (held (D.journal drive.old))) self.old entry_at node.now fault) }
@@ -239,16 +249,17 @@ impl<'a> Walk<'a> {
         ensures reached { self.new.reached ≡ self.old.reached }
         ensures files { self.new.files ≡ self.old.files }
         ensures directories { self.new.directories ≡ self.old.directories }
+        ensures known { IsTrue (D.honest drive.new) → IsKnown (held (D.journal drive.new)) known.new }
         ensures journal { D.journal drive.new ≡ D.journal drive.old }
         ensures capacity { D.capacity drive.new ≡ D.capacity drive.old }
         ensures honest { IsTrue (D.honest drive.new) → IsTrue (D.honest drive.old) }
         ensures failures { Counts (devices result) (D.failures drive.old) (D.failures drive.new) }
     {
-        let block = read_block(drive, entry_at)?;
-        let entry = match decode_fe(&block, node.address) {
-            Ok(entry) => entry,
-            Err(fault) => return Err(damaged(entry_at, fault as u8)),
+        let place = EntryPlace {
+            at: entry_at,
+            address: node.address,
         };
+        let entry = known.entry(drive, place)?;
         if !is_kind(node.kind, entry.kind) || entry.unique != u64::from(node.unique) {
             return Err(damaged(entry_at, cause::IDENTITY));
         }
@@ -256,14 +267,14 @@ impl<'a> Walk<'a> {
         if !is_new || !has_links(node.kind, entry.links) {
             return Err(damaged(entry_at, cause::IDENTITY));
         }
-        let body = Body {
-            links: entry.links,
-            extent: extent_of(&entry),
-        };
-        if !is_below(body.extent, self.at) {
+        if !is_below(entry.extent, self.at) {
             return Err(damaged(entry_at, cause::RANGE));
         }
-        Ok(body)
+        known.keep_entry(place, entry);
+        Ok(Body {
+            links: entry.links,
+            extent: entry.extent,
+        })
     }
 
     /// Whether the unique ID is one that the node may have, and no node before it had.
@@ -296,29 +307,32 @@ impl<'a> Walk<'a> {
 fn read_names<D: Drive>(
     alloc: Global,
     drive: &mut D,
+    known: &mut Known,
     above: u32,
     extent: Extent,
     links: u16,
     entry_at: u32,
-) -> Result<Dir, StoreFault>
+) -> Result<Names, StoreFault>
     requires some { 0 < extent.size }
     requires first { extent.first ≤ 449_743 }
     requires within { extent.first + 257 + div_ceil extent.size 2048 ≤ next_of (D.journal drive.old) }
-    ensures names { IfOk result (λ directory. IsTrue (D.honest drive.new) → HasNames (held (D.journal drive.old)) above links extent directory) }
+    requires known { IsTrue (D.honest drive.old) → IsKnown (held (D.journal drive.old)) known.old }
+    ensures names { IfOk result (λ names. IsTrue (D.honest drive.new) → HasNames (held (D.journal drive.old)) above links extent names.dir) }
     ensures refused { IfErr result (λ fault. IsTrue (D.honest drive.new) → IsNamesRefused (held (D.journal drive.old)) above links extent fault) }
+    ensures known { IsTrue (D.honest drive.new) → IsKnown (held (D.journal drive.new)) known.new }
     ensures journal { D.journal drive.new ≡ D.journal drive.old }
     ensures capacity { D.capacity drive.new ≡ D.capacity drive.old }
     ensures honest { IsTrue (D.honest drive.new) → IsTrue (D.honest drive.old) }
     ensures failures { Counts (devices result) (D.failures drive.old) (D.failures drive.new) }
 {
-    let directory = read_directory(alloc, drive, extent)?;
-    if directory.parent != above {
+    let names = known.directory(alloc, drive, extent)?;
+    if names.dir.parent != above {
         return Err(damaged(extent.first + PARTITION_START, cause::IDENTITY));
     }
-    if links != link_count(&directory) {
+    if links != link_count(&names.dir) {
         return Err(damaged(entry_at, cause::IDENTITY));
     }
-    Ok(directory)
+    Ok(names)
 }
 
 /// Whether an entry is of what the directory says.
@@ -338,20 +352,6 @@ fn has_links(named: Kind, links: u16) -> bool
     match named {
         Kind::File => links == 1,
         Kind::Directory => true,
-    }
-}
-
-/// Where the bytes of a node lie, if blocks hold them.
-fn extent_of(entry: &FileEntry<'_>) -> Option<Extent>
-    ensures { result ≡ extent_in entry.now.size (place_of entry.now.place) }
-{
-    match entry.place {
-        Place::Extent(first) => Some(Extent {
-            first,
-            size: entry.size,
-        }),
-        Place::None => None,
-        Place::Inside(_) => None,
     }
 }
 

@@ -1,58 +1,61 @@
-use Rattle.std.proofs.Common.{◌≡◌, ◌-◌, ◌<◌, ◌≤◌, List, length, take, refl, subst, ◌∙◌, arith}
+use Rattle.std.proofs.Common.{◌≡◌, ◌-◌, ◌<◌, ◌≤◌, List, length, take, refl, sym, subst, ◌∙◌, arith}
 use Rattle.std.proofs.lemmas.Result.{err_from_is_err_and}
 use Rattle.drive.specs.Journal.{Event, held}
-use Rattle.volume.specs.Front.{IsFront}
 use Rattle.vat.specs.Table.{IsTableAt, view}
+use Rattle.recover.specs.Known.{IsKnown}
 use Rattle.recover.specs.State.{HasFileSet}
-use Rattle.recover.specs.Tables.{data_of}
+use Rattle.recover.specs.Tables.{IsEntryAt, data_of}
 use Rattle.recover.proofs.Held.{length-held}
 use Rattle.recover.proofs.Refusals.{entry_refused, front_refused, no_table, other_label, set_refused, too_large}
 use Rattle.recover.proofs.States.{same_label}
 use Rattle.recover.proofs.state.described.Goals as goal
 
-pub returns-in_err-entry-clause-refused : goal.returns-in_err-entry-clause-refused
-returns-in_err-entry-clause-refused g c =
+pub returns-in_err-front-clause-refused : goal.returns-in_err-front-clause-refused
+returns-in_err-front-clause-refused g c =
     let q = err_from_is_err_and c.from_residual.result c.from_residual.ensures.1 in
     let J : List Event = g.D.Drive.journal c.args.drive.now in
     let long : c.args.at < length (held J) = omega (arith, length-held J, c.requires.within) in
-    rw (q.1, q.2) (λ h. entry_refused (held J) c.args.at c.requires.low long (g.D.Drive.capacity c.args.drive.now) _ (c.in_err-entry.ensures.refused h))
-
-pub returns-in_err-front-clause-refused : goal.returns-in_err-front-clause-refused
-returns-in_err-front-clause-refused g c =
-    let q = err_from_is_err_and c.from_residual-in_err-front.result c.from_residual-in_err-front.ensures.1 in
-    let J : List Event = g.D.Drive.journal c.args.drive.now in
-    let long : c.args.at < length (held J) = omega (arith, length-held J, c.requires.within) in
-    rw (q.1, q.2) (λ h. front_refused (held J) c.args.at c.requires.low long (g.D.Drive.capacity c.args.drive.now) _ (rw c.table_entry.ensures.journal at (c.in_err-front.ensures.refused h)))
+    rw (q.1, q.2) (λ h. front_refused (held J) c.args.at c.requires.low long (g.D.Drive.capacity c.args.drive.now) _ (c.in_err-front.ensures.refused h))
 
 pub returns-then-front-capacity-clause-refused : goal.returns-then-front-capacity-clause-refused
 returns-then-front-capacity-clause-refused g c = rw c.damaged.ensures (λ h.
     let J : List Event = g.D.Drive.journal c.args.drive.now in
     let long : c.args.at < length (held J) = omega (arith, length-held J, c.requires.within) in
-    let front = subst (λ (K : List Event). IsFront c.in_ok-front.front.label c.in_ok-front.front.moment c.in_ok-front.front.capacity (take 257 (held K))) c.table_entry.ensures.journal (c.in_ok-front.ensures.front h) in
-    let large : g.D.Drive.capacity c.args.drive.now < c.in_ok-front.front.capacity = omega (arith, c.if-front-capacity.true, c.capacity.ensures, c.read_front.ensures.capacity, c.table_entry.ensures.capacity) in
+    let front = c.in_ok-front.ensures.front h in
+    let large : g.D.Drive.capacity c.args.drive.now < c.in_ok-front.front.capacity = omega (arith, c.if-front-capacity.true, c.capacity.ensures, c.front.ensures.capacity) in
     too_large (held J) c.args.at c.requires.low long c.in_ok-front.front.label c.in_ok-front.front.moment c.in_ok-front.front.capacity (g.D.Drive.capacity c.args.drive.now) front large)
+
+pub returns-in_err-entry-clause-refused : goal.returns-in_err-entry-clause-refused
+returns-in_err-entry-clause-refused g c =
+    let q = err_from_is_err_and c.from_residual-in_err-entry.result c.from_residual-in_err-entry.ensures.1 in
+    let J : List Event = g.D.Drive.journal c.args.drive.now in
+    let long : c.args.at < length (held J) = omega (arith, length-held J, c.requires.within) in
+    rw (q.1, q.2) (λ h. entry_refused (held J) c.args.at c.requires.low long (g.D.Drive.capacity c.args.drive.now) _ (rw c.front.ensures.journal at (c.in_err-entry.ensures.refused h)))
 
 pub returns-in_err-vat-clause-refused : goal.returns-in_err-vat-clause-refused
 returns-in_err-vat-clause-refused g c =
     let q = err_from_is_err_and c.from_residual-in_err-vat.result c.from_residual-in_err-vat.ensures.1 in
     let J : List Event = g.D.Drive.journal c.args.drive.now in
     let long : c.args.at < length (held J) = omega (arith, length-held J, c.requires.within) in
-    let two = c.read_front.ensures.journal ∙ c.table_entry.ensures.journal in
-    rw (q.1, q.2) (λ h. no_table (held J) c.args.at c.requires.low long (g.D.Drive.capacity c.args.drive.now) c.in_ok-entry.entry
-    (c.in_ok-entry.ensures.found (c.read_front.ensures.honest (c.read_table.ensures.honest h))) _ (rw two at (c.in_err-vat.ensures.refused h)))
+    let one = c.front.ensures.journal in
+    let two = c.table_entry.ensures.journal ∙ one in
+    rw (q.1, q.2) (λ h.
+    let entry = subst (λ (K : List Event). IsEntryAt (held K) c.args.at c.in_ok-entry.entry) one (c.in_ok-entry.ensures.found (c.read_table.ensures.honest h)) in
+    no_table (held J) c.args.at c.requires.low long (g.D.Drive.capacity c.args.drive.now) c.in_ok-entry.entry entry _ (rw two at (c.in_err-vat.ensures.refused h)))
 
 pub returns-then-ne-clause-refused : goal.returns-then-ne-clause-refused
 returns-then-ne-clause-refused g c = rw c.damaged-then-ne.ensures (λ h.
     let J : List Event = g.D.Drive.journal c.args.drive.now in
     let long : c.args.at < length (held J) = omega (arith, length-held J, c.requires.within) in
-    let after_front = c.read_table.ensures.honest h in
-    let after_entry = c.read_front.ensures.honest after_front in
-    let one = c.table_entry.ensures.journal in
-    let two = c.read_front.ensures.journal ∙ one in
-    let front = subst (λ (K : List Event). IsFront c.in_ok-front.front.label c.in_ok-front.front.moment c.in_ok-front.front.capacity (take 257 (held K))) one (c.in_ok-front.ensures.front after_front) in
+    let after_entry = c.read_table.ensures.honest h in
+    let after_front = c.table_entry.ensures.honest after_entry in
+    let one = c.front.ensures.journal in
+    let two = c.table_entry.ensures.journal ∙ one in
+    let front = c.in_ok-front.ensures.front after_front in
+    let entry = subst (λ (K : List Event). IsEntryAt (held K) c.args.at c.in_ok-entry.entry) one (c.in_ok-entry.ensures.found after_entry) in
     let read = c.in_ok-vat.ensures.table in
     let same = subst (λ (K : List Event). read.0 ≡ data_of (held K) c.in_ok-entry.entry) two (read.1 h) in
-    other_label (held J) c.args.at c.requires.low long c.in_ok-entry.entry (c.in_ok-entry.ensures.found after_entry) c.in_ok-vat.vat (subst (IsTableAt (c.args.at - 257) (view c.in_ok-vat.vat)) same read.2)
+    other_label (held J) c.args.at c.requires.low long c.in_ok-entry.entry entry c.in_ok-vat.vat (subst (IsTableAt (c.args.at - 257) (view c.in_ok-vat.vat)) same read.2)
     c.in_ok-front.front.label c.in_ok-front.front.moment c.in_ok-front.front.capacity front (g.D.Drive.capacity c.args.drive.now) _ c.ne.ensures c.if-ne.true)
 
 pub returns-in_err-check_file_set-clause-refused : goal.returns-in_err-check_file_set-clause-refused
@@ -62,33 +65,35 @@ returns-in_err-check_file_set-clause-refused g c =
     let J : List Event = g.D.Drive.journal c.args.drive.now in
     let long : c.args.at < length (held J) = omega (arith, length-held J, c.requires.within) in
     let after_table = c.check_file_set.ensures.honest h in
-    let after_front = c.read_table.ensures.honest after_table in
-    let after_entry = c.read_front.ensures.honest after_front in
-    let one = c.table_entry.ensures.journal in
-    let two = c.read_front.ensures.journal ∙ one in
+    let after_entry = c.read_table.ensures.honest after_table in
+    let after_front = c.table_entry.ensures.honest after_entry in
+    let one = c.front.ensures.journal in
+    let two = c.table_entry.ensures.journal ∙ one in
     let three = c.read_table.ensures.journal ∙ two in
-    let front = subst (λ (K : List Event). IsFront c.in_ok-front.front.label c.in_ok-front.front.moment c.in_ok-front.front.capacity (take 257 (held K))) one (c.in_ok-front.ensures.front after_front) in
+    let front = c.in_ok-front.ensures.front after_front in
+    let entry = subst (λ (K : List Event). IsEntryAt (held K) c.args.at c.in_ok-entry.entry) one (c.in_ok-entry.ensures.found after_entry) in
     let read = c.in_ok-vat.ensures.table in
     let same = subst (λ (K : List Event). read.0 ≡ data_of (held K) c.in_ok-entry.entry) two (read.1 after_table) in
-    set_refused (held J) c.args.at c.requires.low long c.in_ok-entry.entry (c.in_ok-entry.ensures.found after_entry) c.in_ok-vat.vat (subst (IsTableAt (c.args.at - 257) (view c.in_ok-vat.vat)) same read.2)
+    set_refused (held J) c.args.at c.requires.low long c.in_ok-entry.entry entry c.in_ok-vat.vat (subst (IsTableAt (c.args.at - 257) (view c.in_ok-vat.vat)) same read.2)
     c.in_ok-front.front.label c.in_ok-front.front.moment c.in_ok-front.front.capacity front (g.D.Drive.capacity c.args.drive.now) _ (rw three at (c.in_err-check_file_set.ensures.refused h)))
 
 pub returns-clause-described : goal.returns-clause-described
 returns-clause-described g c = λ h.
     let J : List Event = g.D.Drive.journal c.args.drive.now in
     let after_table = c.check_file_set.ensures.honest h in
-    let after_front = c.read_table.ensures.honest after_table in
-    let after_entry = c.read_front.ensures.honest after_front in
-    let one = c.table_entry.ensures.journal in
-    let two = c.read_front.ensures.journal ∙ one in
+    let after_entry = c.read_table.ensures.honest after_table in
+    let after_front = c.table_entry.ensures.honest after_entry in
+    let one = c.front.ensures.journal in
+    let two = c.table_entry.ensures.journal ∙ one in
     let three = c.read_table.ensures.journal ∙ two in
-    let front = subst (λ (K : List Event). IsFront c.in_ok-front.front.label c.in_ok-front.front.moment c.in_ok-front.front.capacity (take 257 (held K))) one (c.in_ok-front.ensures.front after_front) in
+    let front = c.in_ok-front.ensures.front after_front in
+    let entry = subst (λ (K : List Event). IsEntryAt (held K) c.args.at c.in_ok-entry.entry) one (c.in_ok-entry.ensures.found after_entry) in
     let read = c.in_ok-vat.ensures.table in
     let same = subst (λ (K : List Event). read.0 ≡ data_of (held K) c.in_ok-entry.entry) two (read.1 after_table) in
-    let fits : c.in_ok-front.front.capacity ≤ g.D.Drive.capacity c.args.drive.now = omega (arith, c.if-front-capacity.false, c.capacity.ensures, c.read_front.ensures.capacity, c.table_entry.ensures.capacity) in
+    let fits : c.in_ok-front.front.capacity ≤ g.D.Drive.capacity c.args.drive.now = omega (arith, c.if-front-capacity.false, c.capacity.ensures, c.front.ensures.capacity) in
     record {
       entry = c.in_ok-entry.entry;
-      is_entry = c.in_ok-entry.ensures.found after_entry;
+      is_entry = entry;
       below = c.in_ok-entry.ensures.below;
       table = subst (IsTableAt (c.args.at - 257) (view c.in_ok-vat.vat)) same read.2;
       moment = refl;
@@ -98,3 +103,12 @@ returns-clause-described g c = λ h.
       fits = fits;
       set = subst (λ (K : List Event). HasFileSet (take c.args.at (held K)) c.in_ok-vat.vat.entries.items c.in_ok-front.front.label c.in_ok-front.front.moment) three (c.in_ok-check_file_set.ensures.set h);
     }
+
+pub returns-clause-known : goal.returns-clause-known
+returns-clause-known g c = λ h.
+    let after_front = c.table_entry.ensures.honest (c.read_table.ensures.honest (c.check_file_set.ensures.honest h)) in
+    let same = c.check_file_set.ensures.journal ∙ (c.read_table.ensures.journal ∙ c.table_entry.ensures.journal) in
+    subst (λ (K : List Event). IsKnown (held K) c.front.new.self) (sym same) (c.front.ensures.known after_front)
+
+pub returns-clause-honest : goal.returns-clause-honest
+returns-clause-honest g c = λ h. c.front.ensures.honest (c.table_entry.ensures.honest (c.read_table.ensures.honest (c.check_file_set.ensures.honest h)))

@@ -1,17 +1,21 @@
 use Rattle.std.proofs.Common.{◌≡◌, ◌-◌, ◌≤◌, IsTrue}
+use Rattle.drive.specs.Journal.{held}
 use Rattle.recover.specs.Faults.{Counts}
+use Rattle.recover.specs.Known.{IsKnown, IsNamed}
 use Rattle.recover.specs.Walk.{nodes_of}
 use Rattle.recover.proofs.Walks.{Begun}
 use Rattle.recover.proofs.walk.Walk.+visit.Given as goal
 
 abbrev pub invariant-loop-index : goal.invariant-loop-index
 invariant-loop-index g l = record {
-  begun : IsTrue (g.D.Drive.honest l.drive) → Begun (nodes_of (g.D.Drive.journal l.fn.drive) l.fn.self) l.fn.self l.self l.node l.directory.entries.entries l.index;
+  begun : IsTrue (g.D.Drive.honest l.drive) → Begun (nodes_of (g.D.Drive.journal l.fn.drive) l.fn.self) l.fn.self l.self l.node l.names.dir.entries.entries l.index;
   at : l.self.at ≡ l.fn.self.at;
   entries : l.self.entries.now ≡ l.fn.self.entries.now;
   next_unique : l.self.next_unique ≡ l.fn.self.next_unique;
   more : l.fn.self.directories ≤ l.self.directories;
   counted : 1 ≤ l.self.directories;
+  known : IsTrue (g.D.Drive.honest l.drive) → IsKnown (held (g.D.Drive.journal l.drive)) l.known;
+  names : IsTrue (g.D.Drive.honest l.drive) → IsNamed (held (g.D.Drive.journal l.fn.drive)) l.extent l.names;
   journal : g.D.Drive.journal l.drive ≡ g.D.Drive.journal l.fn.drive;
   capacity : g.D.Drive.capacity l.drive ≡ g.D.Drive.capacity l.fn.drive;
   honest : IsTrue (g.D.Drive.honest l.drive) → IsTrue (g.D.Drive.honest l.fn.drive);

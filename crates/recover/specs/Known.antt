@@ -1,0 +1,58 @@
+-- What was read of a medium, and is not read again.
+use Rattle.std.specs.Prelude.{◌≡◌, ◌==◌, ◌&&◌, ℕ, ⊤, Bool, List, take, Some, IfSome, slice_get, All}
+use Rattle.std.specs.HashMap.{get}
+use Rattle.icb.specs.Entry.{Fields, IsEntry}
+use Rattle.dir.specs.Directory.{IsDirectory}
+use Rattle.udf.specs.Udf.{IsBlock}
+use Rattle.volume.specs.Front.{IsFront}
+use Rattle.recover.specs.declared.directory.Extent.{Extent}
+use Rattle.recover.specs.declared.fault.StoreFault.{StoreFault}
+use Rattle.recover.specs.declared.fault.StoreFault.TheVariants.{Device, Damaged}
+use Rattle.recover.specs.declared.known.Known.{Known}
+use Rattle.recover.specs.declared.kept.EntryPlace.{EntryPlace}
+use Rattle.recover.specs.declared.kept.Names.{Names}
+use Rattle.recover.specs.declared.kept.NodeEntry.{NodeEntry}
+use Rattle.recover.specs.declared.kept.Nodes.{Nodes}
+use Rattle.recover.specs.Nodes.{data_of}
+use Rattle.recover.specs.Walk.{extent_in}
+
+-- the entry there is that of the node with this virtual address, and says this
+pub record IsSaid (medium : List (List ℕ)) (place : EntryPlace) (entry : NodeEntry) : Type 0 where
+  pub block : List ℕ
+  pub there : slice_get medium place.at ≡ Some block
+  pub fields : Fields
+  pub is : IsEntry fields place.address block
+  pub kind : entry.kind ≡ fields.kind
+  pub unique : entry.unique ≡ fields.unique
+  pub links : entry.links ≡ fields.links
+  pub extent : entry.extent ≡ extent_in fields.size fields.place
+
+-- why no entry was read: the drive failed, or none of that node stands there
+abbrev pub IsUnsaid : List (List ℕ) → EntryPlace → StoreFault → Type 0
+IsUnsaid medium place Device = ⊤
+IsUnsaid medium place (Damaged at cause) =
+    (at ≡ place.at) × ((block : List ℕ) (fields : Fields) → slice_get medium place.at ≡ Some block → IsEntry fields place.address block → ⊥)
+IsUnsaid medium place _ = ⊥
+
+-- the blocks of this extent hold the directory
+pub record IsNamed (medium : List (List ℕ)) (extent : Extent) (names : Names) : Type 0 where
+  pub are : All IsBlock (data_of medium extent)
+  pub is : IsDirectory names.dir.parent names.dir.entries.entries extent.first extent.size (data_of medium extent)
+
+-- as places and extents are compared
+abbrev pub same_place : EntryPlace → EntryPlace → Bool
+same_place x y = (x.at == y.at) && (x.address == y.address)
+
+abbrev pub same_extent : Extent → Extent → Bool
+same_extent x y = (x.first == y.first) && (x.size == y.size)
+
+-- each node that is kept is what the medium has there
+pub record AreNodes (medium : List (List ℕ)) (nodes : Nodes) : Type 0 where
+  pub entries : (place : EntryPlace) → IfSome (get same_place nodes.entries place) (IsSaid medium place)
+  pub directories : (extent : Extent) → IfSome (get same_extent nodes.directories extent) (IsNamed medium extent)
+
+-- and so is the front
+pub record IsKnown (medium : List (List ℕ)) (known : Known) : Type 0 where
+  pub front : IfSome known.front (λ f. IsFront f.label f.moment f.capacity (take 257 medium))
+  pub before : AreNodes medium known.before
+  pub met : AreNodes medium known.met

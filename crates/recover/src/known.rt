@@ -1,0 +1,165 @@
+//! What was read of a medium while states were looked at one after another, and is not read again.
+
+ghost use Rattle.std.specs.Prelude.{◌≤◌, IfSome};
+ghost use Rattle.std.proofs.Props.{props};
+
+use crate::directory::Extent;
+use crate::fault::StoreFault;
+use crate::kept::{EntryPlace, Names, NodeEntry, Nodes};
+use crate::state::read_front;
+use drive::Drive;
+use std::alloc::Global;
+use std::mem;
+use volume::Front;
+
+/// The front, and the nodes of the state that was looked at last and of the one that is looked at. A node that both
+/// have is read once. No more is kept than the nodes of two states, however many states are looked at.
+#[derive(Drop)]
+pub struct Known {
+    front: Option<Front>,
+    keeps_nodes: bool,
+    /// The nodes of the state before, but for those of this one.
+    before: Nodes,
+    /// The nodes of this state that were met so far.
+    met: Nodes,
+    ghost limits: { IfSome front (λ f. (512 ≤ f.capacity) × (f.capacity ≤ 450_000)) } by { Prim.hlevel props },
+}
+
+impl Known {
+    ghost use Rattle.std.specs.Prelude.{◌≡◌, ◌+◌, ◌<◌, ◌≤◌, ℕ, List, IsTrue, IfOk, IfErr, take};
+    ghost use Rattle.std.specs.Int.{div_ceil};
+    ghost use Rattle.drive.specs.Journal.{held, next_of};
+    ghost use Rattle.volume.specs.Front.{IsFront};
+    ghost use Rattle.recover.specs.Faults.{Counts, devices};
+    ghost use Rattle.recover.specs.Known.{IsKnown, IsNamed, IsSaid, IsUnsaid};
+    ghost use Rattle.recover.specs.Nodes.{IsDirectoryRefused, data_of};
+    ghost use Rattle.recover.specs.State.{IsFrontRefused};
+
+    /// Nothing is known yet, and what is read is kept.
+    pub fn new(alloc: Global) -> Known
+        ensures { (medium : List (List ℕ)) → IsKnown medium result }
+    {
+        Known {
+            front: None,
+            keeps_nodes: true,
+            before: Nodes::new(alloc),
+            met: Nodes::new(alloc),
+        }
+    }
+
+    /// Nothing is known yet, and no node is kept.
+    pub(crate) fn of_no_nodes(alloc: Global) -> Known
+        ensures { (medium : List (List ℕ)) → IsKnown medium result }
+    {
+        Known {
+            front: None,
+            keeps_nodes: false,
+            before: Nodes::new(alloc),
+            met: Nodes::new(alloc),
+        }
+    }
+
+    /// Goes on to the next state: of the nodes, those of the state that was looked at last are kept.
+    pub(crate) fn begin(&mut self, alloc: Global)
+        ensures { (medium : List (List ℕ)) → IsKnown medium self.old → IsKnown medium self.new }
+    {
+        self.before = mem::replace(&mut self.met, Nodes::new(alloc));
+    }
+
+    /// What the front tells.
+    pub(crate) fn front<D: Drive>(&mut self, drive: &mut D) -> Result<Front, StoreFault>
+        requires within { 257 ≤ next_of (D.journal drive.old) }
+        requires known { IsTrue (D.honest drive.old) → IsKnown (held (D.journal drive.old)) self.old }
+        ensures front { IfOk result (λ front. IsTrue (D.honest drive.new) → IsFront front.label front.moment front.capacity (take 257 (held (D.journal drive.old)))) }
+        ensures refused { IfErr result (λ fault. IsTrue (D.honest drive.new) → IsFrontRefused (take 257 (held (D.journal drive.old))) fault) }
+        ensures limits { IfOk result (λ front. (512 ≤ front.capacity) × (front.capacity ≤ 450_000)) }
+        ensures known { IsTrue (D.honest drive.new) → IsKnown (held (D.journal drive.new)) self.new }
+        ensures journal { D.journal drive.new ≡ D.journal drive.old }
+        ensures capacity { D.capacity drive.new ≡ D.capacity drive.old }
+        ensures honest { IsTrue (D.honest drive.new) → IsTrue (D.honest drive.old) }
+        ensures failures { Counts (devices result) (D.failures drive.old) (D.failures drive.new) }
+    {
+        match self.front {
+            Some(front) => Ok(front),
+            None => {
+                let front = read_front(drive)?;
+                self.keep_front(&front);
+                Ok(front)
+            }
+        }
+    }
+
+    /// Keeps what the front tells.
+    fn keep_front(&mut self, front: &Front)
+        requires low { 512 ≤ front.now.capacity }
+        requires high { front.now.capacity ≤ 450_000 }
+        ensures { (medium : List (List ℕ)) → IsFront front.now.label front.now.moment front.now.capacity (take 257 medium) → IsKnown medium self.old → IsKnown medium self.new }
+    {
+        self.front = Some(*front);
+    }
+
+    /// What the entry there says. It is not kept while it is held beside what its directory says.
+    pub(crate) fn entry<D: Drive>(
+        &mut self,
+        drive: &mut D,
+        place: EntryPlace,
+    ) -> Result<NodeEntry, StoreFault>
+        requires within { place.at < next_of (D.journal drive.old) }
+        requires known { IsTrue (D.honest drive.old) → IsKnown (held (D.journal drive.old)) self.old }
+        ensures said { IfOk result (λ entry. IsTrue (D.honest drive.new) → IsSaid (held (D.journal drive.old)) place entry) }
+        ensures refused { IfErr result (λ fault. IsTrue (D.honest drive.new) → IsUnsaid (held (D.journal drive.old)) place fault) }
+        ensures known { IsTrue (D.honest drive.new) → IsKnown (held (D.journal drive.new)) self.new }
+        ensures journal { D.journal drive.new ≡ D.journal drive.old }
+        ensures capacity { D.capacity drive.new ≡ D.capacity drive.old }
+        ensures honest { IsTrue (D.honest drive.new) → IsTrue (D.honest drive.old) }
+        ensures failures { Counts (devices result) (D.failures drive.old) (D.failures drive.new) }
+    {
+        match self.before.take_entry(place) {
+            Some(entry) => Ok(entry),
+            None => NodeEntry::read(drive, place),
+        }
+    }
+
+    /// Keeps what the entry there says.
+    pub(crate) fn keep_entry(&mut self, place: EntryPlace, entry: NodeEntry)
+        ensures { (medium : List (List ℕ)) → IsSaid medium place entry → IsKnown medium self.old → IsKnown medium self.new }
+    {
+        if self.keeps_nodes {
+            self.met.keep_entry(place, entry);
+        }
+    }
+
+    /// The directory whose bytes lie there. It is not kept while its names are walked.
+    pub(crate) fn directory<D: Drive>(
+        &mut self,
+        alloc: Global,
+        drive: &mut D,
+        extent: Extent,
+    ) -> Result<Names, StoreFault>
+        requires some { 0 < extent.size }
+        requires first { extent.first ≤ 449_743 }
+        requires within { extent.first + 257 + div_ceil extent.size 2048 ≤ next_of (D.journal drive.old) }
+        requires known { IsTrue (D.honest drive.old) → IsKnown (held (D.journal drive.old)) self.old }
+        ensures named { IfOk result (λ names. IsTrue (D.honest drive.new) → IsNamed (held (D.journal drive.old)) extent names) }
+        ensures refused { IfErr result (λ fault. IsTrue (D.honest drive.new) → IsDirectoryRefused extent (data_of (held (D.journal drive.old)) extent) fault) }
+        ensures known { IsTrue (D.honest drive.new) → IsKnown (held (D.journal drive.new)) self.new }
+        ensures journal { D.journal drive.new ≡ D.journal drive.old }
+        ensures capacity { D.capacity drive.new ≡ D.capacity drive.old }
+        ensures honest { IsTrue (D.honest drive.new) → IsTrue (D.honest drive.old) }
+        ensures failures { Counts (devices result) (D.failures drive.old) (D.failures drive.new) }
+    {
+        match self.before.take_directory(extent) {
+            Some(names) => Ok(names),
+            None => Names::read(alloc, drive, extent),
+        }
+    }
+
+    /// Keeps the directory whose bytes lie there.
+    pub(crate) fn keep_directory(&mut self, extent: Extent, names: Names)
+        ensures { (medium : List (List ℕ)) → IsNamed medium extent names → IsKnown medium self.old → IsKnown medium self.new }
+    {
+        if self.keeps_nodes {
+            self.met.keep_directory(extent, names);
+        }
+    }
+}
