@@ -22,11 +22,11 @@ use Rattle.store.specs.declared.change.NewDirectory.{NewDirectory}
 use Rattle.store.specs.declared.change.Thing.{Thing}
 use Rattle.store.specs.declared.change.Thing.TheVariants as thing
 use Rattle.store.specs.declared.content.Content.{Content}
-use Rattle.store.specs.declared.nodes.Node.{Node}
+use Rattle.table.specs.declared.node.Node.{Node}
 use Rattle.store.specs.declared.nodes.Placed.{Placed}
 use Rattle.store.specs.Shows.{IsAt, IsOpened}
 use Rattle.store.specs.Writings.{directory_writing, new_file, change_writings}
-use Rattle.store.specs.NextTable.{made_by, Takes}
+use Rattle.table.specs.NextTable.{made_by, Takes}
 use Rattle.store.specs.Changes.{addition, content_of_thing, code_by_names, addresses_in, gone_of, Does}
 use Rattle.store.proofs.Walks.{node_at, names_stored, directory_stored, said_names, step_some, step_none}
 

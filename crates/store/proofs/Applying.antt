@@ -28,14 +28,14 @@ use Rattle.store.specs.Asked.{said_operation, said_request}
 use Rattle.store.specs.Cache.{AreKept}
 use Rattle.store.specs.Calls.{Applies, IsDone, IsFailed, Knows, Refuses}
 use Rattle.store.specs.Changes.{Does}
-use Rattle.store.specs.Commits.{IsPart, IsWhole}
+use Rattle.table.specs.Commits.{IsPart, IsWhole}
 use Rattle.store.specs.Needs.{change_need}
-use Rattle.store.specs.NextTable.{begun}
+use Rattle.table.specs.NextTable.{begun}
 use Rattle.store.specs.Plan.{IsPlan, node_list, plan_blocks, table_data}
 use Rattle.store.specs.Putting.{Makes}
 use Rattle.store.specs.Sessions.{reply_said}
 use Rattle.store.specs.Shows.{graph_below}
-use Rattle.store.proofs.Committed.{commits_are_part, commits_are_whole, tables_stand}
+use Rattle.table.proofs.Committed.{commits_are_part, commits_are_whole, tables_stand}
 use Rattle.store.proofs.Knowing.{at_is, commits, need_is, next_is, planned, planned_blocks, planned_table}
 
 module _ (capacity volume : ℕ) (J : List Event) (S : State) (store : Store) (knows : Knows capacity volume J S store) where

@@ -13,7 +13,7 @@ use Rattle.medium.proofs.Stored.{stored_one}
 use Rattle.udf.specs.Udf.{udf}
 use Rattle.udf.specs.Said.{names_directory}
 use Rattle.udf.proofs.Formats.{exact}
-use Rattle.store.specs.declared.nodes.Node.{Node}
+use Rattle.table.specs.declared.node.Node.{Node}
 use Rattle.store.specs.Shows.{graph_below, IsAt}
 use Rattle.store.proofs.Walks.{node_at}
 

@@ -5,7 +5,7 @@ use Rattle.drive.specs.Journal.{Event}
 use Rattle.model.specs.Tree.{Path, Tree}
 use Rattle.store.specs.declared.directories.Directories.{Directories}
 use Rattle.store.specs.Cache.{AreKept}
-use Rattle.store.specs.declared.nodes.Node.{Node}
+use Rattle.table.specs.declared.node.Node.{Node}
 use Rattle.store.specs.Shows.{Shows, IsFound, IsFoundDirectory, graph_below}
 use Rattle.store.proofs.Walks.{kept_on, shows_on, shows_before}
 

@@ -7,7 +7,7 @@ use Rattle.medium.specs.Volume.{Medium, Stands, graph_of}
 use Rattle.udf.specs.Udf.{udf}
 use Rattle.store.specs.declared.change.Change.{Change}
 use Rattle.store.specs.Changes.{gone_of, Does}
-use Rattle.store.specs.NextTable.{Changes}
+use Rattle.table.specs.NextTable.{Changes}
 use Rattle.store.specs.Writings.{change_writings}
 
 pub changes_done : (capacity volume : ℕ) (medium : Medium) (S : State) (stands : Stands udf capacity volume medium S) (request : Request) (change : Change) (written : List Written)

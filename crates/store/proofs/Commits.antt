@@ -11,7 +11,7 @@ use Rattle.store.specs.declared.change.Change.{Change}
 use Rattle.store.specs.declared.plan.Plan.{Plan}
 use Rattle.store.specs.declared.store.Store.{Store}
 use Rattle.vat.specs.Table.{view}
-use Rattle.store.specs.NextTable.{next_table}
+use Rattle.table.specs.NextTable.{next_table}
 use Rattle.store.specs.Plan.{IsPlan, plan_blocks, plan_written, plan_writings}
 use Rattle.store.specs.Writings.{change_writings}
 use Rattle.store.specs.Putting.{Makes, WritesPlan, StopsInPlan}

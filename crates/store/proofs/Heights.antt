@@ -25,7 +25,7 @@ use Rattle.model.proofs.Maps.{not_none, has_front}
 use Rattle.udf.specs.Said.{names_directory}
 use Rattle.store.specs.declared.content.Content.{Content}
 use Rattle.store.specs.declared.nodes.Placed.{Placed}
-use Rattle.store.specs.declared.nodes.Node.{Node}
+use Rattle.table.specs.declared.node.Node.{Node}
 use Rattle.store.specs.Heights.{IsHeight, IsHeightSoFar}
 use Rattle.store.specs.Shows.{IsAt, IsOpened, graph_below}
 use Rattle.store.proofs.Walks.{node_at, names_stored, said_names, step_some, step_file}

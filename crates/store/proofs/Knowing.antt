@@ -29,18 +29,18 @@ use Rattle.store.specs.Asked.{said_operation, said_request}
 use Rattle.store.specs.Cache.{AreKept}
 use Rattle.store.specs.Calls.{Knows}
 use Rattle.store.specs.Changes.{Does, gone_of}
-use Rattle.store.specs.Need.{reckoned}
+use Rattle.table.specs.Need.{reckoned}
 use Rattle.store.specs.Needs.{change_need}
-use Rattle.store.specs.NextTable.{AreTaken, Changes, begun, next_table}
-use Rattle.store.specs.Pieces.{IsTableBehind}
+use Rattle.table.specs.NextTable.{AreTaken, Changes, begun, next_table}
+use Rattle.table.specs.Pieces.{IsTableBehind}
 use Rattle.store.specs.Plan.{IsPlan, node_list, table_data, plan_written}
 use Rattle.store.specs.Putting.{Makes}
 use Rattle.store.specs.Shows.{Shows, graph_below}
-use Rattle.store.specs.TableChange.{committed}
+use Rattle.table.specs.TableChange.{committed}
 use Rattle.store.specs.Writings.{change_writings}
-use Rattle.store.proofs.ChangesTaken.{changes_are_taken}
-use Rattle.store.proofs.PlanPieces.{nodes_are_written, pieces_are_planned, pieces_table}
-use Rattle.store.proofs.Reckoning.{need_is_reckoned}
+use Rattle.table.proofs.ChangesTaken.{changes_are_taken}
+use Rattle.table.proofs.PlanPieces.{nodes_are_written, pieces_are_planned, pieces_table}
+use Rattle.table.proofs.Reckoning.{need_is_reckoned}
 use Rattle.store.proofs.Sizing.{all_names, bytes_of, change_is_of, change_reckoned}
 use Rattle.store.proofs.Taking.{IsTakenBy, bare, bare_addresses}
 

@@ -19,7 +19,7 @@ use Rattle.medium.proofs.Stored.{stored_one}
 use Rattle.udf.specs.Udf.{udf}
 use Rattle.udf.specs.Said.{said_entry, said_entries, names_directory}
 use Rattle.udf.proofs.Formats.{exact}
-use Rattle.store.specs.declared.nodes.Node.{Node}
+use Rattle.table.specs.declared.node.Node.{Node}
 use Rattle.store.specs.Asked.{is_directory, said_listed, said_names}
 use Rattle.store.specs.Queries.{name_told}
 use Rattle.store.specs.Shows.{graph_below, IsAt}

@@ -29,7 +29,7 @@ use Rattle.udf.specs.Said.{said_entry, said_entries}
 use Rattle.store.specs.declared.change.Change.{Change}
 use Rattle.store.specs.declared.change.NewDirectory.{NewDirectory}
 use Rattle.store.specs.declared.content.Content.{Content}
-use Rattle.store.specs.declared.nodes.Node.{Node}
+use Rattle.table.specs.declared.node.Node.{Node}
 use Rattle.store.specs.declared.nodes.Placed.{Placed}
 use Rattle.store.specs.Shows.{IsAt, IsOpened}
 use Rattle.store.specs.Moves.{IsWithin, IsBetween, Turns}

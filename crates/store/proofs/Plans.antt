@@ -11,8 +11,8 @@ use Rattle.store.specs.declared.placed.PlacedDirectory.{PlacedDirectory}
 use Rattle.store.specs.declared.change.NewDirectory.{NewDirectory}
 use Rattle.store.specs.declared.plan.Plan.{Plan}
 use Rattle.vat.specs.Table.{Table}
-use Rattle.store.specs.NextTable.{all_placed}
-use Rattle.store.specs.TableChange.{placed}
+use Rattle.table.specs.NextTable.{all_placed}
+use Rattle.table.specs.TableChange.{placed}
 use Rattle.store.specs.Needs.{directory_need, directories_need}
 use Rattle.store.specs.Plan.{directory_list, directories_list, directories_writings, directories_written, node_list, table_data, plan_blocks, IsLaid, AreLaid, IsPlan}
 use Rattle.store.specs.Writings.{directory_writing}

@@ -27,11 +27,11 @@ use Rattle.udf.specs.Words.{name_kind}
 use Rattle.store.specs.declared.change.Change.{Change}
 use Rattle.store.specs.declared.change.NewDirectory.{NewDirectory}
 use Rattle.store.specs.declared.content.Content.{Content}
-use Rattle.store.specs.declared.nodes.Node.{Node}
+use Rattle.table.specs.declared.node.Node.{Node}
 use Rattle.store.specs.declared.nodes.Placed.{Placed}
 use Rattle.store.specs.Shows.{IsAt, IsOpened}
 use Rattle.store.specs.Writings.{directory_writing, new_file, change_writings}
-use Rattle.store.specs.NextTable.{Takes}
+use Rattle.table.specs.NextTable.{Takes}
 use Rattle.store.specs.Changes.{addresses_in, gone_of, Does}
 use Rattle.store.proofs.Adding.{not_empty}
 use Rattle.store.proofs.Walks.{node_at, names_stored, directory_stored, texts_exact}

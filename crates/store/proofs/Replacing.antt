@@ -17,7 +17,7 @@ use Rattle.udf.specs.Said.{names_directory}
 use Rattle.udf.proofs.Formats.{exact}
 use Rattle.store.specs.declared.change.Change.{Change}
 use Rattle.store.specs.declared.change.NewFile.{NewFile}
-use Rattle.store.specs.declared.nodes.Node.{Node}
+use Rattle.table.specs.declared.node.Node.{Node}
 use Rattle.store.specs.Shows.{graph_below, IsAt}
 use Rattle.store.specs.Writings.{file_writing, directory_writing, new_file, change_writings}
 use Rattle.store.specs.Changes.{addresses_in, gone_of, IsRefusal, Does}

@@ -17,10 +17,10 @@ use Rattle.vat.specs.Table.{Table}
 use Rattle.store.specs.declared.change.Change.{Change}
 use Rattle.store.specs.declared.change.NewDirectory.{NewDirectory}
 use Rattle.store.specs.declared.change.NewFile.{NewFile}
-use Rattle.store.specs.Need.{AreDirectories, AreOf, most_for_bytes, most_for_directories, reckoned}
+use Rattle.table.specs.Need.{AreDirectories, AreOf, most_for_bytes, most_for_directories, reckoned}
 use Rattle.store.specs.Needs.{change_need, directories_need, file_need}
 use Rattle.store.specs.Writings.{change_writings, new_directories, new_file}
-use Rattle.store.proofs.Counting.{files_are_counted}
+use Rattle.table.proofs.Counting.{files_are_counted}
 
 -- the bytes of the file that is written, and the names of each directory that is
 abbrev pub bytes_of : Option NewFile → Option (List ℕ)

@@ -9,6 +9,7 @@ use Rattle.drive.specs.Journal.{Event, held, last_at, next_of}
 use Rattle.recover.specs.Nodes.{data_of}
 use Rattle.recover.proofs.Held.{held_at}
 use Rattle.icb.specs.declared.entry.FileEntry.{FileEntry}
+use Rattle.icb.specs.declared.entry.Kind.{Kind}
 use Rattle.icb.specs.declared.fault.IcbFault.{IcbFault}
 use Rattle.icb.specs.declared.entry.Place as source
 use Rattle.icb.specs.declared.entry.Place.TheVariants as places
@@ -153,3 +154,10 @@ free_here t n e h there none = omega (arith, h, first_unused t n (there ∙ ap S
 pub free_on : (t : List (Option ℕ)) (n : ℕ) (e : Option ℕ) → free_address t ≡ n + used_first (drop n t) → slice_get t n ≡ Some e → (e ≡ None → ⊥) → free_address t ≡ n + 1 + used_first (drop (n + 1) t)
 free_on t n None h there some = absurd (some refl)
 free_on t n (Some e) h there some = h ∙ (ap (λ k. n + k) (first_used t n e there) ∙ (let one : n + suc (used_first (drop (suc n) t)) ≡ n + 1 + used_first (drop (suc n) t) = omega arith in let m : suc n ≡ n + 1 = omega arith in one ∙ ap (λ (k : ℕ). n + 1 + used_first (drop k t)) m))
+
+-- the data of a directory whose entry fits lie in a partition
+pub extent_bounds : (kind : Kind) (size first at : ℕ) (place : source.Place) → icb.FitsPlace kind size (icb.place_of place) → place ≡ places.Extent first
+    → first + 257 + div_ceil size 2048 ≤ at → (0 < size) × (first ≤ 449_743) × (first + 257 + div_ceil size 2048 ≤ at)
+extent_bounds kind size first at place fits e below =
+    let f = subst (λ (p : source.Place). icb.FitsPlace kind size (icb.place_of p)) e fits in
+    (f.0, omega arith, below)

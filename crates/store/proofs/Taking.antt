@@ -12,13 +12,13 @@ use Rattle.store.specs.declared.change.NewDirectory.{NewDirectory}
 use Rattle.store.specs.declared.change.NewFile.{NewFile}
 use Rattle.store.specs.declared.placed.PlacedDirectory.{PlacedDirectory}
 use Rattle.store.specs.declared.placed.PlacedFile.{PlacedFile}
-use Rattle.store.specs.Below.{IsUsed}
-use Rattle.store.specs.NextTable.{AreTaken, AreUsed, all_placed, with_made}
+use Rattle.table.specs.Below.{IsUsed}
+use Rattle.table.specs.NextTable.{AreTaken, AreUsed, all_placed, with_made}
 use Rattle.store.specs.Plan.{file_writings, file_written, directories_writings, directories_written}
-use Rattle.store.specs.TableChange.{IsFree, IsRemovable, placed, with_entry}
+use Rattle.table.specs.TableChange.{IsFree, IsRemovable, placed, with_entry}
 use Rattle.store.specs.Writings.{change_writings, new_directories, new_file}
-use Rattle.store.proofs.EntryChanges.{entry_other}
-use Rattle.store.proofs.NodeChanges.{still_used}
+use Rattle.table.proofs.EntryChanges.{entry_other}
+use Rattle.table.proofs.NodeChanges.{still_used}
 use Rattle.store.proofs.Plans.{placed_append}
 
 used_within : (xs : List (Option ℕ)) (i : ℕ) → IsUsed i xs → i ≤ length xs

@@ -29,7 +29,7 @@ use Rattle.udf.proofs.Formats.{exact}
 use Rattle.udf.proofs.Said.{directories_agree}
 use Rattle.store.specs.declared.content.Content.{Content}
 use Rattle.store.specs.declared.nodes.Placed.{Placed}
-use Rattle.store.specs.declared.nodes.Node.{Node}
+use Rattle.table.specs.declared.node.Node.{Node}
 use Rattle.store.specs.Cache.{AreKept, LiesThere}
 use Rattle.store.specs.declared.directories.Directories.{Directories}
 use Rattle.store.specs.Shows.{graph_below, LiesIn, IsOpened, IsAt, IsFound, IsFoundDirectory, Shows}

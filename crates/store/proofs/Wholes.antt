@@ -18,7 +18,7 @@ use Rattle.store.specs.declared.history.Commit.{Commit}
 use Rattle.store.specs.declared.store.Store.{Store}
 use Rattle.store.specs.Calls.{Knows}
 use Rattle.store.specs.History.{AreShown, AreUnshown, IsChain, IsHistory, IsHistoryRefused, told_of}
-use Rattle.store.specs.Past.{AreWhole, IsCheckRefused}
+use Rattle.store.specs.Past.{AllStood, IsCheckRefused}
 use Rattle.store.proofs.Chains.{EndsAt, goes_back, shown_stood, step_back, step_on, stood_told}
 use Rattle.store.proofs.Chains as chains
 use Rattle.store.proofs.Histories.{one_before}
@@ -159,7 +159,7 @@ module _ (capacity volume : ℕ) (J : List Event) (T : model.State) (store : Sto
       let one = history_length (held J) store.at here.0 all here.1 is in
       omega (arith, one, commits_here capacity volume J T store knows)
 
-  pub whole : (all : List Commit) → 257 ≤ store.at → IsHistory (held J) store.at all → AreShown capacity (held J) all → AreWhole capacity volume (held J) T.commits
+  pub whole : (all : List Commit) → 257 ≤ store.at → IsHistory (held J) store.at all → AreShown capacity (held J) all → AllStood capacity volume (held J) T.commits
   whole all low is shown k le =
       let i : T.commits - k < length all = omega (arith, history_known all is) in
       let stood = stood_in (held J) capacity volume (volume_told capacity volume J T store knows) store.at all low is shown (T.commits - k) i in

@@ -4,7 +4,7 @@ use Rattle.drive.specs.Journal.{Event, next_of}
 use Rattle.vat.specs.Table.{Fits, view}
 use Rattle.vat.specs.declared.table.Vat.{Vat}
 use Rattle.store.specs.declared.store.Store.{Store}
-use Rattle.store.specs.Below.{AreBelow}
+use Rattle.table.specs.Below.{AreBelow}
 
 -- a table whose entry stands at this address
 pub record Keeps (at : ℕ) (vat : Vat) : Type 0 where

@@ -11,8 +11,8 @@ use Rattle.request.specs.declared.answer.Code.{Code}
 use Rattle.store.specs.declared.change.Change.{Change}
 use Rattle.store.specs.declared.change.Thing.{Thing}
 use Rattle.store.specs.declared.change.Thing.TheVariants as thing
-use Rattle.store.specs.declared.nodes.Node.{Node}
-use Rattle.store.specs.NextTable.{made_by, Takes}
+use Rattle.table.specs.declared.node.Node.{Node}
+use Rattle.table.specs.NextTable.{made_by, Takes}
 use Rattle.store.specs.Writings.{change_writings}
 
 -- a new path with this at it

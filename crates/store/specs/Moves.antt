@@ -7,7 +7,7 @@ use Rattle.model.specs.Operation.{code_of}
 use Rattle.model.specs.Operation.Operation.{Rename}
 use Rattle.medium.specs.Plan.{Writing, turned}
 use Rattle.udf.specs.Said.{names_directory}
-use Rattle.store.specs.declared.nodes.Node.{Node}
+use Rattle.table.specs.declared.node.Node.{Node}
 use Rattle.store.specs.Shows.{IsAt}
 
 -- another name in one directory, which does not have it

@@ -3,15 +3,13 @@ use Rattle.std.specs.Prelude.{ℕ, ◌+◌, ◌*◌, ◌/◌, List, [], ◌∷�
 use Rattle.std.specs.Int.{div_ceil}
 use Rattle.dir.specs.Size.{name_sizes, plain_sizes}
 use Rattle.vat.specs.Table.{Table}
-use Rattle.store.specs.Outside.{outside}
+pub use Rattle.table.specs.Needs.{table_need}
+use Rattle.table.specs.Outside.{outside}
 use Rattle.store.specs.declared.change.Change.{Change}
 use Rattle.store.specs.declared.change.NewFile.{NewFile}
 use Rattle.store.specs.declared.change.NewDirectory.{NewDirectory}
 
 -- before data there may be as many blocks of zeros
-abbrev pub table_need : Table → ℕ
-table_need t = 2 * div_ceil (196 + 48 * length t.records + 4 * length t.entries) 2048 + 1
-
 abbrev pub file_need : Option NewFile → ℕ
 file_need None = 0
 file_need (Some f) = 2 * div_ceil (length (outside f.bytes.now)) 2048 + 1

@@ -33,12 +33,12 @@ IsPastRefused capacity volume medium now commits (Damaged block cause) = (S : St
 IsPastRefused capacity volume medium now commits _ = ⊥
 
 -- a state stood after each of so many commits
-abbrev pub AreWhole : ℕ → ℕ → List (List ℕ) → ℕ → Type 0
-AreWhole capacity volume medium commits = (k : ℕ) → k ≤ commits → (S : State) × Past udf capacity volume medium k S
+abbrev pub AllStood : ℕ → ℕ → List (List ℕ) → ℕ → Type 0
+AllStood capacity volume medium commits = (k : ℕ) → k ≤ commits → (S : State) × Past udf capacity volume medium k S
 
 -- why so many commits are not told: the drive failed, memory was short, or after one of them no state stood
 abbrev pub IsCheckRefused : ℕ → ℕ → List (List ℕ) → ℕ → StoreFault → Type 0
 IsCheckRefused capacity volume medium commits Device = ⊤
 IsCheckRefused capacity volume medium commits Memory = ⊤
-IsCheckRefused capacity volume medium commits (Damaged block cause) = AreWhole capacity volume medium commits → ⊥
+IsCheckRefused capacity volume medium commits (Damaged block cause) = AllStood capacity volume medium commits → ⊥
 IsCheckRefused capacity volume medium commits _ = ⊥

@@ -8,7 +8,7 @@ use Rattle.medium.specs.Formats.Place.{Extent}
 use Rattle.medium.specs.Plan.{zeros, packed, Writing, Written, IsPlaced, WritesNodes}
 use Rattle.udf.specs.Udf.{udf}
 use Rattle.vat.specs.Table.{view, IsTableAt}
-use Rattle.store.specs.Outside.{outside}
+use Rattle.table.specs.Outside.{outside}
 use Rattle.store.specs.Writings.{file_writing, directory_writing}
 use Rattle.store.specs.declared.placed.PlacedFile.{PlacedFile}
 use Rattle.store.specs.declared.placed.PlacedDirectory.{PlacedDirectory}

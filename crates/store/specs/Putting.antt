@@ -5,7 +5,7 @@ use Rattle.request.specs.Numbers.{code_number}
 use Rattle.request.specs.declared.answer.Reply.{Reply}
 use Rattle.request.specs.declared.message.Request.{Request}
 use Rattle.vat.specs.Table.{view}
-use Rattle.store.specs.NextTable.{next_table}
+use Rattle.table.specs.NextTable.{next_table}
 use Rattle.store.specs.Plan.{IsPlan, plan_blocks, plan_writings, plan_written}
 use Rattle.store.specs.Writings.{change_writings}
 use Rattle.store.specs.declared.change.Change.{Change}

@@ -13,7 +13,7 @@ use Rattle.udf.specs.Said.{said_entries, names_directory}
 use Rattle.store.specs.declared.content.Content.{Content}
 use Rattle.store.specs.declared.directories.Directories.{Directories}
 use Rattle.store.specs.declared.nodes.Placed.{Placed}
-use Rattle.store.specs.declared.nodes.Node.{Node}
+use Rattle.table.specs.declared.node.Node.{Node}
 use Rattle.store.specs.Cache.{AreKept}
 
 -- what is stored under virtual addresses, on what a journal holds below the address of a table's entry

@@ -13,10 +13,10 @@ ghost use Rattle.model.specs.Operation.Operation.{Remove, Rename, Replace};
 ghost use Rattle.model.specs.Tree.{Path, Tree, begins_with, has_names};
 ghost use Rattle.recover.specs.Faults.{Counts, IsShortage, devices};
 ghost use Rattle.recover.specs.declared.fault.StoreFault.TheVariants.{Memory};
-ghost use Rattle.store.specs.Below.{AreBelow};
+ghost use Rattle.table.specs.Below.{AreBelow};
 ghost use Rattle.store.specs.Cache.{AreKept};
 ghost use Rattle.store.specs.Asked.{said_operation};
-ghost use Rattle.store.specs.NextTable.{made_by};
+ghost use Rattle.table.specs.NextTable.{made_by};
 ghost use Rattle.store.specs.Changes.{Does, IsRefusal, addition, code_by_names, content_of_thing};
 ghost use Rattle.store.specs.Moves.{IsBetween, IsWithin, Turns};
 ghost use Rattle.store.specs.Shows.{IsAt, Shows, graph_below};
@@ -27,7 +27,7 @@ ghost use Rattle.request.specs.declared.answer.Code.TheVariants.{Done};
 
 use crate::content::Content;
 use crate::directories::Directories;
-use crate::nodes::{Node, Nodes};
+use crate::nodes::Nodes;
 use dir::{Dir, Entry, Kind};
 use drive::Drive;
 use ecma::Timestamp;
@@ -36,6 +36,7 @@ use osta::Name;
 use recover::StoreFault;
 use request::{Code, DIRECTORY_NAMES, FileData, Op, Request};
 use std::alloc::Global;
+use table::{NewNode, Node};
 
 /// The greatest number of names in a path of the tree.
 const PATH_NAMES: usize = 16;
@@ -67,13 +68,6 @@ pub(crate) struct NewDirectory {
     pub unique: u32,
     pub moment: Timestamp,
     pub content: Content,
-}
-
-/// A node that is made.
-#[derive(Clone, Copy, Debug)]
-pub(crate) struct NewNode {
-    pub kind: Kind,
-    pub address: u32,
 }
 
 /// What a request does to the nodes. With another code than `Done` it does nothing.

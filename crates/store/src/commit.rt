@@ -11,7 +11,7 @@ ghost use Rattle.store.specs.Calls.{Applies, Knows};
 ghost use Rattle.store.specs.Cache.{AreKept};
 ghost use Rattle.store.specs.Plan.{IsPlan, file_list, directory_list, directories_list, table_data, plan_blocks};
 ghost use Rattle.store.specs.Putting.{WritesPlan, StopsInPlan};
-ghost use Rattle.store.specs.TableChange.{IsNext};
+ghost use Rattle.table.specs.TableChange.{IsNext};
 ghost use Rattle.recover.specs.declared.fault.StoreFault.TheVariants.{Device, Stopped};
 
 use crate::change::Before;

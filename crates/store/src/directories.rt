@@ -5,7 +5,7 @@ ghost use Rattle.std.specs.Int.{div_ceil};
 ghost use Rattle.drive.specs.Journal.{Event, held, next_of};
 ghost use Rattle.recover.specs.Faults.{Counts, devices};
 ghost use Rattle.recover.specs.Nodes.{IsDirectoryRefused, data_of};
-ghost use Rattle.store.specs.Below.{AreBelow};
+ghost use Rattle.table.specs.Below.{AreBelow};
 ghost use Rattle.std.specs.Map.{lookup};
 ghost use Rattle.std.specs.Cmp.Lexicographic.{pointwise};
 ghost use Rattle.std.specs.Prelude.{nat_eq, true};
@@ -17,10 +17,10 @@ ghost use Rattle.store.specs.Cache.{AreKept, LiesThere};
 ghost use Rattle.store.specs.Heights.{IsHeight};
 ghost use Rattle.store.specs.Shows.{IsAt, IsOpened, Shows, IsFound, IsFoundDirectory, graph_below};
 ghost use Rattle.udf.specs.Said.{names_directory};
-ghost use Rattle.store.specs.declared.nodes.Node.{Node};
+ghost use Rattle.table.specs.declared.node.Node.{Node};
 
 use crate::content::Content;
-use crate::nodes::{Node, Nodes, Placed, ROOT};
+use crate::nodes::{Nodes, Placed};
 use dir::{Entry, Kind};
 use drive::Drive;
 use lru::LruCache;
@@ -28,6 +28,7 @@ use osta::Name;
 use recover::{Extent, StoreFault, read_directory};
 use std::alloc::Global;
 use std::num::NonZeroUsize;
+use table::{Node, ROOT};
 
 /// How many directories are kept.
 const KEPT_DIRECTORIES: usize = 64;

@@ -10,15 +10,18 @@ ghost use Rattle.recover.specs.declared.state.State.{State};
 ghost use Rattle.recover.specs.declared.fault.StoreFault.TheVariants.{NoCommit, Stopped};
 ghost use Rattle.std.proofs.Props.{props};
 ghost use Rattle.store.specs.Agrees.{Agrees};
-ghost use Rattle.store.specs.Below.{AreBelow};
+ghost use Rattle.table.specs.Below.{AreBelow};
 ghost use Rattle.store.specs.Calls.{Knows};
 ghost use Rattle.store.specs.History.{AreShown, AreUnshown, IsChecked, IsHistory, IsHistoryRefused, IsTableOf, IsWayRefused, told_of};
-ghost use Rattle.store.specs.Past.{AreWhole, IsCheckRefused, IsPast, IsPastRefused};
+ghost use Rattle.store.specs.Past.{AllStood, IsCheckRefused, IsPast, IsPastRefused};
 
 use crate::nodes::Nodes;
 use crate::store::Store;
 use drive::Drive;
-use recover::{PARTITION_START, State, StoreFault, cause, damaged, linked, state_at, table_at};
+use recover::{
+    Known, PARTITION_START, State, StoreFault, cause, damaged, linked, state_at, state_sharing,
+    table_at,
+};
 use request::{FileData, Listing, NodeStatus, Path};
 use std::alloc::Global;
 use vat::{Sessions, Vat};
@@ -230,7 +233,7 @@ impl Store {
         ensures past { (volume : ℕ) (T : said.State) → IsTrue (D.honest drive.new) → Knows (D.capacity drive.old) volume (D.journal drive.old) T self.now → IfOk result (λ s. (S : said.State) × IsPast (D.capacity drive.old) volume (D.journal drive.old) commit S s.at s.vat) }
         // Where it is refused none stood, or the drive failed or memory was short.
         ensures refused { (volume : ℕ) (T : said.State) → IsTrue (D.honest drive.new) → Knows (D.capacity drive.old) volume (D.journal drive.old) T self.now → self.now.is_stopped ≡ false → IfErr result (IsPastRefused (D.capacity drive.old) volume (held (D.journal drive.old)) T.commits commit) }
-        ensures table { IfOk result (λ s. IsTrue (D.honest drive.new) → (vat : Vat) × IsTableOf (held (D.journal drive.old)) self.now.at commit s.at vat) }
+        ensures table { IfOk result (λ s. IsTrue (D.honest drive.new) → IsTableOf (held (D.journal drive.old)) self.now.at commit s.at s.vat) }
         ensures shown { IfOk result (λ s. IsTrue (D.honest drive.new) → (state : State) × IsShown (D.capacity drive.old) (held (D.journal drive.old)) s.at state × (state.vat ≡ s.vat)) }
         ensures within { IfOk result (λ s. s.at < next_of (D.journal drive.new)) }
         ensures journal { D.journal drive.new ≡ D.journal drive.old }
@@ -283,7 +286,7 @@ impl Store {
         ensures stopped { IsTrue self.now.is_stopped → result ≡ Err Stopped }
         ensures count { IfOk result (λ n. n ≡ self.now.vat.sessions.commits) }
         // A state stood after each.
-        ensures whole { (volume : ℕ) (T : said.State) → IsTrue (D.honest drive.new) → Knows (D.capacity drive.old) volume (D.journal drive.old) T self.now → IfOk result (λ n. (n ≡ T.commits) × AreWhole (D.capacity drive.old) volume (held (D.journal drive.old)) n) }
+        ensures whole { (volume : ℕ) (T : said.State) → IsTrue (D.honest drive.new) → Knows (D.capacity drive.old) volume (D.journal drive.old) T self.now → IfOk result (λ n. (n ≡ T.commits) × AllStood (D.capacity drive.old) volume (held (D.journal drive.old)) n) }
         // Where it is refused none stood after one of them, or the drive failed or memory was short.
         ensures refused { (volume : ℕ) (T : said.State) → IsTrue (D.honest drive.new) → Knows (D.capacity drive.old) volume (D.journal drive.old) T self.now → self.now.is_stopped ≡ false → IfErr result (IsCheckRefused (D.capacity drive.old) volume (held (D.journal drive.old)) T.commits) }
         ensures history { OnOk result (IsTrue (D.honest drive.new) → IsChecked (D.capacity drive.old) (held (D.journal drive.old)) self.now.at) }
@@ -298,7 +301,7 @@ impl Store {
     }
 }
 
-/// The state after each of the commits stands.
+/// The state after each of the commits stands. What two commits that follow one another have alike is read once.
 fn check_states<D: Drive>(
     alloc: Global,
     drive: &mut D,
@@ -312,8 +315,9 @@ fn check_states<D: Drive>(
     ensures honest { IsTrue (D.honest drive.new) → IsTrue (D.honest drive.old) }
     ensures failures { Counts (devices result) (D.failures drive.old) (D.failures drive.new) }
 {
+    let mut known = Known::new(alloc);
     for i in 0..commits.len() {
-        state_at(alloc, drive, commits[i].at)?;
+        state_sharing(alloc, drive, &mut known, commits[i].at)?;
     }
     Ok(())
 }

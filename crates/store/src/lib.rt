@@ -1,7 +1,8 @@
-//! A volume that is kept: it is formatted and opened, requests are committed to it, and queries answered from it.
+//! A volume that is kept: it is opened, requests are committed to it, and queries answered from it.
 //!
 //! A store keeps the table, the sessions and a few directories, and no drive: each call is lent the one drive that nobody
-//! else writes. A commit is planned whole before its first block is written, and takes effect with its last.
+//! else writes. A commit is planned whole before its first block is written, and takes effect with its last. The new volume
+//! that is opened first is `formatting`'s.
 #![tactic(auto)]
 
 mod change;
@@ -9,18 +10,14 @@ mod commit;
 mod content;
 mod directories;
 mod due;
-mod formatting;
 mod history;
-mod laws;
 mod nodes;
-mod parts;
 mod placed;
 mod places;
 mod plan;
 mod query;
 mod questions;
 mod store;
-mod table;
 #[cfg(test)]
 mod tests;
 mod write;
@@ -28,6 +25,6 @@ mod write;
 pub use due::Due;
 pub use formatting::{format, one_format};
 pub use history::{Commit, Snapshot};
-pub use laws::{commits_are_planned, need_is_reckoned, next_tables_follow, pieces_are_planned};
 pub use recover::StoreFault;
 pub use store::Store;
+pub use table::{commits_are_planned, need_is_reckoned, next_tables_follow, pieces_are_planned};

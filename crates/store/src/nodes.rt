@@ -7,44 +7,13 @@ ghost use Rattle.model.specs.Addresses as addresses;
 ghost use Rattle.model.specs.Graph.{Stored, is_directory};
 ghost use Rattle.recover.specs.Faults.{Counts, devices, failures_of};
 ghost use Rattle.recover.specs.declared.fault.StoreFault.TheVariants.{Device};
-ghost use Rattle.udf.specs.Said.{names_directory};
-ghost use Rattle.store.specs.Below.{AreBelow, IsUsed};
+ghost use Rattle.table.specs.Below.{AreBelow, IsUsed};
 ghost use Rattle.store.specs.Shows.{LiesIn, graph_below};
 
 use drive::Drive;
 use ecma::{Block, Timestamp};
 use icb::{FileEntry, Place, decode_fe};
-use recover::{
-    Extent, PARTITION_START, ROOT_ADDRESS, StoreFault, cause, damaged, lies_below, read_block,
-};
-
-/// A node, as the directory above it names it.
-#[derive(Clone, Copy, Debug)]
-pub(crate) struct Node {
-    pub kind: dir::Kind,
-    /// The virtual address of its entry.
-    pub address: u32,
-    pub unique: u32,
-}
-
-impl Node {
-    /// Whether the node is a directory.
-    pub(crate) fn is_directory(self) -> bool
-        ensures { result ≡ names_directory self.kind }
-    {
-        match self.kind {
-            dir::Kind::File => false,
-            dir::Kind::Directory => true,
-        }
-    }
-}
-
-/// The root, which nothing names.
-pub(crate) const ROOT: Node = Node {
-    kind: dir::Kind::Directory,
-    address: ROOT_ADDRESS,
-    unique: 0,
-};
+use recover::{Extent, PARTITION_START, StoreFault, cause, damaged, lies_below, read_block};
 
 /// Where a directory's data lie, and its moment.
 #[derive(Clone, Copy, Debug)]

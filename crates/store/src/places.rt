@@ -7,7 +7,7 @@ ghost use Rattle.icb.specs.declared.entry.Kind.TheVariants.{File};
 ghost use Rattle.dir.specs.Directory.{directory_blocks, directory_size};
 ghost use Rattle.medium.specs.Plan.{packed, IsClearStart, IsPlaced, PlacesFile, WritesNode};
 ghost use Rattle.store.specs.Needs as needs;
-ghost use Rattle.store.specs.Outside.{outside};
+ghost use Rattle.table.specs.Outside.{outside};
 ghost use Rattle.store.specs.Plan.{file_data, directory_data, IsLaid};
 ghost use Rattle.store.specs.Writings.{IsProper, file_writing, directory_writing};
 ghost use Rattle.udf.specs.Said.{said_place};

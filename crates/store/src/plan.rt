@@ -16,21 +16,19 @@ ghost use Rattle.vat.specs.Table.{Fits, view};
 ghost use Rattle.recover.specs.Faults.{Counts, IsShortage, devices};
 ghost use Rattle.request.specs.Numbers.{code_number};
 ghost use Rattle.store.specs.Agrees.{Agrees, Keeps};
-ghost use Rattle.store.specs.Below.{AreBelow, IsUsed};
-ghost use Rattle.store.specs.Full.{is_full};
+ghost use Rattle.table.specs.Below.{AreBelow, IsUsed};
+ghost use Rattle.table.specs.Full.{is_full};
 ghost use Rattle.store.specs.Needs as needs;
 ghost use Rattle.store.specs.Plan.{IsPlan, IsTablePlaced, AreLaid, file_list, file_writings, file_written, directories_list, directories_writings, directories_written, plan_writings, plan_written};
-ghost use Rattle.store.specs.NextTable.{AreTaken, all_placed, begun, next_table, without_gone};
-ghost use Rattle.store.specs.TableChange.{IsFree, IsNext, IsRemovable, committed};
+ghost use Rattle.table.specs.NextTable.{AreTaken, all_placed, begun, next_table, without_gone};
+ghost use Rattle.table.specs.TableChange.{IsFree, IsNext, IsRemovable, committed};
 ghost use Rattle.store.specs.Writings.{IsProper, new_file, new_directories, change_writings};
 
 use crate::change::{Change, NewDirectory, NewFile};
 use crate::content::Content;
-use crate::nodes::Node;
 use crate::placed::{PlacedDirectory, PlacedFile};
 use crate::places::{Numbers, outside_of};
 use crate::store::Store;
-use crate::table::{add_node, copied, keep_reply, place_node, remove_node};
 use crate::write::Writer;
 use dir::Entry;
 use drive::Drive;
@@ -40,6 +38,7 @@ use osta::Name;
 use recover::{PARTITION_START, StoreFault, block_count, cause, damaged};
 use request::{Code, Reply, Request};
 use std::alloc::Global;
+use table::{Node, add_node, copied, keep_reply, place_node, remove_node};
 use vat::{Vat, encode_vat};
 
 /// A block of directory data that another one follows is used up to this byte at least.

@@ -9,7 +9,7 @@ ghost use Rattle.model.specs.Graph.{Stored, entries_of, is_directory};
 ghost use Rattle.model.specs.Graph.Body.{Bytes, Entries};
 ghost use Rattle.recover.specs.Faults.{Counts, IsShortage, devices};
 ghost use Rattle.udf.specs.Said.{names_directory, said_entries};
-ghost use Rattle.store.specs.Below.{AreBelow};
+ghost use Rattle.table.specs.Below.{AreBelow};
 ghost use Rattle.store.specs.Cache.{AreKept, LiesThere};
 ghost use Rattle.store.specs.Asked.{said_names};
 ghost use Rattle.store.specs.Asked as asked;
@@ -18,13 +18,14 @@ ghost use Rattle.store.specs.Shows.{IsAt, Shows, graph_below};
 
 use crate::content::Content;
 use crate::directories::Directories;
-use crate::nodes::{Node, Nodes};
+use crate::nodes::Nodes;
 use dir::Kind;
 use drive::Drive;
 use icb::{Place, decode_fe};
 use recover::{PARTITION_START, StoreFault, cause, damaged, lies_below, read_bytes};
 use request::{FileData, Listed, Listing, NodeKind, NodeStatus, Path};
 use std::alloc::Global;
+use table::Node;
 
 impl Directories {
     /// The bytes of a file.

@@ -1,7 +1,7 @@
 use Rattle.std.proofs.Common.{◌≡◌, ◌++◌, ◌∷◌, ◌∙◌, [], length, List, ℕ, replicate, ap, sym, arith, length-append}
 use Rattle.std.proofs.lemmas.Result.{err_from_is_err_and}
 use Rattle.medium.specs.Plan.{zeros, packed}
-use Rattle.store.specs.Outside.{outside}
+use Rattle.table.specs.Outside.{outside}
 use Rattle.store.specs.Plan.{file_list}
 use Rattle.store.proofs.Plans.{length-padded}
 use Rattle.store.proofs.Puttings.{takes_both, stops_first, stops_second}

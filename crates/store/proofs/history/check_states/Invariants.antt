@@ -1,6 +1,7 @@
 use Rattle.std.proofs.Common.{◌≡◌, ◌<◌, ℕ, IsTrue, slice_index_or}
 use Rattle.drive.specs.Journal.{held}
 use Rattle.recover.specs.Faults.{Counts}
+use Rattle.recover.specs.Known.{IsKnown}
 use Rattle.recover.specs.State.{IsShown}
 use Rattle.recover.specs.declared.state.State.{State}
 use Rattle.store.specs.declared.history.Commit.{Commit}
@@ -10,6 +11,7 @@ abbrev pub invariant-loop-i : goal.invariant-loop-i
 invariant-loop-i g l = record {
   shown : IsTrue (g.D.Drive.honest l.drive) → (k : ℕ) (d : Commit) → k < l.i
       → (state : State) × IsShown (g.D.Drive.capacity l.fn.drive) (held (g.D.Drive.journal l.fn.drive)) (slice_index_or l.fn.commits k d).at state;
+  known : IsTrue (g.D.Drive.honest l.drive) → IsKnown (held (g.D.Drive.journal l.drive)) l.known;
   journal : g.D.Drive.journal l.drive ≡ g.D.Drive.journal l.fn.drive;
   capacity : g.D.Drive.capacity l.drive ≡ g.D.Drive.capacity l.fn.drive;
   honest : IsTrue (g.D.Drive.honest l.drive) → IsTrue (g.D.Drive.honest l.fn.drive);

@@ -6,7 +6,7 @@ use Rattle.medium.specs.Plan.{IsPlaced, PlacesFile}
 use Rattle.udf.specs.Said.{said_place}
 use Rattle.udf.specs.Udf.{udf}
 use Rattle.udf.proofs.Said.{entries_agree}
-use Rattle.store.specs.Outside.{outside}
+use Rattle.table.specs.Outside.{outside}
 use Rattle.store.proofs.places.file_entry.Goals as goal
 
 pub returns : goal.returns

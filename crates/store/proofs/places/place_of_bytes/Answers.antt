@@ -4,7 +4,7 @@ use Rattle.std.proofs.lemmas.Bool.{lt-ltb}
 use Rattle.medium.specs.Plan.{IsPlaced}
 use Rattle.medium.specs.Plan.PlacesFile.{outside as beyond}
 use Rattle.udf.specs.Udf.{udf}
-use Rattle.store.specs.Outside.{outside}
+use Rattle.table.specs.Outside.{outside}
 use Rattle.store.proofs.places.place_of_bytes.Goals as goal
 
 pub returns-else-bytes-le-INSIDE_BYTES-clause-places : goal.returns-else-bytes-le-INSIDE_BYTES-clause-places

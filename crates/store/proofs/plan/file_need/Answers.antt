@@ -1,6 +1,6 @@
 use Rattle.std.proofs.Common.{List, ℕ, length, ap, ◌∙◌, arith}
 use Rattle.std.specs.Int.{div_ceil}
-use Rattle.store.specs.Outside.{outside}
+use Rattle.table.specs.Outside.{outside}
 use Rattle.store.specs.Needs.{file_need}
 use Rattle.store.proofs.plan.file_need.Goals as goal
 

@@ -7,13 +7,13 @@ use Rattle.udf.specs.Udf.{udf}
 use Rattle.store.specs.declared.change.NewDirectory.{NewDirectory}
 use Rattle.store.specs.declared.placed.PlacedDirectory.{PlacedDirectory}
 use Rattle.vat.specs.Table.{Table, view}
-use Rattle.store.specs.Below.{IsUsed}
+use Rattle.table.specs.Below.{IsUsed}
 use Rattle.store.specs.Needs.{directories_need}
-use Rattle.store.specs.NextTable.{all_placed}
-use Rattle.store.specs.TableChange.{placed}
+use Rattle.table.specs.NextTable.{all_placed}
+use Rattle.table.specs.TableChange.{placed}
 use Rattle.store.specs.Plan.{AreLaid, directory_list, directories_list, directories_writings, directories_written}
 use Rattle.store.specs.Writings.{IsProper, directory_writing, new_directories}
-use Rattle.store.proofs.BelowLemmas.{below_later}
+use Rattle.table.proofs.BelowLemmas.{below_later}
 use Rattle.store.proofs.Names.{all_next, nothing}
 use Rattle.store.proofs.Plans.{list_push, writings_push, written_push, laid_push, table_push}
 use Rattle.store.proofs.Taking.{still_all}

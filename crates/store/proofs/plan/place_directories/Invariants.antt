@@ -4,10 +4,10 @@ use Rattle.std.specs.Vec.Iter.{into_iter_items, into_iter_len}
 use Rattle.medium.specs.Plan.{WritesNodes}
 use Rattle.udf.specs.Udf.{udf}
 use Rattle.vat.specs.Table.{Fits, view}
-use Rattle.store.specs.Below.{AreBelow, IsUsed}
+use Rattle.table.specs.Below.{AreBelow, IsUsed}
 use Rattle.store.specs.Plan.{AreLaid, directories_list, directories_writings, directories_written}
 use Rattle.store.specs.Needs.{table_need, directories_need}
-use Rattle.store.specs.NextTable.{all_placed}
+use Rattle.table.specs.NextTable.{all_placed}
 use Rattle.store.specs.Writings.{IsProper, new_directories}
 use Rattle.store.proofs.plan.place_directories.Given as goal
 

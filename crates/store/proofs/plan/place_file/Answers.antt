@@ -4,7 +4,7 @@ use Rattle.model.specs.Graph.Body.{Bytes}
 use Rattle.medium.specs.Plan.{Writing}
 use Rattle.store.specs.Needs.{file_need}
 use Rattle.store.specs.Plan.{file_data}
-use Rattle.store.proofs.BelowLemmas.{below_later}
+use Rattle.table.proofs.BelowLemmas.{below_later}
 use Rattle.store.proofs.Writings.{node_ends}
 use Rattle.store.specs.Writings.{file_writing, new_file}
 use Rattle.store.proofs.plan.place_file.Goals as goal

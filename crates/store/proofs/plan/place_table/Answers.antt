@@ -5,7 +5,7 @@ use Rattle.medium.specs.Formats.Kind.{Table}
 use Rattle.medium.specs.Formats.Place.{Extent}
 use Rattle.medium.specs.Plan.{zeros, packed, IsClearStart, IsPlaced}
 use Rattle.udf.specs.Udf.{udf}
-use Rattle.store.proofs.Tables.{table_few, table_long, table_some, table_at}
+use Rattle.table.proofs.Tables.{table_few, table_long, table_some, table_at}
 use Rattle.store.proofs.Writings.{placed_at, length-placed}
 use Rattle.store.proofs.plan.place_table.Goals as goal
 

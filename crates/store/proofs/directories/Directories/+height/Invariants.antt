@@ -2,7 +2,7 @@ use Rattle.std.proofs.Common.{◌≡◌, ◌≤◌, true, IsTrue}
 use Rattle.recover.specs.Faults.{Counts}
 use Rattle.model.specs.Tree.{Path, Tree}
 use Rattle.udf.specs.Said.{names_directory}
-use Rattle.store.specs.declared.nodes.Node.{Node}
+use Rattle.table.specs.declared.node.Node.{Node}
 use Rattle.store.specs.Cache.{AreKept}
 use Rattle.store.specs.Heights.{IsHeightSoFar}
 use Rattle.store.specs.Shows.{Shows, IsAt, graph_below}

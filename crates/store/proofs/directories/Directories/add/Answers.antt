@@ -20,11 +20,11 @@ use Rattle.request.specs.contracts.answer.Code.{the_type}
 use Rattle.request.specs.declared.answer.Code.TheVariants as code
 use Rattle.store.specs.Cache.{AreKept}
 use Rattle.store.specs.Changes.{addition, code_by_names, content_of_thing}
-use Rattle.store.specs.NextTable.{made_by}
+use Rattle.table.specs.NextTable.{made_by}
 use Rattle.store.specs.Shows.{IsFoundDirectory, graph_below}
 use Rattle.store.specs.declared.change.Change.{Change}
 use Rattle.store.specs.declared.content.Content.{Content}
-use Rattle.store.specs.declared.nodes.Node.{Node}
+use Rattle.table.specs.declared.node.Node.{Node}
 use Rattle.udf.specs.Udf.{udf}
 use Rattle.udf.proofs.Formats.{exact}
 use Rattle.store.proofs.Adding.{add_there, adds, stored_directory, unlisted_yet}

@@ -1,6 +1,6 @@
 use Rattle.std.proofs.Common.{◌∙◌, sym, ap, subst, refl, Option, Some}
 use Rattle.model.specs.Tree.{found_directory}
-use Rattle.store.specs.declared.nodes.Node.{Node}
+use Rattle.table.specs.declared.node.Node.{Node}
 use Rattle.store.specs.Shows.{IsFound, graph_below}
 use Rattle.store.proofs.Walks.{no_directory}
 use Rattle.store.proofs.directories.Directories.find_directory.Goals as goal

@@ -1,6 +1,6 @@
 use Rattle.std.proofs.Common.{subst, refl, Option, inl}
 use Rattle.model.specs.Tree.{Path}
-use Rattle.store.specs.declared.nodes.Node.{Node}
+use Rattle.table.specs.declared.node.Node.{Node}
 use Rattle.store.specs.Shows.{IsFound, graph_below}
 use Rattle.store.proofs.directories.Directories.node.Goals as goal
 

@@ -14,7 +14,7 @@ use Rattle.store.specs.Shows.{IsAt, IsFound, IsFoundDirectory, graph_below}
 use Rattle.store.specs.declared.change.Change.{Change}
 use Rattle.store.specs.declared.change.NewDirectory.{NewDirectory}
 use Rattle.store.specs.declared.content.Content.{Content}
-use Rattle.store.specs.declared.nodes.Node.{Node}
+use Rattle.table.specs.declared.node.Node.{Node}
 use Rattle.udf.specs.Udf.{udf}
 use Rattle.udf.proofs.Formats.{exact}
 use Rattle.store.proofs.Adding.{stored_directory}

@@ -12,7 +12,7 @@ use Rattle.model.specs.Operation.Operation.{Rename}
 use Rattle.model.specs.Tree.{Path, Tree}
 use Rattle.request.specs.declared.answer.Code.TheVariants as code
 use Rattle.udf.specs.Said.{names_directory}
-use Rattle.store.specs.declared.nodes.Node.{Node}
+use Rattle.table.specs.declared.node.Node.{Node}
 use Rattle.store.specs.Changes.{Does}
 use Rattle.store.specs.Moves.{IsWithin, IsBetween}
 use Rattle.store.specs.Shows.{IsAt, Shows, graph_below}

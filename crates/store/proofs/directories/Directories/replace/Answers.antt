@@ -4,7 +4,7 @@ use Rattle.model.specs.Operation.Operation.{Replace}
 use Rattle.request.specs.declared.answer.Code.TheVariants as code
 use Rattle.store.specs.declared.change.Change.{Change}
 use Rattle.store.specs.declared.change.NewFile.{NewFile}
-use Rattle.store.specs.declared.nodes.Node.{Node}
+use Rattle.table.specs.declared.node.Node.{Node}
 use Rattle.store.specs.Shows.{IsFound, graph_below}
 use Rattle.store.proofs.Replacing.{refuses, replace_root, replace_missing, replace_directory, replaces}
 use Rattle.store.proofs.directories.Directories.replace.Goals as goal

@@ -5,8 +5,7 @@ use Rattle.std.proofs.lemmas.Bool.{false≢true}
 use Rattle.std.proofs.lemmas.Result.{err_from_is_err_and}
 use Rattle.icb.specs.Entry as icb
 use Rattle.udf.specs.Words.{fields_of}
-use Rattle.store.proofs.BelowLemmas.{extent_bounds}
-use Rattle.store.proofs.StoredNodes.{has_data, decoded, lies_in, lies_below, extent_of}
+use Rattle.store.proofs.StoredNodes.{extent_bounds, has_data, decoded, lies_in, lies_below, extent_of}
 use Rattle.store.proofs.nodes.Nodes.directory.Goals as goal
 
 pub returns-in_err-block-clause-refused : goal.returns-in_err-block-clause-refused

@@ -2,7 +2,7 @@ use Rattle.std.proofs.Common.{◌≡◌, List, ℕ, ◌+◌, ◌-◌, ◌++◌, 
 use Rattle.std.specs.Int.{div_ceil}
 use Rattle.medium.specs.Plan.{zeros, packed, IsClearStart, WritesNode}
 use Rattle.udf.specs.Udf.{udf}
-use Rattle.store.specs.Outside.{outside}
+use Rattle.table.specs.Outside.{outside}
 use Rattle.store.specs.Writings.{file_writing}
 use Rattle.store.proofs.Writings.{placed_at, length-placed}
 use Rattle.store.proofs.places.Numbers.place_file.Goals as goal

@@ -13,10 +13,10 @@ use Rattle.vat.specs.Table.{view}
 use Rattle.store.specs.declared.store.Store.{Store}
 use Rattle.store.specs.Cache.{AreKept}
 use Rattle.store.specs.Needs.{change_need}
-use Rattle.store.specs.NextTable.{begun}
+use Rattle.table.specs.NextTable.{begun}
 use Rattle.store.specs.Plan.{IsPlan}
 use Rattle.store.specs.Putting.{Makes}
-use Rattle.store.specs.TableChange.{committed}
+use Rattle.table.specs.TableChange.{committed}
 use Rattle.store.proofs.Commits.{if_ok, makes_plan, plan_is, writes_plan, stops_in_plan, goes_on, is_stopped, some_is}
 use Rattle.store.proofs.Applying.{applies, full, short}
 use Rattle.store.proofs.Knowing.{does_lent, few, knows_again, nodes, shows_lent, takes}

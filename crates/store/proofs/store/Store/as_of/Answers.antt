@@ -1,11 +1,14 @@
-use Rattle.std.proofs.Common.{◌≤◌, ℕ, List, refl, sym, subst, arith}
+use Rattle.std.proofs.Common.{◌≤◌, ℕ, List, refl, sym, ap, subst, ◌∙◌, arith}
 use Rattle.std.proofs.lemmas.Result.{err_from_is_err_and}
 use Rattle.drive.specs.Journal.{Event, held}
+use Rattle.medium.specs.Formats.{Table_}
+use Rattle.vat.specs.Table.{view}
+use Rattle.recover.proofs.Told.{one_read}
 use Rattle.recover.specs.declared.fault.StoreFault.{StoreFault}
 use Rattle.recover.specs.State.{IsStateRefused}
 use Rattle.store.specs.Past.{IsPastRefused}
 use Rattle.store.proofs.Pasts.{past_shown, state_refused, way_refused}
-use Rattle.store.proofs.BelowLemmas.{below_entry}
+use Rattle.table.proofs.BelowLemmas.{below_entry}
 use Rattle.store.proofs.store.Store.as_of.Goals as goal
 
 pub invariant_of-result : goal.invariant_of-result
@@ -17,7 +20,12 @@ invariant_of-result g c =
     }
 
 pub returns-clause-table : goal.returns-clause-table
-returns-clause-table g c = λ h. (c.in_ok-at.field-0-1, c.in_ok-at.ensures.table (c.state_at.ensures.honest h))
+returns-clause-table g c = λ h.
+    let J : List Event = g.D.Drive.journal c.args.drive.now in
+    let found = c.in_ok-at.ensures.table (c.state_at.ensures.honest h) in
+    let there = rw c.table_of.ensures.journal at (c.in_ok-vat.ensures.table h) in
+    let same = one_read (held J) c.in_ok-at.at (view c.in_ok-vat.field-0.vat) (view c.in_ok-at.field-0-1) there found.table in
+    record { steps = found.steps; leads = found.leads; table = there; commits_are = ap (λ (t : Table_). t.commits) same ∙ found.commits_are }
 
 pub returns-clause-shown : goal.returns-clause-shown
 returns-clause-shown g c = λ h.

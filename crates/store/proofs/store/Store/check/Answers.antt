@@ -3,7 +3,7 @@ use Rattle.std.proofs.lemmas.Result.{err_from_is_err_and}
 use Rattle.drive.specs.Journal.{held}
 use Rattle.recover.specs.declared.fault.StoreFault.{StoreFault}
 use Rattle.store.specs.History.{AreShown, AreUnshown}
-use Rattle.store.specs.Past.{AreWhole, IsCheckRefused}
+use Rattle.store.specs.Past.{AllStood, IsCheckRefused}
 use Rattle.store.proofs.Knowing.{commits}
 use Rattle.store.proofs.Pasts.{low_here}
 use Rattle.store.proofs.Wholes.{no_history, unshown, whole}
@@ -26,7 +26,7 @@ returns-clause-whole g c volume T h knows =
     let count = commits capacity volume J T c.args.self.now knows in
     let all = whole capacity volume J T c.args.self.now knows c.in_ok-commits.commits.items (low_here capacity volume J T c.args.self.now knows) (c.in_ok-commits.ensures.history (c.check_states.ensures.honest h))
     (rw c.deref.ensures.value at (rw c.history.ensures.capacity at (rw c.history.ensures.journal at shown))) in
-    (count, subst (λ (n : ℕ). AreWhole capacity volume (held J) n) (sym count) all)
+    (count, subst (λ (n : ℕ). AllStood capacity volume (held J) n) (sym count) all)
 
 pub returns-in_err-commits-clause-refused : goal.returns-in_err-commits-clause-refused
 returns-in_err-commits-clause-refused g c volume T h knows going =

@@ -8,14 +8,14 @@ use Rattle.request.specs.Numbers.{code_number}
 use Rattle.udf.specs.Udf.{udf}
 use Rattle.vat.specs.declared.table.Vat.{Vat}
 use Rattle.vat.specs.Table.{Table, Fits, view}
-use Rattle.store.specs.Below.{AreBelow, IsUsed}
+use Rattle.table.specs.Below.{AreBelow, IsUsed}
 use Rattle.store.specs.Plan.{AreLaid, IsTablePlaced, file_list, file_writings, file_written, directories_list, directories_writings, directories_written}
 use Rattle.store.specs.Needs.{change_need}
-use Rattle.store.specs.NextTable.{all_placed, without_gone}
-use Rattle.store.specs.TableChange.{IsRemovable, committed}
+use Rattle.table.specs.NextTable.{all_placed, without_gone}
+use Rattle.table.specs.TableChange.{IsRemovable, committed}
 use Rattle.store.specs.Writings.{new_file}
 use Rattle.store.specs.declared.change.NewDirectory.{NewDirectory}
-use Rattle.store.proofs.BelowLemmas.{below_later}
+use Rattle.table.proofs.BelowLemmas.{below_later}
 use Rattle.store.proofs.Plans.{length-padded, placed_append}
 use Rattle.store.proofs.Taking.{directories_used, file_used, gone_there, made_free}
 use Rattle.store.proofs.Writings.{writes-append}

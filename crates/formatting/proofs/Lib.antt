@@ -1,0 +1,2 @@
+pub mod FormatJournals
+pub mod NewVolumes

@@ -1,0 +1,125 @@
+-- The blocks of a format, one by one and all together, and what a call of `format` leaves of them on a drive.
+use Rattle.std.specs.Prelude.{◌≡◌, ◌⊎◌, ℕ, ◌+◌, ◌<◌, ◌≤◌, min, Bool, IsTrue, List, [], ◌∷◌, ◌++◌, All, length, take, drop, slice_index_or, Some}
+use Rattle.ecma.specs.Descriptor.{padded}
+use Rattle.icb.specs.Entry.{IsEntry}
+use Rattle.icb.specs.FileSet.{IsFileSet}
+use Rattle.dir.specs.Directory.{IsDirectory}
+use Rattle.vat.specs.Table.{IsTable}
+use Rattle.volume.specs.Front.{IsFrontBlock}
+use Rattle.drive.specs.Journal.{Event, written, next_of, last_at, held, AddsFront}
+use Rattle.model.specs.Session.{State, formatted}
+use Rattle.medium.specs.Formats.{Block}
+use Rattle.medium.specs.Volume.{Stands}
+use Rattle.udf.specs.Udf.{udf, IsBlock}
+use Rattle.udf.specs.NewVolume.{root_fields, first_table, table_fields, IsNewVolume}
+use Rattle.recover.specs.declared.fault.StoreFault.{StoreFault}
+use Rattle.recover.specs.declared.fault.StoreFault.TheVariants.{NotBlank, Label, Small, Device, Memory, NotFormatted, Damaged, Full, Stopped, NoCommit, NotFound, IsDirectory as IsDirectoryFault, NotDirectory}
+use Rattle.formatting.specs.declared.parts.Parts.{Parts}
+
+-- what a volume is formatted with
+pub record Words : Type 0 where
+  pub volume : ℕ  -- its capacity in blocks
+  pub label : List ℕ
+  pub moment : ℕ
+
+-- those of a format with this label and moment on a drive of this capacity
+abbrev pub words_on : ℕ → List ℕ → ℕ → Words
+words_on capacity label moment = record { volume = min capacity 450_000; label = label; moment = moment }
+
+abbrev pub words_of : Parts → Words
+words_of parts = record { volume = parts.capacity; label = parts.label; moment = parts.moment }
+
+-- ---- the blocks
+
+abbrev pub IsFirstTable : List ℕ → Block → Type 0
+IsFirstTable label block = (bytes : List ℕ) × IsTable (first_table label) bytes × (block ≡ padded bytes)
+
+-- the block stands at this address of a volume that is formatted with these words
+pub record IsBlockAt (words : Words) (at : ℕ) (block : Block) : Type 0 where
+  pub front : at < 257 → IsFrontBlock words.label words.moment words.volume at block
+  pub set : at ≡ 257 → IsFileSet (record { label = words.label; moment = words.moment }) block
+  pub names : at ≡ 258 → IsDirectory 1 [] 1 40 (block ∷ [])
+  pub root : at ≡ 259 → IsEntry (root_fields words.moment) 1 block
+  pub table : at ≡ 260 → IsFirstTable words.label block
+  pub mark : at ≡ 261 → IsEntry (table_fields words.moment) 4 block
+
+-- the blocks are those of a format with these words, all 262
+pub record IsFormatOf (words : Words) (blocks : List Block) : Type 0 where
+  pub bytes : All IsBlock blocks
+  pub front : List Block
+  pub set : Block
+  pub names : Block
+  pub root : Block
+  pub table : Block
+  pub mark : Block
+  pub is : IsNewVolume words.volume words.label words.moment front set names root table mark
+  pub order : blocks ≡ front ++ set ∷ names ∷ root ∷ table ∷ mark ∷ []
+
+-- words have one list of them
+abbrev pub OneFormat : Type 0
+OneFormat = (words : Words) (a b : List Block) → IsFormatOf words a → IsFormatOf words b → a ≡ b
+
+-- the blocks are a front of a format's, none and all among these
+pub record IsBegun (words : Words) (blocks : List Block) : Type 0 where
+  pub whole : List Block
+  pub is : IsFormatOf words whole
+  pub count : ℕ
+  pub front : blocks ≡ take count whole
+
+-- So many blocks of a format were read, from its first on. On an honest drive they are what is held there.
+pub record IsSeen (words : Words) (journal : List Event) (honest : Bool) (count : ℕ) : Type 0 where
+  pub blocks : List Block
+  pub long : length blocks ≡ count
+  pub bytes : All IsBlock blocks
+  pub each : (n : ℕ) → n < count → IsBlockAt words n (slice_index_or blocks n [])
+  pub there : IsTrue honest → (n : ℕ) → n < count → last_at journal n ≡ Some (slice_index_or blocks n [])
+
+-- the blocks are those of a format from an address on, up to another
+pub record AreBlocks (words : Words) (from to : ℕ) (blocks : List Block) : Type 0 where
+  pub long : from + length blocks ≡ to
+  pub bytes : All IsBlock blocks
+  pub each : (n : ℕ) → n < length blocks → IsBlockAt words (from + n) (slice_index_or blocks n [])
+
+-- ---- what a call leaves
+
+-- On the fronts of a journal from the one before on there is what was there, and behind it the blocks that were missing.
+-- Before the last of the 262 nothing stands, whatever drive and volume it is read in, and with it the new volume does.
+pub record HoldsFronts (capacity : ℕ) (words : Words) (blocks : List Block) (before behind : List Event) : Type 0 where
+  pub began : held before ≡ take (next_of before) blocks
+  pub each : (k : ℕ) → length before ≤ k → held (take k behind) ≡ take (next_of (take k behind)) blocks
+  pub nothing : (k other_capacity other_volume : ℕ) (state : State) → length before ≤ k → next_of (take k behind) < 262 → Stands udf other_capacity other_volume (held (take k behind)) state → ⊥
+  pub new : (k : ℕ) → length before ≤ k → next_of (take k behind) ≡ 262 → Stands udf capacity words.volume (held (take k behind)) (formatted words.moment)
+
+-- The format was finished: the blocks that were missing are written, and on an honest drive the new volume stands.
+pub record IsFormatted (capacity : ℕ) (words : Words) (before behind : List Event) (honest : Bool) : Type 0 where
+  pub blocks : List Block
+  pub is : IsFormatOf words blocks
+  pub short : next_of before ≤ 262
+  pub journal : behind ≡ before ++ written (next_of before) (drop (next_of before) blocks)
+  pub fronts : IsTrue honest → HoldsFronts capacity words blocks before behind
+  pub holds : IsTrue honest → held behind ≡ blocks
+  pub stands : IsTrue honest → Stands udf capacity words.volume (held behind) (formatted words.moment)
+
+-- The drive failed in a write: a front of the blocks that were missing is written, from none to all.
+pub record IsCut (capacity : ℕ) (words : Words) (before behind : List Event) (honest : Bool) : Type 0 where
+  pub blocks : List Block
+  pub is : IsFormatOf words blocks
+  pub short : next_of before ≤ 262
+  pub journal : AddsFront before (next_of before) (drop (next_of before) blocks) behind
+  pub fronts : IsTrue honest → HoldsFronts capacity words blocks before behind
+
+-- What each refusal leaves. Where the drive is honest, `NotBlank` says that it has other blocks than these words give.
+abbrev pub IsRefused : ℕ → Words → List Event → List Event → Bool → StoreFault → Type 0
+IsRefused capacity words before behind honest NotBlank = (behind ≡ before) × (IsTrue honest → IsBegun words (held before) → ⊥)
+IsRefused capacity words before behind honest Label = behind ≡ before
+IsRefused capacity words before behind honest Small = behind ≡ before
+IsRefused capacity words before behind honest Memory = behind ≡ before
+IsRefused capacity words before behind honest Device = (behind ≡ before) ⊎ IsCut capacity words before behind honest
+IsRefused capacity words before behind honest NotFormatted = ⊥
+IsRefused capacity words before behind honest (Damaged block cause) = ⊥
+IsRefused capacity words before behind honest Full = ⊥
+IsRefused capacity words before behind honest Stopped = ⊥
+IsRefused capacity words before behind honest NoCommit = ⊥
+IsRefused capacity words before behind honest NotFound = ⊥
+IsRefused capacity words before behind honest IsDirectoryFault = ⊥
+IsRefused capacity words before behind honest NotDirectory = ⊥

@@ -1,0 +1,264 @@
+//! A new volume.
+
+ghost use Rattle.std.specs.Prelude.{◌≡◌, ◌↔◌, ℕ, ◌<◌, ◌≤◌, ◌∷◌, [], Ok, Err, IsTrue, None, IsSome, IsNone, IfOk, IfErr, IfSome, OnOk, is_err, length, slice_index};
+ghost use Rattle.drive.specs.Journal.{counted, held, next_of};
+ghost use Rattle.dir.specs.Directory.{identifiers};
+ghost use Rattle.dir.specs.Layout.{identifier_blocks};
+ghost use Rattle.ecma.specs.Descriptor.{padded};
+ghost use Rattle.icb.specs.Entry.{IsEntry};
+ghost use Rattle.osta.specs.FirstFault.{first_fault};
+ghost use Rattle.osta.specs.Label.{IsLabel, label_faults};
+ghost use Rattle.recover.specs.Faults.{Counts, devices};
+ghost use Rattle.recover.specs.declared.fault.StoreFault.TheVariants as fault;
+ghost use Rattle.formatting.specs.NewVolume.{words_of, words_on, IsBlockAt, IsSeen, IsBegun, AreBlocks, IsFormatted, IsRefused, OneFormat};
+ghost use Rattle.udf.specs.Udf.{IsBlock};
+ghost use Rattle.udf.specs.NewVolume as udf;
+ghost use Rattle.udf.specs.NewVolume.{root_fields, table_fields};
+ghost use Rattle.vat.specs.Table.{table_bytes};
+
+use crate::parts::Parts;
+use dir::{Dir, Lay};
+use drive::{Drive, DriveFault, write_packets};
+use ecma::{Block, Timestamp};
+use icb::{FileEntry, FileSet, Kind, Place, encode_fe, encode_fsd};
+use indexmap::IndexMap;
+use osta::Label;
+use recover::{ROOT_ADDRESS, StoreFault};
+use std::alloc::{AllocError, Global};
+use vat::{Sessions, Vat, Version, encode_vat};
+use volume::{FRONT_BLOCKS, front_block};
+
+/// How many blocks a format writes.
+const FORMAT_BLOCKS: u32 = 262;
+
+const LEAST_CAPACITY: u32 = 512;
+
+const GREATEST_CAPACITY: u32 = 450_000;
+
+/// The bytes of a directory without names.
+const EMPTY_DIRECTORY: u32 = 40;
+
+/// The bytes of the table of a volume with its root alone.
+const FIRST_TABLE: u32 = 204;
+
+/// The block number of the first table's entry.
+const TABLE_ENTRY: u32 = 4;
+
+/// Writes a new volume on a blank drive, or the rest of one that the same words began. The moment is in microseconds from
+/// 1970-01-01 UTC. A drive is refused that has other blocks, or more.
+pub fn format<D: Drive>(
+    alloc: Global,
+    drive: &mut D,
+    label: &str,
+    moment: u64,
+) -> Result<(), StoreFault>
+    requires moment { moment < 4_102_444_800_000_000 }
+    ensures ok { OnOk result (IsFormatted (D.capacity drive.old) (words_on (D.capacity drive.old) label.now moment) (D.journal drive.old) (D.journal drive.new) (D.honest drive.new)) }
+    ensures err { IfErr result (IsRefused (D.capacity drive.old) (words_on (D.capacity drive.old) label.now moment) (D.journal drive.old) (D.journal drive.new) (D.honest drive.new)) }
+    ensures label { (result ≡ Err fault.Label) ↔ IsSome (first_fault (label_faults label.now)) }
+    ensures small { (result ≡ Err fault.Small) ↔ (IsNone (first_fault (label_faults label.now)) × (D.capacity drive.old < 512)) }
+    ensures capacity { D.capacity drive.new ≡ D.capacity drive.old }
+    ensures honest { IsTrue (D.honest drive.new) → IsTrue (D.honest drive.old) }
+    ensures failures { Counts (devices result) (D.failures drive.old) (D.failures drive.new) }
+{
+    let label = match Label::read(label) {
+        Ok(label) => label,
+        Err(_) => return Err(StoreFault::Label),
+    };
+    let capacity = drive.capacity();
+    if capacity < LEAST_CAPACITY {
+        return Err(StoreFault::Small);
+    }
+    let moment = Timestamp::of(moment).unwrap();
+    let Ok(parts) = parts_of(alloc, label, moment, capacity.min(GREATEST_CAPACITY)) else {
+        return Err(StoreFault::Memory);
+    };
+    let next = match begun(drive, &parts) {
+        Ok(Some(count)) => count,
+        Ok(None) => return Err(StoreFault::NotBlank),
+        Err(_) => return Err(StoreFault::Device),
+    };
+    let Ok(blocks) = rest(alloc, &parts, next) else {
+        return Err(StoreFault::Memory);
+    };
+    match write_packets(drive, next, &blocks) {
+        Ok(()) => Ok(()),
+        Err(_) => Err(StoreFault::Device),
+    }
+}
+
+/// A label, a moment and a capacity have one format. It does nothing: what it ensures is a law.
+pub fn one_format()
+    ensures { OneFormat }
+{}
+
+/// What the blocks of a format with these words are made from.
+fn parts_of(
+    alloc: Global,
+    label: Label,
+    moment: Timestamp,
+    capacity: u32,
+) -> Result<Parts, AllocError>
+    requires label { IsLabel label }
+    requires low { 512 ≤ capacity }
+    requires high { capacity ≤ 450_000 }
+    ensures { IfOk result (λ parts. words_of parts ≡ record { volume = capacity; label = label; moment = moment }) }
+{
+    Ok(Parts {
+        label,
+        moment,
+        capacity,
+        root: root_names(alloc),
+        table: first_table(alloc, label)?,
+    })
+}
+
+/// The one block of a root without names.
+fn root_names(alloc: Global) -> Block
+    ensures { result ∷ [] ≡ identifier_blocks 1 (identifiers 1 []) }
+{
+    let root = Dir {
+        parent: ROOT_ADDRESS,
+        entries: IndexMap::new(alloc),
+    };
+    Lay::new(&root, 1).next_block().unwrap()
+}
+
+/// How many blocks of a format a drive has, and nothing else; none where it has another block.
+fn begun<D: Drive>(drive: &mut D, parts: &Parts) -> Result<Option<u32>, DriveFault>
+    ensures next { IfOk result (λ found. IfSome found (λ next. (next ≡ next_of (D.journal drive.old)) × (next ≤ 262))) }
+    ensures seen { IfOk result (λ found. IfSome found (IsSeen (words_of parts.now) (D.journal drive.old) (D.honest drive.new))) }
+    ensures other { result ≡ Ok None → IsTrue (D.honest drive.new) → IsBegun (words_of parts.now) (held (D.journal drive.old)) → ⊥ }
+    ensures journal { D.journal drive.new ≡ D.journal drive.old }
+    ensures capacity { D.capacity drive.new ≡ D.capacity drive.old }
+    ensures honest { IsTrue (D.honest drive.new) → IsTrue (D.honest drive.old) }
+    ensures failures { D.failures drive.new ≡ counted (is_err result) (D.failures drive.old) }
+{
+    let next = match drive.next() {
+        Ok(next) => next,
+        Err(fault) => return Err(fault),
+    };
+    if next > FORMAT_BLOCKS {
+        return Ok(None);
+    }
+    for n in 0..next {
+        let mut block = [0; 2048];
+        match drive.read(n, &mut block) {
+            Ok(()) => {}
+            Err(fault) => return Err(fault),
+        }
+        let expected = format_block(parts, n);
+        known(&expected);
+        if block != expected {
+            return Ok(None);
+        }
+    }
+    Ok(Some(next))
+}
+
+/// The blocks of a format from an address on.
+fn rest(alloc: Global, parts: &Parts, next: u32) -> Result<Vec<Block>, AllocError>
+    requires { next ≤ 262 }
+    ensures { IfOk result (λ blocks. AreBlocks (words_of parts.now) next 262 blocks.items) }
+{
+    let mut blocks = Vec::new(alloc);
+    for n in next..FORMAT_BLOCKS {
+        let block = format_block(parts, n);
+        known(&block);
+        blocks.push(block)?;
+    }
+    Ok(blocks)
+}
+
+/// Does nothing: what it ensures holds of each block.
+fn known(block: &Block)
+    ensures { IsBlock block.now }
+{
+    are_bytes(block);
+}
+
+/// Does nothing: what it ensures holds of all bytes.
+fn are_bytes(bytes: &[u8])
+    ensures { (i : ℕ) → slice_index bytes.now i < 256 }
+{}
+
+/// The block that a format writes at an address.
+fn format_block(parts: &Parts, n: u32) -> Block
+    requires { n < 262 }
+    ensures { IsBlockAt (words_of parts.now) n result }
+{
+    if n < FRONT_BLOCKS {
+        return front_block(&parts.label, parts.moment, parts.capacity, n);
+    }
+    match n {
+        257 => encode_fsd(&FileSet {
+            label: parts.label,
+            moment: parts.moment,
+        }),
+        258 => parts.root,
+        259 => root_block(parts.moment),
+        260 => table_block(&parts.table),
+        _ => table_entry_block(parts.moment),
+    }
+}
+
+/// The block of the entry of a root without names.
+fn root_block(moment: Timestamp) -> Block
+    ensures { IsEntry (root_fields moment) 1 result }
+{
+    let entry = FileEntry {
+        kind: Kind::Directory,
+        moment,
+        links: 1,
+        unique: 0,
+        size: EMPTY_DIRECTORY,
+        place: Place::Extent(1),
+    };
+    encode_fe(&entry, ROOT_ADDRESS)
+}
+
+/// The block of the first table's entry.
+fn table_entry_block(moment: Timestamp) -> Block
+    ensures { IsEntry (table_fields moment) 4 result }
+{
+    let entry = FileEntry {
+        kind: Kind::Vat,
+        moment,
+        links: 0,
+        unique: 0,
+        size: FIRST_TABLE,
+        place: Place::Extent(3),
+    };
+    encode_fe(&entry, TABLE_ENTRY)
+}
+
+/// The block of the first table.
+fn table_block(table: &[u8]) -> Block
+    requires { length table.now ≤ 2048 }
+    ensures { result ≡ padded table.now }
+{
+    let mut block = [0; 2048];
+    block[..table.len()].copy_from_slice(table);
+    block
+}
+
+/// The bytes of the table of a volume with its root alone.
+fn first_table(alloc: Global, label: Label) -> Result<Vec<u8>, AllocError>
+    requires { IsLabel label }
+    ensures { IfOk result (λ bytes. bytes.items ≡ table_bytes (udf.first_table label)) }
+{
+    let vat = Vat {
+        label,
+        previous: None,
+        files: 0,
+        directories: 1,
+        sessions: Sessions {
+            version: Version::Two,
+            next_unique: 16,
+            commits: 0,
+            records: Vec::new(alloc),
+        },
+        entries: vec![in alloc; Some(0), Some(2)]?,
+    };
+    encode_vat(alloc, &vat)
+}

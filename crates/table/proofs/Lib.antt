@@ -1,0 +1,14 @@
+pub mod BelowLemmas
+pub mod ChangesTaken
+pub mod Committed
+pub mod Counting
+pub mod EntryChanges
+pub mod NextSizes
+pub mod NextTables
+pub mod NodeChanges
+pub mod PlanPieces
+pub mod Reckoning
+pub mod RecordChanges
+pub mod SaidRecords
+pub mod TableEntries
+pub mod Tables

@@ -1,0 +1,8 @@
+-- The most blocks that a table may take, from its sizes alone.
+use Rattle.std.specs.Prelude.{ℕ, ◌+◌, ◌*◌, length}
+use Rattle.std.specs.Int.{div_ceil}
+use Rattle.vat.specs.Table.{Table}
+
+-- before data there may be as many blocks of zeros
+abbrev pub table_need : Table → ℕ
+table_need t = 2 * div_ceil (196 + 48 * length t.records + 4 * length t.entries) 2048 + 1
