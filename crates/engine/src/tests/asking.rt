@@ -25,11 +25,18 @@ impl Recorder {
     pub(crate) fn new(alloc: Global, capacity: u32) -> Result<Recorder, Fail>
         ensures { IfOk result (λ r. IfSome r.engine.store (Agrees (journal_of r.drive) (capacity_of r.drive))) }
     {
-        Ok(Recorder {
+        Ok(Recorder::on(alloc, formatted(alloc, capacity)?))
+    }
+
+    /// On a drive with some medium.
+    pub(crate) fn on(alloc: Global, drive: MemDrive) -> Recorder
+        ensures { IfSome result.engine.store (Agrees (journal_of result.drive) (capacity_of result.drive)) }
+    {
+        Recorder {
             alloc,
             engine: Engine::new(),
-            drive: formatted(alloc, capacity)?,
-        })
+            drive,
+        }
     }
 
     /// The frame of the answer to a payload.
@@ -57,6 +64,11 @@ impl Recorder {
         ensures { IfSome self.new.engine.store (Agrees (journal_of self.new.drive) (capacity_of self.new.drive)) }
     {
         self.drive.arm(fault);
+    }
+
+    /// A drive with the same medium and no fault set.
+    pub(crate) fn medium(&self) -> Result<MemDrive, Fail> {
+        Ok(self.drive.front(self.drive.journal().len())?)
     }
 
     /// What was written, in order.
@@ -103,12 +115,12 @@ pub(crate) fn formatted(alloc: Global, capacity: u32) -> Result<MemDrive, Fail> 
 pub(crate) struct Step {
     pub payload: Vec<u8>,
     code: u8,
-    commit: u8,
+    commit: u32,
     blocks: usize,
 }
 
 impl Step {
-    pub(crate) fn new(payload: Vec<u8>, code: u8, commit: u8, blocks: usize) -> Step {
+    pub(crate) fn new(payload: Vec<u8>, code: u8, commit: u32, blocks: usize) -> Step {
         Step {
             payload,
             code,
@@ -214,9 +226,19 @@ pub(crate) fn query(alloc: Global, asked: Asked, names: &[&str]) -> Result<Vec<u
     Ok(payload)
 }
 
+/// The same request at another moment, in microseconds since 1970.
+pub(crate) fn at_moment(payload: Vec<u8>, moment: u64) -> Vec<u8> {
+    let mut payload = payload;
+    if payload.len() >= 25 {
+        payload[17..25].copy_from_slice(&moment.to_le_bytes());
+    }
+    payload
+}
+
 /// The frame of a reply.
-pub(crate) fn reply(code: u8, commit: u8) -> [u8; 10] {
-    [6, 0, 0, 0, code, 0, commit, 0, 0, 0]
+pub(crate) fn reply(code: u8, commit: u32) -> [u8; 10] {
+    let [first, second, third, last] = commit.to_le_bytes();
+    [6, 0, 0, 0, code, 0, first, second, third, last]
 }
 
 /// The frame of an answer that has no body.

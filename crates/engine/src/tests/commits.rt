@@ -54,7 +54,7 @@ fn what_was_created_is_told(rt: HostRuntime) -> Result<(), Fail> {
 fn numbers_out_of_order(rt: HostRuntime) -> Result<(), Fail> {
     let alloc = rt.alloc();
     let mut recorder = Recorder::new(alloc, 3000)?;
-    for number in 1..3u8 {
+    for number in 1..3u32 {
         let answer = recorder.ask(&remove(alloc, By(7, number as u64), &["z"])?)?;
         assert_eq!(rt; answer.as_slice(), reply(2, number).as_slice());
     }
@@ -75,12 +75,12 @@ fn numbers_out_of_order(rt: HostRuntime) -> Result<(), Fail> {
 fn four_replies_are_kept(rt: HostRuntime) -> Result<(), Fail> {
     let alloc = rt.alloc();
     let mut recorder = Recorder::new(alloc, 3000)?;
-    for number in 1..7u8 {
+    for number in 1..7u32 {
         let answer = recorder.ask(&remove(alloc, By(7, number as u64), &["z"])?)?;
         assert_eq!(rt; answer.as_slice(), reply(2, number).as_slice());
     }
     for time in 0..3 {
-        for number in 3..7u8 {
+        for number in 3..7u32 {
             let answer = recorder.ask(&remove(alloc, By(7, number as u64), &["z"])?)?;
             assert_eq!(rt;
                 answer.as_slice(),

@@ -147,3 +147,49 @@ fn each_kind_of_commit_is_cut(rt: HostRuntime) -> Result<(), Fail> {
     }
     Ok(())
 }
+
+/// A commit that is cut behind some of its blocks, none to all but one, and whose repeat is cut behind some of its own,
+/// none to all.
+fn is_cut_twice<A: Abort>(
+    rt: &A,
+    alloc: Global,
+    base: &Recorder,
+    cut: &Cut,
+    kept: [usize; 2],
+    before: &[u8],
+) -> Result<(), Fail> {
+    let blocks = cut.blocks as usize;
+    let [first, second] = kept;
+    let mut recorder = base.front(284)?;
+    recorder.arm(Fault::AfterBlocks(first as u64));
+    assert_eq!(rt; recorder.ask(&cut.payload)?.as_slice(), bare(36).as_slice());
+    recorder.arm(Fault::AfterBlocks(second as u64));
+    assert_eq!(rt; recorder.ask(&cut.payload)?.as_slice(), bare(36).as_slice());
+    let until = 284usize.saturating_add(first).saturating_add(second);
+    assert_eq!(rt; recorder.blocks(), until);
+    let is_done = second == blocks;
+    if !is_done {
+        assert!(rt; told(alloc, &mut recorder)?.as_slice() == before);
+    }
+    let answer = recorder.ask(&cut.payload)?;
+    assert_eq!(rt; answer.as_slice(), reply(cut.code, 5).as_slice());
+    let more = if is_done { 0 } else { blocks };
+    assert_eq!(rt; recorder.blocks(), until.saturating_add(more));
+    Ok(())
+}
+
+#[test]
+fn each_kind_of_commit_is_cut_twice(rt: HostRuntime) -> Result<(), Fail> {
+    let alloc = rt.alloc();
+    let mut base = tree(&rt, alloc)?;
+    let before = told(alloc, &mut base)?;
+    for cut in &cuts(alloc)? {
+        let blocks = cut.blocks as usize;
+        for first in 0..blocks {
+            for second in 0..blocks + 1 {
+                is_cut_twice(&rt, alloc, &base, cut, [first, second], &before)?;
+            }
+        }
+    }
+    Ok(())
+}

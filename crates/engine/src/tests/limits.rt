@@ -19,7 +19,7 @@ fn the_last_blocks(rt: HostRuntime) -> Result<(), Fail> {
             let answer = recorder.ask(&remove(alloc, By(1, 1), &["z"])?)?;
             assert_eq!(rt; answer.as_slice(), bare(36).as_slice());
         }
-        for number in 1..123u8 {
+        for number in 1..123u32 {
             let answer = recorder.ask(&remove(alloc, By(1, number as u64), &["z"])?)?;
             assert_eq!(rt; answer.as_slice(), reply(2, number).as_slice());
         }
@@ -99,7 +99,7 @@ fn sizes(rt: HostRuntime) -> Result<(), Fail> {
 fn clients(rt: HostRuntime) -> Result<(), Fail> {
     let alloc = rt.alloc();
     let mut recorder = Recorder::new(alloc, 3000)?;
-    for client in 1..65u8 {
+    for client in 1..65u32 {
         let answer = recorder.ask(&remove(alloc, By(client as u64, 1), &["z"])?)?;
         assert_eq!(rt; answer.as_slice(), reply(2, client).as_slice());
     }
@@ -111,7 +111,7 @@ fn clients(rt: HostRuntime) -> Result<(), Fail> {
 }
 
 /// The entry of a table at this block number, as data.
-fn imitation(number: u32) -> Result<Block, Fail> {
+pub(crate) fn imitation(number: u32) -> Result<Block, Fail> {
     let entry = FileEntry {
         kind: Kind::Vat,
         moment: Timestamp::of(0).ok_or("the first moment")?,
