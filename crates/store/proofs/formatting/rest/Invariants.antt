@@ -1,5 +1,0 @@
-use Rattle.store.specs.NewVolume.{words_of, AreBlocks}
-use Rattle.store.proofs.formatting.rest.Given as goal
-
-abbrev pub invariant-loop-n : goal.invariant-loop-n
-invariant-loop-n l = AreBlocks (words_of l.parts) l.next l.n l.blocks.items
