@@ -1,12 +1,11 @@
 -- One identifier: its size, its parts, and the bytes that are one.
-use Rattle.std.proofs.Common.{◌≡◌, ℕ, ◌+◌, ◌-◌, ◌^◌, ◌<◌, min, List, [], ◌++◌, length, take, drop, replicate, refl, sym, ap, ◌∙◌, append_assoc, arith}
-use Rattle.std.proofs.lemmas.List.{append-nil, length-append, length-replicate, length-take}
+use Rattle.std.proofs.Common.{◌≡◌, ℕ, ◌+◌, ◌-◌, ◌^◌, ◌<◌, ◌≤◌, min, List, [], ◌++◌, length, take, drop, replicate, refl, sym, ap, ◌∙◌, append_assoc, arith}
+use Rattle.std.proofs.lemmas.List.{append-nil, drop-drop, drop_all, drop_at, length-append, length-drop, length-replicate, length-take, take_at}
 use Rattle.ecma.specs.Tag.{Sealed}
 use Rattle.ecma.proofs.Pieces.{IsBytes}
 use Rattle.ecma.specs.EntityId.{developer}
 use Rattle.dir.specs.Identifier.{Identifier, plain_size, use_of, head_of, body_of, identifier}
 use borrow.Rule.Slice.PartMut.{put_mid}
-use Rattle.dir.proofs.Blocks.{behind_tag}
 use Rattle.std.specs.Prelude.{slice_index}
 use Rattle.ecma.specs.Numbers.{u16_at, u32_at}
 use Rattle.dir.specs.Split.{name_size, use_size}
@@ -27,36 +26,72 @@ length-body_of x more =
       length-replicate {A = ℕ} (plain_size (length x.name) - (38 + length x.name)) 0,
     )
 
--- a body as its fields are written
-pub written_body : (x : Identifier) (more kind front zeros pad : ℕ) → kind ≡ x.characteristics → front ≡ min more 32 → zeros ≡ more - 32
-    → pad ≡ plain_size (length x.name) - 38 - length x.name
-    → head_of kind (length x.name) x.icb x.unique more
-    ++ (take front developer ++ (replicate zeros 0 ++ (x.name ++ (replicate pad 0 ++ [])))) ≡ body_of x more
-written_body x more kind front zeros pad kind-is front-is zeros-is pad-is =
-    let end : replicate pad 0 ++ [] ≡ replicate (plain_size (length x.name) - (38 + length x.name)) 0 =
-    append-nil (replicate pad 0) ∙ ap (λ (n : ℕ). replicate n 0) (omega arith) in
-    let fronts : take front developer ≡ take (min more 32) developer = ap (λ (n : ℕ). take n developer) front-is in
-    let middle : replicate zeros 0 ≡ replicate (more - 32) 0 = ap (λ (n : ℕ). replicate n 0) zeros-is in
-    let tail : List ℕ = x.name ++ replicate (plain_size (length x.name) - (38 + length x.name)) 0 in
-    let joined : take front developer ++ (replicate zeros 0 ++ (x.name ++ (replicate pad 0 ++ []))) ≡ use_of more ++ tail =
-    ap (λ (e : List ℕ). take front developer ++ (replicate zeros 0 ++ (x.name ++ e))) end
-    ∙ ap (λ (f : List ℕ). f ++ (replicate zeros 0 ++ tail)) fronts
-    ∙ ap (λ (m : List ℕ). take (min more 32) developer ++ (m ++ tail)) middle
-    ∙ sym (append_assoc (take (min more 32) developer) (replicate (more - 32) 0) tail) in
-    ap (λ (k : ℕ). head_of k (length x.name) x.icb x.unique more
-    ++ (take front developer ++ (replicate zeros 0 ++ (x.name ++ (replicate pad 0 ++ []))))) kind-is
-    ∙ ap (λ (e : List ℕ). head_of x.characteristics (length x.name) x.icb x.unique more ++ e) joined
+-- what one more piece makes of what is written so far and the rest of what was there
+put_piece : (front piece into before : List ℕ) (at n : ℕ) → at ≡ length front → n ≡ length piece → into ≡ front ++ drop at before
+    → put_mid at n into piece ≡ (front ++ piece) ++ drop (at + n) before
+put_piece front piece into before at n at-is n-is so_far =
+    let head : take at into ≡ front = ap (take at) so_far ∙ take_at front (drop at before) at (sym at-is) in
+    let tail : drop at into ≡ drop at before = ap (drop at) so_far ∙ drop_at front (drop at before) at (sym at-is) in
+    let rest : drop n (drop at before) ≡ drop (at + n) before = drop-drop n at before in
+    rw (head, tail, rest) (sym (append_assoc front piece (drop (at + n) before)))
 
--- bytes that were written behind the tag and then sealed
-pub written_is : (x : Identifier) (number more : ℕ) (into written bytes text : List ℕ) → length into ≡ plain_size (length x.name) + more
-    → IsBytes bytes → Sealed 257 number bytes
-    → drop 16 bytes ≡ drop 16 (put_mid 16 (length into - 16) into written)
-    → written ≡ text ++ drop (length text) (take (length into - 16) (drop 16 into))
-    → text ≡ body_of x more → bytes ≡ identifier number x more
-unfolding identifier
-written_is x number more into written bytes text room fits s same put text-is =
-    let len : length text ≡ length into - 16 = ap length text-is ∙ omega (arith, length-body_of x more) in
-    sealed_is 257 number bytes (body_of x more) fits s (same ∙ behind_tag into written text (omega arith) len put ∙ text-is)
+-- three pieces one behind another, over the front of the bytes
+put_three : (second third fourth : ℕ) (into a b c : List ℕ) → second ≡ length a → third ≡ second + length b → fourth ≡ third + length c
+    → put_mid third (fourth - third) (put_mid second (third - second) (a ++ drop second into) b) c ≡ ((a ++ b) ++ c) ++ drop fourth into
+put_three second third fourth into a b c second-is third-is fourth-is =
+    let two : put_mid second (third - second) (a ++ drop second into) b ≡ (a ++ b) ++ drop third into =
+    put_piece a b (a ++ drop second into) into second (third - second) second-is (omega arith) refl
+    ∙ ap (λ (n : ℕ). (a ++ b) ++ drop n into) (omega arith) in
+    put_piece (a ++ b) c (put_mid second (third - second) (a ++ drop second into) b) into third (fourth - third) (omega (arith, length-append a b)) (omega arith) two
+    ∙ ap (λ (n : ℕ). ((a ++ b) ++ c) ++ drop n into) (omega arith)
+
+-- and a fourth, over all of them
+put_last : (at : ℕ) (three into front d : List ℕ) → at ≡ length front → length into ≡ at + length d → three ≡ front ++ drop at into
+    → put_mid at (length three - at) three d ≡ front ++ d
+put_last at three into front d at-is long three-is =
+    let same : length three ≡ length into = ap length three-is ∙ omega (arith, length-append front (drop at into), length-drop at into) in
+    put_piece front d three into at (length three - at) at-is (omega arith) three-is
+    ∙ ap (λ (rest : List ℕ). (front ++ d) ++ rest) (drop_all (at + (length three - at)) into (omega arith)) ∙ append-nil (front ++ d)
+
+-- a body as it is written
+pub body_put : (x : Identifier) (more use_end name_end : ℕ) (into head extra name pad : List ℕ) → length into + 16 ≡ plain_size (length x.name) + more
+    → use_end ≡ 22 + more → name_end ≡ use_end + length x.name
+    → head ≡ head_of x.characteristics (length x.name) x.icb x.unique more
+    → extra ≡ use_of (length (take (use_end - 22) (drop 22 (head ++ drop 22 into))))
+    → name ≡ x.name
+    → let three = put_mid use_end (name_end - use_end) (put_mid 22 (use_end - 22) (head ++ drop 22 into) extra) name in
+    pad ≡ replicate (length (take (length three - name_end) (drop name_end three))) 0
+    → put_mid name_end (length three - name_end) three pad ≡ body_of x more
+body_put x more use_end name_end into head extra name pad room use_end-is name_end-is head-is extra-is name-is pad-is =
+    let three = put_mid use_end (name_end - use_end) (put_mid 22 (use_end - 22) (head ++ drop 22 into) extra) name in
+    let head-long : length head ≡ 22 = ap length head-is in
+    let extra-long : length (take (use_end - 22) (drop 22 (head ++ drop 22 into))) ≡ more =
+    omega (arith, length-take (use_end - 22) (drop 22 (head ++ drop 22 into)), length-drop 22 (head ++ drop 22 into), length-append head (drop 22 into), length-drop 22 into) in
+    let extra-said : extra ≡ use_of more = extra-is ∙ ap use_of extra-long in
+    let name-long : length name ≡ length x.name = ap length name-is in
+    let three-is : three ≡ ((head ++ extra) ++ name) ++ drop name_end into =
+    put_three 22 use_end name_end into head extra name (sym head-long) (omega (arith, ap length extra-said, length-use_of more)) (omega arith) in
+    let front-long : length ((head ++ extra) ++ name) ≡ name_end =
+    omega (arith, length-append (head ++ extra) name, length-append head extra, ap length extra-said, length-use_of more) in
+    let three-long : length three ≡ length into = ap length three-is ∙ omega (arith, length-append ((head ++ extra) ++ name) (drop name_end into), length-drop name_end into) in
+    let pad-long : length (take (length three - name_end) (drop name_end three)) ≡ plain_size (length x.name) - (38 + length x.name) =
+    omega (arith, length-take (length three - name_end) (drop name_end three), length-drop name_end three) in
+    let pad-said : pad ≡ replicate (plain_size (length x.name) - (38 + length x.name)) 0 = pad-is ∙ ap (λ (n : ℕ). replicate n 0) pad-long in
+    let whole : put_mid name_end (length three - name_end) three pad ≡ ((head ++ extra) ++ name) ++ pad =
+    put_last name_end three into ((head ++ extra) ++ name) pad (sym front-long)
+    (omega (arith, ap length pad-said, length-replicate {A = ℕ} (plain_size (length x.name) - (38 + length x.name)) 0)) three-is in
+    whole ∙ append_assoc (head ++ extra) name pad ∙ append_assoc head extra (name ++ pad)
+    ∙ ap (λ (h : List ℕ). h ++ (extra ++ (name ++ pad))) head-is
+    ∙ ap (λ (e : List ℕ). head_of x.characteristics (length x.name) x.icb x.unique more ++ (e ++ (name ++ pad))) extra-said
+    ∙ ap (λ (n : List ℕ). head_of x.characteristics (length x.name) x.icb x.unique more ++ (use_of more ++ (n ++ pad))) name-is
+    ∙ ap (λ (p : List ℕ). head_of x.characteristics (length x.name) x.icb x.unique more ++ (use_of more ++ (x.name ++ p))) pad-said
+
+-- what stands behind the tag, when it was written there
+pub behind_tag : (into body : List ℕ) → 16 ≤ length into → length body ≡ length into - 16 → drop 16 (put_mid 16 (length into - 16) into body) ≡ body
+behind_tag into body long len =
+    drop_at (take 16 into) (body ++ drop (length into - 16) (drop 16 into)) 16 (omega (arith, length-take 16 into))
+    ∙ ap (λ (x : List ℕ). body ++ x) (drop_all (length into - 16) (drop 16 into) (omega (arith, length-drop 16 into)))
+    ∙ append-nil body
 
 pub identifier_is : (number more : ℕ) (x : Identifier) (bytes body : List ℕ) → IsBytes bytes → Sealed 257 number bytes
     → drop 16 bytes ≡ body → body ≡ body_of x more → bytes ≡ identifier number x more

@@ -1,16 +1,21 @@
 //! One file identifier, as it is written.
 
+ghost use Rattle.std.specs.Prelude.{◌≡◌, length};
+ghost use Rattle.dir.specs.Identifier.{use_of};
+
 use crate::characteristics::Characteristics;
 use crate::entry::Entry;
-use crate::size;
 use bitflags::Flags;
-use ecma::{Field, LongAd, seal, write_fields};
+use ecma::{LongAd, TAG_SIZE, seal};
 use osta::Name;
 
 pub(crate) const FILE_IDENTIFIER: u16 = 257;
 
 /// The bytes of an identifier in front of its implementation use.
 pub(crate) const HEAD_SIZE: usize = 38;
+
+/// The bytes from the tag's end to the implementation use.
+const FIELDS_SIZE: usize = HEAD_SIZE - TAG_SIZE;
 
 /// The EntityID of this program, as it stands in an implementation use. It is a constant, since bytes of a local do not
 /// stand beside a name's in one table of fields.
@@ -75,7 +80,7 @@ impl<'a> Item<'a> {
 
 impl Item<'_> {
     ghost use Rattle.std.specs.Prelude.{◌≡◌, ◌+◌, ◌≤◌, length};
-    ghost use Rattle.dir.specs.Identifier.{plain_size, identifier};
+    ghost use Rattle.dir.specs.Identifier.{plain_size, head_of, body_of, identifier};
     ghost use Rattle.dir.specs.Item.{said};
 
     /// Writes the identifier for the block of this number, lengthened by `more` bytes, over all of
@@ -86,8 +91,30 @@ impl Item<'_> {
         requires size { length into.old ≡ plain_size (length self.now.name.now) + more }
         ensures { into.new ≡ identifier number (said self.now) more }
     {
-        let name_size = self.name.len();
-        let more_size = usize::from(more);
+        self.write_body(more, &mut into[TAG_SIZE..]);
+        seal(FILE_IDENTIFIER, number, into);
+    }
+
+    /// Writes what stands behind the tag, over all of the bytes.
+    fn write_body(&self, more: u16, into: &mut [u8])
+        requires name { length self.now.name.now ≤ 255 }
+        requires more { more ≤ 2048 }
+        requires size { length into.old + 16 ≡ plain_size (length self.now.name.now) + more }
+        ensures { into.new ≡ body_of (said self.now) more }
+    {
+        let use_end = FIELDS_SIZE + usize::from(more);
+        let name_end = use_end + self.name.len();
+        into[..FIELDS_SIZE].copy_from_slice(&self.fields(more));
+        write_use(&mut into[FIELDS_SIZE..use_end]);
+        into[use_end..name_end].copy_from_slice(self.name);
+        into[name_end..].fill(0);
+    }
+
+    /// The fields between the tag and the implementation use.
+    fn fields(&self, more: u16) -> [u8; FIELDS_SIZE]
+        requires name { length self.now.name.now ≤ 255 }
+        ensures { result ≡ head_of self.now.characteristics.0 (length self.now.name.now) self.now.icb self.now.unique more }
+    {
         let icb = LongAd {
             length: 2048,
             block: self.icb,
@@ -95,20 +122,24 @@ impl Item<'_> {
             flags: 0,
             unique: self.unique,
         };
-        write_fields(
-            &[
-                Field::U16(1),
-                Field::U8(self.characteristics.bits()),
-                Field::U8(name_size as u8),
-                Field::LongAd(icb),
-                Field::U16(more),
-                Field::Bytes(&DEVELOPER[..more_size.min(32)]),
-                Field::Zeros(more_size.saturating_sub(32)),
-                Field::Bytes(self.name),
-                Field::Zeros(size::plain_size(name_size) - HEAD_SIZE - name_size),
-            ],
-            &mut into[16..],
-        );
-        seal(FILE_IDENTIFIER, number, into);
+        let mut fields = [0; FIELDS_SIZE];
+        fields[..2].copy_from_slice(&1u16.to_le_bytes());
+        fields[2] = self.characteristics.bits();
+        fields[3] = self.name.len() as u8;
+        fields[4..20].copy_from_slice(&icb.to_bytes());
+        fields[20..].copy_from_slice(&more.to_le_bytes());
+        fields
     }
+}
+
+/// Writes the implementation use that lengthens an identifier, over all of the bytes.
+fn write_use(into: &mut [u8])
+    ensures { into.new ≡ use_of (length into.old) }
+{
+    if into.is_empty() {
+        return;
+    }
+    let size = into.len().min(DEVELOPER.len());
+    into[..size].copy_from_slice(&DEVELOPER[..size]);
+    into[size..].fill(0);
 }
