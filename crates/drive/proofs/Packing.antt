@@ -59,6 +59,26 @@ takes_alone J J' w w' b is at blocks = record {
   begins = λ h. omega (arith, at, ap next_of is, begins_after J w.at w.blocks h);
 }
 
+nothing : (bs : List (List ℕ)) → (0 < length bs → ⊥) → bs ≡ []
+nothing [] h = refl
+nothing (b ∷ bs) h = absurd (h (omega arith))
+
+-- no other block waits, where only then there are some
+pub none_waits : (waiting blocks : List (List ℕ)) → (0 < length waiting → length blocks ≡ 0) → 0 < length blocks → waiting ≡ []
+none_waits waiting blocks alone some = nothing waiting (λ h. omega (arith, alone h, some))
+
+-- blocks that are written as they lie, where no other waits
+pub takes_straight : (J J' : List Event) (w w' : Waiting) (blocks : List (List ℕ)) → w.blocks ≡ [] → J' ≡ J ++ written w.at blocks
+    → w'.at ≡ w.at + length blocks → w'.blocks ≡ w.blocks → Takes J w blocks J' w'
+takes_straight J J' w w' blocks none is at same = record {
+  sent = blocks;
+  order = ap (λ (cs : List (List ℕ)). cs ++ blocks) none ∙ sym (append-nil blocks) ∙ ap (λ (cs : List (List ℕ)). blocks ++ cs) (sym (same ∙ none));
+  journal = is;
+  place = at;
+  ends = omega (arith, at, ap length same);
+  begins = λ h. omega (arith, at, ap next_of is, begins_after J w.at blocks h);
+}
+
 -- some blocks, and then more
 pub takes-append : (J J1 J2 : List Event) (w w1 w2 : Waiting) (blocks more : List (List ℕ)) → Takes J w blocks J1 w1 → Takes J1 w1 more J2 w2 → Takes J w (blocks ++ more) J2 w2
 takes-append J J1 J2 w w1 w2 blocks more t u = record {

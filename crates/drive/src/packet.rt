@@ -93,8 +93,60 @@ impl PacketWriter {
         Ok(())
     }
 
-    /// Takes the blocks one after another.
+    /// Takes the blocks one after another. Where none waits, whole packets of them go out as they lie, and are not copied.
     pub fn put_all<D: Drive>(&mut self, drive: &mut D, blocks: &[Block]) -> Result<(), DriveFault>
+        requires begins { self.old.at ≤ next_of (D.journal drive.old) }
+        requires fits { end_of self.old + length blocks.now ≤ D.capacity drive.old }
+        ensures ok { OnOk result (Takes (D.journal drive.old) self.old blocks.now (D.journal drive.new) self.new) }
+        ensures err { OnErr result (Stops (D.journal drive.old) self.old blocks.now (D.journal drive.new)) }
+        ensures capacity { D.capacity drive.new ≡ D.capacity drive.old }
+        ensures failures { D.failures drive.new ≡ counted (is_err result) (D.failures drive.old) }
+        ensures honest { IsTrue (D.honest drive.new) → IsTrue (D.honest drive.old) }
+    {
+        let (packets, rest) = blocks.split_at(self.straight(blocks.len()));
+        self.put_packets(drive, packets)?;
+        self.put_each(drive, rest)?;
+        Ok(())
+    }
+
+    /// How many of so many blocks can go out as they lie: the whole packets, where no block waits.
+    fn straight(&self, count: usize) -> usize
+        ensures few { result ≤ count }
+        ensures alone { 0 < length self.now.blocks → result ≡ 0 }
+    {
+        if self.packet.is_empty() {
+            count / PACKET * PACKET
+        } else {
+            0
+        }
+    }
+
+    /// Writes blocks as they lie. Where there are any, no other waits.
+    fn put_packets<D: Drive>(&mut self, drive: &mut D, blocks: &[Block]) -> Result<(), DriveFault>
+        requires alone { 0 < length self.old.blocks → length blocks.now ≡ 0 }
+        requires begins { self.old.at ≤ next_of (D.journal drive.old) }
+        requires fits { end_of self.old + length blocks.now ≤ D.capacity drive.old }
+        ensures ok { OnOk result (Takes (D.journal drive.old) self.old blocks.now (D.journal drive.new) self.new) }
+        ensures err { OnErr result (Stops (D.journal drive.old) self.old blocks.now (D.journal drive.new)) }
+        ensures capacity { D.capacity drive.new ≡ D.capacity drive.old }
+        ensures failures { D.failures drive.new ≡ counted (is_err result) (D.failures drive.old) }
+        ensures honest { IsTrue (D.honest drive.new) → IsTrue (D.honest drive.old) }
+    {
+        let _capacity = drive.capacity();
+        if blocks.is_empty() {
+            return Ok(());
+        }
+        match write_packets(drive, self.at, blocks) {
+            Ok(()) => {
+                self.at += blocks.len() as u32;
+                Ok(())
+            }
+            Err(fault) => Err(fault),
+        }
+    }
+
+    /// Takes each of the blocks into the packet that waits.
+    fn put_each<D: Drive>(&mut self, drive: &mut D, blocks: &[Block]) -> Result<(), DriveFault>
         requires begins { self.old.at ≤ next_of (D.journal drive.old) }
         requires fits { end_of self.old + length blocks.now ≤ D.capacity drive.old }
         ensures ok { OnOk result (Takes (D.journal drive.old) self.old blocks.now (D.journal drive.new) self.new) }

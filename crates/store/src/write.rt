@@ -5,13 +5,12 @@ ghost use Rattle.std.specs.Int.{div_ceil};
 ghost use Rattle.drive.specs.Journal.{next_of, written, AddsFront, counted};
 ghost use Rattle.drive.specs.Waiting.{end_of, Takes, Stops};
 ghost use Rattle.dir.specs.Directory.{directory_blocks};
-ghost use Rattle.vat.specs.Imitation.{data_block};
+ghost use Rattle.ecma.specs.Descriptor.{padded};
 ghost use Rattle.medium.specs.Plan.{zeros, packed};
 
 use dir::{Dir, Lay, MAX_BLOCKS, MAX_NAMES};
-use drive::{Drive, DriveFault, PacketWriter};
+use drive::{Drive, DriveFault, PACKET, PacketWriter};
 use ecma::Block;
-use recover::block_count;
 use std::alloc::{AllocError, Global};
 
 const BLOCK_SIZE: usize = 2048;
@@ -83,6 +82,29 @@ impl Writer {
         Ok(())
     }
 
+    /// The blocks in order. Where no other waits, whole packets of them are not copied, and not held.
+    fn put_all<D: Drive>(&mut self, drive: &mut D, blocks: &[Block]) -> Result<(), DriveFault>
+        requires begins { self.old.packets.at ≤ next_of (D.journal drive.old) }
+        requires fits { end_of self.old.packets + length blocks.now ≤ D.capacity drive.old }
+        ensures ok { OnOk result (Takes (D.journal drive.old) self.old.packets blocks.now (D.journal drive.new) self.new.packets) }
+        ensures err { OnErr result (Stops (D.journal drive.old) self.old.packets blocks.now (D.journal drive.new)) }
+        ensures capacity { D.capacity drive.new ≡ D.capacity drive.old }
+        ensures failures { D.failures drive.new ≡ counted (is_err result) (D.failures drive.old) }
+        ensures honest { IsTrue (D.honest drive.new) → IsTrue (D.honest drive.old) }
+    {
+        let waiting = self.packets.waiting();
+        let left = if waiting == 0 {
+            blocks.len() % PACKET
+        } else {
+            blocks.len()
+        };
+        let held = self
+            .held
+            .saturating_add(PACKET.min(waiting.saturating_add(left)));
+        self.most_held = self.most_held.max(held);
+        self.packets.put_all(drive, blocks)
+    }
+
     /// Bytes, with zeros behind them in the last block.
     fn put_data<D: Drive>(&mut self, drive: &mut D, bytes: &[u8]) -> Result<(), DriveFault>
         requires begins { self.old.packets.at ≤ next_of (D.journal drive.old) }
@@ -94,10 +116,27 @@ impl Writer {
         ensures failures { D.failures drive.new ≡ counted (is_err result) (D.failures drive.old) }
         ensures honest { IsTrue (D.honest drive.new) → IsTrue (D.honest drive.old) }
     {
-        for i in 0..block_count(bytes.len() as u32) {
-            self.put(drive, &block_of(bytes, i as usize))?;
-        }
+        let (blocks, text) = bytes.as_chunks::<BLOCK_SIZE>();
+        self.put_all(drive, blocks)?;
+        self.put_text(drive, text)?;
         Ok(())
+    }
+
+    /// Less than a block of bytes, with zeros behind them. No bytes take no block.
+    fn put_text<D: Drive>(&mut self, drive: &mut D, text: &[u8]) -> Result<(), DriveFault>
+        requires begins { self.old.packets.at ≤ next_of (D.journal drive.old) }
+        requires size { length text.now < 2048 }
+        requires fits { end_of self.old.packets + div_ceil (length text.now) 2048 ≤ D.capacity drive.old }
+        ensures ok { OnOk result (Takes (D.journal drive.old) self.old.packets (packed text.now) (D.journal drive.new) self.new.packets) }
+        ensures err { OnErr result (Stops (D.journal drive.old) self.old.packets (packed text.now) (D.journal drive.new)) }
+        ensures capacity { D.capacity drive.new ≡ D.capacity drive.old }
+        ensures failures { D.failures drive.new ≡ counted (is_err result) (D.failures drive.old) }
+        ensures honest { IsTrue (D.honest drive.new) → IsTrue (D.honest drive.old) }
+    {
+        if text.is_empty() {
+            return Ok(());
+        }
+        self.put(drive, &block_of(text))
     }
 
     /// Blocks of zeros, and then bytes.
@@ -159,13 +198,11 @@ impl Writer {
     }
 }
 
-/// A block of bytes, with zeros behind them in the last.
-fn block_of(bytes: &[u8], index: usize) -> Block
-    requires { 2048 * index ≤ length bytes.now }
-    ensures { result ≡ data_block bytes.now index }
+/// A block that begins with a text, and has zeros behind it.
+fn block_of(text: &[u8]) -> Block
+    requires { length text.now ≤ 2048 }
+    ensures { result ≡ padded text.now }
 {
-    let (_, rest) = bytes.split_at(BLOCK_SIZE * index);
-    let (text, _) = rest.split_at(rest.len().min(BLOCK_SIZE));
     let mut block = ZEROS;
     block[..text.len()].copy_from_slice(text);
     block

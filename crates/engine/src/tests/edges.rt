@@ -151,11 +151,11 @@ fn a_full_tree(rt: HostRuntime) -> Result<(), Fail> {
     assert_eq!(rt; keeper.blocks(), 39_407);
     let answer = keeper.commit(&create(alloc, By(7, 4_096), &["x"], b"")?)?;
     assert_eq!(rt; answer.as_slice(), reply(10, 4_096).as_slice());
-    // A file of a mebibyte beside the longest table.
+    // A file of a mebibyte beside the longest table: of its blocks none is held.
     let data = vec![in alloc; 1u8; 1_048_576]?;
     let answer = keeper.commit(&replace(alloc, By(7, 4_097), &["d0", "0"], &data)?)?;
     assert_eq!(rt; answer.as_slice(), reply(0, 4_097).as_slice());
-    assert!(rt; 32 <= keeper.most_held() && keeper.most_held() <= 64);
+    assert!(rt; keeper.most_held() > 0 && keeper.most_held() < 32);
     assert!(rt; keeper.as_of(4_095).is_ok());
     Ok(())
 }
@@ -166,17 +166,17 @@ fn blocks_held_beside_each_other(rt: HostRuntime) -> Result<(), Fail> {
     let mut keeper = Keeper::open(alloc, formatted(alloc, 20_000)?)?;
     assert_eq!(rt; keeper.most_held(), 0);
     fill(&rt, alloc, &mut keeper, None, 511, 1)?;
-    // Of a commit of many blocks a packet is held, and no more than a packet beside what is planned.
-    assert!(rt; keeper.most_held() > 0 && keeper.most_held() <= 64);
+    assert!(rt; keeper.most_held() > 0 && keeper.most_held() < 32);
+    // Whole packets of a file's bytes go out as they lie, so that none of their blocks is held.
     let data = vec![in alloc; 1u8; 1_048_576]?;
     let answer = keeper.commit(&create(alloc, By(7, 512), &["x"], &data)?)?;
     assert_eq!(rt; answer.as_slice(), reply(0, 512).as_slice());
-    assert!(rt; 32 <= keeper.most_held() && keeper.most_held() <= 64);
+    assert!(rt; keeper.most_held() < 32);
     let answer = keeper.commit(&replace(alloc, By(7, 513), &["x"], &data)?)?;
     assert_eq!(rt; answer.as_slice(), reply(0, 513).as_slice());
     let answer = keeper.commit(&rename(alloc, By(7, 514), &["0"], &["z"])?)?;
     assert_eq!(rt; answer.as_slice(), reply(0, 514).as_slice());
-    assert!(rt; keeper.most_held() <= 64);
+    assert!(rt; keeper.most_held() < 32);
     Ok(())
 }
 

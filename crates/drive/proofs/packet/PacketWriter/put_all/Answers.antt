@@ -1,17 +1,29 @@
-use Rattle.std.proofs.Common.{[], ◌∙◌}
+use Rattle.std.proofs.Common.{◌≡◌, ◌++◌, ℕ, List, subst}
+use Rattle.std.proofs.lemmas.List.{take-append-drop}
 use Rattle.std.proofs.lemmas.Result.{err_from_is_err_and}
-use Rattle.drive.proofs.Packing.{takes_next, stops_next}
+use Rattle.drive.specs.Waiting.{Stops, Takes}
+use Rattle.drive.proofs.Packing.{stops_after, takes-append}
 use Rattle.drive.proofs.packet.PacketWriter.put_all.Goals as goal
 
-pub returns-in_err-put-clause-err : goal.returns-in_err-put-clause-err
-returns-in_err-put-clause-err g c =
-    let p = err_from_is_err_and c.from_residual.result c.from_residual.ensures.1 in
-    rw p.1 (stops_next (g.D.Drive.journal c.args.drive.now) (g.D.Drive.journal c.loop-block.drive) (g.D.Drive.journal c.put.new.drive) c.args.self.now c.loop-block.self c.loop-block.block-index c.args.blocks.now [] c.loop-block-test.true c.loop-block.invariant.taken c.in_err-put.ensures.err)
+pub returns-in_err-put_each-clause-err : goal.returns-in_err-put_each-clause-err
+returns-in_err-put_each-clause-err g c =
+    let p = err_from_is_err_and c.from_residual-in_err-put_each.result c.from_residual-in_err-put_each.ensures.1 in
+    let J = g.D.Drive.journal c.args.drive.now in
+    let J2 = g.D.Drive.journal c.put_each.new.drive in
+    let packets = c.split_at.result.0.now in
+    let rest = c.split_at.result.1.now in
+    let all : packets ++ rest ≡ c.args.blocks.now =
+    rw (c.split_at.ensures.front, c.split_at.ensures.back) (take-append-drop c.straight.result c.args.blocks.now) in
+    rw p.1 (subst (λ (blocks : List (List ℕ)). Stops J c.args.self.now blocks J2) all
+    (stops_after J (g.D.Drive.journal c.put_packets.new.drive) J2 c.args.self.now c.put_packets.new.self packets rest c.in_ok-put_packets.ensures.ok c.in_err-put_each.ensures.err))
 
-pub loop-block-preserved : goal.loop-block-preserved
-loop-block-preserved g c = record {
-  taken = takes_next (g.D.Drive.journal c.args.drive.now) (g.D.Drive.journal c.loop-block.drive) (g.D.Drive.journal c.put.new.drive) c.args.self.now c.loop-block.self c.put.new.self c.loop-block.block-index c.args.blocks.now [] c.loop-block-test.true c.loop-block.invariant.taken c.in_ok-put.ensures.ok;
-  capacity = c.put.ensures.capacity ∙ c.loop-block.invariant.capacity;
-  failures = c.in_ok-put.ensures.failures ∙ c.loop-block.invariant.failures;
-  honest = λ h. c.loop-block.invariant.honest (c.put.ensures.honest h);
-}
+pub returns-clause-ok : goal.returns-clause-ok
+returns-clause-ok g c =
+    let J = g.D.Drive.journal c.args.drive.now in
+    let J2 = g.D.Drive.journal c.put_each.new.drive in
+    let packets = c.split_at.result.0.now in
+    let rest = c.split_at.result.1.now in
+    let all : packets ++ rest ≡ c.args.blocks.now =
+    rw (c.split_at.ensures.front, c.split_at.ensures.back) (take-append-drop c.straight.result c.args.blocks.now) in
+    subst (λ (blocks : List (List ℕ)). Takes J c.args.self.now blocks J2 c.put_each.new.self) all
+    (takes-append J (g.D.Drive.journal c.put_packets.new.drive) J2 c.args.self.now c.put_packets.new.self c.put_each.new.self packets rest c.in_ok-put_packets.ensures.ok c.in_ok-put_each.ensures.ok)

@@ -1,41 +1,29 @@
-use Rattle.std.proofs.Common.{◌≡◌, ◌<◌, ◌∙◌, [], length, get_or, sym, arith}
-use Rattle.std.specs.Int.{div_ceil}
-use Rattle.std.proofs.lemmas.List.{length-take-le}
+use Rattle.std.proofs.Common.{◌≡◌, ◌++◌}
 use Rattle.std.proofs.lemmas.Result.{err_from_is_err_and}
 use Rattle.medium.specs.Plan.{packed}
-use Rattle.medium.proofs.Packed.{length-packed}
-use Rattle.store.proofs.Packing.{packed_at}
-use Rattle.store.proofs.Puttings.{takes_item, stops_item, takes_whole}
+use Rattle.store.proofs.Packing.{packed_split}
+use Rattle.store.proofs.Puttings.{stops_first, stops_second, takes_both}
 use Rattle.store.proofs.write.Writer.put_data.Goals as goal
 
-pub put-requires-clause-fits : goal.put-requires-clause-fits
-put-requires-clause-fits g c =
-    let all = packed c.args.bytes.now in
-    let size : length all ≡ div_ceil (length c.args.bytes.now) 2048 = length-packed c.args.bytes.now in
-    let below : c.loop-i.i < length all = omega (arith, c.loop-i-test.true, c.block_count-i-end.ensures, size) in
-    omega (arith, c.loop-i.invariant.takes.ends, length-take-le c.loop-i.i all (omega (arith, below)), below, size, c.requires.fits, c.loop-i.invariant.capacity)
-
-pub returns-in_err-put-clause-err : goal.returns-in_err-put-clause-err
-returns-in_err-put-clause-err g c =
+pub returns-in_err-put_all-clause-err : goal.returns-in_err-put_all-clause-err
+returns-in_err-put_all-clause-err g c =
     let p = err_from_is_err_and c.from_residual.result c.from_residual.ensures.1 in
-    let all = packed c.args.bytes.now in
-    let below : c.loop-i.i < length all = omega (arith, c.loop-i-test.true, c.block_count-i-end.ensures, length-packed c.args.bytes.now) in
-    let is : get_or all c.loop-i.i [] ≡ c.block_of.result = packed_at c.args.bytes.now c.loop-i.i below ∙ sym c.block_of.ensures in
-    rw p.1 (stops_item (g.D.Drive.journal c.args.drive.now) (g.D.Drive.journal c.loop-i.drive) (g.D.Drive.journal c.put.new.drive) c.args.self.now.packets c.loop-i.self.packets c.loop-i.i all c.block_of.result below is c.loop-i.invariant.takes c.in_err-put.ensures.err)
+    let blocks = c.as_chunks.result.0.now in
+    let text = c.as_chunks.result.1.now in
+    let whole : blocks ++ packed text ≡ packed c.args.bytes.now = rw (c.as_chunks.ensures.front, c.as_chunks.ensures.back) (packed_split c.args.bytes.now) in
+    rw p.1 (stops_first (g.D.Drive.journal c.args.drive.now) (g.D.Drive.journal c.put_all.new.drive) c.args.self.now.packets blocks (packed text) (packed c.args.bytes.now) whole c.in_err-put_all.ensures.err)
 
-pub loop-i-preserved : goal.loop-i-preserved
-loop-i-preserved g c =
-    let all = packed c.args.bytes.now in
-    let below : c.loop-i.i < length all = omega (arith, c.loop-i-test.true, c.block_count-i-end.ensures, length-packed c.args.bytes.now) in
-    let is : get_or all c.loop-i.i [] ≡ c.block_of.result = packed_at c.args.bytes.now c.loop-i.i below ∙ sym c.block_of.ensures in
-    record {
-      takes = takes_item (g.D.Drive.journal c.args.drive.now) (g.D.Drive.journal c.loop-i.drive) (g.D.Drive.journal c.put.new.drive) c.args.self.now.packets c.loop-i.self.packets c.loop-i.i all c.block_of.result below is c.loop-i.invariant.takes c.put.new.self.packets c.in_ok-put.ensures.ok;
-      capacity = c.put.ensures.capacity ∙ c.loop-i.invariant.capacity;
-      failures = c.in_ok-put.ensures.failures ∙ c.loop-i.invariant.failures;
-      honest = λ h. c.loop-i.invariant.honest (c.put.ensures.honest h);
-    }
+pub returns-in_err-put_text-clause-err : goal.returns-in_err-put_text-clause-err
+returns-in_err-put_text-clause-err g c =
+    let p = err_from_is_err_and c.from_residual-in_err-put_text.result c.from_residual-in_err-put_text.ensures.1 in
+    let blocks = c.as_chunks.result.0.now in
+    let text = c.as_chunks.result.1.now in
+    let whole : blocks ++ packed text ≡ packed c.args.bytes.now = rw (c.as_chunks.ensures.front, c.as_chunks.ensures.back) (packed_split c.args.bytes.now) in
+    rw p.1 (stops_second (g.D.Drive.journal c.args.drive.now) (g.D.Drive.journal c.put_all.new.drive) (g.D.Drive.journal c.put_text.new.drive) c.args.self.now.packets c.put_all.new.self.packets blocks (packed text) (packed c.args.bytes.now) whole c.in_ok-put_all.ensures.ok c.in_err-put_text.ensures.err)
 
 pub returns-clause-ok : goal.returns-clause-ok
 returns-clause-ok g c =
-    let all = packed c.args.bytes.now in
-    takes_whole (g.D.Drive.journal c.args.drive.now) (g.D.Drive.journal c.loop-i.drive) c.args.self.now.packets c.loop-i.self.packets c.loop-i.i all (omega (arith, c.loop-i-test.false, c.block_count-i-end.ensures, length-packed c.args.bytes.now)) c.loop-i.invariant.takes
+    let blocks = c.as_chunks.result.0.now in
+    let text = c.as_chunks.result.1.now in
+    let whole : blocks ++ packed text ≡ packed c.args.bytes.now = rw (c.as_chunks.ensures.front, c.as_chunks.ensures.back) (packed_split c.args.bytes.now) in
+    takes_both (g.D.Drive.journal c.args.drive.now) (g.D.Drive.journal c.put_all.new.drive) (g.D.Drive.journal c.put_text.new.drive) c.args.self.now.packets c.put_all.new.self.packets c.put_text.new.self.packets blocks (packed text) (packed c.args.bytes.now) whole c.in_ok-put_all.ensures.ok c.in_ok-put_text.ensures.ok

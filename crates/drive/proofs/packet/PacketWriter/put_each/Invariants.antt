@@ -1,6 +1,6 @@
 use Rattle.std.proofs.Common.{◌≡◌, take, IsTrue}
 use Rattle.drive.specs.Waiting.{Takes}
-use Rattle.drive.proofs.packet.PacketWriter.put_all.Given as goal
+use Rattle.drive.proofs.packet.PacketWriter.put_each.Given as goal
 
 -- the blocks so far were taken
 abbrev pub invariant-loop-block : goal.invariant-loop-block
