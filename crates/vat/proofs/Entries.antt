@@ -14,6 +14,11 @@ use Rattle.vat.specs.Entry.{unused, entry_number, entry_of, entry_bytes, words}
 abbrev whole : Option ℕ → Option (Option ℕ)
 whole e = Some e
 
+-- four bytes for each
+pub length-entry_bytes : (entries : List (Option ℕ)) → length (flat_map entry_bytes entries) ≡ 4 * length entries
+length-entry_bytes [] = refl
+length-entry_bytes (entry ∷ entries) = omega (arith, length-entry_bytes entries)
+
 -- ---- one entry
 
 of_number : (b : Bool) (n : ℕ) → eqb n unused ≡ b → entry_number (cond b None (Some n)) ≡ n

@@ -1,4 +1,4 @@
-ghost use Rattle.std.specs.Prelude.{◌≡◌, ◌≤◌, ◌++◌, length, All, IfOk, OnOk};
+ghost use Rattle.std.specs.Prelude.{◌≡◌, ◌*◌, ◌≤◌, ◌++◌, length, All, IfOk, OnOk};
 ghost use Rattle.std.specs.List.{flat_map};
 ghost use Rattle.vat.specs.Table.{view, Fits, head_bytes, table_bytes};
 ghost use Rattle.vat.specs.Record as spec;
@@ -7,6 +7,7 @@ ghost use Rattle.vat.specs.Entry.{entry_number, entry_bytes};
 
 use crate::record::Record;
 use crate::table::{Vat, Version};
+use byteorder::{ByteOrder, LittleEndian};
 use ecma::{Field, write_fields};
 use std::alloc::{AllocError, Global};
 
@@ -55,12 +56,25 @@ fn put_records(out: &mut Vec<u8>, version: Version, records: &[Record]) -> Resul
 
 /// Writes what the table has for each virtual address at the end.
 fn put_entries(out: &mut Vec<u8>, entries: &[Option<u32>]) -> Result<(), AllocError>
+    requires { length entries.now ≤ 4_097 }
     ensures { OnOk result (out.new.items ≡ out.old.items ++ flat_map entry_bytes entries.now) }
 {
-    for entry in entries {
-        out.extend_from_slice(&number_of(*entry).to_le_bytes())?;
-    }
+    let at = out.len();
+    out.resize(at + 4 * entries.len(), 0)?;
+    write_entries(entries, &mut out[at..]);
     Ok(())
+}
+
+/// Writes what the table has for each virtual address, over the bytes.
+fn write_entries(entries: &[Option<u32>], into: &mut [u8])
+    requires { length into.old ≡ 4 * length entries.now }
+    ensures { into.new ≡ flat_map entry_bytes entries.now }
+{
+    let mut at = 0;
+    for entry in entries {
+        LittleEndian::write_u32(&mut into[at..], number_of(*entry));
+        at += 4;
+    }
 }
 
 /// The number that stands for a block number that there may be.
