@@ -1,5 +1,10 @@
 //! The words of `udfburnd`.
 
+ghost use Rattle.std.specs.Prelude.{◌≡◌, ℕ, Option, IfErr, IfOk, codes, map};
+ghost use Rattle.clap.specs.Words.{app_of, first_value, found_of, kind_of};
+ghost use Rattle.words.specs.Daemon.{AsksDaemon, IsCount, daemon_app, fault_for};
+ghost use Rattle.words.specs.declared.daemon.WordsFault.TheVariants.{Memory, Usage};
+
 use crate::number::read_number;
 use clap::error::ErrorKind;
 use clap::{Arg, ArgAction, ArgMatches, Command, Error};
@@ -35,12 +40,16 @@ pub enum WordsFault {
 }
 
 impl From<AllocError> for WordsFault {
+    ghost from_gives = { λ _ f. f ≡ Memory };
+
     fn from(_error: AllocError) -> WordsFault {
         WordsFault::Memory
     }
 }
 
 impl From<Error> for WordsFault {
+    ghost from_gives = { λ error f. f ≡ fault_for (kind_of error) };
+
     fn from(error: Error) -> WordsFault {
         match error.kind() {
             ErrorKind::OutOfMemory => WordsFault::Memory,
@@ -50,7 +59,11 @@ impl From<Error> for WordsFault {
 }
 
 /// Reads `IMAGE SOCKET [--connections N]`. The first of the words is the program's own name.
-pub fn read_daemon<'w>(alloc: Global, words: &'w [&'w str]) -> Result<DaemonWords<'w>, WordsFault> {
+pub fn read_daemon<'w>(alloc: Global, words: &'w [&'w str]) -> Result<DaemonWords<'w>, WordsFault>
+    // The words ask for this; words that are refused as others ask for nothing.
+    ensures read { IfOk result (AsksDaemon (map (λ w. w.now) words.now)) }
+    ensures usage { IfErr result (λ fault. fault ≡ Usage → (asked : _) → AsksDaemon (map (λ w. w.now) words.now) asked → ⊥) }
+{
     let matches = daemon_command(alloc)?.try_get_matches_from(words)?;
     match (matches.get_str(IMAGE), matches.get_str(SOCKET)) {
         (Some(image), Some(socket)) => Ok(DaemonWords {
@@ -63,7 +76,10 @@ pub fn read_daemon<'w>(alloc: Global, words: &'w [&'w str]) -> Result<DaemonWord
 }
 
 /// How many connections the words name, if they do.
-fn connections(matches: &ArgMatches<'_>) -> Result<Option<u64>, WordsFault> {
+fn connections(matches: &ArgMatches<'_>) -> Result<Option<u64>, WordsFault>
+    ensures read { IfOk result (IsCount (first_value (found_of matches.now) (codes "connections"))) }
+    ensures usage { IfErr result (λ _. (number : Option ℕ) → IsCount (first_value (found_of matches.now) (codes "connections")) number → ⊥) }
+{
     match matches.get_str(CONNECTIONS) {
         None => Ok(None),
         Some(word) => match read_number(word, MOST_CONNECTIONS) {
@@ -74,7 +90,9 @@ fn connections(matches: &ArgMatches<'_>) -> Result<Option<u64>, WordsFault> {
 }
 
 /// The words that the daemon takes.
-fn daemon_command<'w>(alloc: Global) -> Result<Command<'w>, AllocError> {
+fn daemon_command<'w>(alloc: Global) -> Result<Command<'w>, AllocError>
+    ensures { IfOk result (λ command. app_of command ≡ daemon_app) }
+{
     let image = Arg::new(alloc, IMAGE).required(true).action(ArgAction::Set);
     let socket = Arg::new(alloc, SOCKET)
         .required(true)

@@ -1,4 +1,4 @@
-use Rattle.std.proofs.Common.{rules, ◌≡◌, List, ℕ, [], ◌∷◌, ◌++◌, map, codes, refl, sym, ap, subst, ◌∙◌}
+use Rattle.std.proofs.Common.{rules, List, ℕ, ◌++◌, codes, refl, sym, ap, subst, ◌∙◌}
 use Rattle.words.specs.declared.command.Medium.{Medium}
 use Rattle.words.specs.Commands.{Names}
 use Rattle.words.proofs.command.read_apply.Goals as goal

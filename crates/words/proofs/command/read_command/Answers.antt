@@ -1,4 +1,4 @@
-use Rattle.std.proofs.Common.{rules, ◌≡◌, List, ◌∷◌, map, codes}
+use Rattle.std.proofs.Common.{rules, map}
 use Rattle.words.proofs.Commands.{format_found, format_only, apply_found, apply_only}
 use Rattle.words.proofs.command.read_command.Goals as goal
 
