@@ -8,3 +8,9 @@ pub record CopiesAll (input left output written : Option (List ℕ)) : Type 0 wh
   pub consumed : Consumes input left bytes
   pub copied : Appends output written bytes
   pub end : IsAtEnd left
+
+-- nothing is left to read
+pub record ReadsAll (input left : Option (List ℕ)) : Type 0 where
+  pub bytes : List ℕ
+  pub consumed : Consumes input left bytes
+  pub end : IsAtEnd left

@@ -1,5 +1,7 @@
 -- The statuses with which the programs end.
 use Rattle.std.specs.Prelude.{◌≡◌, ℕ, Result, Ok, Err}
+use Rattle.words.specs.declared.daemon.WordsFault.{WordsFault}
+use Rattle.words.specs.declared.daemon.WordsFault.TheVariants as words
 use Rattle.programs.specs.declared.fault.Fault.{Fault}
 use Rattle.programs.specs.declared.fault.Fault.TheVariants.{Usage, Path, Socket, Store, Stream}
 
@@ -17,3 +19,8 @@ status_of (Err fault) = fault_status fault
 -- a program that has a command's words was refused
 abbrev pub IsRefusal : Fault → Type 0
 IsRefusal fault = fault_status fault ≡ 1
+
+-- how a fault of the words is told: other words as such, want of memory as a refusal
+abbrev pub IsTold : WordsFault → Fault → Type 0
+IsTold words.Usage fault = fault ≡ Usage
+IsTold words.Memory fault = IsRefusal fault

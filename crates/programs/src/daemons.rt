@@ -1,7 +1,8 @@
 //! The program `udfburnd`.
 
-ghost use Rattle.std.specs.Prelude.{◌≤◌, IfErr};
+ghost use Rattle.std.specs.Prelude.{◌≡◌, ◌≤◌, map, IfErr};
 ghost use Rattle.engine.specs.Situation.{IsReady, seen};
+ghost use Rattle.words.specs.Daemon.{AsksDaemon};
 ghost use Rattle.programs.specs.Status.{IsRefusal};
 
 use crate::fault::{Fault, report};
@@ -25,7 +26,10 @@ pub fn daemon<R, E>(rt: &R, words: &[&str], errors: &mut E) -> u8
 where
     R: Files<File = File> + Net + AllocGlobal,
     E: Write,
-    ensures { result ≤ 2 }
+    ensures status { result ≤ 2 }
+    // The status of other words is 2, or 1 where memory is short.
+    ensures usage { result ≡ 2 → (asked : _) → AsksDaemon (map (λ w. w.now) words.now) asked → ⊥ }
+    ensures refused { ((asked : _) → AsksDaemon (map (λ w. w.now) words.now) asked → ⊥) → 1 ≤ result }
 {
     let outcome = match read_daemon(rt.alloc(), words) {
         Ok(asked) => serve_all(rt, &asked, errors),

@@ -1,7 +1,7 @@
 //! Why a program ended without what it was asked for, and how it says so.
 
 ghost use Rattle.std.specs.Prelude.{◌≡◌};
-ghost use Rattle.programs.specs.Status.{status_of, IsRefusal};
+ghost use Rattle.programs.specs.Status.{status_of, IsRefusal, IsTold};
 ghost use Rattle.programs.specs.declared.fault.Fault.TheVariants.{Store, Stream};
 
 use engine::ServeFault;
@@ -68,6 +68,8 @@ impl From<ServeFault> for Fault {
 }
 
 impl From<WordsFault> for Fault {
+    ghost from_gives = { IsTold };
+
     fn from(fault: WordsFault) -> Fault {
         match fault {
             WordsFault::Usage => Fault::Usage,

@@ -2,7 +2,7 @@
 
 ghost use Rattle.std.specs.Prelude.{IfErr, OnOk};
 ghost use Rattle.programs.specs.Status.{IsRefusal};
-ghost use Rattle.programs.specs.Copies.{CopiesAll};
+ghost use Rattle.programs.specs.Copies.{CopiesAll, ReadsAll};
 
 use crate::fault::Fault;
 use engine::{ServeFault, put_all, read_piece};
@@ -38,7 +38,8 @@ pub fn send_frames<I: Read>(
     stream: &mut UnixStream,
     reader: &mut I,
 ) -> Result<(), Fault>
-    ensures { IfErr result IsRefusal }
+    ensures refusal { IfErr result IsRefusal }
+    ensures all { OnOk result (ReadsAll (I.remaining reader.old) (I.remaining reader.new)) }
 {
     copy(alloc, reader, stream)?;
     match stream.shutdown(Shutdown::Write) {
