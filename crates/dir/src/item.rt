@@ -17,8 +17,7 @@ pub(crate) const HEAD_SIZE: usize = 38;
 /// The bytes from the tag's end to the implementation use.
 const FIELDS_SIZE: usize = HEAD_SIZE - TAG_SIZE;
 
-/// The EntityID of this program, as it stands in an implementation use. It is a constant, since bytes of a local do not
-/// stand beside a name's in one table of fields.
+/// The EntityID of this program, as it stands in an implementation use.
 pub(crate) const DEVELOPER: [u8; 32] =
     *b"\x00*udfburn\0\0\0\0\0\0\0\0\0\0\0\0\0\0\0\0\0\0\0\0\0\0\0";
 
