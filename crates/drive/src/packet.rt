@@ -1,5 +1,5 @@
 //! Blocks on their way to a drive, in packets that one write may be given.
-ghost use Rattle.std.specs.Prelude.{◌≡◌, ◌+◌, ◌<◌, ◌≤◌, ◌∷◌, ◌++◌, [], length, vec_len, is_err, IsTrue, IfOk, OnOk, OnErr};
+ghost use Rattle.std.specs.Prelude.{◌≡◌, ◌+◌, ◌*◌, ◌/◌, ◌==◌, ◌<◌, ◌≤◌, if◌then◌else◌, ◌∷◌, ◌++◌, [], length, vec_len, is_err, IsTrue, IfOk, OnOk, OnErr};
 ghost use Rattle.std.specs.Vec.{vec_capacity};
 ghost use Rattle.drive.specs.Journal.{written, next_of, AddsFront, counted};
 ghost use Rattle.drive.specs.Waiting.{Waiting, end_of, Takes, Stops};
@@ -109,8 +109,9 @@ impl PacketWriter {
         Ok(())
     }
 
-    /// How many of so many blocks can go out as they lie: the whole packets, where no block waits.
-    fn straight(&self, count: usize) -> usize
+    /// How many of so many blocks go out as they lie: those of whole packets, where no block waits.
+    pub fn straight(&self, count: usize) -> usize
+        ensures value { result ≡ (if length self.now.blocks == 0 then count / 32 * 32 else 0) }
         ensures few { result ≤ count }
         ensures alone { 0 < length self.now.blocks → result ≡ 0 }
     {

@@ -92,15 +92,9 @@ impl Writer {
         ensures failures { D.failures drive.new ≡ counted (is_err result) (D.failures drive.old) }
         ensures honest { IsTrue (D.honest drive.new) → IsTrue (D.honest drive.old) }
     {
-        let waiting = self.packets.waiting();
-        let left = if waiting == 0 {
-            blocks.len() % PACKET
-        } else {
-            blocks.len()
-        };
-        let held = self
-            .held
-            .saturating_add(PACKET.min(waiting.saturating_add(left)));
+        let left = blocks.len() - self.packets.straight(blocks.len());
+        let waiting = self.packets.waiting().saturating_add(left);
+        let held = self.held.saturating_add(PACKET.min(waiting));
         self.most_held = self.most_held.max(held);
         self.packets.put_all(drive, blocks)
     }

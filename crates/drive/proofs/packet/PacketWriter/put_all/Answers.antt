@@ -2,8 +2,20 @@ use Rattle.std.proofs.Common.{◌≡◌, ◌++◌, ℕ, List, subst}
 use Rattle.std.proofs.lemmas.List.{take-append-drop}
 use Rattle.std.proofs.lemmas.Result.{err_from_is_err_and}
 use Rattle.drive.specs.Waiting.{Stops, Takes}
-use Rattle.drive.proofs.Packing.{stops_after, takes-append}
+use Rattle.drive.proofs.Packing.{stops_after, stops_longer, takes-append}
 use Rattle.drive.proofs.packet.PacketWriter.put_all.Goals as goal
+
+pub returns-in_err-put_packets-clause-err : goal.returns-in_err-put_packets-clause-err
+returns-in_err-put_packets-clause-err g c =
+    let p = err_from_is_err_and c.from_residual.result c.from_residual.ensures.1 in
+    let J = g.D.Drive.journal c.args.drive.now in
+    let J1 = g.D.Drive.journal c.put_packets.new.drive in
+    let packets = c.split_at.result.0.now in
+    let rest = c.split_at.result.1.now in
+    let all : packets ++ rest ≡ c.args.blocks.now =
+    rw (c.split_at.ensures.front, c.split_at.ensures.back) (take-append-drop c.straight.result c.args.blocks.now) in
+    rw p.1 (subst (λ (blocks : List (List ℕ)). Stops J c.args.self.now blocks J1) all
+    (stops_longer J J1 c.args.self.now packets rest c.in_err-put_packets.ensures.err))
 
 pub returns-in_err-put_each-clause-err : goal.returns-in_err-put_each-clause-err
 returns-in_err-put_each-clause-err g c =
