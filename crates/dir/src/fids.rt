@@ -179,7 +179,7 @@ pub struct Fids<'a> {
     /// How many blocks lie before that block.
     index: usize,
     ghost in_block: { at < 2048 },
-    ghost small: { index + length data.now < 2 ^ 60 },
+    ghost small: { index + length data.now < 2 ^ 64 },
 }
 
 impl<'a> Fids<'a> {
@@ -189,8 +189,7 @@ impl<'a> Fids<'a> {
 
     /// The identifiers of `size` bytes of data in these blocks.
     pub fn new(blocks: &'a [Block], size: usize) -> Fids<'a>
-        requires size { size ≤ 2048 * length blocks.now }
-        requires count { length blocks.now < 2 ^ 40 }
+        requires { size ≤ 2048 * length blocks.now }
         ensures data { result.data.now ≡ take size (concat blocks.now) }
         ensures length { length result.data.now ≡ size }
         ensures bytes { AreBytes result.data.now }
@@ -203,7 +202,6 @@ impl<'a> Fids<'a> {
 
     /// The identifiers of these bytes, which begin with a block.
     fn over(bytes: &'a [u8]) -> Fids<'a>
-        requires { length bytes.now < 2 ^ 59 }
         ensures data { result.data.now ≡ bytes.now }
         ensures bytes { AreBytes result.data.now }
         ensures at { result.at ≡ 0 }

@@ -59,6 +59,17 @@ takes_alone J J' w w' b is at blocks = record {
   begins = λ h. omega (arith, at, ap next_of is, begins_after J w.at w.blocks h);
 }
 
+-- what waited is written, and none waits
+pub takes_finished : (J J' : List Event) (w w' : Waiting) → J' ≡ J ++ written w.at w.blocks → w' ≡ record { at = end_of w; blocks = [] } → Takes J w [] J' w'
+takes_finished J J' w w' is empty = record {
+  sent = w.blocks;
+  order = ap (λ (v : Waiting). w.blocks ++ v.blocks) (sym empty);
+  journal = is;
+  place = ap (λ (v : Waiting). v.at) empty;
+  ends = omega (arith, ap end_of empty);
+  begins = λ h. omega (arith, ap (λ (v : Waiting). v.at) empty, ap next_of is, begins_after J w.at w.blocks h);
+}
+
 nothing : (bs : List (List ℕ)) → (0 < length bs → ⊥) → bs ≡ []
 nothing [] h = refl
 nothing (b ∷ bs) h = absurd (h (omega arith))

@@ -1,7 +1,9 @@
--- What a fault that comes once does to the calls of a drive, and what is left of it.
-use Rattle.std.specs.Prelude.{ℕ, ◌-◌, nat_le, Bool, false, if◌then◌else◌, Option, Some, None}
+-- What a schedule, and a fault that comes once, do to the calls of a drive, and what is left of the fault.
+use Rattle.std.specs.Prelude.{ℕ, ◌-◌, nat_le, min, ◌==◌, ◌||◌, Bool, false, if◌then◌else◌, List, Option, Some, None, is_some, unwrap_or, find}
+use Rattle.std.specs.Option.{option_map}
 use Rattle.drive.specs.declared.fault.Fault.{Fault}
 use Rattle.drive.specs.declared.fault.Fault.TheVariants.{AfterBlocks, Next, Read}
+use Rattle.drive.specs.declared.fault.Scheduled.{Scheduled}
 
 -- how many blocks a write of so many adds where the fault makes it fail
 abbrev pub cut_by : Option Fault → ℕ → Option ℕ
@@ -42,3 +44,18 @@ after_read None = None
 after_read (Some (AfterBlocks n)) = Some (AfterBlocks n)
 after_read (Some (Next n)) = Some (Next n)
 after_read (Some (Read n)) = if nat_le n 1 then None else Some (Read (n - 1))
+
+-- how many blocks the call of this number adds at most, where the schedule makes it fail
+abbrev pub scheduled_at : List Scheduled → ℕ → Option ℕ
+scheduled_at schedule call = option_map (λ (s : Scheduled). s.keep) (find (λ (s : Scheduled). s.call == call) schedule)
+
+-- how many of so many blocks a write adds, by the schedule alone, and then by the fault too
+abbrev pub added_on_schedule : Option ℕ → ℕ → ℕ
+added_on_schedule scheduled count = min (unwrap_or scheduled count) count
+
+abbrev pub added : Option ℕ → Option Fault → ℕ → ℕ
+added scheduled armed count = unwrap_or (cut_by armed (added_on_schedule scheduled count)) (added_on_schedule scheduled count)
+
+-- whether it fails
+abbrev pub write_fails : Option ℕ → Option Fault → ℕ → Bool
+write_fails scheduled armed count = is_some scheduled || is_some (cut_by armed (added_on_schedule scheduled count))

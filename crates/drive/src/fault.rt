@@ -1,7 +1,6 @@
 //! Which calls of a drive in memory fail.
-ghost use Rattle.std.specs.Prelude.{◌≡◌, ◌≤◌, ◌==◌, ℕ, IfSome, find};
-ghost use Rattle.std.specs.Option.{option_map};
-ghost use Rattle.drive.specs.Faults.{cut_by, after_adding, next_fails, after_next, read_fails, after_read};
+ghost use Rattle.std.specs.Prelude.{◌≡◌, ◌≤◌, ℕ, IfSome};
+ghost use Rattle.drive.specs.Faults.{scheduled_at, cut_by, after_adding, next_fails, after_next, read_fails, after_read};
 
 /// The call of this number fails, counted from 1 over all calls of `next`, `read` and `write`. A write
 /// then adds so many of its blocks, or all where it has fewer.
@@ -25,7 +24,7 @@ pub enum Fault {
 
 /// How many blocks a call of this number adds at most, where it is to fail.
 pub(crate) fn keep_at(schedule: &[Scheduled], call: u64) -> Option<usize>
-    ensures { result ≡ option_map (λ s. s.keep) (find (λ s. s.call == call) schedule.now) }
+    ensures { result ≡ scheduled_at schedule.now call }
 {
     schedule
         .iter()

@@ -1,5 +1,5 @@
 //! Blocks on their way to a drive, in packets that one write may be given.
-ghost use Rattle.std.specs.Prelude.{◌≡◌, ◌+◌, ◌*◌, ◌/◌, ◌==◌, ◌<◌, ◌≤◌, if◌then◌else◌, ◌∷◌, ◌++◌, [], length, vec_len, is_err, IsTrue, IfOk, OnOk, OnErr};
+ghost use Rattle.std.specs.Prelude.{◌≡◌, ◌+◌, ◌*◌, ◌/◌, ◌==◌, ◌<◌, ◌≤◌, if◌then◌else◌, ◌∷◌, ◌++◌, [], length, vec_len, is_err, IfOk, OnOk, OnErr};
 ghost use Rattle.std.specs.Vec.{vec_capacity};
 ghost use Rattle.drive.specs.Journal.{written, next_of, AddsFront, counted};
 ghost use Rattle.drive.specs.Waiting.{Waiting, end_of, Takes, Stops};
@@ -16,7 +16,7 @@ pub fn write_packets<D: Drive>(drive: &mut D, at: u32, blocks: &[Block]) -> Resu
     ensures err { OnErr result (AddsFront (D.journal drive.old) at blocks.now (D.journal drive.new)) }
     ensures capacity { D.capacity drive.new ≡ D.capacity drive.old }
     ensures failures { D.failures drive.new ≡ counted (is_err result) (D.failures drive.old) }
-    ensures honest { IsTrue (D.honest drive.new) → IsTrue (D.honest drive.old) }
+    ensures honest { D.honest drive.new ≡ D.honest drive.old }
 {
     let _capacity = drive.capacity();
     let mut done = 0;
@@ -27,6 +27,29 @@ pub fn write_packets<D: Drive>(drive: &mut D, at: u32, blocks: &[Block]) -> Resu
             Err(fault) => return Err(fault),
         }
     }
+    Ok(())
+}
+
+/// Writes the blocks from this address on, in packets, and the last of them in a write of its own, behind the
+/// finished writes of all others. So whatever part of a write a loss of power leaves, the last block stands
+/// only where the others do.
+pub fn write_last_alone<D: Drive>(
+    drive: &mut D,
+    at: u32,
+    blocks: &[Block],
+) -> Result<(), DriveFault>
+    requires begins { at ≤ next_of (D.journal drive.old) }
+    requires fits { at + length blocks.now ≤ D.capacity drive.old }
+    ensures ok { OnOk result (D.journal drive.new ≡ D.journal drive.old ++ written at blocks.now) }
+    ensures err { OnErr result (AddsFront (D.journal drive.old) at blocks.now (D.journal drive.new)) }
+    ensures capacity { D.capacity drive.new ≡ D.capacity drive.old }
+    ensures failures { D.failures drive.new ≡ counted (is_err result) (D.failures drive.old) }
+    ensures honest { D.honest drive.new ≡ D.honest drive.old }
+{
+    let _capacity = drive.capacity();
+    let (before, last) = blocks.split_at(blocks.len().saturating_sub(1));
+    write_packets(drive, at, before)?;
+    write_packets(drive, at + before.len() as u32, last)?;
     Ok(())
 }
 
@@ -81,7 +104,7 @@ impl PacketWriter {
         ensures err { OnErr result (Stops (D.journal drive.old) self.old (block.now ∷ []) (D.journal drive.new)) }
         ensures capacity { D.capacity drive.new ≡ D.capacity drive.old }
         ensures failures { D.failures drive.new ≡ counted (is_err result) (D.failures drive.old) }
-        ensures honest { IsTrue (D.honest drive.new) → IsTrue (D.honest drive.old) }
+        ensures honest { D.honest drive.new ≡ D.honest drive.old }
     {
         if self.waiting() == PACKET {
             match self.finish(drive) {
@@ -101,7 +124,7 @@ impl PacketWriter {
         ensures err { OnErr result (Stops (D.journal drive.old) self.old blocks.now (D.journal drive.new)) }
         ensures capacity { D.capacity drive.new ≡ D.capacity drive.old }
         ensures failures { D.failures drive.new ≡ counted (is_err result) (D.failures drive.old) }
-        ensures honest { IsTrue (D.honest drive.new) → IsTrue (D.honest drive.old) }
+        ensures honest { D.honest drive.new ≡ D.honest drive.old }
     {
         let (packets, rest) = blocks.split_at(self.straight(blocks.len()));
         self.put_packets(drive, packets)?;
@@ -131,7 +154,7 @@ impl PacketWriter {
         ensures err { OnErr result (Stops (D.journal drive.old) self.old blocks.now (D.journal drive.new)) }
         ensures capacity { D.capacity drive.new ≡ D.capacity drive.old }
         ensures failures { D.failures drive.new ≡ counted (is_err result) (D.failures drive.old) }
-        ensures honest { IsTrue (D.honest drive.new) → IsTrue (D.honest drive.old) }
+        ensures honest { D.honest drive.new ≡ D.honest drive.old }
     {
         let _capacity = drive.capacity();
         if blocks.is_empty() {
@@ -154,7 +177,7 @@ impl PacketWriter {
         ensures err { OnErr result (Stops (D.journal drive.old) self.old blocks.now (D.journal drive.new)) }
         ensures capacity { D.capacity drive.new ≡ D.capacity drive.old }
         ensures failures { D.failures drive.new ≡ counted (is_err result) (D.failures drive.old) }
-        ensures honest { IsTrue (D.honest drive.new) → IsTrue (D.honest drive.old) }
+        ensures honest { D.honest drive.new ≡ D.honest drive.old }
     {
         for block in blocks {
             self.put(drive, block)?;
@@ -171,7 +194,7 @@ impl PacketWriter {
         ensures err { OnErr result (AddsFront (D.journal drive.old) self.old.at self.old.blocks (D.journal drive.new)) }
         ensures capacity { D.capacity drive.new ≡ D.capacity drive.old }
         ensures failures { D.failures drive.new ≡ counted (is_err result) (D.failures drive.old) }
-        ensures honest { IsTrue (D.honest drive.new) → IsTrue (D.honest drive.old) }
+        ensures honest { D.honest drive.new ≡ D.honest drive.old }
     {
         let _capacity = drive.capacity();
         if self.packet.is_empty() {

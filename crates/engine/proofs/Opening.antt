@@ -1,12 +1,13 @@
--- What opening a medium gives where a state stands.
+-- What opening a medium gives where a state stands, and where none does.
 use Rattle.std.proofs.Common.{ℕ, List}
 use Rattle.std.specs.Prelude.{Result, Ok, Err, IfOk, IfErr}
-use Rattle.drive.specs.Journal.{Event}
+use Rattle.drive.specs.Journal.{Event, Once, held}
 use Rattle.model.specs.Session.{State}
 use Rattle.recover.specs.Faults.{IsShortage}
 use Rattle.recover.specs.declared.fault.StoreFault.{StoreFault}
 use Rattle.store.specs.declared.store.Store.{Store}
 use Rattle.store.specs.Calls.{Knows, Opens}
+use Rattle.store.specs.Opened.{NothingStands}
 
 module _ (capacity volume : ℕ) (J : List Event) (S : State) where
   pub opened_knows : (result : Result Store StoreFault) → Opens capacity volume J S result → IfOk result (Knows capacity volume J S)
@@ -16,3 +17,9 @@ module _ (capacity volume : ℕ) (J : List Event) (S : State) where
   pub opened_short : (result : Result Store StoreFault) → Opens capacity volume J S result → IfErr result IsShortage
   opened_short (Ok store) opens = tt
   opened_short (Err refusal) opens = opens
+
+-- where nothing stands none is opened
+pub nothing_opened : (capacity : ℕ) (J : List Event) (result : Result Store StoreFault) {Honest : Type 0}
+    → IfOk result (λ store. Honest → Once J → (S : State) × Knows capacity store.capacity J S store) → Honest → Once J → NothingStands capacity (held J) → IfOk result (λ store. ⊥)
+nothing_opened capacity J (Ok store) stands honest once nothing = let state = stands honest once in nothing store.capacity state.0 state.1.stands
+nothing_opened capacity J (Err refusal) stands honest once nothing = tt

@@ -1,5 +1,5 @@
 -- Which answer a message gets, and what it leaves.
-use Rattle.std.specs.Prelude.{◌≡◌, ◌⊎◌, ℕ, false, List, length, map, IfSome}
+use Rattle.std.specs.Prelude.{◌≡◌, ◌⊎◌, ⊤, ℕ, false, List, length, map, None, IfSome}
 use Rattle.model.specs.Session.{Due, due_by, record_of}
 use Rattle.model.specs.Session.Due.{Repeat, Stale, Gap, ClientsFull, New}
 use Rattle.recover.specs.Faults.{Counts}
@@ -84,3 +84,11 @@ pub record Answered (asked : Message) (before : Situation) (a : Answer) (after :
   pub follows : Follows before after
   pub failures : Counts (faults a) before.failures after.failures
   pub row : Row asked before a after
+
+-- Where nothing stands, and no store is open, what needs the volume is refused: the drive failed, memory was short, or
+-- there is no sound volume. Nothing is written, and no store is kept.
+abbrev pub IsNothingThere : Message → Situation → Answer → Situation → Type 0
+IsNothingThere (message.Malformed cause) before a after = ⊤
+IsNothingThere message.NoMemory before a after = ⊤
+IsNothingThere (message.Query asked) before a after = MayFail a × (after.journal ≡ before.journal) × (after.store ≡ None)
+IsNothingThere (message.Request request) before a after = MayFail a × (after.journal ≡ before.journal) × (after.store ≡ None)

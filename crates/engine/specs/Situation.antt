@@ -1,8 +1,9 @@
 -- What an engine and its drive are between two messages.
 use Rattle.std.specs.Prelude.{◌≡◌, ℕ, ◌++◌, Bool, false, List, Option, Some, IfSome, IsTrue}
-use Rattle.drive.specs.Journal.{Event}
+use Rattle.drive.specs.Journal.{Event, Once, held}
 use Rattle.store.specs.declared.store.Store.{Store}
 use Rattle.store.specs.Agrees.{Agrees}
+use Rattle.store.specs.Opened.{NothingStands}
 use Rattle.engine.specs.declared.engine.Engine.{Engine}
 
 pub record Situation : Type 0 where
@@ -34,3 +35,9 @@ situation store journal failures capacity honest = record { store = store; journ
 -- an engine beside a drive
 abbrev pub seen : Engine → List Event → ℕ → ℕ → Bool → Situation
 seen engine journal failures capacity honest = situation engine.store journal failures capacity honest
+
+-- No state stands on the drive's journal, and no store is open.
+pub record HoldsNothing (s : Situation) : Type 0 where
+  pub once : Once s.journal
+  pub nothing : NothingStands s.capacity (held s.journal)
+  pub closed : (store : Store) → IsOpen s store → ⊥

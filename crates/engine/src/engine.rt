@@ -8,8 +8,8 @@ ghost use Rattle.request.specs.declared.answer.Answer.TheVariants as answers;
 ghost use Rattle.request.specs.declared.message.Query.TheVariants as queries;
 ghost use Rattle.store.specs.Agrees.{Agrees};
 ghost use Rattle.store.specs.Calls.{Knows};
-ghost use Rattle.engine.specs.Situation.{IsReady, Follows, seen, situation};
-ghost use Rattle.engine.specs.Answered.{Answered, due_of, IsDue, IsTold, MayFail, faults};
+ghost use Rattle.engine.specs.Situation.{IsReady, Follows, HoldsNothing, seen, situation};
+ghost use Rattle.engine.specs.Answered.{Answered, due_of, IsDue, IsNothingThere, IsTold, MayFail, faults};
 ghost use Rattle.engine.specs.Called.{Calls, IsDealt, IsQueried, failed, refused, get_refused, list_refused, stat_refused};
 ghost use Rattle.engine.specs.Steps.{IsAt};
 
@@ -39,6 +39,9 @@ impl Engine {
             (seen self.new (D.journal drive.new) (D.failures drive.new) (D.capacity drive.new) (D.honest drive.new)) }
         // On an honest drive, where a state stands that an open store knows.
         ensures calls { (volume : ℕ) (S : State) → IsTrue (D.honest drive.new) → IsAt volume S (seen self.old (D.journal drive.old) (D.failures drive.old) (D.capacity drive.old) (D.honest drive.old)) → Calls volume message S (seen self.old (D.journal drive.old) (D.failures drive.old) (D.capacity drive.old) (D.honest drive.old)) result
+            (seen self.new (D.journal drive.new) (D.failures drive.new) (D.capacity drive.new) (D.honest drive.new)) }
+        // On an honest drive where nothing stands.
+        ensures nothing { IsTrue (D.honest drive.new) → HoldsNothing (seen self.old (D.journal drive.old) (D.failures drive.old) (D.capacity drive.old) (D.honest drive.old)) → IsNothingThere message (seen self.old (D.journal drive.old) (D.failures drive.old) (D.capacity drive.old) (D.honest drive.old)) result
             (seen self.new (D.journal drive.new) (D.failures drive.new) (D.capacity drive.new) (D.honest drive.new)) }
     {
         match message {
@@ -70,6 +73,7 @@ impl Engine {
         ensures open { IfOk result (λ store. store.is_stopped ≡ false) }
         ensures knows { (volume : ℕ) (S : State) → IsTrue (D.honest drive.new) → IsAt volume S (seen self.old (D.journal drive.old) (D.failures drive.old) (D.capacity drive.old) (D.honest drive.old)) → IfOk result (Knows (D.capacity drive.old) volume (D.journal drive.old) S) }
         ensures short { (volume : ℕ) (S : State) → IsTrue (D.honest drive.new) → IsAt volume S (seen self.old (D.journal drive.old) (D.failures drive.old) (D.capacity drive.old) (D.honest drive.old)) → IfErr result IsShortage }
+        ensures nothing { IsTrue (D.honest drive.new) → HoldsNothing (seen self.old (D.journal drive.old) (D.failures drive.old) (D.capacity drive.old) (D.honest drive.old)) → IfOk result (λ store. ⊥) }
         ensures taken { self.new.store ≡ None }
         ensures stays { (kept : _) → self.old.store ≡ Some kept → kept.is_stopped ≡ false → (result ≡ Ok kept) × (drive.new ≡ drive.old) }
         ensures journal { D.journal drive.new ≡ D.journal drive.old }
@@ -85,7 +89,7 @@ impl Engine {
 }
 
 /// The answer to a request, by what is due.
-#[tactic(auto, using(crate::proofs::Fronts::behind_written, crate::proofs::Fronts::behind_front))]
+#[tactic(auto, using(crate::proofs::Fronts::behind_written))]
 fn answer_request<D: Drive>(
     store: &mut Store,
     alloc: Global,

@@ -1,10 +1,12 @@
 //! A whole run, as a list.
 
-ghost use Rattle.std.specs.Prelude.{◌≡◌, ◌≤◌, ℕ, None, IsTrue, IfOk, OnErr};
+ghost use Rattle.std.specs.Prelude.{◌≡◌, ◌≤◌, ℕ, None, IsTrue, IfOk, OnErr, sum_by};
 ghost use Rattle.drive.specs.Journal.{held, Once};
 ghost use Rattle.medium.specs.Volume.{Stands};
 ghost use Rattle.model.specs.Session.{State};
+ghost use Rattle.recover.specs.Faults.{Counts};
 ghost use Rattle.udf.specs.Udf.{udf};
+ghost use Rattle.engine.specs.Answered.{faults};
 ghost use Rattle.engine.specs.Situation.{IsReady, seen, situation};
 ghost use Rattle.engine.specs.Delivered.{Delivers, Runs};
 ghost use Rattle.engine.specs.Headline.{DeliversBy, RunHolds};
@@ -37,6 +39,8 @@ pub fn run<D: Drive>(
     // On an honest drive where a state stands: what stands at each front of what was written.
     ensures holds { (volume : ℕ) (S : State) → IsTrue (D.honest drive.new) → Once (D.journal drive.old) → Stands udf (D.capacity drive.old) volume (held (D.journal drive.old)) S
         → IfOk result (λ answers. RunHolds volume (D.capacity drive.old) deliveries.now S (D.journal drive.old) answers.items (D.journal drive.new)) }
+    // No more answers tell of a failing drive than failures were counted.
+    ensures failures { IfOk result (λ answers. Counts (sum_by faults answers.items) (D.failures drive.old) (D.failures drive.new)) }
     ensures err { OnErr result (situation None (D.journal drive.new) (D.failures drive.new) (D.capacity drive.new) (D.honest drive.new)
         ≡ situation None (D.journal drive.old) (D.failures drive.old) (D.capacity drive.old) (D.honest drive.old)) }
 {

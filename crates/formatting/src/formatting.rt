@@ -18,7 +18,7 @@ ghost use Rattle.vat.specs.Table.{table_bytes};
 
 use crate::parts::Parts;
 use dir::{Dir, Lay};
-use drive::{Drive, DriveFault, write_packets};
+use drive::{Drive, DriveFault, write_last_alone};
 use ecma::{Block, Timestamp};
 use icb::{FileEntry, FileSet, Kind, Place, encode_fe, encode_fsd};
 use indexmap::IndexMap;
@@ -45,7 +45,8 @@ const FIRST_TABLE: u32 = 204;
 const TABLE_ENTRY: u32 = 4;
 
 /// Writes a new volume on a blank drive, or the rest of one that the same words began. The moment is in microseconds from
-/// 1970-01-01 UTC. A drive is refused that has other blocks, or more.
+/// 1970-01-01 UTC. A drive is refused that has other blocks, or more. The last block, with which the volume stands, goes out
+/// in a write of its own, behind the finished writes of all others.
 pub fn format<D: Drive>(
     alloc: Global,
     drive: &mut D,
@@ -81,7 +82,7 @@ pub fn format<D: Drive>(
     let Ok(blocks) = rest(alloc, &parts, next) else {
         return Err(StoreFault::Memory);
     };
-    match write_packets(drive, next, &blocks) {
+    match write_last_alone(drive, next, &blocks) {
         Ok(()) => Ok(()),
         Err(_) => Err(StoreFault::Device),
     }

@@ -8,7 +8,7 @@ use Rattle.medium.specs.Volume.{Medium, partition_start, IsTableEntry, NoneImita
 use Rattle.medium.proofs.Lists.{side, get-append, get_past, get-take}
 
 module _ (formats : Formats) where
-  none_at : (at j i : ℕ) (bs : List Block) (b : Block) → NoneImitates formats at bs → slice_get bs j ≡ Some b → i ≡ at + j → IsTableEntry formats b i → ⊥
+  pub none_at : (at j i : ℕ) (bs : List Block) (b : Block) → NoneImitates formats at bs → slice_get bs j ≡ Some b → i ≡ at + j → IsTableEntry formats b i → ⊥
   none_at at j i [] b n e p t = none-some b e
   none_at at zero i (x ∷ bs) b n e p t =
       let here : i ≡ at = omega arith in

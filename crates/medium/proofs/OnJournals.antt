@@ -1,8 +1,9 @@
 -- Commits and runs on a drive's journal.
-use Rattle.std.proofs.Common.{◌≡◌, ◌⊎◌, inl, inr, ℕ, ◌+◌, ◌≤◌, List, [], ◌∷◌, ◌++◌, length, take, sym, ◌∙◌, ap, subst, arith}
-use Rattle.drive.specs.Journal.{Event, held, Once, AddsFront, written, blocks_of}
+use Rattle.std.proofs.Common.{◌≡◌, ◌⊎◌, inl, inr, ℕ, ◌+◌, List, [], ◌∷◌, ◌++◌, length, take, sym, ◌∙◌, ap, subst, arith}
+use Rattle.drive.specs.Journal.{Event, held, Once, AddsFront, written}
+use Rattle.drive.specs.Writes.{LastIsAlone, IsLeft}
 use Rattle.drive.proofs.Once.{held_once, held_front, length-blocks_of}
-use Rattle.drive.proofs.Fronts.{front_keeps, front_once, front_length, held_cut}
+use Rattle.drive.proofs.Fronts.{front_whole, front_keeps, front_once, front_length, held_write, held_cut}
 use Rattle.model.specs.Session.{State, Request, after_one, after}
 use Rattle.medium.specs.Formats.{Block, Formats, AreExact, AreBounded, AreDistinct}
 use Rattle.medium.specs.Volume.{Stands}
@@ -12,6 +13,7 @@ use Rattle.medium.specs.Runs.{Delivery, Answer, Holds}
 use Rattle.medium.specs.Journal.{Advances, HoldsOnJournal}
 use Rattle.medium.proofs.Commits.{moves_some}
 use Rattle.medium.proofs.Planned.{planned_carries}
+use Rattle.medium.proofs.Torn.{commit_torn}
 
 pub length-held : (J : List Event) → Once J → length (held J) ≡ length J
 length-held J once = ap (λ (B : List Block). length B) (held_once J once) ∙ length-blocks_of J
@@ -43,6 +45,27 @@ module _ (formats : Formats) (capacity volume : ℕ) where
           → Advances formats capacity volume J S J' S ⊎ ((length J' ≡ length J + length all) × Advances formats capacity volume J S J' (after_one S r))
       go (inl stays) = inl (with_moves S stays)
       go (inr whole) = inr (omega (arith, whole.0, front_length J J' (length J) all front), with_moves (after_one S r) whole.1)
+
+  -- And whatever a loss of power left of them, where the last went out alone.
+  pub torn_advances : AreExact formats → AreBounded formats → AreDistinct formats → (J J' : List Event) (S : State) (r : Request) (blocks : List Block) (mark : Block) → Once J
+      → (stands : Stands formats capacity volume (held J) S) → IsPlanned formats capacity volume (held J) S stands r blocks mark
+      → (writes : List (List Block)) (left : List Block) → LastIsAlone blocks mark writes → IsLeft writes left → J' ≡ J ++ written (length J) left
+      → Advances formats capacity volume J S J' S ⊎ ((left ≡ blocks ++ mark ∷ []) × Advances formats capacity volume J S J' (after_one S r))
+  torn_advances exact bounded distinct J J' S r blocks mark once stands plan writes left are is behind =
+      elim (commit_torn formats distinct exact bounded capacity volume (held J) S stands r blocks mark plan writes left are is) [
+        | inl stays ↦ inl (with_moves S stays)
+        | inr whole ↦ inr (whole.0, with_moves (after_one S r) whole.1)
+      ]
+    where
+      all : AddsFront J (length J) left J'
+      all = subst (λ (K : List Event). AddsFront J (length J) left K) (sym behind) (front_whole J (length J) left)
+
+      with_moves : (S' : State) → Moves formats capacity volume (held J) S (held J ++ left) S' → Advances formats capacity volume J S J' S'
+      with_moves S' moves = record {
+        front = front_keeps J J' (length J) left all;
+        once = front_once J J' (length J) left once (let same : length J ≡ length J = omega arith in same) all;
+        moves = subst (λ (M : List Block). Moves formats capacity volume (held J) S M S') (sym (held_write J J' (length J) left once (let same : length J ≡ length J = omega arith in same) behind)) moves;
+      }
 
   -- what holds on the blocks of a journal holds at its fronts
   pub holds_on_journal : (need : State → Request → ℕ) (S : State) (J J' : List Event) (ds : List Delivery) (answers : List Answer) → Once J → Once J' → take (length J) J' ≡ J

@@ -3,6 +3,7 @@ pub mod Volume
 pub mod Commit
 pub mod Plan
 pub mod Step
+pub mod Torn
 pub mod Runs
 pub mod Journal
 pub mod Example

@@ -1,21 +1,21 @@
 //! The program `udfburn`.
 
-ghost use Rattle.std.specs.Prelude.{◌≡◌, ◌≤◌, ◌↔◌, map, IfErr};
+ghost use Rattle.std.specs.Prelude.{◌≡◌, ◌<◌, ◌≤◌, ◌↔◌, map, IfErr};
 ghost use Rattle.words.specs.Commands.{Asks};
 ghost use Rattle.programs.specs.Asked.{HasMoment};
 ghost use Rattle.programs.specs.Status.{IsRefusal};
 
 use crate::fault::{Fault, report};
-use crate::images::{create_image, open_image};
+use crate::images::{create_image, open_image, read_image};
 use crate::sending::send;
-use drive::{Drive, MemDrive};
+use drive::{Drive, FileDrive, MemDrive};
 use engine::{Engine, ServeFault, put_all, serve};
 use request::{NodeKind, Path};
 use std::alloc::Global;
 use std::fs::{File, Files};
 use std::io::{Read, Write};
 use std::net::Net;
-use store::{Commit, Store, format};
+use store::{Commit, Store, StoreFault, format};
 use words::{Command, Medium, read_command};
 
 /// The label of a volume in memory.
@@ -69,6 +69,7 @@ where
             capacity,
         } => {
             let mut drive = create_image(rt, image, capacity)?;
+            require_beginning(alloc, &mut drive, label, moment)?;
             format(alloc, &mut drive, label, moment)?;
             put(output, b"formatted\n")
         }
@@ -83,23 +84,57 @@ where
         }
         Command::List { image, path } => {
             let path = Path::parse(alloc, path)?;
-            let mut drive = open_image(rt, image)?;
+            let mut drive = read_image(rt, image)?;
             list(alloc, &mut drive, &path, output)
         }
         Command::Get { image, path } => {
             let path = Path::parse(alloc, path)?;
-            let mut drive = open_image(rt, image)?;
+            let mut drive = read_image(rt, image)?;
             get(alloc, &mut drive, &path, output)
         }
         Command::Log { image } => {
-            let mut drive = open_image(rt, image)?;
+            let mut drive = read_image(rt, image)?;
             log(alloc, &mut drive, output)
         }
         Command::Check { image } => {
-            let mut drive = open_image(rt, image)?;
+            let mut drive = read_image(rt, image)?;
             check(alloc, &mut drive, output)
         }
         Command::Send { socket } => send(rt, socket, input, output),
+    }
+}
+
+/// Refuses a file whose bytes behind its last whole block do not begin the next block of a format with these words. A drive
+/// counts whole blocks alone, so that the format does not see them.
+fn require_beginning(
+    alloc: Global,
+    drive: &mut FileDrive,
+    label: &str,
+    moment: u64,
+) -> Result<(), Fault>
+    requires { moment < 4_102_444_800_000_000 }
+    ensures { IfErr result IsRefusal }
+{
+    let mut part = [0; 2048];
+    let Ok(count) = drive.part(&mut part) else {
+        return Err(Fault::Store(StoreFault::Device));
+    };
+    if count == 0 {
+        return Ok(());
+    }
+    let Ok(next) = drive.next() else {
+        return Err(Fault::Store(StoreFault::Device));
+    };
+    let mut whole = MemDrive::new(alloc, drive.capacity(), Vec::new(alloc));
+    format(alloc, &mut whole, label, moment)?;
+    let begins = match whole.journal().get(next as usize) {
+        Some(event) => event.1.starts_with(&part[..count]),
+        None => false,
+    };
+    if begins {
+        Ok(())
+    } else {
+        Err(Fault::Store(StoreFault::NotBlank))
     }
 }
 

@@ -8,23 +8,34 @@ ghost use Rattle.programs.specs.Status.{IsRefusal};
 use crate::fault::{Fault, report};
 use crate::images::open_image;
 use drive::Drive;
-use engine::{Engine, serve};
+use engine::{Engine, ServeFault, serve};
 use std::alloc::Global;
 use std::fs::{File, Files};
 use std::io::{BufWriter, Write};
-use std::net::Net;
-use std::os::unix::net::UnixListener;
+use std::net::{Net, Shutdown};
+use std::os::unix::net::{UnixListener, UnixStream};
+use std::time::{Clock, Duration};
+use std::{io, thread};
 use store::StoreFault;
 use words::{DaemonWords, read_daemon};
 
 /// The name under which the daemon's lines stand.
 const NAME: &str = "udfburnd";
 
+/// How long a client may neither send a byte nor take one, in seconds.
+const PATIENCE: u64 = 60;
+
+/// How many bytes of an answer are given to a socket at once.
+const PIECE_BYTES: usize = 8192;
+
+/// How long the daemon waits where it could not have a connection, in milliseconds.
+const PAUSE: u64 = 100;
+
 /// Serves an image on a socket, one connection after another. It answers the status, and says on `errors` why it was
 /// refused and why a connection was left. The first of the words is the program's own name.
 pub fn daemon<R, E>(rt: &R, words: &[&str], errors: &mut E) -> u8
 where
-    R: Files<File = File> + Net + AllocGlobal,
+    R: Files<File = File> + Net + Clock + AllocGlobal,
     E: Write,
     ensures status { result ≤ 2 }
     // The status of other words is 2, or 1 where memory is short.
@@ -41,28 +52,60 @@ where
 /// Serves connections until as many came as the words say.
 fn serve_all<R, E>(rt: &R, asked: &DaemonWords<'_>, errors: &mut E) -> Result<(), Fault>
 where
-    R: Files<File = File> + Net + AllocGlobal,
+    R: Files<File = File> + Net + Clock + AllocGlobal,
     E: Write,
     ensures { IfErr result IsRefusal }
 {
     let mut drive = open_image(rt, asked.image)?;
-    let listener = match UnixListener::bind(rt, asked.socket) {
-        Ok(listener) => listener,
-        Err(_) => return Err(Fault::Socket),
-    };
+    let listener = listen(rt, asked.socket)?;
     let mut engine = Engine::new();
-    for _ in 0..asked.connections.unwrap_or(u64::MAX) {
-        let served = serve_one(rt.alloc(), &listener, &mut engine, &mut drive);
-        // The daemon goes on: what was told already is all that there is to a connection's fault.
-        report(NAME, served, errors);
+    let mut left = asked.connections.unwrap_or(u64::MAX);
+    let mut is_told = false;
+    for _ in 0..u64::MAX {
+        if left == 0 {
+            return Ok(());
+        }
+        match listener.accept() {
+            Ok((stream, _)) => {
+                let served = serve_one(rt.alloc(), &stream, &mut engine, &mut drive);
+                // The daemon goes on: what was told already is all that there is to a connection's fault.
+                report(NAME, served, errors);
+                left -= 1;
+                is_told = false;
+            }
+            // It goes on failing while descriptors are short, so it is told once, and waited out.
+            Err(_) => {
+                if !is_told {
+                    report(NAME, Err(Fault::Socket), errors);
+                }
+                is_told = true;
+                thread::sleep(rt, Duration::from_millis(PAUSE));
+            }
+        }
     }
     Ok(())
 }
 
-/// Waits for a connection, and answers its messages.
+/// A listener at this path, where nothing may be yet. No path is an address that no client could name.
+fn listen<R>(rt: &R, socket: &str) -> Result<UnixListener, Fault>
+where
+    R: Files<File = File> + Net,
+    ensures { IfErr result IsRefusal }
+{
+    if socket.is_empty() {
+        return Err(Fault::Socket);
+    }
+    match UnixListener::bind(rt, socket) {
+        Ok(listener) => Ok(listener),
+        Err(_) => Err(Fault::Socket),
+    }
+}
+
+/// Answers the messages of a connection. A client that neither sends a byte nor takes one for a minute is left, so that it
+/// keeps nobody waiting.
 pub fn serve_one<D: Drive>(
     alloc: Global,
-    listener: &UnixListener,
+    stream: &UnixStream,
     engine: &mut Engine,
     drive: &mut D,
 ) -> Result<(), Fault>
@@ -70,15 +113,36 @@ pub fn serve_one<D: Drive>(
     ensures ready { IsReady (seen engine.new (D.journal drive.new) (D.failures drive.new) (D.capacity drive.new) (D.honest drive.new)) }
     ensures refusal { IfErr result IsRefusal }
 {
-    let stream = match listener.accept() {
-        Ok((stream, _)) => stream,
-        Err(_) => return Err(Fault::Socket),
-    };
-    let mut writer = match BufWriter::new(alloc, &stream) {
+    let patience = Some(Duration::from_secs(PATIENCE));
+    if stream.set_read_timeout(patience).is_err() || stream.set_write_timeout(patience).is_err() {
+        return Err(Fault::Socket);
+    }
+    let mut writer = match BufWriter::new(alloc, Pieces(stream)) {
         Ok(writer) => writer,
         Err(_) => return Err(Fault::Store(StoreFault::Memory)),
     };
-    let mut reader = &stream;
-    serve(alloc, &mut reader, &mut writer, engine, drive)?;
+    let mut reader = stream;
+    let served = serve(alloc, &mut reader, &mut writer, engine, drive);
+    if served == Err(ServeFault::Write) {
+        // What waits in the writer would wait for the client once more.
+        let _ = stream.shutdown(Shutdown::Both);
+    }
+    served?;
     Ok(())
+}
+
+/// The writing half of a connection, a piece at a time. A socket takes a piece whole or not at all, so that no call waits
+/// behind a part that was taken.
+#[derive(Drop)]
+struct Pieces<'a>(&'a UnixStream);
+
+impl Write for Pieces<'_> {
+    fn write(&mut self, bytes: &[u8]) -> io::Result<usize> {
+        let mut stream = self.0;
+        stream.write(&bytes[..bytes.len().min(PIECE_BYTES)])
+    }
+
+    fn flush(&mut self) -> io::Result<()> {
+        Ok(())
+    }
 }

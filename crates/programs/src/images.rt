@@ -11,7 +11,7 @@ use store::StoreFault;
 /// The greatest capacity of a volume, in blocks.
 const GREATEST_CAPACITY: u32 = 450_000;
 
-/// The image at this path.
+/// The image at this path, to write it.
 pub(crate) fn open_image<R: Files<File = File>>(rt: &R, path: &str) -> Result<FileDrive, Fault>
     ensures { IfErr result IsRefusal }
 {
@@ -21,7 +21,17 @@ pub(crate) fn open_image<R: Files<File = File>>(rt: &R, path: &str) -> Result<Fi
     }
 }
 
-/// The image at this path, of at most so many blocks, which is made where it is missing.
+/// The image at this path, to read it.
+pub(crate) fn read_image<R: Files<File = File>>(rt: &R, path: &str) -> Result<FileDrive, Fault>
+    ensures { IfErr result IsRefusal }
+{
+    match FileDrive::open_to_read(rt, path, GREATEST_CAPACITY) {
+        Ok(drive) => Ok(drive),
+        Err(_) => Err(Fault::Store(StoreFault::Device)),
+    }
+}
+
+/// The image at this path, to write it, of at most so many blocks, which is made where it is missing.
 pub(crate) fn create_image<R: Files<File = File>>(
     rt: &R,
     path: &str,

@@ -6,6 +6,7 @@
 #![tactic(auto)]
 
 mod commands;
+mod counting;
 mod daemons;
 mod fault;
 mod images;

@@ -9,6 +9,8 @@ use std::env::Env;
 use std::fs::{File, Files};
 use std::io::{BufWriter, ErrorKind, Read, Write};
 use std::net::Net;
+use std::os::fd::{AsRawFd, IntoRawFd};
+use std::time::Clock;
 use store::StoreFault;
 
 /// `udfburn` on the words of the process and these streams. It answers the status.
@@ -28,7 +30,7 @@ where
 /// `udfburnd` on the words of the process. It answers the status.
 pub fn run_daemon<R, E>(rt: &R, errors: &mut E) -> u8
 where
-    R: Files<File = File> + Net + Env + AllocGlobal,
+    R: Files<File = File> + Net + Clock + Env + AllocGlobal,
     E: Write,
 {
     match try_daemon(rt, errors) {
@@ -49,6 +51,7 @@ where
     O: Write,
     E: Write,
 {
+    hold_standard_streams(rt)?;
     let words = own_words(rt)?;
     let texts = texts(rt.alloc(), &words)?;
     let mut writer = buffered(rt.alloc(), output)?;
@@ -57,12 +60,30 @@ where
 
 fn try_daemon<R, E>(rt: &R, errors: &mut E) -> Result<u8, Fault>
 where
-    R: Files<File = File> + Net + Env + AllocGlobal,
+    R: Files<File = File> + Net + Clock + Env + AllocGlobal,
     E: Write,
 {
+    hold_standard_streams(rt)?;
     let words = own_words(rt)?;
     let texts = texts(rt.alloc(), &words)?;
     Ok(daemon(rt, &texts, errors))
+}
+
+/// Puts a descriptor of the root folder in the place of each standard stream that is closed. So no file that is opened later
+/// gets its number, and is read or written in its place: to read or to write a folder fails, as it does on what is closed.
+fn hold_standard_streams<R: Files<File = File>>(rt: &R) -> Result<(), Fault> {
+    for _ in 0..3 {
+        let folder = match File::open(rt, "/") {
+            Ok(folder) => folder,
+            Err(_) => return Err(Fault::Store(StoreFault::Device)),
+        };
+        if folder.as_raw_fd() > 2 {
+            return Ok(());
+        }
+        // It stays open until the process ends.
+        let _ = folder.into_raw_fd();
+    }
+    Ok(())
 }
 
 /// The words of the process, of which the first is its name. Words that are no text are not those of a command.

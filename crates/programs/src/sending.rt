@@ -4,6 +4,7 @@ ghost use Rattle.std.specs.Prelude.{IfErr, OnOk};
 ghost use Rattle.programs.specs.Status.{IsRefusal};
 ghost use Rattle.programs.specs.Copies.{CopiesAll, ReadsAll};
 
+use crate::counting::FrameCount;
 use crate::fault::Fault;
 use engine::{ServeFault, put_all, read_piece};
 use std::alloc::Global;
@@ -15,7 +16,8 @@ use store::StoreFault;
 /// How many bytes are copied at once.
 const PIECE_BYTES: usize = 65_536;
 
-/// Sends the input to the daemon at this socket, and copies its answers to the output.
+/// Sends the input to the daemon at this socket, and copies its answers to the output. Each frame gets an answer: where fewer
+/// came back, the stream was left before its end.
 pub(crate) fn send<R: Net + AllocGlobal, I: Read, O: Write>(
     rt: &R,
     socket: &str,
@@ -28,39 +30,48 @@ pub(crate) fn send<R: Net + AllocGlobal, I: Read, O: Write>(
         Ok(stream) => stream,
         Err(_) => return Err(Fault::Socket),
     };
-    send_frames(rt.alloc(), &mut stream, input)?;
-    copy_answers(rt.alloc(), &mut stream, output)
+    let sent = send_frames(rt.alloc(), &mut stream, input);
+    // What was sent is answered also where the rest was not.
+    let answered = copy_answers(rt.alloc(), &mut stream, output)?;
+    if answered < sent? {
+        return Err(Fault::Stream(ServeFault::Read));
+    }
+    Ok(())
 }
 
-/// Sends what the reader has, and ends the sending half of the stream.
+/// Sends what the reader has, and ends the sending half of the stream. It answers how many frames ended in what was sent, up
+/// to one that is too long.
 pub fn send_frames<I: Read>(
     alloc: Global,
     stream: &mut UnixStream,
     reader: &mut I,
-) -> Result<(), Fault>
+) -> Result<u64, Fault>
     ensures refusal { IfErr result IsRefusal }
     ensures all { OnOk result (ReadsAll (I.remaining reader.old) (I.remaining reader.new)) }
 {
-    copy(alloc, reader, stream)?;
-    match stream.shutdown(Shutdown::Write) {
-        Ok(()) => Ok(()),
+    let copied = copy(alloc, reader, stream);
+    let ended = stream.shutdown(Shutdown::Write);
+    let count = copied?;
+    match ended {
+        Ok(()) => Ok(count),
         Err(_) => Err(Fault::Stream(ServeFault::Write)),
     }
 }
 
-/// Copies what comes back, up to the end of the stream.
+/// Copies what comes back, up to the end of the stream. It answers how many answers came whole.
 pub fn copy_answers<O: Write>(
     alloc: Global,
     stream: &mut UnixStream,
     writer: &mut O,
-) -> Result<(), Fault>
-    ensures { IfErr result IsRefusal }
+) -> Result<u64, Fault>
+    ensures refusal { IfErr result IsRefusal }
+    ensures all { OnOk result (CopiesAll (⟦<UnixStream as Read>⟧.remaining stream.old) (⟦<UnixStream as Read>⟧.remaining stream.new) (O.contents writer.old) (O.contents writer.new)) }
 {
     copy(alloc, stream, writer)
 }
 
-/// Copies what the reader has, in pieces.
-fn copy<I: Read, O: Write>(alloc: Global, reader: &mut I, writer: &mut O) -> Result<(), Fault>
+/// Copies what the reader has, in pieces. It answers how many frames ended in it.
+fn copy<I: Read, O: Write>(alloc: Global, reader: &mut I, writer: &mut O) -> Result<u64, Fault>
     ensures refusal { IfErr result IsRefusal }
     ensures ok { OnOk result (CopiesAll (I.remaining reader.old) (I.remaining reader.new) (O.contents writer.old) (O.contents writer.new)) }
 {
@@ -68,16 +79,18 @@ fn copy<I: Read, O: Write>(alloc: Global, reader: &mut I, writer: &mut O) -> Res
         Ok(piece) => piece,
         Err(_) => return Err(Fault::Store(StoreFault::Memory)),
     };
+    let mut frames = FrameCount::new();
     for _ in 0..u64::MAX {
         let count = read_piece(reader, &mut piece)?;
         if count == 0 {
-            return Ok(());
+            return Ok(frames.count());
         }
         let (bytes, _) = piece.split_at(count);
         put_all(writer, bytes)?;
         if writer.flush().is_err() {
             return Err(Fault::Stream(ServeFault::Write));
         }
+        frames.feed(bytes);
     }
     Err(Fault::Stream(ServeFault::Read))
 }

@@ -86,3 +86,9 @@ IsBefore medium at None = (table : Table) × HasTable medium at table × (table.
 IsBefore medium at (Some earlier) =
     (table : Table) × HasTable medium at table × (number : ℕ) × (table.previous ≡ Some number) × (earlier ≡ number + 257)
     × (before : Table) × HasTable medium earlier before × (before.commits + 1 ≡ table.commits)
+
+-- why no step of the chain was taken: no table is at this address, or its link leads to none of one commit less
+abbrev pub IsBeforeRefused : List (List ℕ) → ℕ → StoreFault → Type 0
+IsBeforeRefused medium at fault =
+    IsAtRefused medium at fault
+    ⊎ ((table : Table) × HasTable medium at table × (number : ℕ) × (table.previous ≡ Some number) × IsLinkRefused medium (number + 257) table.commits fault)

@@ -56,7 +56,7 @@ impl NodeEntry {
                 links: entry.links,
                 extent: NodeEntry::extent_of(&entry),
             }),
-            Err(fault) => Err(damaged(place.at, fault as u8)),
+            Err(fault) => Err(damaged(place.at, fault.number())),
         }
     }
 

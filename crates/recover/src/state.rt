@@ -183,7 +183,7 @@ fn check_file_set<D: Drive>(
     let block = read_block(drive, set_at)?;
     let set = match decode_fsd(&block) {
         Ok(set) => set,
-        Err(fault) => return Err(damaged(set_at, fault as u8)),
+        Err(fault) => return Err(damaged(set_at, fault.number())),
     };
     let expected = FileSet {
         label: front.label,

@@ -9,7 +9,7 @@ ghost use Rattle.icb.specs.Entry.Place.{Extent};
 ghost use Rattle.vat.specs.Table.{IsTableAt, view};
 ghost use Rattle.recover.specs.Faults.{Counts, devices};
 ghost use Rattle.recover.specs.declared.fault.StoreFault.TheVariants.{Device};
-ghost use Rattle.recover.specs.Tables.{HasDataBelow, IsBefore, IsEntryAt, IsEntryRefused, IsLast, IsTableRefused, HasTable, IsAtRefused, IsLinkRefused, data_of};
+ghost use Rattle.recover.specs.Tables.{HasDataBelow, IsBefore, IsBeforeRefused, IsEntryAt, IsEntryRefused, IsLast, IsTableRefused, HasTable, IsAtRefused, IsLinkRefused, data_of};
 ghost use Rattle.recover.specs.Walk.{LeadsTo};
 
 use crate::cause::{CHAIN, RANGE};
@@ -210,6 +210,7 @@ pub fn before<D: Drive>(alloc: Global, drive: &mut D, at: u32) -> Result<Option<
     requires low { 257 ≤ at }
     requires within { at < next_of (D.journal drive.old) }
     ensures before { IfOk result (λ found. IsTrue (D.honest drive.new) → IsBefore (held (D.journal drive.old)) at found) }
+    ensures refused { IfErr result (λ fault. IsTrue (D.honest drive.new) → IsBeforeRefused (held (D.journal drive.old)) at fault) }
     ensures below { IfOk result (λ found. IfSome found (λ earlier. (257 ≤ earlier) × (earlier < at))) }
     ensures journal { D.journal drive.new ≡ D.journal drive.old }
     ensures capacity { D.capacity drive.new ≡ D.capacity drive.old }

@@ -1,9 +1,10 @@
 -- What a commit says of a plan that it writes.
-use Rattle.std.proofs.Common.{◌≡◌, ℕ, ◌+◌, ◌++◌, List, Bool, false, Result, Ok, Err, ◌⊎◌, inr, sym, ap, subst, ◌∙◌}
-use Rattle.std.specs.Prelude.{is_err, IfOk, OnOk, OnErr, Option, Some}
+use Rattle.std.proofs.Common.{◌≡◌, ℕ, ◌+◌, ◌++◌, List, Bool, false, Result, Ok, Err, inr, ap, subst, ◌∙◌}
+use Rattle.std.specs.Prelude.{is_err, IfOk, IfErr, OnOk, OnErr, Option, Some}
 use Rattle.std.specs.Option.{SomeIff}
-use Rattle.std.proofs.lemmas.Bool.{false≢true}
 use Rattle.drive.specs.Journal.{Event, next_of, written, AddsFront}
+use Rattle.recover.specs.declared.fault.StoreFault.{StoreFault}
+use Rattle.recover.specs.declared.fault.StoreFault.TheVariants.{Device}
 use Rattle.request.specs.Numbers.{code_number}
 use Rattle.request.specs.declared.answer.Reply.{Reply}
 use Rattle.request.specs.declared.message.Request.{Request}
@@ -14,7 +15,7 @@ use Rattle.vat.specs.Table.{view}
 use Rattle.table.specs.NextTable.{next_table}
 use Rattle.store.specs.Plan.{IsPlan, plan_blocks, plan_written, plan_writings}
 use Rattle.store.specs.Writings.{change_writings}
-use Rattle.store.specs.Putting.{Makes, WritesPlan, StopsInPlan}
+use Rattle.store.specs.Putting.{IsRefused, Makes, WritesPlan}
 
 pub if_ok : {T E : Type 0} (r : Result T E) (P Q : T → Type 0) → ((x : T) → P x → Q x) → IfOk r P → IfOk r Q
 if_ok (Ok x) P Q f h = f x h
@@ -51,20 +52,19 @@ writes_plan (Ok reply) K J J' before request capacity change plan store same mak
 }
 writes_plan (Err e) K J J' before request capacity change plan store same makes is said at vat journal = said
 
-pub stops_in_plan : {T E : Type 0} (r : Result T E) (K J J' : List Event) (before : Store) (request : Request) (capacity : ℕ) (change : Change) (plan : Plan) → K ≡ J → Makes before request change plan → IsPlan (next_of J) capacity plan
-    → OnErr r (AddsFront K (next_of K) (plan_blocks plan) J') → OnErr r ((J' ≡ J) ⊎ StopsInPlan before request capacity J J')
-stops_in_plan (Ok x) K J J' before request capacity change plan same makes is front = front
-stops_in_plan (Err e) K J J' before request capacity change plan same makes is front =
-    inr (record { change = change; plan = plan; is = is; makes = makes; front = subst (λ (L : List Event). AddsFront L (next_of L) (plan_blocks plan) J') same front })
+pub has_failed : {T : Type 0} (r : Result T StoreFault) (K J J' : List Event) (before : Store) (request : Request) (capacity : ℕ) (change : Change) (plan : Plan) (store : Store) → K ≡ J → Makes before request change plan → IsPlan (next_of J) capacity plan
+    → OnErr r (AddsFront K (next_of K) (plan_blocks plan) J') → IfErr r (λ fault. fault ≡ Device) → store.is_stopped ≡ is_err r → IfErr r (IsRefused before request capacity J J' store)
+has_failed (Ok x) K J J' before request capacity change plan store same makes is front device stopped = tt
+has_failed (Err e) K J J' before request capacity change plan store same makes is front device stopped = inr (record {
+  device = device;
+  front = record { change = change; plan = plan; is = is; makes = makes; front = subst (λ (L : List Event). AddsFront L (next_of L) (plan_blocks plan) J') same front };
+  stopped = stopped;
+})
 
 -- a store is stopped where it answers an error
 pub goes_on : {T E : Type 0} (r : Result T E) (b : Bool) → b ≡ is_err r → OnOk r (b ≡ false)
 goes_on (Ok x) b h = h
 goes_on (Err e) b h = tt
-
-pub is_stopped : {T E : Type 0} (r : Result T E) (b : Bool) (P : Type 0) → b ≡ is_err r → OnErr r (b ≡ false → P)
-is_stopped (Ok x) b P h = tt
-is_stopped (Err e) b P h = λ f. absurd (false≢true (sym f ∙ h))
 
 -- what was unwrapped
 pub some_is : (o : Option ℕ) (x m : ℕ) (P : Type 0) → o ≡ Some x → SomeIff o P m → x ≡ m

@@ -33,3 +33,4 @@ pub mod Walks
 pub mod Ways
 pub mod Wholes
 pub mod Writings
+pub mod Snapshots

@@ -94,9 +94,12 @@ knows_opened capacity volume J S once stands at state last shown store there vat
 pub not_read : (capacity : ℕ) (M : Medium) (at : ℕ) (fault : StoreFault) → IsLast M (Some at) → IsStateRefused capacity M at fault → IsOpenRefused capacity M fault
 not_read capacity M at Device last refused = tt
 not_read capacity M at Memory last refused = tt
-not_read capacity M at (Damaged block cause) last refused = λ volume S stands.
-    let told = told_there capacity volume M S stands at (at_last capacity volume M S stands at last) in
-    refused volume stands.block S told.0 told.1
+not_read capacity M at (Damaged block cause) last refused = (
+  (at, last.0, last.1),
+  λ volume S stands.
+      let told = told_there capacity volume M S stands at (at_last capacity volume M S stands at last) in
+      refused volume stands.block S told.0 told.1,
+)
 not_read capacity M at _ last refused = absurd refused
 
 pub shortage_opened : (capacity : ℕ) (M : Medium) (fault : StoreFault) → IsShortage fault → IsOpenRefused capacity M fault
@@ -108,7 +111,7 @@ pub short_opened : (capacity volume : ℕ) (M : Medium) (S : model.State) (fault
 short_opened capacity volume M S Device stands refused = inl refl
 short_opened capacity volume M S Memory stands refused = inr refl
 short_opened capacity volume M S NotFormatted stands refused = absurd (some_entry capacity volume M S stands refused)
-short_opened capacity volume M S (Damaged block cause) stands refused = absurd (refused volume S stands)
+short_opened capacity volume M S (Damaged block cause) stands refused = absurd (refused.1 volume S stands)
 short_opened capacity volume M S _ stands refused = absurd refused
 
 pub opened_short : (capacity volume : ℕ) (J : List Event) (S : model.State) (result : Result Store StoreFault) (h : Type 0) → IsErr result → IfErr result (λ fault. h → IsOpenRefused capacity (held J) fault) → h → Stands udf capacity volume (held J) S

@@ -1,20 +1,24 @@
 -- Why a medium is not opened.
-use Rattle.std.specs.Prelude.{⊤, ℕ, List}
+use Rattle.std.specs.Prelude.{⊤, ℕ, ◌≤◌, List}
 use Rattle.model.specs.Session.{State}
 use Rattle.medium.specs.Volume.{Stands}
 use Rattle.recover.specs.declared.fault.StoreFault.{StoreFault}
 use Rattle.recover.specs.declared.fault.StoreFault.TheVariants.{Device, Memory, NotFormatted, Damaged}
-use Rattle.recover.specs.Tables.{HasNoneFrom}
+use Rattle.recover.specs.Tables.{HasEntry, HasNoneFrom}
 use Rattle.udf.specs.Udf.{udf}
 
 -- nothing stands on the medium, on a drive of this capacity
 abbrev pub NothingStands : ℕ → List (List ℕ) → Type 0
 NothingStands capacity medium = (volume : ℕ) (S : State) → Stands udf capacity volume medium S → ⊥
 
--- the drive failed, memory was short, no table's entry is there, or nothing stands
+-- the entry of a table is on the medium
+abbrev pub HasSomeEntry : List (List ℕ) → Type 0
+HasSomeEntry medium = (at : ℕ) × (257 ≤ at) × HasEntry medium at
+
+-- the drive failed, memory was short, no table's entry is there, or one is and nothing stands
 abbrev pub IsOpenRefused : ℕ → List (List ℕ) → StoreFault → Type 0
 IsOpenRefused capacity medium Device = ⊤
 IsOpenRefused capacity medium Memory = ⊤
 IsOpenRefused capacity medium NotFormatted = HasNoneFrom medium 257
-IsOpenRefused capacity medium (Damaged block cause) = NothingStands capacity medium
+IsOpenRefused capacity medium (Damaged block cause) = HasSomeEntry medium × NothingStands capacity medium
 IsOpenRefused capacity medium _ = ⊥

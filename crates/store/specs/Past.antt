@@ -1,9 +1,9 @@
 -- The states that stood, as a store tells of them.
-use Rattle.std.specs.Prelude.{◌≡◌, ⊤, ℕ, ◌<◌, ◌≤◌, List, []}
-use Rattle.drive.specs.Journal.{Event, held, next_of}
+use Rattle.std.specs.Prelude.{◌≡◌, ⊤, ℕ, ◌<◌, ◌≤◌, Bool, IsTrue, List, [], length, take, Option}
+use Rattle.drive.specs.Journal.{Event, Once, held, next_of}
 use Rattle.model.specs.Graph.{MakesTree}
 use Rattle.model.specs.Session.{State}
-use Rattle.model.specs.Tree.{IsTree, identity_at}
+use Rattle.model.specs.Tree.{IsTree, Tree, identity_at}
 use Rattle.medium.specs.Volume.{Past}
 use Rattle.udf.specs.Said.{said_table}
 use Rattle.udf.specs.Udf.{udf}
@@ -11,7 +11,9 @@ use Rattle.vat.specs.declared.table.Vat.{Vat}
 use Rattle.vat.specs.Table.{view}
 use Rattle.recover.specs.declared.fault.StoreFault.{StoreFault}
 use Rattle.recover.specs.declared.fault.StoreFault.TheVariants.{Device, Memory, Damaged, NoCommit}
-use Rattle.store.specs.Shows.{graph_below}
+use Rattle.store.specs.declared.directories.Directories.{Directories}
+use Rattle.store.specs.Cache.{AreKept}
+use Rattle.store.specs.Shows.{Shows, graph_below}
 
 -- the state after so many commits stood, and this table, whose entry stands at an address, leads to its nodes
 pub record IsPast (capacity volume : ℕ) (journal : List Event) (commits : ℕ) (S : State) (at : ℕ) (vat : Vat) : Type 0 where
@@ -42,3 +44,10 @@ IsCheckRefused capacity volume medium commits Device = ⊤
 IsCheckRefused capacity volume medium commits Memory = ⊤
 IsCheckRefused capacity volume medium commits (Damaged block cause) = AllStood capacity volume medium commits → ⊥
 IsCheckRefused capacity volume medium commits _ = ⊥
+
+-- What a snapshot shows stays where the journal goes on, each address once, as behind any run: its nodes make the same tree,
+-- with whatever directories lie there, and its table's entry is on the medium.
+abbrev pub SnapshotsStay : Type 0
+SnapshotsStay =
+    (honest still : Bool) (J J' : List Event) (directories kept : Directories) (at : ℕ) (entries : List (Option ℕ)) (t : Tree) → Shows honest J directories at entries t → at ≤ next_of J
+    → Once J' → take (length J) J' ≡ J → IsTrue still → AreKept J' kept → Shows still J' kept at entries t × (at ≤ next_of J')

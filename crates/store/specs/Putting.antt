@@ -1,6 +1,8 @@
 -- What a commit writes to a drive.
-use Rattle.std.specs.Prelude.{◌≡◌, ℕ, ◌+◌, List, ◌++◌}
+use Rattle.std.specs.Prelude.{◌≡◌, ◌⊎◌, ℕ, ◌+◌, true, List, ◌++◌}
 use Rattle.drive.specs.Journal.{Event, next_of, written, AddsFront}
+use Rattle.recover.specs.declared.fault.StoreFault.{StoreFault}
+use Rattle.recover.specs.declared.fault.StoreFault.TheVariants.{Device}
 use Rattle.request.specs.Numbers.{code_number}
 use Rattle.request.specs.declared.answer.Reply.{Reply}
 use Rattle.request.specs.declared.message.Request.{Request}
@@ -38,3 +40,18 @@ pub record StopsInPlan (before : Store) (request : Request) (capacity : ℕ) (J 
   pub is : IsPlan (next_of J) capacity plan
   pub makes : Makes before request change plan
   pub front : AddsFront J (next_of J) (plan_blocks plan) J'
+
+-- A write failed, and the store is stopped.
+pub record HasFailed (before : Store) (request : Request) (capacity : ℕ) (J J' : List Event) (fault : StoreFault) (store : Store) : Type 0 where
+  pub device : fault ≡ Device
+  pub front : StopsInPlan before request capacity J J'
+  pub stopped : store.is_stopped ≡ true
+
+-- Nothing was written, and the store is as it was, but for the directories that it keeps.
+pub record IsUntouched (before : Store) (J J' : List Event) (store : Store) : Type 0 where
+  pub journal : J' ≡ J
+  pub store_is : store ≡ record before { directories = store.directories }
+
+-- what a refusal leaves
+abbrev pub IsRefused : Store → Request → ℕ → List Event → List Event → Store → StoreFault → Type 0
+IsRefused before request capacity J J' store fault = IsUntouched before J J' store ⊎ HasFailed before request capacity J J' fault store

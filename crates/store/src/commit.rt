@@ -1,6 +1,6 @@
 //! A commit: what is planned is written, and then kept.
 
-ghost use Rattle.std.specs.Prelude.{◌≡◌, ℕ, ◌+◌, ◌<◌, ◌≤◌, ◌^◌, ◌++◌, ◌⊎◌, [], ◌∷◌, false, true, Err, is_err, length, IsTrue, IfOk, IfErr, OnOk, OnErr};
+ghost use Rattle.std.specs.Prelude.{◌≡◌, ℕ, ◌+◌, ◌<◌, ◌≤◌, ◌^◌, ◌++◌, [], ◌∷◌, false, true, Err, is_err, length, IsTrue, IfOk, IfErr, OnOk, OnErr};
 ghost use Rattle.drive.specs.Journal.{Once, next_of, written, AddsFront, counted};
 ghost use Rattle.drive.specs.Waiting.{end_of, Takes, Stops};
 ghost use Rattle.recover.specs.Faults.{Counts, devices};
@@ -10,7 +10,7 @@ ghost use Rattle.store.specs.Asked.{said_request};
 ghost use Rattle.store.specs.Calls.{Applies, Knows};
 ghost use Rattle.store.specs.Cache.{AreKept};
 ghost use Rattle.store.specs.Plan.{IsPlan, file_list, directory_list, directories_list, table_data, plan_blocks};
-ghost use Rattle.store.specs.Putting.{WritesPlan, StopsInPlan};
+ghost use Rattle.store.specs.Putting.{WritesPlan, IsRefused};
 ghost use Rattle.table.specs.TableChange.{IsNext};
 ghost use Rattle.recover.specs.declared.fault.StoreFault.TheVariants.{Device, Stopped};
 
@@ -90,7 +90,8 @@ fn write_directories<D: Drive>(
     Ok(())
 }
 
-/// The table's bytes, and its entry, with which the commit takes effect.
+/// The table's bytes, and its entry, with which the commit takes effect. The entry waits for a write of its own, behind the
+/// finished writes of all else: whatever part of a write a loss of power leaves, it stands only where all that it leads to does.
 fn write_table<D: Drive>(
     writer: &mut Writer,
     drive: &mut D,
@@ -106,6 +107,7 @@ fn write_table<D: Drive>(
     ensures honest { IsTrue (D.honest drive.new) → IsTrue (D.honest drive.old) }
 {
     writer.put_bytes(drive, table.gap, &table.bytes)?;
+    writer.finish(drive)?;
     writer.put(drive, &table.entry)?;
     Ok(())
 }
@@ -159,9 +161,9 @@ impl Store {
         ensures agrees { Agrees (D.journal drive.new) (D.capacity drive.new) self.new }
         ensures commit { IfOk result (λ reply. reply.commit ≡ self.old.vat.sessions.commits + 1) }
         ensures written { IfOk result (λ reply. WritesPlan self.old request.now (D.capacity drive.old) (D.journal drive.old) (D.journal drive.new) self.new reply) }
-        ensures front { OnErr result ((D.journal drive.new ≡ D.journal drive.old) ⊎ StopsInPlan self.old request.now (D.capacity drive.old) (D.journal drive.old) (D.journal drive.new)) }
-        ensures refused { OnErr result (self.new.is_stopped ≡ false → D.journal drive.new ≡ D.journal drive.old) }
-        ensures stopped { self.old.is_stopped ≡ true → result ≡ Err Stopped }
+        // On any drive a refusal leaves store and journal as they were, unless a write failed: then the store is stopped.
+        ensures refused { IfErr result (IsRefused self.old request.now (D.capacity drive.old) (D.journal drive.old) (D.journal drive.new) self.new) }
+        ensures stopped { self.old.is_stopped ≡ true → (result ≡ Err Stopped) × (self.new ≡ self.old) × (drive.new ≡ drive.old) }
         ensures goes_on { OnOk result (self.new.is_stopped ≡ false) }
         ensures capacity { D.capacity drive.new ≡ D.capacity drive.old }
         ensures honest { IsTrue (D.honest drive.new) → IsTrue (D.honest drive.old) }

@@ -81,7 +81,7 @@ impl Nodes<'_> {
         let (block, at) = self.entry_block(drive, address)?;
         let entry = match decode_fe(&block, address) {
             Ok(entry) => entry,
-            Err(fault) => return Err(damaged(at, fault as u8)),
+            Err(fault) => return Err(damaged(at, fault.number())),
         };
         let Place::Extent(first) = entry.place else {
             return Err(damaged(at, cause::RANGE));

@@ -184,7 +184,7 @@ fn moment_and_size<D: Drive>(
     let (block, at) = nodes.entry_block(drive, address)?;
     match decode_fe(&block, address) {
         Ok(entry) => Ok((entry.moment.moment(), entry.size)),
-        Err(fault) => Err(damaged(at, fault as u8)),
+        Err(fault) => Err(damaged(at, fault.number())),
     }
 }
 
@@ -207,7 +207,7 @@ fn file_data<D: Drive>(
     let (block, at) = nodes.entry_block(drive, address)?;
     let entry = match decode_fe(&block, address) {
         Ok(entry) => entry,
-        Err(fault) => return Err(damaged(at, fault as u8)),
+        Err(fault) => return Err(damaged(at, fault.number())),
     };
     match entry.place {
         Place::None => Ok(FileData::new(Vec::new(alloc))),

@@ -38,7 +38,7 @@ impl Store {
         ensures opens { (volume : ℕ) (S : said.State) → IsTrue (D.honest drive.new) → Once (D.journal drive.old) → Stands udf (D.capacity drive.old) volume (held (D.journal drive.old)) S → Opens (D.capacity drive.old) volume (D.journal drive.old) S result }
         // Nothing else is opened on one.
         ensures stands { IfOk result (λ store. IsTrue (D.honest drive.new) → Once (D.journal drive.old) → (S : said.State) × Knows (D.capacity drive.old) store.capacity (D.journal drive.old) S store) }
-        // Where it is not opened, the medium is not formatted, or nothing stands there.
+        // Where it is not opened, no table's entry is on the medium, or one is and nothing stands there.
         ensures refused { IfErr result (λ fault. IsTrue (D.honest drive.new) → IsOpenRefused (D.capacity drive.old) (held (D.journal drive.old)) fault) }
         ensures agrees { IfOk result (Agrees (D.journal drive.old) (D.capacity drive.old)) }
         ensures kept { IfOk result (λ store. AreKept (D.journal drive.new) store.directories) }

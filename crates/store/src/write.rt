@@ -178,11 +178,12 @@ impl Writer {
         Ok(())
     }
 
-    /// Writes the blocks that wait.
+    /// Writes the blocks that wait. None waits then, and the next block begins a write of its own.
     pub(crate) fn finish<D: Drive>(&mut self, drive: &mut D) -> Result<(), DriveFault>
         requires begins { self.old.packets.at ≤ next_of (D.journal drive.old) }
         requires fits { end_of self.old.packets ≤ D.capacity drive.old }
         ensures ok { OnOk result (D.journal drive.new ≡ D.journal drive.old ++ written self.old.packets.at self.old.packets.blocks) }
+        ensures empty { OnOk result (self.new.packets ≡ record { at = end_of self.old.packets; blocks = [] }) }
         ensures err { OnErr result (AddsFront (D.journal drive.old) self.old.packets.at self.old.packets.blocks (D.journal drive.new)) }
         ensures capacity { D.capacity drive.new ≡ D.capacity drive.old }
         ensures failures { D.failures drive.new ≡ counted (is_err result) (D.failures drive.old) }

@@ -3,3 +3,4 @@ pub mod Udf
 pub mod Said
 pub mod NewVolume
 pub mod Laws
+pub mod Torn

@@ -5,6 +5,7 @@ ghost use Rattle.udf.specs.Udf.{udf, spelled};
 ghost use Rattle.udf.specs.Said.{EntriesAgree, DirectoriesAgree, TablesAgree, SizesAgree, ImitationAgrees, DataAgrees, ClearStartsAgree};
 ghost use Rattle.udf.specs.NewVolume.{NewVolumesAreFormats};
 ghost use Rattle.udf.specs.Laws.{OneStands, StandingIsSound, OnePast, PastIsWithin, StandingIsLast, StandsAppended, PastAppended, PlannedCarries, PlannedShort, CommitAdvances, NothingBefore, FormatStands, RunsHold, RunsHoldOnJournal};
+ghost use Rattle.udf.specs.Torn.{FrontsAreLeft, FewerAreLeft, ChoicesAreLeft, TornPartIsAlike, LastBlockDecides, TornCommitMoves, TornCommitShort, TornCommitAdvances, AnsweredEndure, CommitsEndure, TornCommitRuns, TornFormatIsNothing, TornFormatStands};
 
 /// A block is one file entry at most at its location, blocks are the data of one directory, bytes are one table.
 pub fn formats_are_exact()
@@ -87,4 +88,36 @@ pub fn new_volumes_are_formats()
 pub fn runs_hold()
     ensures medium { RunsHold }
     ensures journal { RunsHoldOnJournal }
+{}
+
+/// Of writes, each synced before the next begins, a loss of power may leave the whole ones and of the next any choice of
+/// its blocks, or of a front of it, with zeros in place of the others. A front of all of them is a case.
+pub fn torn_images_are_left()
+    ensures fronts { FrontsAreLeft }
+    ensures fewer { FewerAreLeft }
+    ensures choices { ChoicesAreLeft }
+{}
+
+/// Where a commit's last block goes out alone behind all others, the old state stands whatever is left of the others, and
+/// the state after the request with the last block alone.
+pub fn torn_commits_move()
+    ensures part { TornPartIsAlike }
+    ensures last { LastBlockDecides }
+    ensures moves { TornCommitMoves }
+    ensures short { TornCommitShort }
+    ensures journal { TornCommitAdvances }
+{}
+
+/// At any moment of commits in turn those that were answered are there. Behind any number of losses of power, with
+/// commits between them, the state after the whole ones stands, and no other. A run's laws hold with losses of power in it.
+pub fn commits_endure()
+    ensures answered { AnsweredEndure }
+    ensures turns { CommitsEndure }
+    ensures runs { TornCommitRuns }
+{}
+
+/// So of a format whose last block goes out alone: nothing stands, or the new volume does.
+pub fn torn_formats_stand()
+    ensures part { TornFormatIsNothing }
+    ensures stands { TornFormatStands }
 {}

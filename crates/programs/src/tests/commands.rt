@@ -167,3 +167,31 @@ fn no_daemon_is_there(rt: HostRuntime) -> Result<(), Fail> {
     assert!(rt; told.is(1, b"", b"udfburn: 94 Socket\n"));
     Ok(())
 }
+
+#[test]
+fn a_file_that_begins_no_format(rt: HostRuntime) -> Result<(), Fail> {
+    let image = "part.img";
+    formatted(&rt, image)?;
+    let whole = fs::read(&rt, image)?;
+    let words = ["format", image, "DISC", "0", "3000"];
+    // Bytes of a user's, and a part of a block of another format.
+    fs::write(&rt, image, b"notes")?;
+    assert!(rt; run(&rt, &words, b"").is(1, b"", b"udfburn: 61 NotBlank\n"));
+    assert_eq!(rt; fs::read(&rt, image)?.as_slice(), b"notes".as_slice());
+    let part = whole.get(..34 * 2048 + 900).ok_or("a short image")?;
+    fs::write(&rt, image, part)?;
+    let told = run(&rt, &["format", image, "DISC", "0", "2999"], b"");
+    assert!(rt; told.is(1, b"", b"udfburn: 61 NotBlank\n"));
+    assert_eq!(rt; fs::read(&rt, image)?.as_slice(), part);
+    // A part of one of this format is gone over.
+    assert!(rt; run(&rt, &words, b"").is(0, b"formatted\n", b""));
+    assert_eq!(rt; fs::read(&rt, image)?.as_slice(), whole.as_slice());
+    // A volume with something behind it is no beginning of a format.
+    let mut longer = whole.clone()?;
+    longer.push(0)?;
+    fs::write(&rt, image, &longer)?;
+    assert!(rt; run(&rt, &words, b"").is(1, b"", b"udfburn: 61 NotBlank\n"));
+    assert_eq!(rt; fs::read(&rt, image)?.as_slice(), longer.as_slice());
+    fs::remove_file(&rt, image)?;
+    Ok(())
+}

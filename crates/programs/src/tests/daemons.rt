@@ -32,6 +32,8 @@ fn an_image_comes_before_the_socket(rt: HostRuntime) -> Result<(), Fail> {
     formatted(&rt, image)?;
     let told = run_daemon(&rt, &["udfburnd", image, "missing/daemon.socket"]);
     assert!(rt; told.is(1, b"", b"udfburnd: 94 Socket\n"));
+    let told = run_daemon(&rt, &["udfburnd", image, ""]);
+    assert!(rt; told.is(1, b"", b"udfburnd: 94 Socket\n"));
     // With no connection to wait for it binds the socket and ends, and the socket's path stays.
     let words = ["udfburnd", image, socket, "--connections", "0"];
     let told = run_daemon(&rt, &words);
@@ -55,7 +57,7 @@ fn a_connection_is_served(rt: HostRuntime) -> Result<(), Fail> {
     for _ in 0..2 {
         let mut stream = UnixStream::connect(&rt, socket)?;
         send_frames(rt.alloc(), &mut stream, &mut CREATE.as_slice())?;
-        serve_one(rt.alloc(), &listener, &mut engine, &mut drive)?;
+        serve_one(rt.alloc(), &listener.accept()?.0, &mut engine, &mut drive)?;
         let mut answers = Vec::new(rt.alloc());
         copy_answers(rt.alloc(), &mut stream, &mut answers)?;
         assert_eq!(rt;
@@ -82,12 +84,12 @@ fn a_client_that_goes_away(rt: HostRuntime) -> Result<(), Fail> {
     let mut gone = UnixStream::connect(&rt, socket)?;
     send_frames(rt.alloc(), &mut gone, &mut CREATE.as_slice())?;
     drop(gone);
-    let served = serve_one(rt.alloc(), &listener, &mut engine, &mut drive);
+    let served = serve_one(rt.alloc(), &listener.accept()?.0, &mut engine, &mut drive);
     assert!(rt; served == Err(Fault::Stream(ServeFault::Write)));
     // The next connection is served, and the request that was sent is known.
     let mut stream = UnixStream::connect(&rt, socket)?;
     send_frames(rt.alloc(), &mut stream, &mut CREATE.as_slice())?;
-    serve_one(rt.alloc(), &listener, &mut engine, &mut drive)?;
+    serve_one(rt.alloc(), &listener.accept()?.0, &mut engine, &mut drive)?;
     let mut answers = Vec::new(rt.alloc());
     copy_answers(rt.alloc(), &mut stream, &mut answers)?;
     assert_eq!(rt;

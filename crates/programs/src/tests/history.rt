@@ -1,7 +1,7 @@
 //! The commits of an image, and what is found of damaged ones.
 
 use super::asking::{CREATE, MAKE, formatted, run};
-use std::fs::{File, OpenOptions};
+use std::fs::{self, File, OpenOptions};
 use std::io::{Seek, SeekFrom, Write};
 use std::test::Fail;
 
@@ -37,6 +37,7 @@ fn commits_are_listed(rt: HostRuntime) -> Result<(), Fail> {
     assert!(rt; log.is(0, b"3 276 0 2\n2 272 1 2\n1 266 1 1\n0 261 0 1\n", b""));
     let check = run(&rt, &["check", image], b"");
     assert!(rt; check.is(0, b"sound 3\n", b""));
+    fs::remove_file(&rt, image)?;
     Ok(())
 }
 
@@ -60,6 +61,7 @@ fn a_damaged_link_is_told(rt: HostRuntime) -> Result<(), Fail> {
     }
     let listing = run(&rt, &["ls", image, "/"], b"");
     assert!(rt; listing.is(0, b"f a\n", b""));
+    fs::remove_file(&rt, image)?;
     Ok(())
 }
 
@@ -74,6 +76,7 @@ fn an_earlier_state_that_does_not_stand_is_told(rt: HostRuntime) -> Result<(), F
     assert!(rt; log.is(0, b"1 266 1 1\n0 261 0 1\n", b""));
     let check = run(&rt, &["check", image], b"");
     assert!(rt; check.is(1, b"", b"udfburn: 67 Damaged block 259 cause 21\n"));
+    fs::remove_file(&rt, image)?;
     Ok(())
 }
 
@@ -86,5 +89,6 @@ fn an_image_without_a_volume_has_no_commits(rt: HostRuntime) -> Result<(), Fail>
         let told = run(&rt, &[command, "no.img"], b"");
         assert!(rt; told.is(1, b"", b"udfburn: 64 Device\n"));
     }
+    fs::remove_file(&rt, "blank.img")?;
     Ok(())
 }

@@ -2,6 +2,7 @@
 
 use super::asking::{CREATE, Told, formatted, run};
 use crate::command;
+use crate::counting::FrameCount;
 use std::io::{Error, ErrorKind, Read, Write};
 use std::test::Fail;
 use std::{fs, io};
@@ -119,5 +120,31 @@ fn an_image_that_is_cut(rt: HostRuntime) -> Result<(), Fail> {
         assert!(rt; told.is(0, b"hello", b""));
     }
     fs::remove_file(&rt, image)?;
+    Ok(())
+}
+
+#[test]
+fn frames_that_end_are_counted(rt: HostRuntime) -> Result<(), Fail> {
+    // Bytes of a stream, and how many frames end in them.
+    let rows: [(&[u8], u64); 7] = [
+        (b"", 0),
+        (b"\0\0\0", 0),
+        (b"\0\0\0\0", 1),
+        (b"\x02\0\0\0a", 0),
+        (b"\x02\0\0\0ab\0\0\0\0\x01\0\0\0c\x01\0", 3),
+        (b"\0\0\x11\0\0\0\0\0", 0),
+        // A length above the limit is the last.
+        (b"\0\0\0\0\x01\0\x11\0\0\0\0\0", 2),
+    ];
+    for (bytes, count) in rows {
+        let mut whole = FrameCount::new();
+        whole.feed(bytes);
+        assert_eq!(rt; whole.count(), count);
+        let mut single = FrameCount::new();
+        for byte in bytes {
+            single.feed(&[*byte]);
+        }
+        assert_eq!(rt; single.count(), count);
+    }
     Ok(())
 }

@@ -14,5 +14,5 @@ loop-done-preserved g c = record {
   journal = packet_written (g.D.Drive.journal c.args.drive.now) (g.D.Drive.journal c.loop-done.drive) (g.D.Drive.journal c.write.new.self) c.args.at c.loop-done.done c.min-end.result c.args.blocks.now (omega arith) (omega arith) c.loop-done.invariant.journal c.in-Ok.ensures.ok;
   capacity = c.write.ensures.capacity ∙ c.loop-done.invariant.capacity;
   failures = c.in-Ok.ensures.failures ∙ c.loop-done.invariant.failures;
-  honest = λ h. c.loop-done.invariant.honest (c.write.ensures.honest h);
+  honest = c.write.ensures.honest ∙ c.loop-done.invariant.honest;
 }

@@ -1,4 +1,4 @@
-use Rattle.std.proofs.Common.{◌≡◌, ◌-◌, ◌≤◌, ◌++◌, length, take, IsTrue}
+use Rattle.std.proofs.Common.{◌≡◌, ◌-◌, ◌≤◌, ◌++◌, length, take}
 use Rattle.drive.specs.Journal.{written}
 use Rattle.drive.proofs.packet.write_packets.Given as goal
 
@@ -9,7 +9,7 @@ invariant-loop-done g l = record {
   journal : g.D.Drive.journal l.drive ≡ g.D.Drive.journal l.fn.drive ++ written l.at (take l.done l.blocks);
   capacity : g.D.Drive.capacity l.drive ≡ g.D.Drive.capacity l.fn.drive;
   failures : g.D.Drive.failures l.drive ≡ g.D.Drive.failures l.fn.drive;
-  honest : IsTrue (g.D.Drive.honest l.drive) → IsTrue (g.D.Drive.honest l.fn.drive);
+  honest : g.D.Drive.honest l.drive ≡ g.D.Drive.honest l.fn.drive;
 }
 
 abbrev pub decreases-loop-done : goal.decreases-loop-done

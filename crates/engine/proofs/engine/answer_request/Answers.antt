@@ -1,5 +1,5 @@
 use Rattle.std.proofs.Common.{Ok, Err, refl, sym, inl, inr}
-use Rattle.engine.proofs.Fronts.{behind_front}
+use Rattle.engine.proofs.Fronts.{behind_refused, open_unwritten}
 use Rattle.engine.proofs.Next.{is_next}
 use Rattle.engine.proofs.Rows.{committed_due, counts_as, dealt_new}
 use Rattle.engine.proofs.engine.answer_request.Goals as goal
@@ -23,10 +23,10 @@ returns-in-Ok-clause-dealt g c volume S honest knows going = dealt_new _ volume 
 
 pub returns-in-Err : goal.returns-in-Err
 returns-in-Err g c = record {
-  due = committed_due _ _ _ _ c.in-New.ensures (inr (c.refusal.ensures.may, c.in-Err.ensures.refused));
+  due = committed_due _ _ _ _ c.in-New.ensures (inr (c.refusal.ensures.may, open_unwritten _ _ _ _ _ _ _ c.in-Err.ensures.refused));
   follows = record {
     ready = c.in-Err.ensures.agrees;
-    front = behind_front _ _ _ _ _ c.in-Err.ensures.front;
+    front = behind_refused _ _ _ _ _ _ _ c.in-Err.ensures.refused;
     capacity = c.in-Err.ensures.capacity;
     honest = c.in-Err.ensures.honest;
   };

@@ -1,6 +1,6 @@
-use Rattle.std.proofs.Common.{rules, arith, ◌≡◌, ◌++◌}
+use Rattle.std.proofs.Common.{rules, arith, ◌≡◌, ◌++◌, take}
 use Rattle.std.specs.Option.{option_to_list}
-use Rattle.engine.proofs.Delivering.{next_delivered}
+use Rattle.engine.proofs.Delivering.{all_counted, next_delivered}
 use Rattle.engine.proofs.Running.{begun_run, ended_run, next_run}
 use Rattle.engine.proofs.runs.run.Goals as goal
 use Rattle.engine.proofs.runs.run.Goals.{in-Some, in_default}
@@ -47,3 +47,6 @@ loop-delivery-preserved g c =
 pub returns-clause-holds : goal.returns-clause-holds
 returns-clause-holds g c volume S honest once stands =
     ended_run volume c.args.deliveries.now c.loop-delivery.delivery-index S _ _ _ _ _ _ (omega arith) once stands (c.loop-delivery.invariant.held volume S honest once stands)
+
+pub returns-clause-failures : goal.returns-clause-failures
+returns-clause-failures g c = all_counted (take c.loop-delivery.delivery-index c.args.deliveries.now) _ c.loop-delivery.answers.items _ c.loop-delivery.invariant.delivered

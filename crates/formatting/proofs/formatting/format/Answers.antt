@@ -1,28 +1,28 @@
-use Rattle.std.proofs.Common.{◌≡◌, ◌≤◌, ◌++◌, min, List, ◌∙◌, subst, ap, inr, arith, rules}
+use Rattle.std.proofs.Common.{◌≡◌, ◌≤◌, ◌++◌, min, IsTrue, List, ◌∙◌, subst, ap, inr, arith, rules}
 use Rattle.drive.specs.Journal.{written, AddsFront}
 use Rattle.medium.specs.Formats.{Block}
 use Rattle.formatting.specs.NewVolume.{Words, words_of, IsFormatted, IsCut}
 use Rattle.formatting.proofs.FormatJournals.{cut_is, formatted_is, same_words}
 use Rattle.formatting.proofs.formatting.format.Goals as goal
 
-pub returns-in-Ok-write_packets-clause-ok : goal.returns-in-Ok-write_packets-clause-ok
-returns-in-Ok-write_packets-clause-ok g c =
+pub returns-in-Ok-write_last_alone-clause-ok : goal.returns-in-Ok-write_last_alone-clause-ok
+returns-in-Ok-write_last_alone-clause-ok g c =
     let parts = c.in-Ok-parts_of.parts in
     let capacity = g.D.Drive.capacity c.args.drive.now in
     let before = g.D.Drive.journal c.args.drive.now in
     let between = g.D.Drive.journal c.begun.new.drive in
-    let behind = g.D.Drive.journal c.write_packets.new.drive in
-    let now = g.D.Drive.honest c.write_packets.new.drive in
+    let behind = g.D.Drive.journal c.write_last_alone.new.drive in
+    let now = g.D.Drive.honest c.write_last_alone.new.drive in
     let next = rw c.in-Ok-Some.field-0-is at c.in-Ok-Some.ensures.next in
     let seen = rw c.in-Ok-Some.field-0-is at c.in-Ok-Some.ensures.seen in
     let volume : c.min.result ≡ min capacity 450_000 = c.min.ensures ∙ ap (λ n. min n 450_000) c.capacity-capacity.ensures in
     let moment : c.unwrap-moment.result ≡ c.args.moment = search rules in
     let words = same_words (words_of parts) _ _ _ _ _ _ c.in-Ok-parts_of.ensures volume c.in-Ok.ensures.label.0 moment in
     let room : parts.capacity ≤ capacity = omega (arith, ap (λ (w : Words). w.volume) words) in
-    let written : behind ≡ between ++ written c.in-Ok-Some.count c.in-Ok-rest.blocks.items = c.in-Ok-write_packets.ensures.ok ∙ ap (λ (bs : List Block). between ++ written c.in-Ok-Some.count bs) c.deref.ensures.value in
+    let written : behind ≡ between ++ written c.in-Ok-Some.count c.in-Ok-rest.blocks.items = c.in-Ok-write_last_alone.ensures.ok ∙ ap (λ (bs : List Block). between ++ written c.in-Ok-Some.count bs) c.deref.ensures.value in
     subst (λ w. IsFormatted capacity w before behind now) words
     (formatted_is capacity (words_of parts) parts.low parts.high room before between behind (g.D.Drive.honest c.begun.new.drive) now c.in-Ok-Some.count c.in-Ok-rest.blocks.items
-    c.in-Ok-Some.ensures.journal next.0 next.1 seen c.in-Ok-rest.ensures c.in-Ok-write_packets.ensures.honest written)
+    c.in-Ok-Some.ensures.journal next.0 next.1 seen c.in-Ok-rest.ensures (subst IsTrue c.in-Ok-write_last_alone.ensures.honest) written)
 
 pub returns-clause-err : goal.returns-clause-err
 returns-clause-err g c =
@@ -30,15 +30,15 @@ returns-clause-err g c =
     let capacity = g.D.Drive.capacity c.args.drive.now in
     let before = g.D.Drive.journal c.args.drive.now in
     let between = g.D.Drive.journal c.begun.new.drive in
-    let behind = g.D.Drive.journal c.write_packets.new.drive in
-    let now = g.D.Drive.honest c.write_packets.new.drive in
+    let behind = g.D.Drive.journal c.write_last_alone.new.drive in
+    let now = g.D.Drive.honest c.write_last_alone.new.drive in
     let next = rw c.in-Ok-Some.field-0-is at c.in-Ok-Some.ensures.next in
     let seen = rw c.in-Ok-Some.field-0-is at c.in-Ok-Some.ensures.seen in
     let volume : c.min.result ≡ min capacity 450_000 = c.min.ensures ∙ ap (λ n. min n 450_000) c.capacity-capacity.ensures in
     let moment : c.unwrap-moment.result ≡ c.args.moment = search rules in
     let words = same_words (words_of parts) _ _ _ _ _ _ c.in-Ok-parts_of.ensures volume c.in-Ok.ensures.label.0 moment in
     let room : parts.capacity ≤ capacity = omega (arith, ap (λ (w : Words). w.volume) words) in
-    let adds : AddsFront between c.in-Ok-Some.count c.in-Ok-rest.blocks.items behind = subst (λ (bs : List Block). AddsFront between c.in-Ok-Some.count bs behind) c.deref.ensures.value c.in-Err-write_packets.ensures.err in
+    let adds : AddsFront between c.in-Ok-Some.count c.in-Ok-rest.blocks.items behind = subst (λ (bs : List Block). AddsFront between c.in-Ok-Some.count bs behind) c.deref.ensures.value c.in-Err-write_last_alone.ensures.err in
     inr (subst (λ w. IsCut capacity w before behind now) words
     (cut_is capacity (words_of parts) parts.low parts.high room before between behind (g.D.Drive.honest c.begun.new.drive) now c.in-Ok-Some.count c.in-Ok-rest.blocks.items
-    c.in-Ok-Some.ensures.journal next.0 next.1 seen c.in-Ok-rest.ensures c.in-Err-write_packets.ensures.honest adds))
+    c.in-Ok-Some.ensures.journal next.0 next.1 seen c.in-Ok-rest.ensures (subst IsTrue c.in-Err-write_last_alone.ensures.honest) adds))

@@ -1,4 +1,4 @@
-use Rattle.std.proofs.Common.{◌-◌, ◌<◌, ◌≤◌, sym, ◌∙◌, arith}
+use Rattle.std.proofs.Common.{◌-◌, ◌<◌, ◌≤◌, IsTrue, sym, subst, ◌∙◌, arith}
 use Rattle.std.proofs.lemmas.Bool.{false≢true}
 use Rattle.drive.specs.Journal.{held, next_of}
 use Rattle.recover.specs.Faults.{Counts}
@@ -12,7 +12,7 @@ loop-left-init g c = record {
   within = (let within : c.in-Ok.next ≤ next_of (g.D.Drive.journal c.args.drive.now) = omega (arith, c.in-Ok.ensures.next) in within);
   journal = c.next.ensures.journal;
   capacity = c.next.ensures.capacity;
-  honest = c.next.ensures.honest;
+  honest = subst IsTrue c.next.ensures.honest;
   failures = (let failures : Counts 0 (g.D.Drive.failures c.args.drive.now) (g.D.Drive.failures c.next.new.self) = λ few. omega (arith, c.in-Ok.ensures.failures) in failures);
 }
 

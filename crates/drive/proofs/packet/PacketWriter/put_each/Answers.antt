@@ -13,5 +13,5 @@ loop-block-preserved g c = record {
   taken = takes_next (g.D.Drive.journal c.args.drive.now) (g.D.Drive.journal c.loop-block.drive) (g.D.Drive.journal c.put.new.drive) c.args.self.now c.loop-block.self c.put.new.self c.loop-block.block-index c.args.blocks.now [] c.loop-block-test.true c.loop-block.invariant.taken c.in_ok-put.ensures.ok;
   capacity = c.put.ensures.capacity ∙ c.loop-block.invariant.capacity;
   failures = c.in_ok-put.ensures.failures ∙ c.loop-block.invariant.failures;
-  honest = λ h. c.loop-block.invariant.honest (c.put.ensures.honest h);
+  honest = c.put.ensures.honest ∙ c.loop-block.invariant.honest;
 }

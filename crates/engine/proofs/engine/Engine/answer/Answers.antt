@@ -79,3 +79,15 @@ returns-clause-calls g c volume S honest at = query_short volume S c.args.messag
   capacity = c.in-Err-take_open.ensures.capacity;
   store = c.in-Err-take_open.ensures.taken;
 })
+
+pub returns-in-Ok-clause-nothing : goal.returns-in-Ok-clause-nothing
+returns-in-Ok-clause-nothing g c honest holds = absurd (c.in-Ok.ensures.nothing (c.answer_request-answer.ensures.follows.honest honest) holds)
+
+pub returns-in-Ok-take_open-clause-nothing : goal.returns-in-Ok-take_open-clause-nothing
+returns-in-Ok-take_open-clause-nothing g c honest holds = absurd (c.in-Ok-take_open.ensures.nothing (c.answer_query-answer.ensures.honest honest) holds)
+
+pub returns-in-Request-clause-nothing : goal.returns-in-Request-clause-nothing
+returns-in-Request-clause-nothing g c honest holds = rw c.in-Request.is (c.failure.ensures.fails, c.in-Err.ensures.journal, c.in-Err.ensures.taken)
+
+pub returns-clause-nothing : goal.returns-clause-nothing
+returns-clause-nothing g c honest holds = rw c.in-Query.is (c.failure-in-Err-take_open.ensures.fails, c.in-Err-take_open.ensures.journal, c.in-Err-take_open.ensures.taken)

@@ -1,4 +1,4 @@
-use Rattle.std.proofs.Common.{◌≡◌, ◌⊎◌, ℕ, ◌+◌, ◌<◌, ◌≤◌, ◌∙◌, List, refl, sym, ap, subst, arith, rules}
+use Rattle.std.proofs.Common.{◌≡◌, ◌⊎◌, inl, ℕ, ◌+◌, ◌<◌, ◌≤◌, ◌∙◌, List, refl, sym, ap, subst, arith, rules}
 use Rattle.std.specs.Prelude.{Err}
 use Rattle.std.specs.FinMap.{len}
 use Rattle.std.proofs.lemmas.Bool.{false≢true}
@@ -17,7 +17,7 @@ use Rattle.table.specs.NextTable.{begun}
 use Rattle.store.specs.Plan.{IsPlan}
 use Rattle.store.specs.Putting.{Makes}
 use Rattle.table.specs.TableChange.{committed}
-use Rattle.store.proofs.Commits.{if_ok, makes_plan, plan_is, writes_plan, stops_in_plan, goes_on, is_stopped, some_is}
+use Rattle.store.proofs.Commits.{if_ok, makes_plan, plan_is, writes_plan, has_failed, goes_on, some_is}
 use Rattle.store.proofs.Applying.{applies, full, short}
 use Rattle.store.proofs.Knowing.{does_lent, few, knows_again, nodes, shows_lent, takes}
 use Rattle.store.proofs.Taking.{IsTakenBy}
@@ -52,8 +52,24 @@ returns-clause-written g c =
     let makes : Makes c.args.self.now c.args.request.now change plan = makes_plan c.args.self.now c.args.request.now change plan c.unwrap-moment.result of_moment c.in_ok-plan.ensures.moment c.in_ok-plan.ensures.code c.in_ok-plan.ensures.commit c.in_ok-plan.ensures.writings c.in_ok-plan.ensures.table in
     writes_plan c.commit.result K J (g.D.Drive.journal c.commit.new.drive) c.args.self.now c.args.request.now capacity change plan c.commit.new.self (c.plan.ensures.journal ∙ c.change.ensures.journal) makes is c.commit.ensures.reply c.commit.ensures.at c.commit.ensures.vat c.commit.ensures.written
 
-pub returns-clause-front : goal.returns-clause-front
-returns-clause-front g c =
+pub returns-then-self-clause-stopped : goal.returns-then-self-clause-stopped
+returns-then-self-clause-stopped g c h = (refl, refl, refl)
+
+pub returns-then-self-clause-refused : goal.returns-then-self-clause-refused
+returns-then-self-clause-refused g c = inl (record { journal = refl; store_is = refl })
+
+pub returns-in_err-change-clause-refused : goal.returns-in_err-change-clause-refused
+returns-in_err-change-clause-refused g c =
+    let p = err_from_is_err_and c.from_residual.result c.from_residual.ensures.1 in
+    rw p.1 (inl (record { journal = c.change.ensures.journal; store_is = refl }))
+
+pub returns-in_err-plan-clause-refused : goal.returns-in_err-plan-clause-refused
+returns-in_err-plan-clause-refused g c =
+    let p = err_from_is_err_and c.from_residual-in_err-plan.result c.from_residual-in_err-plan.ensures.1 in
+    rw p.1 (inl (record { journal = c.plan.ensures.journal ∙ c.change.ensures.journal; store_is = refl }))
+
+pub returns-clause-refused : goal.returns-clause-refused
+returns-clause-refused g c =
     let J = g.D.Drive.journal c.args.drive.now in
     let K = g.D.Drive.journal c.plan.new.drive in
     let capacity = g.D.Drive.capacity c.args.drive.now in
@@ -62,10 +78,7 @@ returns-clause-front g c =
     let change = c.in_ok-change.change in
     let of_moment : c.unwrap-moment.result ≡ c.args.request.now.moment = some_is c.of.result c.unwrap-moment.result c.args.request.now.moment _ (search rules) c.of.ensures in
     let makes : Makes c.args.self.now c.args.request.now change plan = makes_plan c.args.self.now c.args.request.now change plan c.unwrap-moment.result of_moment c.in_ok-plan.ensures.moment c.in_ok-plan.ensures.code c.in_ok-plan.ensures.commit c.in_ok-plan.ensures.writings c.in_ok-plan.ensures.table in
-    stops_in_plan c.commit.result K J (g.D.Drive.journal c.commit.new.drive) c.args.self.now c.args.request.now capacity change plan (c.plan.ensures.journal ∙ c.change.ensures.journal) makes is c.commit.ensures.front
-
-pub returns-clause-refused : goal.returns-clause-refused
-returns-clause-refused g c = is_stopped c.commit.result c.commit.new.self.is_stopped (g.D.Drive.journal c.commit.new.drive ≡ g.D.Drive.journal c.args.drive.now) c.commit.ensures.stopped
+    has_failed c.commit.result K J (g.D.Drive.journal c.commit.new.drive) c.args.self.now c.args.request.now capacity change plan c.commit.new.self (c.plan.ensures.journal ∙ c.change.ensures.journal) makes is c.commit.ensures.front c.commit.ensures.device c.commit.ensures.stopped
 
 pub returns-clause-stopped : goal.returns-clause-stopped
 returns-clause-stopped g c h = absurd (false≢true (sym c.if-self.false ∙ h))

@@ -1,0 +1,32 @@
+-- Blocks that go out in writes, each synced before the next begins, and what a loss of power leaves of them where a disk keeps the blocks of a write that is not yet synced in any order.
+use Rattle.std.specs.Prelude.{◌≡◌, ◌⊎◌, ℕ, suc, ◌<◌, ◌≤◌, Bool, if◌then◌else◌, List, [], ◌∷◌, ◌++◌, length, replicate, slice_get, Some}
+use Rattle.std.specs.List.{flat_map}
+
+-- what is read where a block did not reach the medium and one behind it did
+abbrev pub unwritten : List ℕ
+unwritten = replicate 2048 0
+
+-- the blocks of all writes
+abbrev pub joined : List (List (List ℕ)) → List (List ℕ)
+joined writes = flat_map (λ write. write) writes
+
+-- the writes have these blocks, and behind them all the last block, which goes out alone
+pub record LastIsAlone (blocks : List (List ℕ)) (last : List ℕ) (writes : List (List (List ℕ))) : Type 0 where
+  pub before : List (List (List ℕ))
+  pub order : joined before ≡ blocks
+  pub writes_are : writes ≡ before ++ (last ∷ []) ∷ []
+
+-- A torn image of a write: as many blocks or fewer, at each place the one that was written or one of zeros.
+pub record IsTorn (write left : List (List ℕ)) : Type 0 where
+  pub short : length left ≤ length write
+  pub each : (i : ℕ) → i < length left → (slice_get left i ≡ slice_get write i) ⊎ (slice_get left i ≡ Some unwritten)
+
+-- What is left of writes: a torn image of the first and nothing of the others, or the first whole and then what is left of the others.
+abbrev pub IsLeft : List (List (List ℕ)) → List (List ℕ) → Type 0
+IsLeft [] left = left ≡ []
+IsLeft (write ∷ writes) left = IsTorn write left ⊎ ((rest : List (List ℕ)) × (left ≡ write ++ rest) × IsLeft writes rest)
+
+-- the blocks that are kept, zeros in place of the others
+abbrev pub torn_by : (ℕ → Bool) → List (List ℕ) → List (List ℕ)
+torn_by keep [] = []
+torn_by keep (block ∷ blocks) = (if keep 0 then block else unwritten) ∷ torn_by (λ i. keep (suc i)) blocks

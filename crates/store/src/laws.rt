@@ -1,0 +1,8 @@
+//! What holds of what a store shows. Nothing here runs: each function's contract is a law.
+
+ghost use Rattle.store.specs.Past.{SnapshotsStay};
+
+/// What was shown of a state stays so behind all that is written later: a snapshot is good behind any run.
+pub fn snapshots_stay()
+    ensures { SnapshotsStay }
+{}
