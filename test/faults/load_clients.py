@@ -1,0 +1,523 @@
+"""Clients of the daemon that stall, reset, flood or are many, and sockets that cannot be had: the next client is served."""
+from __future__ import annotations
+
+import os
+import random
+import resource
+import socket
+import struct
+import subprocess
+import threading
+import time
+import unittest
+from pathlib import Path
+from typing import Callable, Optional
+
+from faults import harness
+from faults.harness import Answer, Client, Daemon, Model, Request
+from faults.load_support import Case, await_true, descriptors_of, memory_of, seconds_of
+
+# Seconds without a byte behind which a client is let go (docs/OPERATIONS.md).
+SILENCE = 60.0
+EMPTY_ROOT = Answer(harness.NAMES, b"\0\0")
+TOO_LONG = Answer(harness.MALFORMED, struct.pack("<H", 51))
+CUT = Answer(harness.MALFORMED, struct.pack("<H", 53))
+READ_OR_WRITE = (b"udfburnd: 91 Read\n", b"udfburnd: 92 Write\n")
+
+
+class Serving(Case):
+    def setUp(self) -> None:
+        super().setUp()
+        self.model = Model()
+        self.requests: list[Request] = []
+
+    def request(self, data: bytes = b"") -> Request:
+        number = self.model.latest.get(7, 0) + 1
+        request = Request("create", 7, number, "/f%d" % number, data)
+        self.requests.append(request)
+        return request
+
+    def next_is_served(self, daemon: Daemon) -> None:
+        """Another client's request is committed, and all that was committed is there."""
+        with daemon.client() as client:
+            request = self.request(b"next")
+            self.assertEqual(client.ask(harness.spell(request)), self.model.answer(request))
+            for each in self.requests:
+                self.assertEqual(client.ask(harness.query("get", each.path)), self.model.get(each.path))
+        self.assertIsNone(daemon.process.poll())
+
+
+class Rude(Serving):
+    """Clients that do not keep to the protocol, each on a daemon that serves others before and behind it."""
+
+    def with_daemon(self, rude: Callable[[Daemon], None], lines: int) -> None:
+        """At most so many lines are told of it, each of a stream that was left."""
+        self.fresh(capacity=20000)
+        with Daemon(self.folder) as daemon:
+            self.next_is_served(daemon)
+            rude(daemon)
+            self.next_is_served(daemon)
+            told = daemon.errors().splitlines(True)
+            self.assertLessEqual(len(told), lines)
+            for line in told:
+                self.assertIn(line, READ_OR_WRITE)
+        self.tree_is(self.model, harness.paths_of(self.requests))
+
+    def test_closed_at_once(self) -> None:
+        def rude(daemon: Daemon) -> None:
+            for _ in range(50):
+                daemon.client().close()
+        self.with_daemon(rude, 0)
+
+    def test_closed_in_a_frame(self) -> None:
+        whole = harness.spell(Request("create", 9, 1, "/never", b"x" * 3000))
+
+        def rude(daemon: Daemon) -> None:
+            for cut in (1, 2, 3, 4, 5, 20, 31, 100, len(whole) - 1):
+                with daemon.client() as client:
+                    client.send(whole[:cut])
+        self.with_daemon(rude, 0)
+
+    def test_no_more_is_sent_in_a_frame(self) -> None:
+        """Where the stream ends inside a frame, what came before it is answered and the frame is not."""
+        whole = harness.spell(Request("create", 9, 1, "/never", b"x" * 3000))
+
+        def rude(daemon: Daemon) -> None:
+            for cut in (1, 4, 5, 100, len(whole) - 1):
+                with daemon.client() as client:
+                    client.send(harness.query("get", "/none") + whole[:cut])
+                    client.end()
+                    self.assertEqual(client.answer(), Answer(harness.NO_NODE))
+                    self.assertIsNone(client.answer())
+        self.with_daemon(rude, 0)
+
+    def test_reset_with_answers_unread(self) -> None:
+        """A client that goes away with answers waiting resets the stream. What it had committed stands."""
+        def rude(daemon: Daemon) -> None:
+            for number in range(10):
+                with daemon.client() as client:
+                    request = self.request(b"u" * number * 900)
+                    client.send(harness.spell(request) + harness.query("get", request.path) * 5)
+                    self.model.answer(request)
+                    # It was committed where an answer waits.
+                    client.socket.recv(1, socket.MSG_PEEK)
+        self.with_daemon(rude, 10)
+
+    def test_reset_while_answers_go_out(self) -> None:
+        def rude(daemon: Daemon) -> None:
+            large = self.request(b"l" * 1_000_000)
+            with daemon.client() as client:
+                self.assertEqual(client.ask(harness.spell(large)), self.model.answer(large))
+            for taken in (1, 5000, 300_000):
+                with daemon.client() as client:
+                    client.send(harness.query("get", large.path) * 20)
+                    while taken > 0:
+                        taken -= len(client.socket.recv(taken))
+        self.with_daemon(rude, 3)
+
+    def test_garbage(self) -> None:
+        """Bytes as a die falls: each whole frame is answered, none is a request of the model's clients that could be done."""
+        fall = random.Random(7109)
+
+        def rude(daemon: Daemon) -> None:
+            for _ in range(60):
+                with daemon.client() as client:
+                    client.send(fall.randbytes(fall.choice([1, 4, 5, 300, 5000])))
+                    client.end()
+                    while client.answer() is not None:
+                        pass
+        self.with_daemon(rude, 60)
+
+    def test_garbage_in_frames(self) -> None:
+        """Payloads that are no message are answered 38 with a cause of docs/PROTOCOL.md, and the conversation goes on."""
+        fall = random.Random(7110)
+
+        def rude(daemon: Daemon) -> None:
+            with daemon.client() as client:
+                for _ in range(500):
+                    kind = fall.choice([0, 6, 15, 19, 255, 1, 2, 3, 4, 5, 16, 17, 18])
+                    # The length of the first name lies above what follows, so that no path is whole.
+                    rest = fall.randbytes(24) + b"\x01\xff\xff" if kind < 16 else b"\x05\xff\xff"
+                    answer = client.ask(harness.frame(bytes([kind]) + rest + fall.randbytes(fall.randrange(200))))
+                    assert answer is not None
+                    self.assertEqual(answer.code, harness.MALFORMED)
+                    if kind in (0, 6, 15, 19, 255):
+                        self.assertEqual(answer.rest, struct.pack("<H", 52))
+                    else:
+                        self.assertIn(int.from_bytes(answer.rest, "little"), (53, 56, 57, 58))
+        self.with_daemon(rude, 0)
+
+    def test_a_frame_too_long(self) -> None:
+        def rude(daemon: Daemon) -> None:
+            for length in (1_114_113, 1 << 31, 0xFFFFFFFF):
+                with daemon.client() as client:
+                    client.send(harness.query("get", "/none") + struct.pack("<I", length))
+                    # Its answer comes with its length, and the conversation is over, though the client sent no end.
+                    self.assertEqual([client.answer(), client.answer(), client.answer()], [Answer(harness.NO_NODE), TOO_LONG, None])
+            with daemon.client() as client:
+                never = self.model.latest[7] + 1
+                client.send(struct.pack("<I", 1_114_113) + harness.spell(Request("create", 7, never, "/never")))
+                self.assertEqual([client.answer(), client.answer()], [TOO_LONG, None])
+        self.with_daemon(rude, 4)
+
+    def test_the_longest_frame(self) -> None:
+        def rude(daemon: Daemon) -> None:
+            with daemon.client() as client:
+                self.assertEqual(client.ask(harness.frame(b"\x00" * 1_114_112)), Answer(harness.MALFORMED, struct.pack("<H", 52)))
+                self.assertEqual(client.ask(harness.query("get", "/none")), Answer(harness.NO_NODE))
+        self.with_daemon(rude, 0)
+
+    def test_a_flood_of_malformed_frames(self) -> None:
+        """Each gets its answer, in memory that does not grow."""
+        count = 200_000
+
+        def rude(daemon: Daemon) -> None:
+            with daemon.client() as client:
+                # Once with less, so that what is kept for answers is there.
+                for rounds in (20_000, count):
+                    sender = threading.Thread(target=client.send, args=(harness.frame(b"") * rounds,))
+                    sender.start()
+                    expected = harness.frame(struct.pack("<HH", 38, 53))
+                    left = len(expected) * rounds
+                    seen = bytearray()
+                    while left:
+                        piece = client.socket.recv(1 << 18)
+                        self.assertTrue(piece, "the daemon ended the flood")
+                        left -= len(piece)
+                        seen += piece
+                    sender.join()
+                    self.assertEqual(bytes(seen), expected * rounds)
+                    if rounds < count:
+                        before = memory_of(daemon.process.pid)
+                self.assertLess(memory_of(daemon.process.pid)["VmHWM"] - before["VmHWM"], 512)
+        self.with_daemon(rude, 0)
+
+
+class Many(Serving):
+    def test_connections_one_after_another(self) -> None:
+        """10,000 of them, a few with a commit, in constant memory and with constant descriptors."""
+        self.fresh(capacity=20000)
+        with Daemon(self.folder) as daemon:
+            process = daemon.process.pid
+            for number in range(10_000):
+                with daemon.client() as client:
+                    if number % 100 == 0:
+                        request = self.request(b"%d" % number)
+                        self.assertEqual(client.ask(harness.spell(request)), self.model.answer(request))
+                    elif number % 3 == 0:
+                        self.assertEqual(client.ask(harness.query("get", "/f1")), self.model.get("/f1"))
+                    elif number % 3 == 1:
+                        client.send(harness.query("get", "/f1"))
+                        client.end()
+                        self.assertEqual([client.answer(), client.answer()], [self.model.get("/f1"), None])
+                if number == 1000:
+                    before = memory_of(process)
+                    client = daemon.client()
+                    self.assertEqual(client.ask(harness.query("get", "/f1")), self.model.get("/f1"))
+                    descriptors = descriptors_of(process)
+                    client.close()
+            with daemon.client() as client:
+                self.assertEqual(client.ask(harness.query("get", "/f1")), self.model.get("/f1"))
+                self.assertEqual(descriptors_of(process), descriptors)
+            behind = memory_of(process)
+            for name in ("VmRSS", "VmHWM"):
+                self.assertLess(behind[name] - before[name], 512, "%s grew from %r to %r" % (name, before, behind))
+            # Clients that closed without a word, or with an answer unread, are no more than a line each.
+            self.assertLessEqual(set(daemon.errors().splitlines(True)), set(READ_OR_WRITE))
+        self.assertEqual(self.model.commits, 100)
+        self.tree_is(self.model, harness.paths_of(self.requests))
+
+    def test_exactly_so_many(self) -> None:
+        self.fresh(capacity=20000)
+        for count in (1, 3, 17):
+            with self.subTest(count=count), Daemon(self.folder, "d.img", "--connections", str(count)) as daemon:
+                for number in range(count):
+                    self.assertIsNone(daemon.process.poll())
+                    with daemon.client() as client:
+                        # One that says nothing counts as well.
+                        if number % 3 != 1:
+                            request = self.request()
+                            self.assertEqual(client.ask(harness.spell(request)), self.model.answer(request))
+                self.assertEqual(daemon.wait(), 0)
+                self.assertEqual(daemon.errors(), b"")
+                with self.assertRaises(ConnectionRefusedError):
+                    Client(daemon.path, patience=0.0)
+        self.tree_is(self.model, harness.paths_of(self.requests))
+
+    def test_none(self) -> None:
+        self.fresh()
+        with Daemon(self.folder, "d.img", "--connections", "0") as daemon:
+            self.assertEqual(daemon.wait(), 0)
+            self.assertEqual(daemon.errors(), b"")
+
+    def test_those_who_wait_are_served_in_turn(self) -> None:
+        self.fresh(capacity=20000)
+        with Daemon(self.folder, "d.img", "--connections", "40") as daemon:
+            clients = [daemon.client() for _ in range(40)]
+            self.requests = [Request("create", 100 + number, 1, "/f%d" % number, b"%d" % number) for number in range(40)]
+            # The last to come asks first.
+            for client, request in reversed(list(zip(clients, self.requests))):
+                client.send(harness.spell(request))
+            for client, request in zip(clients, self.requests):
+                self.assertEqual(client.answer(), self.model.answer(request))
+                client.close()
+            self.assertEqual(daemon.wait(), 0)
+        self.tree_is(self.model, harness.paths_of(self.requests))
+
+
+    def test_many_senders_at_once(self) -> None:
+        """Each with requests of its own: each gets its answers, and all is done once."""
+        self.fresh(capacity=60000)
+        count = 160
+        frames = {client: [Request("create", 300 + client % 60, 1 + client // 60, "/f%d" % client, b"%d" % client * client)]
+                  for client in range(count)}
+        with Daemon(self.folder) as daemon:
+            daemon.client().close()
+            codes: dict[int, list[Answer]] = {}
+            # A client's numbers go up from sender to sender, so those of one number are sent at once.
+            for number in (1, 2, 3):
+                senders = {}
+                for client, requests in frames.items():
+                    if requests[0].number == number:
+                        stdin = harness.spell(requests[0]) + harness.query("get", requests[0].path)
+                        process = subprocess.Popen([harness.built().udfburn, "send", "s"], cwd=self.folder, stdin=subprocess.PIPE,
+                                                   stdout=subprocess.PIPE, stderr=subprocess.PIPE)
+                        assert process.stdin is not None
+                        process.stdin.write(stdin)
+                        process.stdin.close()
+                        senders[client] = process
+                for client, process in senders.items():
+                    with process:
+                        assert process.stdout is not None and process.stderr is not None
+                        codes[client] = harness.answers_of(process.stdout.read())
+                        self.assertEqual((process.wait(harness.PATIENCE), process.stderr.read()), (0, b""))
+            self.assertEqual(daemon.errors(), b"")
+        commits = sorted(answers[0].commit for answers in codes.values())
+        self.assertEqual(commits, list(range(1, count + 1)))
+        # In the order in which they were committed.
+        for client in sorted(codes, key=lambda client: codes[client][0].commit):
+            request = frames[client][0]
+            self.assertEqual(codes[client], [self.model.answer(request), self.model.get(request.path)])
+        self.tree_is(self.model, ["/"] + ["/f%d" % client for client in range(count)])
+
+
+class Descriptors(Serving):
+    """Where a connection cannot be taken this is told once and waited out, and counts as none."""
+
+    def lines_are(self, daemon: Daemon, most: int) -> None:
+        lines = daemon.errors().splitlines(True)
+        self.assertLessEqual(len(lines), most)
+        self.assertGreaterEqual(len(lines), 1)
+        self.assertEqual(set(lines), {b"udfburnd: 94 Socket\n"})
+
+    def test_descriptors_that_ran_out(self) -> None:
+        self.fresh(capacity=20000)
+        with Daemon(self.folder, "d.img", "--connections", "6") as daemon:
+            process = daemon.process.pid
+            self.assertTrue(await_true(daemon.path.is_socket))
+            idle = len(descriptors_of(process))
+            self.next_is_served(daemon)
+            # So many that none is free.
+            limits = resource.prlimit(process, resource.RLIMIT_NOFILE)
+            for stretch in (1, 2):
+                # The connection before may be open for a moment yet.
+                self.assertTrue(await_true(lambda: len(descriptors_of(process)) == idle))
+                resource.prlimit(process, resource.RLIMIT_NOFILE, (max(descriptors_of(process)) + 1, limits[1]))
+                # The kernel keeps a descriptor for a wait that began before, so one more may come.
+                with daemon.client() as client:
+                    request = self.request(b"before")
+                    self.assertEqual(client.ask(harness.spell(request)), self.model.answer(request))
+                before = seconds_of(process)
+                request = self.request(b"late")
+                with daemon.client() as client:
+                    client.send(harness.spell(request))
+                    time.sleep(2.0)
+                    self.assertIsNone(daemon.process.poll())
+                    self.assertLess(seconds_of(process) - before, 0.1)
+                    self.lines_are(daemon, stretch)
+                    resource.prlimit(process, resource.RLIMIT_NOFILE, limits)
+                    begin = time.monotonic()
+                    self.assertEqual(client.answer(), self.model.answer(request))
+                    self.assertLess(time.monotonic() - begin, 5.0)
+                self.lines_are(daemon, stretch)
+            # Of six connections five came.
+            self.assertIsNone(daemon.process.poll())
+            self.next_is_served_last(daemon)
+            self.assertEqual(daemon.wait(), 0)
+        self.tree_is(self.model, harness.paths_of(self.requests))
+
+    def next_is_served_last(self, daemon: Daemon) -> None:
+        with daemon.client() as client:
+            request = self.request(b"last")
+            self.assertEqual(client.ask(harness.spell(request)), self.model.answer(request))
+
+    def test_connections_that_could_not_be_taken(self) -> None:
+        """Each error of accept: no descriptor in the system, no memory, a client that went away before."""
+        harness.need_shim()
+        for error in (24, 23, 12, 103):
+            with self.subTest(error=error):
+                self.fresh(capacity=20000)
+                self.model, self.requests = Model(), []
+                with Daemon(self.folder, "d.img", "--connections", "2", rules="accept:2-4:E%d" % error) as daemon:
+                    self.next_is_served(daemon)
+                    self.next_is_served_last(daemon)
+                    self.assertEqual(daemon.wait(), 0)
+                    self.lines_are(daemon, 3)
+
+    def test_too_few_from_the_start(self) -> None:
+        """Without a descriptor for the socket the daemon ends, and says why."""
+        self.fresh()
+        # One is left, which the image takes.
+        ran = self.program([harness.built().udfburnd, "d.img", "s"], preexec_fn=lambda: resource.setrlimit(resource.RLIMIT_NOFILE, (4, 4)))
+        self.tell(ran, 1, b"", b"udfburnd: 94 Socket\n")
+        self.assertFalse(self.path("s").exists())
+        self.assertEqual(self.sound(), 0)
+
+
+class Paths(Case):
+    """Sockets that cannot be had: 94, and nothing is made or written."""
+
+    def there(self) -> dict[Path, int]:
+        return {each: each.lstat().st_mtime_ns for each in self.folder.rglob("*")}
+
+    def refused(self, path: str) -> None:
+        before = self.there()
+        image = self.path("d.img").read_bytes()
+        ran = self.program([harness.built().udfburnd, "d.img", path, "--connections", "0"], patience=10.0)
+        self.tell(ran, 1, b"", b"udfburnd: 94 Socket\n")
+        self.assertEqual(self.path("d.img").read_bytes(), image)
+        self.assertEqual(self.there(), before)
+
+    def test_paths(self) -> None:
+        self.fresh()
+        self.path("there").write_bytes(b"a file")
+        self.path("folder").mkdir()
+        old = socket.socket(socket.AF_UNIX, socket.SOCK_STREAM)
+        old.bind(str(self.path("left")))
+        old.close()
+        os.symlink("nothing", self.path("link"))
+        for path in ("", "there", "folder", "left", "link", "none/s", "there/s", "folder/", "x" * 108, "x" * 109, "x" * 300, "./" * 54 + "s"):
+            with self.subTest(path=path):
+                self.refused(path)
+        self.assertEqual(self.path("there").read_bytes(), b"a file")
+
+    def test_the_longest_path(self) -> None:
+        self.fresh()
+        name = "x" * 107
+        process = subprocess.Popen([harness.built().udfburnd, "d.img", name, "--connections", "1"], cwd=self.folder,
+                                   stdin=subprocess.DEVNULL, stdout=subprocess.DEVNULL, stderr=subprocess.DEVNULL)
+        try:
+            self.assertTrue(await_true(lambda: self.path(name).is_socket() or process.poll() is not None))
+            time.sleep(0.1)
+            self.tell(self.udfburn("send", name, stdin=harness.query("list", "/")), 0, harness.frame(b"\x41\0\0\0"), b"")
+            self.assertEqual(process.wait(harness.PATIENCE), 0)
+        finally:
+            process.kill()
+            process.wait()
+
+    def test_send_to_no_daemon(self) -> None:
+        self.path("there").write_bytes(b"a file")
+        for path in ("", "none", "there", "none/s", "x" * 108, "x" * 300):
+            with self.subTest(path=path):
+                self.tell(self.udfburn("send", path, stdin=harness.query("list", "/")), 1, b"", b"udfburn: 94 Socket\n")
+
+
+class Stall:
+    """A daemon with a client that stalls, and another that waits for its turn; looked at when its time has come."""
+
+    def __init__(self, folder: Path, name: str, stall: Callable[[Client], None]) -> None:
+        self.name = name
+        self.daemon = Daemon(folder, name + ".img", socket_name=name)
+        self.stalling = self.daemon.client()
+        self.before = b""
+        stall(self.stalling)
+        self.begin = time.monotonic()
+        self.waiting = self.daemon.client()
+        self.waiting.socket.settimeout(2.5 * SILENCE)
+        self.answer: Optional[Answer] = None
+        self.seconds = 0.0
+        self.thread = threading.Thread(target=self.wait)
+        self.thread.start()
+
+    def wait(self) -> None:
+        try:
+            self.answer = self.waiting.ask(harness.query("list", "/none"))
+        except OSError:
+            pass
+        self.seconds = time.monotonic() - self.begin
+
+    def end(self) -> None:
+        self.daemon.kill()
+        self.thread.join()
+        self.stalling.close()
+        self.waiting.close()
+
+
+class Waiting(Case):
+    """Clients that stall: they are let go behind a minute of silence, and then the next is served. All wait at once."""
+
+    def silent(self, client: Client) -> None:
+        pass
+
+    def half(self, client: Client) -> None:
+        client.send(harness.spell(Request("create", 9, 1, "/never", b"x" * 5000))[:700])
+
+    def answered_and_silent(self, client: Client) -> None:
+        request = Request("create", 9, 1, "/kept", b"x" * 5000)
+        self.assertEqual(client.ask(harness.spell(request)), harness.committed(0, 1))
+
+    def never_reads(self, client: Client) -> None:
+        request = Request("create", 9, 1, "/kept", b"x" * 1_000_000)
+        self.assertEqual(client.ask(harness.spell(request)), harness.committed(0, 1))
+        client.send(harness.query("get", "/kept") * 10)
+
+    def never_reads_many(self, client: Client) -> None:
+        request = Request("create", 9, 1, "/kept", b"x" * 100)
+        self.assertEqual(client.ask(harness.spell(request)), harness.committed(0, 1))
+        client.send(harness.query("get", "/kept") * 5000)
+
+    def test_a_minute_of_silence(self) -> None:
+        self.fresh("base.img", capacity=20000)
+        kinds = {"silent": self.silent, "half": self.half, "done": self.answered_and_silent,
+                 "unread": self.never_reads, "many": self.never_reads_many}
+        stalls: list[Stall] = []
+        try:
+            for name, kind in kinds.items():
+                self.path(name + ".img").write_bytes(self.path("base.img").read_bytes())
+                stalls.append(Stall(self.folder, name, kind))
+            # One that sends a byte now and then is not silent.
+            self.path("slow.img").write_bytes(self.path("base.img").read_bytes())
+            slow = Daemon(self.folder, "slow.img", "--connections", "1", socket_name="slow")
+            self.addCleanup(slow.kill)
+            frames = harness.spell(Request("create", 9, 1, "/slow", b"x" * 5000))
+            with slow.client() as client:
+                for at in range(3):
+                    client.send(frames[at:at + 1])
+                    time.sleep(0.4 * SILENCE)
+                client.send(frames[3:])
+                self.assertEqual(client.answer(), harness.committed(0, 1))
+            self.assertEqual((slow.wait(), slow.errors()), (0, b""))
+            for stall in stalls:
+                with self.subTest(stall=stall.name):
+                    is_unread = stall.name in ("unread", "many")
+                    stall.thread.join(SILENCE)
+                    self.assertFalse(stall.thread.is_alive(), "the next client was never served")
+                    self.assertEqual(stall.answer, Answer(harness.NO_NODE))
+                    self.assertGreater(stall.seconds, SILENCE - 2.0)
+                    self.assertLess(stall.seconds, SILENCE + 10.0)
+                    line = b"udfburnd: 92 Write\n" if is_unread else b"udfburnd: 91 Read\n"
+                    self.assertEqual(stall.daemon.errors(), line)
+                    self.assertIsNone(stall.daemon.process.poll())
+        finally:
+            for stall in stalls:
+                stall.end()
+        # What was committed stands, what was not whole does not.
+        for name, path, size in (("silent", "/never", 0), ("half", "/never", 0), ("done", "/kept", 5000), ("unread", "/kept", 1_000_000),
+                                 ("many", "/kept", 100), ("slow", "/slow", 5000)):
+            expected = harness.data_answer(b"x" * size) if size else Answer(harness.NO_NODE)
+            ran = self.apply(harness.query("get", path), image=name + ".img")
+            self.assertEqual((ran.status, harness.answers_of(ran.output)), (0, [expected]))
+
+
+if __name__ == "__main__":
+    unittest.main()

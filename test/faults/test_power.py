@@ -1,0 +1,276 @@
+"""Power lost at every call of a stream of commits, on a model of a page cache: no acknowledged file is lost, and no volume is damaged.
+
+The log of a run is made again call by call, and behind each call the file is what some loss of power leaves of it (pages.py). Such an
+image must be a state of the run, and not one before the last acknowledged commit.
+"""
+from __future__ import annotations
+
+import random
+from typing import Callable, Optional, Sequence
+
+from faults import harness
+from faults.harness import (BLOCK, FORMATTED_BLOCKS, Answer, Case, Client, Daemon, Model, Ran, Record, Request, answers_of, paths_of,
+                            questions, read_log, spell)
+from faults.calls import told_by
+from faults.pages import Disk, losses
+
+SEED = 20261123
+
+STREAM = [
+    Request("create", 1, 1, "/a", b"first"),
+    Request("mkdir", 1, 2, "/d"),
+    Request("create", 2, 1, "/d/x", b"second" * 500),
+    Request("rename", 1, 3, "/a", to="/d/y"),
+    Request("replace", 2, 2, "/d/x", b"third"),
+    Request("create", 2, 3, "/d/x", b"refused"),
+    Request("create", 1, 4, "/long", bytes(range(256)) * 300),
+    Request("rename", 2, 4, "/d", to="/e"),
+    Request("remove", 1, 5, "/long"),
+    Request("create", 2, 5, "/e/z", b"last"),
+]
+
+
+def states_of(requests: Sequence[Request]) -> list[Model]:
+    """The model before the first commit and behind each."""
+    model = Model()
+    states = [model.copy()]
+    for request in requests:
+        model.answer(request)
+        states.append(model.copy())
+    return states
+
+
+class Power(Case):
+    def setUp(self) -> None:
+        super().setUp()
+        harness.need_shim()
+        self.images = 0
+        self.lost = 0
+
+    def looked_at(self, content: bytes, states: Sequence[list[Answer]], paths: Sequence[str], acknowledged: int, how: str) -> None:
+        """The image is a state of the run that is not before the acknowledged one, by `check` and by what can be asked of it."""
+        self.images += 1
+        path = self.path("left.img")
+        path.write_bytes(content)
+        checked = self.udfburn("check", "left.img")
+        self.assertEqual((checked.status, checked.errors), (0, b""), how)
+        commits = int(checked.output.split()[1])
+        self.assertGreaterEqual(commits, acknowledged, how + ": an acknowledged commit is lost")
+        self.assertLess(commits, len(states), how)
+        ran = self.apply(questions(paths), "left.img")
+        self.assertEqual((ran.status, ran.errors), (0, b""), how)
+        self.assertEqual(answers_of(ran.output), states[commits], how)
+
+    def lose(self, before: bytes, records: Sequence[Record], requests: Sequence[Request], count: int, daemon: bool,
+             seed: int = SEED) -> None:
+        """Loses power at each call of the log, on pages of both sizes."""
+        states = states_of(requests)
+        paths = paths_of(requests)
+        told = [state.told(paths) for state in states]
+        said = {}
+        for index, answer in told_by(records, daemon):
+            if answer.is_commit:
+                said[index] = max(said.get(index, 0), answer.commit)
+        for page in (4096, 2048):
+            chance = random.Random(seed + page)
+            # What a failed sync wrote is chosen anew in each of these.
+            for on_failure in (None, chance):
+                disk = Disk(before, page, on_failure)
+                acknowledged = 0
+                seen: set[bytes] = set()
+                for index, record in enumerate(records):
+                    if record.kind in ("pwrite", "fsync", "ftruncate"):
+                        disk.call(record)
+                    elif index in said:
+                        acknowledged = max(acknowledged, said[index])
+                    else:
+                        continue
+                    for loss in losses(disk, chance, count):
+                        key = bytes([acknowledged]) + loss.content
+                        if key in seen:
+                            continue
+                        seen.add(key)
+                        self.looked_at(loss.content, told, paths, acknowledged,
+                                       "call %d (%s), pages of %d, %s" % (index, record.kind, page, loss.how))
+                if not any(record.kind == "fsync" and record.error for record in records):
+                    break
+        self.assertEqual(acknowledged, len(requests))
+
+    def served(self, requests: Sequence[Request], rules: str = "") -> bytes:
+        """The image before a daemon served these requests one by one, each until it was committed."""
+        before = self.fresh().read_bytes()
+        model = Model()
+        with Daemon(self.folder, log=self.new_log(), rules=rules) as daemon, daemon.client() as client:
+            for request in requests:
+                self.assertEqual(self.insisted(client, request), model.answer(request))
+        return before
+
+    def insisted(self, client: Client, request: Request) -> Optional[Answer]:
+        for _ in range(8):
+            answer = client.ask(spell(request))
+            if answer is None or answer.code != harness.FAULT:
+                break
+        return answer
+
+    def test_a_stream(self) -> None:
+        before = self.served(STREAM)
+        self.lose(before, read_log(self.log_path()), STREAM, 6, True)
+        self.assertGreater(self.images, 200)
+
+    def test_a_stream_of_apply(self) -> None:
+        before = self.fresh().read_bytes()
+        ran = self.apply(b"".join(map(spell, STREAM)), log=self.log_path())
+        model = Model()
+        self.assertEqual(answers_of(ran.output), [model.answer(request) for request in STREAM])
+        self.lose(before, read_log(self.log_path()), STREAM, 2, False)
+        self.assertGreater(self.images, 100)
+
+    def test_a_killed_stream(self) -> None:
+        """A kill at each write and sync of a short stream, the same frames again, and power lost at every call of both processes."""
+        requests = STREAM[:3]
+        frames = b"".join(map(spell, requests))
+        model = Model()
+        wanted = [model.answer(request) for request in requests]
+        self.fresh()
+        self.apply(frames, log=self.new_log())
+        counts = {kind: sum(record.kind == kind for record in read_log(self.log_path())) for kind in ("pwrite", "fsync")}
+        for kind, calls in counts.items():
+            for number in range(1, calls + 1):
+                for action in ("K", "k"):
+                    before = self.fresh().read_bytes()
+                    self.new_log()
+                    killed = self.apply(frames, rules="%s:%d:%s" % (kind, number, action), log=self.log_path())
+                    self.assertEqual(killed.status, -9)
+                    ran = self.apply(frames, log=self.log_path())
+                    self.assertEqual(answers_of(ran.output), wanted)
+                    with self.subTest(kind=kind, number=number, action=action):
+                        self.lose(before, read_log(self.log_path()), requests, 0, False)
+        self.assertGreater(self.images, 100)
+
+    def test_a_file_that_was_cut_inside_a_block(self) -> None:
+        """The stream begins behind a part of a block that an earlier loss of power left."""
+        requests = STREAM[:4]
+        for left in (1, 700, 2047):
+            before = self.fresh().read_bytes() + bytes([255]) * left
+            self.path("d.img").write_bytes(before)
+            model = Model()
+            with Daemon(self.folder, log=self.new_log()) as daemon, daemon.client() as client:
+                for request in requests:
+                    self.assertEqual(client.ask(spell(request)), model.answer(request))
+            self.lose(before, read_log(self.log_path()), requests, 3, True)
+        self.assertGreater(self.images, 100)
+
+    def test_a_failed_sync(self) -> None:
+        """Each sync of a stream fails in turn, and its pages are lost or not. Another client's commit follows."""
+        requests = STREAM[:4]
+        self.served(requests)
+        calls = sum(record.kind == "fsync" for record in read_log(self.log_path()))
+        self.assertGreater(calls, 3)
+        for number in range(2, calls + 1):
+            for rule in ("fsync:%d:E5", "fsync:%d:A5"):
+                with self.subTest(rule=rule % number):
+                    before = self.served(requests, rule % number)
+                    records = read_log(self.log_path())
+                    self.assertTrue(any(record.kind == "fsync" and record.error for record in records))
+                    self.lose(before, records, requests, 0, True)
+
+    def test_a_failed_write(self) -> None:
+        """Each write of a stream fails in turn, none or some of it done."""
+        requests = STREAM[:4]
+        self.served(requests)
+        calls = sum(record.kind == "pwrite" for record in read_log(self.log_path()))
+        for number in range(1, calls + 1):
+            for action in ("E28", "P1000E28", "P3000E5"):
+                with self.subTest(number=number, action=action):
+                    before = self.served(requests, "pwrite:%d:%s" % (number, action))
+                    self.lose(before, read_log(self.log_path()), requests, 0, True)
+
+    def test_a_format(self) -> None:
+        """A format whose power is lost is no volume, or the whole one; and it is finished by its words, or refused by 61."""
+        self.tell(self.udfburn("format", "d.img", "DISC", "0", "600", log=self.log_path()), 0, b"formatted\n", b"")
+        records = read_log(self.log_path())
+        whole = self.path("d.img").read_bytes()
+        self.formats(records, b"", whole)
+
+    def test_a_format_that_is_finished(self) -> None:
+        """The same where another process wrote the beginning, and synced none of it."""
+        for rule in ("pwrite:4:k", "fsync:5:K"):
+            with self.subTest(rule):
+                self.path("d.img").unlink(missing_ok=True)
+                self.new_log()
+                words = ("format", "d.img", "DISC", "0", "600")
+                self.assertEqual(self.udfburn(*words, log=self.log_path(), rules=rule).status, -9)
+                self.tell(self.udfburn(*words, log=self.log_path()), 0, b"formatted\n", b"")
+                self.formats(read_log(self.log_path()), b"", self.path("d.img").read_bytes())
+
+    def formats(self, records: Sequence[Record], before: bytes, whole: bytes) -> None:
+        self.assertEqual(len(whole), FORMATTED_BLOCKS * BLOCK)
+        for page in (4096, 2048):
+            chance = random.Random(SEED + page)
+            disk, is_said, seen = Disk(before, page), False, set()
+            for index, record in enumerate(records):
+                if record.kind in ("pwrite", "fsync", "ftruncate"):
+                    disk.call(record)
+                elif record.kind == "stdout":
+                    is_said = True
+                else:
+                    continue
+                for loss in losses(disk, chance, 3):
+                    if (is_said, loss.content) in seen:
+                        continue
+                    seen.add((is_said, loss.content))
+                    self.images += 1
+                    how = "call %d (%s), pages of %d, %s" % (index, record.kind, page, loss.how)
+                    self.path("left.img").write_bytes(loss.content)
+                    checked = self.udfburn("check", "left.img")
+                    allowed = [Ran(0, b"sound 0\n", b"")]
+                    if not is_said:
+                        allowed.append(Ran(1, b"", b"udfburn: 66 NotFormatted\n"))
+                    self.assertIn(checked, allowed, how)
+                    ran = self.udfburn("format", "left.img", "DISC", "0", "600")
+                    if ran.status:
+                        self.tell(ran, 1, b"", b"udfburn: 61 NotBlank\n")
+                        self.assertEqual(self.path("left.img").read_bytes(), loss.content, how)
+                        self.assertFalse(is_said, how)
+                        self.assertFalse(whole.startswith(loss.content), how)
+                    else:
+                        self.assertEqual(self.path("left.img").read_bytes(), whole, how)
+            self.assertTrue(is_said)
+
+
+class Itself(Case):
+    """The model of the cache: what it may lose, and that a lying sync loses an acknowledged file on it."""
+
+    def test_pages(self) -> None:
+        all_of: Callable[[int], list[bool]] = lambda n: [True] * n
+        none_of: Callable[[int], list[bool]] = lambda n: [False] * n
+        disk = Disk(b"A" * 8, 4)
+        disk.write(6, b"BBBB")
+        self.assertEqual(bytes(disk.cache), b"AAAAAABBBB")
+        self.assertEqual(disk.left(none_of, 10), b"AAAAAAAA\0\0")
+        self.assertEqual(disk.left(all_of, 10), b"AAAAAABBBB")
+        self.assertEqual(disk.left(lambda n: [False, True], 10), b"AAAAAAAABB")
+        disk.fail()
+        disk.write(10, b"C")
+        self.assertEqual(disk.left(all_of, 11), b"AAAAAAAABBC")
+        disk.sync()
+        self.assertEqual(bytes(disk.disk), b"AAAAAAAABBC")
+        disk.truncate(8)
+        self.assertEqual(disk.left(none_of, 8), b"AAAAAAAA")
+        disk.sync()
+        disk.write(8, b"D")
+        disk.sync()
+        # What a failed sync dropped stays lost below a cut that leaves it.
+        self.assertEqual(bytes(disk.disk), b"AAAAAAAAD")
+        self.assertEqual(bytes(disk.cache), b"AAAAAABBD")
+
+    def test_a_sync_that_lies_loses_a_file(self) -> None:
+        harness.need_shim()
+        requests = STREAM[:2]
+        before = self.fresh().read_bytes()
+        self.apply(b"".join(map(spell, requests)), rules="fsync:*:L", log=self.log_path())
+        disk = Disk(before, 4096)
+        for record in read_log(self.log_path()):
+            disk.call(record)
+        self.path("left.img").write_bytes(disk.left(lambda n: [False] * n, len(disk.cache)))
+        self.assertEqual(self.udfburn("check", "left.img").output, b"sound 0\n")
