@@ -1,0 +1,99 @@
+"""A server in a thread, over the plain volume: it can lose conversations, fail, and answer nonsense."""
+
+from __future__ import annotations
+
+import os
+import socket
+import struct
+import threading
+from typing import Callable, List, Optional
+
+from udfburn.protocol import Answer, Frames, Request, decode_message, encode_answer, frame
+
+from .model import Volume
+
+Say = Callable[[bytes, Answer], Optional[bytes]]
+"""Gives the bytes to answer a payload with, by its payload and its true answer; None ends the conversation."""
+
+
+def honestly(payload: bytes, answer: Answer) -> bytes:
+    return frame(encode_answer(answer))
+
+
+class Server:
+    """Serves one conversation after another, as the daemon does."""
+
+    def __init__(self, folder: str, volume: Optional[Volume] = None):
+        self.path = os.path.join(folder, "socket")
+        self.volume = volume or Volume()
+        self.say: Say = honestly
+        self.before: Callable[[bytes], Optional[Answer]] = lambda payload: None
+        self.lost_behind: Optional[int] = None
+        self.requests: List[bytes] = []
+        self.payloads: List[bytes] = []
+        self.conversations = 0
+        self.listener = socket.socket(socket.AF_UNIX)
+        self.listener.bind(self.path)
+        self.listener.listen(16)
+        self.thread = threading.Thread(target=self.run, daemon=True)
+        self.thread.start()
+
+    def run(self) -> None:
+        while True:
+            try:
+                connection, _ = self.listener.accept()
+            except OSError:
+                return
+            self.conversations += 1
+            with connection:
+                try:
+                    self.serve(connection)
+                except OSError:
+                    pass
+
+    def serve(self, connection: socket.socket) -> None:
+        frames = Frames()
+        while True:
+            payload = frames.take()
+            while payload is None:
+                piece = connection.recv(1 << 16)
+                if not piece:
+                    return
+                frames.feed(piece)
+                payload = frames.take()
+            self.payloads.append(payload)
+            answer = self.before(payload)
+            if answer is None:
+                answer = self.volume.answer_payload(payload)
+            said = self.say(payload, answer)
+            if said is None:
+                return
+            if self.lost_behind is not None:
+                # Behind so many bytes of answers the conversation is lost.
+                said, self.lost_behind = said[: self.lost_behind], self.lost_behind - len(said)
+                if self.lost_behind <= 0:
+                    self.lost_behind = None
+                    connection.sendall(said)
+                    return
+            connection.sendall(said)
+
+    def close(self) -> None:
+        self.listener.close()
+        # A closed listener does not wake the one who accepts.
+        with socket.socket(socket.AF_UNIX) as waker:
+            try:
+                waker.connect(self.path)
+            except OSError:
+                pass
+        os.unlink(self.path)
+
+
+def is_probe(payload: bytes) -> bool:
+    """Whether this is the request by which a client learns its latest number."""
+    return len(payload) > 17 and payload[0] == 5 and struct.unpack_from("<Q", payload, 9)[0] == (1 << 64) - 1
+
+
+def request_of(payload: bytes) -> Optional[Request]:
+    """The request of a payload that is one, and no probe."""
+    message = decode_message(payload)
+    return message if isinstance(message, Request) and not is_probe(payload) else None

@@ -1,0 +1,143 @@
+"""The command line over the plain volume."""
+
+from __future__ import annotations
+
+import json
+import os
+import unittest
+from contextlib import redirect_stderr, redirect_stdout
+from io import StringIO
+from typing import List
+from unittest import mock
+
+from udfburn import cli
+from udfburn import protocol as p
+from udfburn.progress import Progress
+
+from .server import request_of
+from .test_local import Local
+
+
+class Commands(Local):
+    def words(self, *words: str, status: int = 0) -> List[str]:
+        output = StringIO()
+        ledger = ["--ledger", self.ledger] if words[0] in ("put", "mkdir", "mv", "rm", "resume") else []
+        with redirect_stdout(output), redirect_stderr(output):
+            found = cli.main([words[0], "--socket", self.server.path, "--wait", "2", *ledger, *words[1:]])
+        self.assertEqual(found, status, output.getvalue())
+        return output.getvalue().splitlines()
+
+    def test_a_walk(self) -> None:
+        local = self.write("a.txt", b"hello")
+        os.utime(local, (1_700_000_000, 1_700_000_000))
+        self.assertEqual(self.words("mkdir", "-p", "/x/y"), ["made /x", "made /x/y"])
+        self.assertEqual(self.words("put", local, "/x/y/"), ["stored /x/y/a.txt (5 bytes)", "stored 1 file, 5 B"])
+        self.assertEqual(self.words("ls", "/x/y"), ["f a.txt"])
+        self.assertEqual(self.words("ls", "-l", "/x/y"), ["f         5 2023-11-14T22:13:20Z a.txt"])
+        self.assertEqual(self.words("ls", "-R", "/"), ["/:", "d x", "/x:", "d y", "/x/y:", "f a.txt"])
+        self.assertEqual([json.loads(line) for line in self.words("ls", "--json", "/x/y")], [{"path": "/x/y/a.txt", "kind": "file", "size": 5, "moment": 1_700_000_000_000_000}])
+        self.assertEqual(self.words("mv", "/x/y/a.txt", "/x/"), ["moved /x/y/a.txt to /x/a.txt"])
+        self.assertEqual(self.words("verify", local, "/x/a.txt"), ["1 file, 5 B: all are there"])
+        self.assertEqual(self.words("verify", local, "/x/y", status=1)[-1], "0 files, 0 B: 1 difference")
+        self.assertEqual(self.words("rm", "/x", status=1), ["udfburn-client: /x: is a directory with names (rm -r removes them too)"])
+        self.assertEqual(self.words("rm", "-r", "--dry-run", "/x"), ["would remove /x/y", "would remove /x/a.txt", "would remove /x"])
+        self.assertEqual(self.words("rm", "-r", "--quiet", "/x"), [])
+        self.assertEqual(self.words("resume"), ["pending were 0 requests"])
+        self.assertEqual(sorted(self.volume.nodes), [()])
+
+    def test_progress_on_a_terminal(self) -> None:
+        class Terminal(StringIO):
+            def isatty(self) -> bool:
+                return True
+
+        with mock.patch.dict("sys.modules", {"tqdm": None}):
+            output, terminal = StringIO(), Terminal()
+            bar = Progress(False, False, output, terminal)
+            bar.begin(4, 4096)
+            bar.shown -= 1.0
+            bar.told("stored", ("a",), 1024, 1)
+            self.assertRegex(terminal.getvalue(), r"\[######\.{18}\]  25%  1 of 4 files  1.0 KiB of 4.0 KiB  .*/s  \d+:\d\d left")
+            bar.began -= 10.0
+            self.assertIn("0:3", bar.line(bar.began + 10.0))
+            bar.say("done")
+            self.assertEqual((output.getvalue(), terminal.getvalue()[-4:]), ("done\n", "\r\x1b[K"))
+
+    def test_progress_by_tqdm(self) -> None:
+        module = mock.Mock()
+        terminal = mock.Mock(isatty=lambda: True)
+        with mock.patch.dict("sys.modules", {"tqdm": module}):
+            bar = Progress(False, False, StringIO(), terminal)
+            bar.begin(4, 4096)
+            bar.told("stored", ("a",), 1024, 1)
+            bar.end()
+        self.assertEqual(module.tqdm.call_args[1]["total"], 4096)
+        module.tqdm.return_value.update.assert_called_once_with(1024)
+        module.tqdm.return_value.close.assert_called_once_with()
+
+    def test_json(self) -> None:
+        self.write("a", b"hello")
+        lines = [json.loads(line) for line in self.words("put", "--json", "-r", self.folder, "/x")]
+        self.assertEqual([line["did"] for line in lines], ["made", "stored", "put"])
+        self.assertEqual((lines[1]["path"], lines[1]["bytes"], lines[1]["commit"]), ("/x/a", 5, 2))
+        self.assertEqual((lines[2]["files"], lines[2]["failures"]), (1, []))
+        result = json.loads(self.words("verify", "--json", self.folder, "/x")[-1])
+        self.assertEqual((result["files"], result["differences"]), (1, 0))
+
+    def test_names_break_no_line(self) -> None:
+        client = self.client()
+        for name in ("a\nb", "\x1b[2J", "\u202eabc", "é"):
+            client.create([name], b"")
+        client.close()
+        self.assertEqual(self.words("ls", "/"), ["f a\\nb", "f \\x1b[2J", "f \\u202eabc", "f é"])
+
+    def test_resume(self) -> None:
+        self.server.before = lambda payload: p.FAULT if request_of(payload) else None
+        local = self.write("a")
+        self.words("put", local, "/a", "--wait", "0.1", status=1)
+        self.server.before = lambda payload: None
+        self.assertEqual(self.words("resume", "--dry-run"), ["would send number 1 again: /a"])
+        self.assertEqual(self.words("resume"), ["number 1, /a: done, commit 1", "pending were 1 request"])
+
+    def test_forget(self) -> None:
+        self.server.before = lambda payload: p.FAULT if request_of(payload) else None
+        self.words("put", self.write("a"), "/a", "--wait", "0.1", status=1)
+        self.server.before = lambda payload: None
+        self.assertEqual(self.words("resume", "--forget"), ["dropped /a"])
+        self.assertEqual(self.words("resume"), ["pending were 0 requests"])
+        self.assertEqual(self.volume.commits, 0)
+
+    def test_words_that_are_no_command(self) -> None:
+        for words in ([], ["what"], ["put"], ["ls", "--no-such"], ["put", "--moment", "then", "a", "/b"]):
+            with self.assertRaises(SystemExit) as raised, mock.patch("sys.stderr"):
+                cli.main(words)
+            self.assertEqual(raised.exception.code, 2)
+        self.words("ls", "no/slash", status=2)
+        self.words("ls", "/a/../b", status=2)
+        self.words("ls", "--as-of", "1", "/", status=2)
+        self.words("put", "--dry-run", "--verify", self.write("a"), "/a", status=2)
+        with mock.patch.dict(os.environ, clear=True), mock.patch("sys.stderr"):
+            self.assertEqual(cli.main(["ls", "/"]), 2)
+        for name in cli.COMMANDS:
+            with self.assertRaises(SystemExit) as raised, mock.patch("sys.stdout"):
+                cli.main([name, "--help"])
+            self.assertEqual(raised.exception.code, 0)
+
+    def test_interrupted(self) -> None:
+        """Ctrl-C leaves what the same command finishes."""
+        for index in range(30):
+            self.write(str(index))
+        count = [0]
+
+        def interrupt(*_: object) -> None:
+            count[0] += 1
+            if count[0] == 10:
+                raise KeyboardInterrupt
+
+        with mock.patch("udfburn.progress.Progress.told", interrupt):
+            self.assertIn("finishes", self.words("put", "-r", self.folder, "/x", status=130)[-1])
+        self.words("put", "-r", "--skip-same", self.folder, "/x")
+        self.assertEqual(self.volume.commits, 31)
+
+
+if __name__ == "__main__":
+    unittest.main()

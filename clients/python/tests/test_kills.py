@@ -1,0 +1,225 @@
+"""Daemons and clients that are killed, at moments as a die falls, in the middle of an import.
+
+KILLS of the environment is how often each is killed (200).
+"""
+
+from __future__ import annotations
+
+import os
+import random
+import signal
+import sys
+import threading
+import time
+import unittest
+from typing import Any, Dict, Iterator, List, Optional, Set
+
+import udfburn
+from udfburn import Client
+from udfburn import protocol as p
+from udfburn.operations import Operation
+from udfburn.tree import Options, put_all
+
+from .programs import Daemon, UDFBURN, WithPrograms
+
+KILLS = int(os.environ.get("KILLS", "200"))
+FILES = 9 * 440
+"""Files that there are names for, in nine directories."""
+CODE = os.path.dirname(udfburn.__file__)
+TRACED = {os.path.join(CODE, name) for name in ("session.py", "ledger.py", "tree.py", "connection.py", "line.py")}
+
+
+def content(index: int) -> bytes:
+    """The bytes of a file: each has its own."""
+    return random.Random(index).randbytes(index * 7 % 3000)
+
+
+class DaemonKilled(WithPrograms):
+    capacity = 450_000
+
+    def test_an_import_goes_on(self) -> None:
+        daemon, killed, done = self.serve(), [0], threading.Event()
+        chance = random.Random(1)
+
+        def killer() -> None:
+            while killed[0] < KILLS and not done.is_set():
+                time.sleep(chance.uniform(0.0, 0.03))
+                daemon.kill()
+                killed[0] += 1
+                daemon.start()
+                daemon.await_socket()
+
+        def operations() -> Iterator[Operation]:
+            for folder in range(9):
+                yield Operation(p.MakeDir, (f"d{folder}",), 0)
+            index = 0
+            # Every file is new while there is room for names; then files are replaced.
+            while killed[0] < KILLS and time.monotonic() < limit:
+                path = (f"d{index % 9}", f"f{index % FILES}")
+                yield Operation(p.Create if index < FILES else p.Replace, path, index, content(index))
+                index += 1
+
+        thread = threading.Thread(target=killer)
+        limit = time.monotonic() + 90
+        thread.start()
+        wanted: Dict[p.Path, int] = {}
+        count = 0
+        try:
+            with self.client(patience=30) as client:
+                for outcome in client.run(operations()):
+                    count += 1
+                    self.assertEqual((outcome.code, outcome.commit, outcome.number), (p.Code.DONE, count, count))
+                    if outcome.operation.kind is not p.MakeDir:
+                        wanted[outcome.operation.path] = outcome.operation.moment
+                history = client.session().ledger.history(client.session().volume())
+        finally:
+            done.set()
+            thread.join()
+        self.assertEqual(killed[0], KILLS)
+        self.assertEqual([(number, commit) for number, _, _, commit, _ in history], [(number, number) for number in range(1, count + 1)])
+        self.assertTrue(all(confirmed for *_, confirmed in history))
+        self.assertEqual(self.commits(), count, "each request once")
+        with Client(f"unix:{self.path}") as reader:
+            for answer, path in zip(reader.ask_all(map(p.Get, wanted)), wanted):
+                self.assertEqual(answer, p.Data(content(wanted[path])))
+        self.assertEqual(self.udfburn("check", self.image), b"sound %d\n" % count)
+
+
+class ClientKilled(WithPrograms):
+    """A client that deletes its sources. Whatever is gone is on the image, and each request is there once."""
+
+    capacity = 450_000
+
+    def setUp(self) -> None:
+        super().setUp()
+        self.files: Dict[str, int] = {}
+        self.gone: Set[str] = set()
+        self.batches = 0
+        self.chance = random.Random(2)
+        self.longest = 0.12
+
+    def sources(self, count: int) -> str:
+        """A folder of files that are not stored yet."""
+        self.batches += 1
+        for index in range(count):
+            number = self.batches * 1000 + index
+            self.files[self.write(f"sources/b{self.batches}/f{index}", content(number))] = number
+        return os.path.join(self.room, "sources")
+
+    def import_once(self, verify: bool) -> None:
+        """What a user does again and again until it is done."""
+        with Client(self.way, ledger=self.ledger, program=UDFBURN, patience=20) as client:
+            put_all(client, [(os.path.join(self.room, "sources"), ("x",))], Options(recursive=True, skip_same=True, delete_source=True, verify=verify))
+
+    def killed_by_time(self, verify: bool) -> bool:
+        """Runs the import in a process of its own, and kills it. Whether it was killed before its end."""
+        child = os.fork()
+        if not child:
+            self.child(verify, None)
+        time.sleep(self.chance.uniform(0.0, self.longest))
+        os.kill(child, signal.SIGKILL)
+        killed = os.WIFSIGNALED(os.waitpid(child, 0)[1])
+        # On a fast machine it is killed sooner, so that it is seldom at its end.
+        self.longest *= 1.0 if killed else 0.8
+        return killed
+
+    def killed_by_line(self, verify: bool) -> bool:
+        """The same; it kills itself between two statements."""
+        child = os.fork()
+        if not child:
+            self.child(verify, self.chance.randrange(1, 4000))
+        return os.WIFSIGNALED(os.waitpid(child, 0)[1])
+
+    def child(self, verify: bool, lines: Optional[int]) -> None:
+        status = 1
+        try:
+            if lines is not None:
+                sys.settrace(killer(lines))
+            self.import_once(verify)
+            status = 0
+        finally:
+            sys.settrace(None)
+            os._exit(status)
+
+    def check_gone(self) -> None:
+        """No source is gone that is not on the image with its bytes."""
+        gone = [local for local in self.files if local not in self.gone and not os.path.exists(local)]
+        paths = [("x", *os.path.relpath(local, os.path.join(self.room, "sources")).split(os.sep)) for local in gone]
+        with Client(self.way, program=UDFBURN, patience=20) as reader:
+            answers = list(reader.ask_all(map(p.Get, paths)))
+        for answer, local in zip(answers, gone):
+            self.assertEqual(answer, p.Data(content(self.files[local])), local)
+        self.gone.update(gone)
+
+    def kill_often(self, kills: int, kill: Any) -> None:
+        self.sources(100)
+        killed, limit = 0, time.monotonic() + 80
+        while killed < kills and time.monotonic() < limit:
+            ended = not kill(verify=killed % 2 == 0)
+            killed += not ended
+            if killed % 10 == 0 or ended:
+                self.check_gone()
+            if ended:
+                self.assertEqual(len(self.gone), len(self.files), "an import that ended stored all")
+                self.sources(100)
+        self.assertEqual(killed, kills)
+        self.import_once(True)
+        self.check_gone()
+        self.assertEqual(len(self.gone), len(self.files))
+        # A directory for each folder, and each file once, whatever was killed.
+        with Client(self.way, ledger=self.ledger, program=UDFBURN) as client:
+            self.assertEqual(client.resume(), [])
+            history = client.session().ledger.history(client.session().volume())
+        self.assertEqual(self.commits(), 1 + self.batches + len(self.files))
+        self.assertEqual([number for number, *_ in history], list(range(1, self.commits() + 1)))
+        self.assertEqual([commit for _, _, _, commit, _ in history], list(range(1, self.commits() + 1)))
+        self.assertEqual({code for _, _, code, _, _ in history}, {0})
+        paths: List[str] = [path for _, path, *_ in history]
+        self.assertEqual(len(set(paths)), len(paths), "each request once")
+
+    def test_by_time_over_the_socket(self) -> None:
+        self.serve()
+        self.way = f"unix:{self.path}"
+        self.kill_often(KILLS, self.killed_by_time)
+
+    def test_by_line_over_the_socket(self) -> None:
+        self.serve()
+        self.way = f"unix:{self.path}"
+        self.kill_often(KILLS, self.killed_by_line)
+
+    def test_by_line_on_an_image(self) -> None:
+        self.way = f"image:{self.image}"
+        self.kill_often(KILLS // 10, self.killed_by_line)
+
+    def test_both_are_killed(self) -> None:
+        daemon: Daemon = self.serve()
+        self.way = f"unix:{self.path}"
+
+        def kill(verify: bool) -> bool:
+            if self.chance.random() < 0.5:
+                daemon.kill()
+                daemon.start()
+            return self.killed_by_time(verify)
+
+        self.kill_often(KILLS // 10, kill)
+
+
+def killer(lines: int) -> Any:
+    """Kills the process before the line of the client's code that comes so many lines from now."""
+    left = [lines]
+
+    def line(frame: Any, event: str, argument: object) -> Any:
+        if event == "line":
+            left[0] -= 1
+            if not left[0]:
+                os.kill(os.getpid(), signal.SIGKILL)
+        return line
+
+    def call(frame: Any, event: str, argument: object) -> Any:
+        return line if frame.f_code.co_filename in TRACED else None
+
+    return call
+
+
+if __name__ == "__main__":
+    unittest.main()

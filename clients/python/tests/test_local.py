@@ -1,0 +1,359 @@
+"""Local files: what is refused before anything is sent, what changes while it is read, and what is deleted."""
+
+from __future__ import annotations
+
+import os
+import socket
+import struct
+import unittest
+from typing import List, Optional, Tuple
+from unittest import mock
+
+from udfburn import blocks, errors as e, fetch, split, tree
+from udfburn import protocol as p
+from udfburn.sources import Scan, delete, read_parts, scan
+from udfburn.tree import Options, put_all
+
+from .model import Volume
+from .server import request_of
+from .test_session import WithServer
+
+
+class Local(WithServer):
+    def write(self, name: str, data: bytes = b"data") -> str:
+        local = os.path.join(self.room, "source", name)
+        os.makedirs(os.path.dirname(local), exist_ok=True)
+        with open(local, "wb") as file:
+            file.write(data)
+        return local
+
+    @property
+    def folder(self) -> str:
+        return os.path.join(self.room, "source")
+
+    def put(self, **options: object) -> tree.Summary:
+        with self.client() as client:
+            return put_all(client, [(self.folder, ("x",))], Options(recursive=True, **options))  # type: ignore[arg-type]
+
+    def refused(self, **options: object) -> str:
+        """What is told against an import; and nothing was sent."""
+        commits = self.volume.commits
+        with self.assertRaises(e.DoesNotFit) as raised:
+            self.put(**options)
+        self.assertEqual(self.volume.commits, commits)
+        return str(raised.exception)
+
+
+class Preflight(Local):
+    def test_names(self) -> None:
+        self.write("good")
+        bad = {
+            b"\xff\xfe": "not UTF-8", "\U0001F600".encode(): "U+1F600", "a\uFEFF".encode(): "U+FEFF", b"a" * 255: "255 bytes",
+            b"\xed\xa0\x80": "not UTF-8",
+        }
+        for name in bad:
+            with open(os.path.join(os.fsencode(self.folder), name), "wb"):
+                pass
+        told = self.refused()
+        for why in bad.values():
+            self.assertIn(why, told)
+        self.assertEqual(len(told.split("\n")), len(bad), told)
+        told.encode()
+
+    def test_odd_files(self) -> None:
+        self.write("good")
+        os.symlink("good", os.path.join(self.folder, "link"))
+        os.symlink("/nowhere", os.path.join(self.folder, "broken"))
+        os.symlink(".", os.path.join(self.folder, "loop"))
+        os.mkfifo(os.path.join(self.folder, "pipe"))
+        listener = socket.socket(socket.AF_UNIX)
+        listener.bind(os.path.join(self.folder, "unix"))
+        listener.close()
+        told = self.refused()
+        for name, why in (("link", "symbolic link"), ("broken", "symbolic link"), ("loop", "symbolic link"), ("pipe", "named pipe"), ("unix", "socket")):
+            self.assertRegex(told, f"{name}: is a {why}")
+        summary = self.put(skip_odd=True)
+        self.assertEqual((summary.files, len(summary.skipped)), (1, 5))
+        self.assertEqual(list(self.volume.files()), [("x", "good")])
+
+    def test_sizes_depths_and_counts(self) -> None:
+        self.write("big", bytes(p.limits.FILE + 1))
+        self.write("/".join("d" * 15) + "/deep")
+        for index in range(513):
+            self.write(f"many/{index}", b"")
+        told = self.refused()
+        self.assertIn(f"big: has {p.limits.FILE + 1} bytes", told)
+        self.assertIn("has 17 names", told)
+        self.assertIn("513 names", told)
+
+    def test_too_many_files_for_the_volume(self) -> None:
+        with mock.patch.object(p.limits, "NODES", 20):
+            for index in range(30):
+                self.write(str(index))
+            self.assertIn("would have 32 files and directories, and has at most 20", self.refused())
+
+    def test_kinds_and_parents(self) -> None:
+        client = self.client()
+        client.makedirs("/x/a")
+        client.create("/x/b", b"")
+        client.close()
+        self.write("a")
+        self.write("b/c")
+        told = self.refused()
+        self.assertIn("/x/a: is a directory", told)
+        self.assertIn("/x/b: is a file, and is to be a directory", told)
+        local = self.write("one")
+        with self.client() as client:
+            with self.assertRaisesRegex(e.DoesNotFit, "/no: is no directory"):
+                put_all(client, [(local, ("no", "one"))], Options())
+            put_all(client, [(local, ("no", "such", "one"))], Options(parents=True))
+            with self.assertRaisesRegex(e.DoesNotFit, "more than one"):
+                put_all(client, [(local, ("same",)), (self.write("two"), ("same",))], Options())
+            with self.assertRaisesRegex(e.DoesNotFit, "-r stores folders"):
+                put_all(client, [(self.folder, ("y",))], Options())
+            with self.assertRaisesRegex(e.DoesNotFit, "No such file"):
+                put_all(client, [(os.path.join(self.folder, "missing"), ("y",))], Options())
+
+    def test_parts_that_would_be_other_files(self) -> None:
+        self.write("big", bytes(p.limits.FILE + 1))
+        self.write("big.001")
+        self.assertIn("/x/big.001: more than one", self.refused(split=True))
+
+    def test_a_dry_run_does_nothing(self) -> None:
+        local = self.write("a")
+        steps: List[Tuple[str, p.Path]] = []
+        with self.client() as client:
+            summary = put_all(client, [(self.folder, ("x",))], Options(recursive=True, dry_run=True, delete_source=True), lambda what, path, *_: steps.append((what, path)))
+        self.assertEqual(steps, [("would make", ("x",)), ("would store", ("x", "a"))])
+        self.assertEqual((summary.files, self.volume.commits), (1, 0))
+        self.assertTrue(os.path.exists(local))
+        self.assertFalse(os.path.exists(self.ledger))
+
+
+class Changes(Local):
+    """Sources that change."""
+
+    def test_while_it_is_read(self) -> None:
+        """A file that is written to between the first look and the last is not stored, by name; others are."""
+        local, other = self.write("a", b"first"), self.write("b", b"other")
+        real = os.fstat
+        seen: List[int] = []
+
+        def fstat(descriptor: int) -> os.stat_result:
+            status = real(descriptor)
+            if os.readlink(f"/proc/self/fd/{descriptor}") == local:
+                seen.append(descriptor)
+                if len(seen) == 1:
+                    with open(local, "ab") as file:
+                        file.write(b" and more")
+            return status
+
+        with mock.patch("udfburn.sources.os.fstat", fstat):
+            summary = self.put(delete_source=True)
+        self.assertRegex(summary.failures[0], "a: changed while it was read")
+        self.assertEqual((os.path.exists(local), os.path.exists(other)), (True, False))
+        self.assertNotIn(("x", "a"), self.volume.nodes)
+
+    def test_before_it_is_deleted(self) -> None:
+        local = self.write("a", b"first")
+
+        def before(payload: bytes) -> Optional[p.Answer]:
+            if isinstance(request_of(payload), p.Create):
+                with open(local, "wb") as file:
+                    file.write(b"newer")
+            return None
+
+        self.server.before = before
+        summary = self.put(delete_source=True)
+        self.assertRegex(summary.failures[0], "changed .* is not deleted")
+        with open(local, "rb") as file:
+            self.assertEqual(file.read(), b"newer")
+
+    def test_another_file_of_the_same_name(self) -> None:
+        local = self.write("a", b"first")
+        found = Scan()
+        scan(local, ("a",), False, False, found)
+        os.rename(local, local + ".old")
+        self.write("a", b"other")
+        os.utime(local, ns=(found.files[0].identity.modified,) * 2)
+        with self.assertRaises(e.SourceChanged):
+            delete(found.files[0])
+        os.unlink(local)
+        os.symlink(local + ".old", local)
+        with self.assertRaises(e.SourceError):
+            list(read_parts(found.files[0]))
+
+    def test_links_of_one_file(self) -> None:
+        local = self.write("a")
+        os.link(local, os.path.join(self.folder, "b"))
+        summary = self.put(delete_source=True)
+        self.assertEqual((summary.deleted, summary.failures), (2, []))
+
+    def test_one_that_cannot_be_read(self) -> None:
+        local = self.write("a")
+        self.write("b")
+        real = os.open
+
+        def opened(path: str, *rest: int) -> int:
+            if path == local:
+                raise PermissionError(13, "Permission denied")
+            return real(path, *rest)
+
+        with mock.patch("udfburn.sources.os.open", opened):
+            summary = self.put(delete_source=True)
+        self.assertEqual((summary.files, summary.failures), (1, [f"{local}: Permission denied"]))
+        self.assertTrue(os.path.exists(local))
+
+    def test_bytes_that_differ_on_the_volume(self) -> None:
+        local = self.write("a", b"right")
+        self.server.before = lambda payload: p.Data(b"wrong") if payload[0] == p.Kind.GET else None
+        summary = self.put(delete_source=True, verify=True)
+        self.assertRegex(summary.failures[0], "has other bytes")
+        self.assertTrue(os.path.exists(local))
+        self.server.before = lambda payload: None
+        self.assertEqual(self.put(delete_source=True, verify=True).deleted, 1)
+        self.assertFalse(os.path.exists(local))
+
+    def test_a_reply_that_is_not_in_the_ledger(self) -> None:
+        """The source stays where the ledger could not keep the reply."""
+        local = self.write("a")
+        from udfburn.ledger import Ledger
+
+        real = Ledger.record
+
+        def record(ledger: Ledger, volume: object, replies: "list[object]", requests: object) -> None:
+            if replies and any("/a" in path for _, path, *_ in ledger.history(volume)):  # type: ignore[arg-type]
+                raise OSError(28, "No space left on device")
+            real(ledger, volume, replies, requests)  # type: ignore[arg-type]
+
+        with mock.patch.object(Ledger, "record", record), self.assertRaises(OSError):
+            self.put(delete_source=True)
+        self.assertTrue(os.path.exists(local))
+        self.assertEqual(self.put(delete_source=True, skip_same=True).deleted, 1)
+
+    def test_what_is_there_already(self) -> None:
+        self.write("a", b"one")
+        self.write("b", b"two")
+        self.put()
+        commits = self.volume.commits
+        self.write("b", b"TWO")
+        self.write("c", b"new")
+        summary = self.put(skip_same=True)
+        self.assertEqual((summary.same, summary.files, self.volume.commits), (1, 2, commits + 2))
+        self.assertEqual(self.volume.files()[("x", "b")], b"TWO")
+
+    def test_another_client_is_faster(self) -> None:
+        """A path that another client makes or removes between the look and the request is tried the other way."""
+        self.write("a", b"mine")
+        other = Volume.answer
+        done: List[bool] = []
+
+        def before(payload: bytes) -> Optional[p.Answer]:
+            if isinstance(request_of(payload), p.Create) and not done:
+                done.append(True)
+                other(self.volume, p.Create(5, 1, 0, ("x", "a"), b"theirs"))
+            return None
+
+        self.server.before = before
+        self.assertEqual(self.put().files, 1)
+        self.assertEqual(self.volume.files()[("x", "a")], b"mine")
+
+    def test_moments(self) -> None:
+        for name, moment, wanted in (("old", -5, 0), ("late", 5_000_000_000, p.limits.MOMENT - 1), ("plain", 1_700_000_000, 1_700_000_000_000_000)):
+            os.utime(self.write(name), (moment, moment))
+            self.put()
+            self.assertEqual(self.client().stat(f"/x/{name}").moment, wanted)
+
+
+class Fetch(Local):
+    def test_get_tree(self) -> None:
+        self.write("a/b", b"bytes")
+        self.write("c", b"")
+        os.mkdir(os.path.join(self.folder, "empty"))
+        self.put()
+        back = os.path.join(self.room, "back")
+        client = self.client()
+        self.assertEqual(fetch.get_tree(client, ("x",), back), 2)
+        self.assertEqual(sorted(os.listdir(back)), ["a", "c", "empty"])
+        with open(os.path.join(back, "a", "b"), "rb") as file:
+            self.assertEqual(file.read(), b"bytes")
+        self.assertEqual(os.stat(os.path.join(back, "a", "b")).st_mtime_ns // 1000, client.stat("/x/a/b").moment)
+        with self.assertRaises(e.SourceError):
+            fetch.get_tree(client, ("x",), back)
+        os.unlink(os.path.join(back, "a", "b"))
+        os.rmdir(os.path.join(back, "a"))
+        os.symlink(self.folder, os.path.join(back, "a"))
+        with self.assertRaisesRegex(e.SourceError, "symbolic link"):
+            fetch.get_tree(client, ("x",), back, force=True)
+
+    def test_a_server_names_no_other_place(self) -> None:
+        """A name like `..` in a directory never reaches the local disk."""
+        for name in (b"..", b"../evil", b"/evil", b"", b"a\0b"):
+            payload = struct.pack("<HHBH", 65, 1, 0, len(name)) + name
+            self.server.say = lambda _, answer, payload=payload: p.frame(payload)  # type: ignore[misc]
+            with self.assertRaises(p.BadAnswer):
+                fetch.get_tree(self.client(), (), os.path.join(self.room, "back"))
+
+    def test_verify(self) -> None:
+        for name in ("same", "other", "gone", "kind/file"):
+            self.write(name, b"bytes")
+        self.put()
+        self.write("other", b"BYTES")
+        self.write("new")
+        os.unlink(os.path.join(self.folder, "gone"))
+        os.unlink(os.path.join(self.folder, "kind", "file"))
+        os.rmdir(os.path.join(self.folder, "kind"))
+        self.write("kind")
+        result = fetch.verify_tree(self.client(), self.folder, ("x",))
+        self.assertEqual(sorted(result.differences), [("/x/kind", "is a directory there"), ("/x/new", "is not there"), ("/x/other", "has other bytes there")])
+        self.assertEqual(result.extra, ["/x/gone", "/x/kind/file"])
+        self.assertEqual(result.files, 2)
+
+    def test_calls_between_answers(self) -> None:
+        client = self.client()
+        client.put("/a", b"")
+        answers = client.ask_all([p.Get(("a",))] * 40)
+        next(answers)
+        with self.assertRaises(e.UsageError):
+            client.get("/a")
+        answers.close()  # type: ignore[attr-defined]
+        self.assertEqual(client.get("/a"), b"")
+
+
+class Parts(unittest.TestCase):
+    def test_names(self) -> None:
+        full = p.limits.FILE
+        self.assertEqual(split.stored_paths(("a", "b"), full, True), [("a", "b")])
+        self.assertEqual(split.stored_paths(("a", "b"), full + 1, True), [("a", "b.000"), ("a", "b.001")])
+        self.assertEqual(len(split.stored_paths(("b",), 3 * full, True)), 3)
+        self.assertEqual(split.stored_paths(("b",), 3 * full, False), [("b",)])
+
+    def test_joined(self) -> None:
+        full = p.limits.FILE
+        files, rest = split.joined([("a.000", full), ("a.001", full), ("a.002", 5), ("a.003", 5), ("b.000", full), ("c.000", 5), ("c.001", 5), ("d.000", None), ("e", 1), ("e.000", full), ("e.001", 1)])
+        self.assertEqual(files, {"a": ["a.000", "a.001", "a.002"]})
+        self.assertEqual(rest, ["a.003", "b.000", "c.000", "c.001", "d.000", "e", "e.000", "e.001"])
+
+
+class Reckoned(unittest.TestCase):
+    """Blocks, by the rows of the layout: the first create takes five blocks, and may need six."""
+
+    def test_the_first_create(self) -> None:
+        for capacity, fits in ((267, False), (268, True)):
+            space = blocks.Space(capacity, 262, {7})
+            self.assertEqual(blocks.Reckoner(space).create(("a",), 5), fits)
+            self.assertEqual(space.next, 267)
+
+    def test_a_directory_of_two_blocks(self) -> None:
+        """48 names of a letter fill 1,960 bytes of a block. 21 letters more begin the next one, 17 and 49 do not."""
+        for letters, full in ((21, 1), (17, 0), (49, 0)):
+            layout = blocks.Layout()
+            for name in "abcdefghijklmnopqrstuvwxyzABCDEFGHIJKLMNOPQRSTUV":
+                layout.add(name)
+            self.assertEqual((layout.full, layout.at), (0, 1960))
+            layout.add("x" * letters)
+            self.assertEqual(layout.full, full, letters)
+
+
+if __name__ == "__main__":
+    unittest.main()

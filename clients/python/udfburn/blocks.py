@@ -1,0 +1,140 @@
+"""How many blocks an import takes, and how many an image has left: reckoned by the layout of docs/FORMAT.md."""
+
+from __future__ import annotations
+
+import os
+import struct
+from dataclasses import dataclass, field
+from typing import Dict, Iterable, Optional, Set
+
+from .connection import run_program
+from .errors import ProgramFailed
+from .protocol import Path, limits, spelled_size
+
+PARTITION = 257
+"""The address at which the partition begins."""
+
+INSIDE = 1872
+"""Bytes of a file that stands inside its entry, at most."""
+
+PARENT = 40
+"""Bytes of the identifier of the directory above."""
+
+
+def blocks_for(size: int) -> int:
+    """The blocks that so many bytes take."""
+    return -(-size // limits.BLOCK)
+
+
+def data_blocks(size: int) -> int:
+    """The blocks of a file's bytes outside its entry."""
+    return 0 if size <= INSIDE else blocks_for(size)
+
+
+@dataclass
+class Layout:
+    """A directory's identifiers as they are laid: whole blocks, the place in the last one, and the sum of their sizes."""
+
+    full: int = 0
+    at: int = PARENT
+    sum: int = PARENT
+
+    def add(self, name: str) -> None:
+        """Lays one more name."""
+        size = (38 + spelled_size(name) + 3) // 4 * 4
+        left = limits.BLOCK - self.at - size
+        if left < 0 or 0 < left < 32:
+            self.full, self.at = self.full + 1, size
+        else:
+            self.at += size
+        self.sum += size
+
+    def blocks(self) -> int:
+        """The blocks of its data, and its entry."""
+        return self.full + (1 if self.at else 0) + 1
+
+    def most(self) -> int:
+        """The blocks that it may take, as the program reckons them."""
+        return 2 + self.sum // 1720
+
+
+@dataclass
+class Space:
+    """What an image has: its capacity, the next address, and what its table takes."""
+
+    capacity: int
+    next: int
+    clients: Set[int] = field(default_factory=set)
+    entries: int = 2
+    nodes: int = 1
+
+    def left(self) -> int:
+        return self.capacity - self.next
+
+
+@dataclass
+class Reckoner:
+    """Blocks of requests one after another, at a state whose directories are known."""
+
+    space: Space
+    layouts: Dict[Path, Layout] = field(default_factory=dict)
+
+    def directory(self, path: Path, names: Iterable[str]) -> None:
+        """A directory that is there, with its names in stored order."""
+        self.layouts[path] = Layout()
+        for name in names:
+            self.layouts[path].add(name)
+
+    def replace(self, size: int) -> bool:
+        """A file's other bytes."""
+        return self._write(2 * data_blocks(size) + 1, data_blocks(size) + 1)
+
+    def create(self, path: Path, size: int) -> bool:
+        """A new file. Whether it fits."""
+        parent = self._named(path)
+        return self._write(2 * data_blocks(size) + 1 + parent.most(), data_blocks(size) + 1 + parent.blocks())
+
+    def make(self, path: Path) -> bool:
+        """A new directory."""
+        parent = self._named(path)
+        self.layouts[path] = new = Layout()
+        return self._write(new.most() + parent.most(), new.blocks() + parent.blocks())
+
+    def _named(self, path: Path) -> Layout:
+        self.space.nodes += 1
+        self.space.entries = max(self.space.entries, self.space.nodes + 1)
+        parent = self.layouts.setdefault(path[:-1], Layout())
+        parent.add(path[-1])
+        return parent
+
+    def _write(self, most: int, blocks: int) -> bool:
+        """Goes on by a commit; whether the program has room for the most that it may need."""
+        table = blocks_for(196 + 48 * len(self.space.clients) + 4 * self.space.entries)
+        fits = self.space.next + most + 2 * table + 1 <= self.space.capacity
+        self.space.next += blocks + table + 1
+        return fits
+
+
+def space_of(image: str, program: str, client: Optional[int]) -> Optional[Space]:
+    """What an image has left, by its own blocks; None where it cannot be told."""
+    try:
+        newest = run_program(program, ["log", os.path.abspath(image)]).split(b"\n", 1)[0].split()
+        _, at, files, directories = map(int, newest)
+        with open(image, "rb") as file:
+            file.seek(34 * limits.BLOCK + 192)
+            (partition,) = struct.unpack("<I", file.read(4))
+            file.seek(at * limits.BLOCK + 56)
+            (size,) = struct.unpack("<Q", file.read(8))
+            file.seek(at * limits.BLOCK + 176)
+            length, number = struct.unpack("<II", file.read(8))
+            file.seek((PARTITION + number) * limits.BLOCK)
+            table = file.read(length)
+            blocks = os.fstat(file.fileno()).st_size // limits.BLOCK
+    except (OSError, ValueError, struct.error, ProgramFailed):
+        return None
+    (count,) = struct.unpack_from("<H", table, 186)
+    clients = {struct.unpack_from("<Q", table, 196 + 48 * index)[0] for index in range(count)}
+    if client is not None:
+        clients.add(client)
+    entries = (size - struct.unpack_from("<H", table, 0)[0]) // 4
+    return Space(partition + PARTITION, blocks, clients, entries, files + directories)

@@ -1,0 +1,247 @@
+"""The client: operations on a volume's tree, each once and for certain."""
+
+from __future__ import annotations
+
+from contextlib import contextmanager
+from typing import Iterable, Iterator, List, Optional, Tuple, Type
+
+from .connection import Way
+from .errors import MISSES, REFUSALS, Exists, IsDirectory, NotDirectory, NotFound, Refused, UdfburnError
+from .ledger import Ledger, default_path
+from .line import Line
+from .operations import Operation, Outcome, now
+from .protocol import (
+    Answer, AnyRequest, Bare, Code, Create, Data, Get, List as ListQuery, MakeDir, Name, Names, Node, NodeKind, Path, PathLike, Query,
+    Remove, Rename, Replace, Stat, path_of, show,
+)
+from .session import Session
+
+
+class Client:
+    """A volume behind a daemon's socket (`unix:PATH`) or in an image (`image:PATH`, by the program `udfburn apply`).
+
+    `ledger` is the file that keeps numbers, frames and replies; it is opened with the first request, and made where
+    it is missing. `client` is this ledger's number at the volume, which is drawn once where none is given. A volume
+    keeps 64 clients for its life, so use one ledger a machine.
+
+    A conversation is begun with a call and ended behind it, since a daemon serves one after another; `held` keeps it
+    for several calls.
+    """
+
+    def __init__(
+        self,
+        connect: str,
+        client: Optional[int] = None,
+        ledger: Optional[str] = None,
+        program: Optional[str] = None,
+        patience: float = 10.0,
+        timeout: float = 120.0,
+    ):
+        self.way = Way(connect, program)
+        self.line = Line(self.way, patience, timeout)
+        self._wanted = client
+        self._ledger_path = ledger or default_path()
+        self._patience = patience
+        self._session: Optional[Session] = None
+        self._held = 0
+
+    def __enter__(self) -> "Client":
+        return self
+
+    def __exit__(self, *_: object) -> None:
+        self.close()
+
+    def close(self) -> None:
+        """Ends the conversation, and gives the ledger to others."""
+        self.line.drop()
+        if self._session is not None:
+            self._session.ledger.close()
+            self._session = None
+
+    @contextmanager
+    def held(self) -> Iterator["Client"]:
+        """Keeps the conversation between calls. Where no call is made the daemon's other clients wait."""
+        self._held += 1
+        try:
+            yield self
+        finally:
+            self._held -= 1
+            if not self._held:
+                self.line.drop()
+
+    def session(self) -> Session:
+        """The requests of this client, with its ledger."""
+        if self._session is None:
+            self._session = Session(self.line, Ledger(self._ledger_path, self._wanted, self._patience))
+        return self._session
+
+    # ---- requests
+
+    def run(self, operations: Iterable[Operation]) -> Iterator[Outcome]:
+        """Does operations in order. An outcome comes once its reply is in the ledger and the tree agrees with it;
+        a refusal is one too."""
+        with self.held():
+            yield from self.session().run(operations)
+
+    def do(self, kind: Type[AnyRequest], path: PathLike, moment: Optional[int] = None, data: bytes = b"", to: PathLike = ()) -> int:
+        """Does one operation, and gives its commit; or raises its refusal."""
+        operation = Operation(kind, path_of(path), now() if moment is None else moment, data, path_of(to))
+        outcomes = list(self.run([operation]))
+        return commit_of(outcomes[0])
+
+    def create(self, path: PathLike, data: bytes, moment: Optional[int] = None) -> int:
+        """Makes a file, and gives the commit."""
+        return self.do(Create, path, moment, data)
+
+    def replace(self, path: PathLike, data: bytes, moment: Optional[int] = None) -> int:
+        """Gives a file other bytes."""
+        return self.do(Replace, path, moment, data)
+
+    def mkdir(self, path: PathLike, moment: Optional[int] = None) -> int:
+        """Makes a directory."""
+        return self.do(MakeDir, path, moment)
+
+    def rename(self, path: PathLike, to: PathLike, moment: Optional[int] = None) -> int:
+        """Gives a file or a directory another path."""
+        return self.do(Rename, path, moment, to=to)
+
+    def remove(self, path: PathLike, moment: Optional[int] = None) -> int:
+        """Removes a file or an empty directory."""
+        return self.do(Remove, path, moment)
+
+    def put(self, path: PathLike, data: bytes, moment: Optional[int] = None) -> int:
+        """Stores a file: makes it, or replaces it where it is there."""
+        with self.held():
+            while True:
+                node = self.find(path)
+                if node is not None and node.kind is NodeKind.DIRECTORY:
+                    raise IsDirectory(show(path_of(path)))
+                try:
+                    return self.replace(path, data, moment) if node else self.create(path, data, moment)
+                except (Exists, NotFound):
+                    # Another client was there between the look and the request.
+                    continue
+
+    def makedirs(self, path: PathLike, moment: Optional[int] = None) -> List[Path]:
+        """Makes a directory with those above it that are missing, and gives those that it made."""
+        names = path_of(path)
+        made = []
+        with self.held():
+            for depth in range(1, len(names) + 1):
+                node = self.find(names[:depth])
+                if node is None:
+                    try:
+                        self.mkdir(names[:depth], moment)
+                        made.append(names[:depth])
+                    except Exists:
+                        pass
+                elif node.kind is NodeKind.FILE:
+                    raise NotDirectory(show(names[:depth]))
+        return made
+
+    def resume(self) -> List[Tuple[int, str, Code, int]]:
+        """Finishes what an earlier process began: number, path, code and commit of each request that was pending."""
+        with self.held():
+            session = self.session()
+            self.line.get()
+            paths = {waiting.number: waiting.path for waiting in session.ledger.pending(session.volume())}
+            return [(number, paths[number], reply.code, reply.commit) for number, reply in session.recover().items()]
+
+    def forget(self) -> List[str]:
+        """Drops what is pending, and learns the latest number of this client anew; gives the dropped paths."""
+        with self.held():
+            return self.session().forget()
+
+    # ---- queries
+
+    def ask(self, query: Query) -> Answer:
+        """The answer to a query, or its refusal."""
+        with self.held():
+            return met(query, self.line.ask(query))
+
+    def ask_all(self, queries: Iterable[Query]) -> Iterator[Answer]:
+        """The answers to queries, in order, as they come; refusals among them."""
+        with self.held():
+            yield from self.line.ask_all(queries)
+
+    def get(self, path: PathLike) -> bytes:
+        """The bytes of a file."""
+        answer = self.ask(Get(path_of(path)))
+        assert isinstance(answer, Data)
+        return answer.data
+
+    def list(self, path: PathLike = "/") -> Tuple[Name, ...]:
+        """The names in a directory, with their kinds, in stored order."""
+        answer = self.ask(ListQuery(path_of(path)))
+        assert isinstance(answer, Names)
+        return answer.names
+
+    def stat(self, path: PathLike) -> Node:
+        """What is known of a path."""
+        answer = self.ask(Stat(path_of(path)))
+        assert isinstance(answer, Node)
+        return answer
+
+    def find(self, path: PathLike) -> Optional[Node]:
+        """What is known of a path, or None where nothing is there."""
+        try:
+            return self.stat(path)
+        except NotFound:
+            return None
+
+    # ---- whole trees
+
+    def walk(self, path: PathLike = "/") -> Iterator[Tuple[Path, Tuple[Name, ...]]]:
+        """Each directory from a path on, with its names: first those above, then those below."""
+        from .tree import walk
+
+        return walk(self, path_of(path))
+
+    def put_tree(self, local: str, path: PathLike, **options: object) -> "object":
+        """Stores a folder; `udfburn.tree.put_tree` has the options."""
+        from .tree import put_tree
+
+        return put_tree(self, local, path_of(path), **options)  # type: ignore[arg-type]
+
+    def get_tree(self, path: PathLike, local: str, **options: object) -> "object":
+        """Copies a directory into a new local folder; `udfburn.fetch.get_tree` has the options."""
+        from .fetch import get_tree
+
+        return get_tree(self, path_of(path), local, **options)  # type: ignore[arg-type]
+
+    def verify_tree(self, local: str, path: PathLike, **options: object) -> "object":
+        """Compares a folder with a directory; `udfburn.fetch.verify_tree` has the options."""
+        from .fetch import verify_tree
+
+        return verify_tree(self, local, path_of(path), **options)  # type: ignore[arg-type]
+
+    def remove_tree(self, path: PathLike) -> int:
+        """Removes a directory with all below it, and gives how many files and directories went."""
+        from .tree import remove_tree
+
+        return remove_tree(self, path_of(path))
+
+
+def commit_of(outcome: Outcome) -> int:
+    """The commit of an operation that was done, or its refusal."""
+    if outcome.code is Code.DONE:
+        return outcome.commit
+    raise refusal(outcome)
+
+
+def refusal(outcome: Outcome) -> Refused:
+    """The exception of an outcome that is a refusal."""
+    operation = outcome.operation
+    at_target = outcome.code in (Code.NO_PARENT, Code.EXISTS, Code.DIRECTORY_FULL)
+    path = operation.to if operation.kind is Rename and at_target else operation.path
+    return REFUSALS[outcome.code](show(path), outcome.commit)
+
+
+def met(query: Query, answer: Answer) -> Answer:
+    """The answer, or the exception of its refusal."""
+    if isinstance(answer, Bare):
+        raise MISSES[answer.code](show(query.path))
+    return answer
+
+
+__all__ = ["Client", "UdfburnError", "commit_of", "met", "refusal"]

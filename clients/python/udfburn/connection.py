@@ -1,0 +1,250 @@
+"""The ways to a volume: a daemon's socket, or the program `udfburn apply` on an image."""
+
+from __future__ import annotations
+
+import errno
+import os
+import select
+import shutil
+import socket
+import subprocess
+import tempfile
+import time
+from typing import IO, List, Optional
+
+from .errors import ProgramFailed, UsageError
+from .protocol import Answer, Frames, decode_answer
+
+PIECE = 1 << 18
+"""Bytes that are read or written at once."""
+
+
+class Lost(Exception):
+    """The conversation ended: what was sent without an answer may have been taken or not."""
+
+
+class Connection:
+    """A conversation: frames go out, answers come in, in order. Both directions move at once, so that neither
+    side waits for the other to read."""
+
+    def __init__(self) -> None:
+        self.frames = Frames()
+        self.timeout = 120.0
+
+    def send(self, data: bytes) -> None:
+        """Sends frames, and takes what comes in meanwhile."""
+        view = memoryview(data)
+        limit = time.monotonic() + self.timeout
+        while view:
+            view = view[self._write(view) :]
+            if view:
+                readable, writable = self._wait(limit, writing=True)
+                if readable:
+                    self._feed()
+
+    def answer(self) -> Answer:
+        """The next answer."""
+        limit = time.monotonic() + self.timeout
+        while True:
+            payload = self.frames.take()
+            if payload is not None:
+                return decode_answer(payload)
+            self._wait(limit, writing=False)
+            self._feed()
+
+    def ready(self) -> Optional[Answer]:
+        """The next answer if it is here already."""
+        payload = self.frames.take()
+        return None if payload is None else decode_answer(payload)
+
+    def close(self) -> None:
+        """Ends the conversation."""
+        raise NotImplementedError
+
+    def _feed(self) -> None:
+        piece = self._read()
+        if piece is None:
+            return
+        if not piece:
+            raise self._ended()
+        self.frames.feed(piece)
+
+    def _wait(self, limit: float, writing: bool) -> "tuple[bool, bool]":
+        source, sink = self._descriptors()
+        left = max(0.0, limit - time.monotonic())
+        readable, writable, _ = select.select([source], [sink] if writing else [], [], left)
+        if not readable and not writable:
+            raise Lost(f"nothing came for {self.timeout:g} seconds")
+        return bool(readable), bool(writable)
+
+    def _ended(self) -> Exception:
+        return Lost("the conversation was ended")
+
+    def _descriptors(self) -> "tuple[int, int]":
+        raise NotImplementedError
+
+    def _read(self) -> Optional[bytes]:
+        raise NotImplementedError
+
+    def _write(self, data: memoryview) -> int:
+        raise NotImplementedError
+
+
+class UnixConnection(Connection):
+    """A conversation with a daemon over its Unix socket."""
+
+    def __init__(self, path: str):
+        super().__init__()
+        self.socket = socket.socket(socket.AF_UNIX, socket.SOCK_STREAM)
+        # With a limit, a daemon that has too many clients waiting is an error and no pause without an end.
+        self.socket.settimeout(self.timeout)
+        try:
+            connect(self.socket, path)
+        except OSError as error:
+            self.socket.close()
+            raise Lost(f"{path}: {error.strerror or error}") from error
+        self.socket.setblocking(False)
+
+    def close(self) -> None:
+        self.socket.close()
+
+    def _descriptors(self) -> "tuple[int, int]":
+        return self.socket.fileno(), self.socket.fileno()
+
+    def _read(self) -> Optional[bytes]:
+        try:
+            return self.socket.recv(PIECE)
+        except BlockingIOError:
+            return None
+        except OSError as error:
+            raise Lost(str(error)) from error
+
+    def _write(self, data: memoryview) -> int:
+        try:
+            return self.socket.send(data)
+        except BlockingIOError:
+            return 0
+        except OSError as error:
+            raise Lost(str(error)) from error
+
+
+def connect(unix: socket.socket, path: str) -> None:
+    """Connects to a path, also to one that is longer than a socket's address: by its folder's descriptor."""
+    try:
+        unix.connect(path)
+    except OSError as error:
+        if "too long" not in str(error):
+            raise
+        folder = os.open(os.path.dirname(path) or ".", os.O_PATH | os.O_DIRECTORY)
+        try:
+            unix.connect(f"/proc/self/fd/{folder}/{os.path.basename(path)}")
+        finally:
+            os.close(folder)
+
+
+class ImageConnection(Connection):
+    """A conversation with `udfburn apply IMAGE`, which runs as long as the conversation lasts."""
+
+    def __init__(self, image: str, program: str):
+        super().__init__()
+        # An absolute path is never the name of a volume in memory.
+        self.image = os.path.abspath(image)
+        self.errors: IO[bytes] = tempfile.TemporaryFile()
+        try:
+            self.process = subprocess.Popen(
+                [program, "apply", self.image],
+                stdin=subprocess.PIPE, stdout=subprocess.PIPE, stderr=self.errors, start_new_session=True,
+            )
+        except OSError as error:
+            self.errors.close()
+            raise UsageError(f"{program}: {error.strerror or error}: name the program udfburn by --program") from error
+        assert self.process.stdin and self.process.stdout
+        self.sink, self.source = self.process.stdin.fileno(), self.process.stdout.fileno()
+        os.set_blocking(self.sink, False)
+        os.set_blocking(self.source, False)
+
+    def close(self) -> None:
+        """Ends the program's input, and waits until it has gone: it may still be at a commit."""
+        for stream in (self.process.stdin, self.process.stdout):
+            if stream:
+                stream.close()
+        self.process.wait()
+        self.errors.close()
+
+    def _ended(self) -> Exception:
+        self.process.wait()
+        self.errors.seek(0)
+        line = self.errors.read(1 << 12).decode(errors="replace").strip()
+        if line.startswith("udfburn: 64"):
+            return Lost(f"{line}: the image is missing, or another program has it, or its disk failed")
+        return Lost(line or f"the program ended with status {self.process.returncode}")
+
+    def _descriptors(self) -> "tuple[int, int]":
+        return self.source, self.sink
+
+    def _read(self) -> Optional[bytes]:
+        try:
+            return os.read(self.source, PIECE)
+        except BlockingIOError:
+            return None
+
+    def _write(self, data: memoryview) -> int:
+        try:
+            return os.write(self.sink, data[:PIECE])
+        except BlockingIOError:
+            return 0
+        except BrokenPipeError as error:
+            raise self._ended() from error
+
+
+# ---- connects
+
+class Way:
+    """Where a volume is: `unix:PATH` of a daemon's socket, or `image:PATH`."""
+
+    def __init__(self, connect: str, program: Optional[str] = None):
+        kind, colon, path = connect.partition(":")
+        if not colon or kind not in ("unix", "image") or not path:
+            raise UsageError(f"{connect!r} is neither unix:PATH nor image:PATH")
+        self.kind = kind
+        self.path = os.path.abspath(path)
+        self.program = find_program(program) if kind == "image" else None
+
+    def __str__(self) -> str:
+        return f"{self.kind}:{self.path}"
+
+    def key(self) -> str:
+        """The way's name in a ledger, by the file behind links."""
+        return f"{self.kind}:{os.path.realpath(self.path)}"
+
+    def open(self) -> Connection:
+        """A new conversation, or `Lost`."""
+        if self.kind == "unix":
+            return UnixConnection(self.path)
+        assert self.program
+        if not os.path.isfile(self.path):
+            raise ProgramFailed(f"{self.path}: {os.strerror(errno.ENOENT)}, or no regular file")
+        return ImageConnection(self.path, self.program)
+
+
+def find_program(program: Optional[str] = None) -> str:
+    """The program `udfburn`: as given, of the environment's UDFBURN, or on the PATH."""
+    found = program or os.environ.get("UDFBURN") or shutil.which("udfburn")
+    if not found:
+        raise UsageError("the program udfburn is not on the PATH: name it by --program or in UDFBURN")
+    return os.path.abspath(found) if os.sep in found else found
+
+
+def run_program(program: str, words: List[str]) -> bytes:
+    """What the program prints on these words, or `ProgramFailed` with its line."""
+    try:
+        done = subprocess.run([program, *words], stdin=subprocess.DEVNULL, capture_output=True, check=False)
+    except OSError as error:
+        raise UsageError(f"{program}: {error.strerror or error}: name the program udfburn by --program") from error
+    if done.returncode:
+        line = done.stderr.decode(errors="replace").strip()
+        raise ProgramFailed(f"{line or f'udfburn ended with status {done.returncode}'} ({' '.join(words)})")
+    return done.stdout
+
+
+__all__ = ["Connection", "ImageConnection", "Lost", "UnixConnection", "Way", "find_program", "run_program"]

@@ -1,0 +1,186 @@
+"""What can go wrong, each by its name. Every message says what to do where something can be done."""
+
+from __future__ import annotations
+
+from typing import Dict, Type
+
+from .protocol import AnswerCode, BadAnswer, Code, InvalidName, InvalidPath
+
+
+class UdfburnError(Exception):
+    """Anything that this package refuses or fails at."""
+
+
+# ---- how a committed request went
+
+class Refused(UdfburnError):
+    """The request is committed, and the tree stays as it was."""
+
+    text = "is refused"
+
+    def __init__(self, path: str, commit: int = 0):
+        super().__init__(f"{path}: {self.text}")
+        self.path = path
+        self.commit = commit
+
+
+class NoParent(Refused):
+    text = "the parent is no directory of the tree (mkdir -p makes it)"
+
+
+class NotFound(Refused):
+    text = "is not there"
+
+
+class Exists(Refused):
+    text = "is there already"
+
+
+class IsDirectory(Refused):
+    text = "is a directory"
+
+
+class NotDirectory(Refused):
+    text = "is no directory"
+
+
+class NotEmpty(Refused):
+    text = "is a directory with names (rm -r removes them too)"
+
+
+class IntoItself(Refused):
+    text = "a directory is not moved below itself"
+
+
+class IsRoot(Refused):
+    text = "the root is neither made, replaced, moved nor removed"
+
+
+class TooDeep(Refused):
+    text = "a path would have more than 16 names"
+
+
+class DirectoryFull(Refused):
+    text = "the directory above has 512 names, the most that one has"
+
+
+class TooMany(Refused):
+    text = "the volume has 4,096 files and directories, the most that one has"
+
+
+REFUSALS: Dict[Code, Type[Refused]] = {
+    Code.NO_PARENT: NoParent,
+    Code.NOT_FOUND: NotFound,
+    Code.EXISTS: Exists,
+    Code.IS_DIRECTORY: IsDirectory,
+    Code.NOT_EMPTY: NotEmpty,
+    Code.INTO_ITSELF: IntoItself,
+    Code.ROOT: IsRoot,
+    Code.TOO_DEEP: TooDeep,
+    Code.DIRECTORY_FULL: DirectoryFull,
+    Code.TOO_MANY: TooMany,
+}
+
+MISSES: Dict[AnswerCode, Type[Refused]] = {
+    AnswerCode.NOT_FOUND: NotFound,
+    AnswerCode.IS_DIRECTORY: IsDirectory,
+    AnswerCode.NOT_DIRECTORY: NotDirectory,
+}
+
+
+# ---- what the volume or the drive has no room or no health for
+
+class NotCommitted(UdfburnError):
+    """The request is not committed, and its number is free again."""
+
+
+class Full(NotCommitted):
+    """The medium has no room: nothing was written. Smaller files may still fit; else take another image."""
+
+
+class ClientsFull(NotCommitted):
+    """The volume keeps no further client."""
+
+
+class Rejected(NotCommitted):
+    """The program calls the request malformed."""
+
+
+class DriveFailed(UdfburnError):
+    """The drive failed again and again; what is pending is sent again by the next command or `resume`."""
+
+
+class OutOfMemory(UdfburnError):
+    """The program had no memory again and again; what is pending is sent again by the next command or `resume`."""
+
+
+class Damaged(UdfburnError):
+    """The image holds no volume or a damaged one; nothing is written to it."""
+
+
+# ---- numbers and replies that are not this ledger's
+
+class LedgerError(UdfburnError):
+    """The ledger cannot be used."""
+
+
+class LedgerBusy(LedgerError):
+    """Another process has the ledger."""
+
+
+class NumberUsedElsewhere(LedgerError):
+    """The volume has requests of this client that this ledger did not send."""
+
+
+class VolumeBehind(LedgerError):
+    """The volume does not have requests that it acknowledged to this ledger."""
+
+
+class ForeignReply(LedgerError):
+    """A reply says what the tree does not have."""
+
+
+# ---- the way to the program
+
+class ConnectionFailed(UdfburnError):
+    """The program cannot be reached, or was lost and did not come back in time."""
+
+
+class ProgramFailed(ConnectionFailed):
+    """The program `udfburn` ended with a line of its own."""
+
+
+# ---- local files
+
+class SourceError(UdfburnError):
+    """A local file cannot be stored or was not stored."""
+
+
+class SourceChanged(SourceError):
+    """A local file changed while it was read, or since."""
+
+
+class TooLarge(SourceError):
+    """A local file has more bytes than a file of a volume may have."""
+
+
+class DoesNotFit(SourceError):
+    """A folder as a whole is past the limits of the volume."""
+
+
+class Differs(UdfburnError):
+    """What is on the volume is not what it should be."""
+
+
+class UsageError(UdfburnError):
+    """Words that are no command."""
+
+
+__all__ = [
+    "AnswerCode", "BadAnswer", "ClientsFull", "Code", "ConnectionFailed", "Damaged", "Differs", "DirectoryFull",
+    "DoesNotFit", "DriveFailed", "Exists", "ForeignReply", "Full", "IntoItself", "InvalidName", "InvalidPath",
+    "IsDirectory", "IsRoot", "LedgerBusy", "LedgerError", "MISSES", "NoParent", "NotCommitted", "NotDirectory",
+    "NotEmpty", "NotFound", "NumberUsedElsewhere", "OutOfMemory", "ProgramFailed", "REFUSALS",
+    "Refused", "Rejected", "SourceChanged", "SourceError", "TooDeep", "TooLarge", "TooMany", "UdfburnError",
+    "UsageError", "VolumeBehind",
+]

@@ -1,0 +1,185 @@
+"""A conversation that is taken up again where it was lost, and queries over it."""
+
+from __future__ import annotations
+
+import time
+from collections import deque
+from contextlib import contextmanager
+from itertools import islice
+from typing import Callable, Deque, Iterable, Iterator, List, Optional, Type
+
+from .connection import Connection, Lost, Way
+from .errors import ConnectionFailed, Damaged, DriveFailed, OutOfMemory, UdfburnError, UsageError
+from .protocol import (
+    DAMAGED, FAULT, MEMORY, Answer, BadAnswer, Bare, Data, Gap, Get, List as ListQuery, Malformed, Names, Node, Query, Committed,
+    Stale, encode_message, frame,
+)
+
+TURN = 1.0
+"""Seconds behind which a conversation is ended between two requests, so that others get their turn."""
+
+QUERIES = 16
+"""Queries that are under way at once."""
+
+DAMAGE = "the image holds no volume or a damaged one: see 'udfburn check IMAGE', and the page on damage in docs/OPERATIONS.md"
+
+
+class Patience:
+    """Pauses that grow, up to a limit of time without any progress."""
+
+    def __init__(self, seconds: float):
+        self.seconds = seconds
+        self.progress()
+
+    def progress(self) -> None:
+        """Something went on: the pauses are short again."""
+        self.pause = 0.01
+        self.began: Optional[float] = None
+
+    def wait(self, kind: Type[UdfburnError], why: str) -> None:
+        """Pauses, or raises an error of this kind where the time is up."""
+        now = time.monotonic()
+        if self.began is None:
+            self.began = now
+        if now - self.began + self.pause > self.seconds:
+            raise kind(f"{why} (tried for {now - self.began:.1f} seconds)")
+        time.sleep(self.pause)
+        self.pause = min(self.pause * 1.7, 2.0)
+
+
+class Line:
+    """A conversation on a way. `greet` is called on each new one before anything else is said."""
+
+    def __init__(self, way: Way, patience: float = 10.0, timeout: float = 120.0):
+        self.way = way
+        self.patience = Patience(patience)
+        self.timeout = timeout
+        self.greet: Callable[[Connection], None] = lambda connection: None
+        self._connection: Optional[Connection] = None
+        self._opened = 0.0
+        self._claimed = False
+
+    def get(self) -> Connection:
+        """The conversation, or a new one."""
+        while self._connection is None:
+            try:
+                connection = self.way.open()
+            except Lost as lost:
+                self.patience.wait(ConnectionFailed, f"{self.way}: {lost}")
+                continue
+            connection.timeout = self.timeout
+            try:
+                self.greet(connection)
+            except Lost as lost:
+                connection.close()
+                self.patience.wait(ConnectionFailed, f"{self.way}: {lost}")
+                continue
+            except BaseException:
+                connection.close()
+                raise
+            self._connection, self._opened = connection, time.monotonic()
+        return self._connection
+
+    def drop(self) -> None:
+        """Ends the conversation."""
+        if self._connection is not None:
+            self._connection.close()
+            self._connection = None
+
+    def lost(self, why: str) -> None:
+        """Ends a conversation that was lost, and pauses."""
+        self.drop()
+        self.patience.wait(ConnectionFailed, f"{self.way}: {why}")
+
+    def over(self) -> bool:
+        """Whether it is time to let others have a turn."""
+        return self._connection is not None and time.monotonic() - self._opened > TURN
+
+    def troubled(self, answer: Answer) -> bool:
+        """Pauses where an answer says that the program is troubled: then what was asked is to be asked again."""
+        if answer not in (FAULT, MEMORY):
+            return False
+        self.drop()
+        if answer == FAULT:
+            self.patience.wait(DriveFailed, f"{self.way}: the drive fails: see that the image's disk is well and has room")
+        else:
+            self.patience.wait(OutOfMemory, f"{self.way}: the program has no memory")
+        return True
+
+    @contextmanager
+    def claim(self) -> Iterator[None]:
+        """Keeps the conversation for one list of questions or requests: its answers come in order, and are nobody else's."""
+        if self._claimed:
+            raise UsageError("the answers to one call are to be taken to their end before the next call of the same client")
+        self._claimed = True
+        try:
+            yield
+        finally:
+            self._claimed = False
+
+    # ---- queries
+
+    def ask(self, query: Query) -> Answer:
+        """The answer to a query."""
+        return list(self.ask_all([query]))[0]
+
+    def ask_all(self, queries: Iterable[Query]) -> Iterator[Answer]:
+        """The answers to queries, in order. Queries change nothing, so they are asked again where the conversation was lost."""
+        source = iter(queries)
+        asked: Deque[Query] = deque()
+        unsent: List[Query] = []
+        with self.claim():
+            try:
+                while True:
+                    if not asked and self.over():
+                        self.drop()
+                    unsent += self._room(source, len(asked) + len(unsent))
+                    if not asked and not unsent:
+                        break
+                    answer = self._exchange(asked, unsent)
+                    if answer is not None:
+                        self.patience.progress()
+                        yield answer
+            finally:
+                if asked:
+                    self.drop()
+
+    def _room(self, source: Iterator[Query], under_way: int) -> List[Query]:
+        """The queries that there is room for. None where others are to get their turn."""
+        if under_way and self.over():
+            return []
+        return list(islice(source, QUERIES - under_way))
+
+    def _exchange(self, asked: Deque[Query], unsent: List[Query]) -> Optional[Answer]:
+        """Sends what is not sent yet, and takes an answer; or gives none, and all are to be asked again."""
+        try:
+            connection = self.get()
+            if unsent:
+                asked.extend(unsent)
+                payloads = [frame(encode_message(query)) for query in unsent]
+                unsent.clear()
+                connection.send(b"".join(payloads))
+            answer = connection.answer()
+        except Lost as lost:
+            unsent[:0] = asked
+            asked.clear()
+            self.lost(str(lost))
+            return None
+        if answer in (FAULT, MEMORY):
+            unsent[:0] = asked
+            asked.clear()
+            self.troubled(answer)
+            return None
+        check_query(asked.popleft(), answer)
+        return answer
+
+
+def check_query(query: Query, answer: Answer) -> None:
+    """Raises where an answer is none to the query."""
+    if answer == DAMAGED:
+        raise Damaged(DAMAGE)
+    fits = {Get: Data, ListQuery: Names}.get(type(query), Node)
+    if isinstance(answer, Bare) and answer.code >= 96:
+        return
+    if isinstance(answer, (Committed, Stale, Gap, Malformed)) or not isinstance(answer, fits):
+        raise BadAnswer(f"{answer!r} is no answer to {query!r}")

@@ -1,0 +1,147 @@
+"""Requests before they have a number, and what the tree has behind them."""
+
+from __future__ import annotations
+
+import time
+from dataclasses import dataclass
+from typing import Any, Dict, List, Optional, Sequence, Tuple, Type
+
+from .errors import TooLarge
+from .protocol import (
+    NOT_FOUND, Answer, AnyRequest, Code, Committed, Create, MakeDir, Node, NodeKind, Path, Rename, Replace, limits, show,
+)
+
+
+def now() -> int:
+    """This moment."""
+    return clamped(time.time_ns() // 1000)
+
+
+def clamped(moment: int) -> int:
+    """The moment, or the nearest that can be said."""
+    return min(max(moment, 0), limits.MOMENT - 1)
+
+
+@dataclass(frozen=True)
+class Operation:
+    """What a request is to do. `tag` is for whoever made it."""
+
+    kind: Type[AnyRequest]
+    path: Path
+    moment: int
+    data: bytes = b""
+    to: Path = ()
+    tag: Any = None
+
+    def request(self, client: int, number: int) -> AnyRequest:
+        """The request of a client under a number."""
+        if len(self.data) > limits.FILE:
+            raise TooLarge(f"{show(self.path)}: {len(self.data)} bytes, and a file has at most {limits.FILE}")
+        fields: Dict[str, Any] = {"client": client, "number": number, "moment": self.moment, "path": self.path}
+        if self.kind is Rename:
+            fields["to"] = self.to
+        elif self.kind in (Create, Replace):
+            fields["data"] = self.data
+        return self.kind(**fields)
+
+
+@dataclass(frozen=True)
+class Outcome:
+    """How an operation went."""
+
+    operation: Operation
+    code: Code
+    commit: int
+    number: int
+
+
+# ---- what the tree must have behind a reply
+
+@dataclass(frozen=True)
+class Expected:
+    """What is known of a path: nothing there, or a node of a kind, a size and a moment, where these are known."""
+
+    there: bool
+    kind: Optional[NodeKind] = None
+    size: Optional[int] = None
+    moment: Optional[int] = None
+
+    def agrees(self, answer: Answer) -> bool:
+        """Whether the answer to Stat says this."""
+        if not self.there:
+            return answer == NOT_FOUND
+        return (
+            isinstance(answer, Node)
+            and (self.kind is None or answer.kind is self.kind)
+            and (self.size is None or answer.size == self.size)
+            and (self.moment is None or answer.moment == self.moment)
+        )
+
+
+ABSENT = Expected(False)
+PRESENT = Expected(True)
+DIRECTORY = Expected(True, NodeKind.DIRECTORY)
+
+
+def paths_of(request: AnyRequest) -> Tuple[Path, ...]:
+    """The paths that a request speaks of."""
+    return (request.path, request.to) if isinstance(request, Rename) else (request.path,)
+
+
+def after(request: AnyRequest) -> Dict[Path, Expected]:
+    """What the tree has right behind a request that was done."""
+    if isinstance(request, (Create, Replace)):
+        return {request.path: Expected(True, NodeKind.FILE, len(request.data), request.moment)}
+    if isinstance(request, MakeDir):
+        return {request.path: Expected(True, NodeKind.DIRECTORY, 0, request.moment)}
+    if isinstance(request, Rename):
+        return {request.path: ABSENT, request.to: PRESENT}
+    return {request.path: ABSENT}
+
+
+def refused(request: AnyRequest, code: Code) -> Dict[Path, Expected]:
+    """What the tree has where a request was refused with this code, as far as its paths show it."""
+    target = request.to if isinstance(request, Rename) else request.path
+    if code is Code.NO_PARENT:
+        return {target: ABSENT}
+    if code is Code.NOT_FOUND:
+        return {request.path: ABSENT}
+    if code is Code.EXISTS:
+        return {target: PRESENT}
+    if code in (Code.IS_DIRECTORY, Code.NOT_EMPTY):
+        return {request.path: DIRECTORY}
+    return {}
+
+
+def confirmed(request: AnyRequest, code: Code, answers: Sequence[Answer]) -> bool:
+    """Whether answers to Stat of the request's paths, asked right behind it, agree with its reply."""
+    wanted = after(request) if code is Code.DONE else refused(request, code)
+    return all(path not in wanted or wanted[path].agrees(answer) for path, answer in zip(paths_of(request), answers))
+
+
+def after_all(replies: Sequence[Tuple[AnyRequest, Committed]]) -> Dict[Path, Expected]:
+    """What the tree has behind requests that came one after another, as far as nobody else changed it.
+
+    Of a directory only its kind is known, since its moment and size change with its names.
+    """
+    known: Dict[Path, Expected] = {}
+    for request, reply in replies:
+        if reply.code is not Code.DONE:
+            continue
+        if isinstance(request, Rename):
+            moved = {path: known.pop(path) for path in below(known, request.path)}
+            known[request.path], known[request.to] = ABSENT, moved.pop(request.path, PRESENT)
+            known.update({request.to + path[len(request.path) :]: what for path, what in moved.items()})
+        elif isinstance(request, MakeDir):
+            known[request.path] = DIRECTORY
+        else:
+            known.update(after(request))
+    return known
+
+
+def below(known: Dict[Path, Expected], path: Path) -> List[Path]:
+    """A path and those below it, as far as they are known."""
+    return [other for other in known if other[: len(path)] == path]
+
+
+__all__ = ["Expected", "Operation", "Outcome", "after", "after_all", "clamped", "confirmed", "now", "paths_of", "refused"]

@@ -1,0 +1,92 @@
+"""A volume as it was: the front of its image up to a commit's last block is a volume of its own."""
+
+from __future__ import annotations
+
+import fcntl
+import os
+import shutil
+import tempfile
+from contextlib import contextmanager
+from dataclasses import dataclass
+from typing import Iterator, List, Optional
+
+from .connection import run_program
+from .errors import UsageError
+from .protocol import limits
+
+CLONE = 0x40049409
+"""The call of Linux by which a file shares the blocks of another (FICLONE)."""
+
+PIECE = 1 << 20
+
+
+@dataclass(frozen=True)
+class Commit:
+    """A line of `udfburn log`: a commit, the address of its last block, and what the tree had behind it."""
+
+    number: int
+    address: int
+    files: int
+    directories: int
+
+
+def commits(image: str, program: str) -> List[Commit]:
+    """The commits of an image, the oldest first."""
+    lines = run_program(program, ["log", os.path.abspath(image)]).split(b"\n")
+    return [Commit(*map(int, line.split())) for line in reversed(lines) if line]
+
+
+def address_of(image: str, program: str, commit: int) -> int:
+    """The last block of a commit."""
+    known = commits(image, program)
+    for found in known:
+        if found.number == commit:
+            return found.address
+    raise UsageError(f"{image}: has commits 0 to {known[-1].number}, and no commit {commit}")
+
+
+def copy_front(source: str, target: str, size: int) -> None:
+    """Copies the front of a file: by shared blocks where the file system has them, else without its blocks of zeros."""
+    with open(source, "rb") as old, open(target, "r+b") as new:
+        if not cloned(old.fileno(), new.fileno()):
+            left = size
+            while left:
+                piece = old.read(min(left, PIECE))
+                if not piece:
+                    break
+                left -= len(piece)
+                if piece.count(0) == len(piece):
+                    new.seek(len(piece), os.SEEK_CUR)
+                else:
+                    new.write(piece)
+        new.truncate(size)
+
+
+def cloned(old: int, new: int) -> bool:
+    """Whether the whole file could be had by shared blocks."""
+    try:
+        fcntl.ioctl(new, CLONE, old)
+        return True
+    except OSError:
+        return False
+
+
+@contextmanager
+def front(image: str, program: str, commit: Optional[int]) -> Iterator[str]:
+    """A copy of the image as it was behind a commit, or as it is now; gone at the end."""
+    size = os.path.getsize(image) if commit is None else (address_of(image, program, commit) + 1) * limits.BLOCK
+    folder = tempfile.mkdtemp(prefix=".udfburn-", dir=room(image))
+    try:
+        target = os.path.join(folder, "front.img")
+        with open(target, "xb"):
+            pass
+        copy_front(image, target, size)
+        yield target
+    finally:
+        shutil.rmtree(folder, ignore_errors=True)
+
+
+def room(image: str) -> Optional[str]:
+    """Where the copy is made: beside the image, where blocks can be shared, or where temporary files are."""
+    beside = os.path.dirname(os.path.abspath(image))
+    return beside if os.access(beside, os.W_OK) else None

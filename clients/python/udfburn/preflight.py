@@ -1,0 +1,123 @@
+"""Whether all of an import fits, told at once and before anything is sent."""
+
+from __future__ import annotations
+
+from collections import Counter
+from dataclasses import dataclass, field
+from typing import Dict, List, Optional, Set, Tuple
+
+from .blocks import Reckoner, Space
+from .protocol import NodeKind, Path, limits, show
+from .sources import Folder, Scan, Source, shown
+from .split import PARTS, other_paths, part_count, stored_paths
+
+
+@dataclass
+class Present:
+    """What the volume has: the kind of each path that was looked at, and the names of its directories in stored order."""
+
+    kinds: Dict[Path, NodeKind] = field(default_factory=dict)
+    names: Dict[Path, List[str]] = field(default_factory=dict)
+    whole: bool = False
+
+    def add(self, path: Path, kind: NodeKind) -> None:
+        self.kinds[path] = kind
+
+
+@dataclass
+class Plan:
+    """What an import does: directories that are made, files with the paths of their parts, and files that go."""
+
+    folders: List[Folder] = field(default_factory=list)
+    files: List[Tuple[Source, List[Path]]] = field(default_factory=list)
+    stale: Dict[Path, List[Path]] = field(default_factory=dict)
+    faults: List[str] = field(default_factory=list)
+    blocks: Optional[int] = None
+    left: Optional[int] = None
+
+
+def plan(scan: Scan, present: Present, split: bool, space: Optional[Space]) -> Plan:
+    """Plans an import, with all that stands against it."""
+    planned = Plan(faults=list(scan.faults))
+    for folder in scan.folders:
+        if present.kinds.get(folder.path) is NodeKind.FILE:
+            planned.faults.append(f"{show(folder.path)}: is a file, and is to be a directory")
+        elif folder.path not in present.kinds:
+            planned.folders.append(folder)
+    for source in scan.files:
+        size = source.identity.size
+        if size > limits.FILE and not split:
+            planned.faults.append(f"{shown(source.local)}: has {size} bytes, and a file has at most {limits.FILE} (--split stores it in parts)")
+            continue
+        if part_count(size) > PARTS:
+            planned.faults.append(f"{shown(source.local)}: takes more than {PARTS} parts")
+            continue
+        planned.files.append((source, stored_paths(source.path, size, split)))
+        if split:
+            stale = other_paths(source.path, size, present.kinds)
+            if stale:
+                planned.stale[source.path] = stale
+    check_paths(planned, present)
+    check_counts(planned, present)
+    reckon(planned, present, space)
+    return planned
+
+
+def check_paths(planned: Plan, present: Present) -> None:
+    """Names, depths, kinds, parents, and paths that two files would have."""
+    made: Set[Path] = {folder.path for folder in planned.folders}
+    targets = [path for _, paths in planned.files for path in paths]
+    for path, count in Counter(targets + [folder.path for folder in planned.folders]).items():
+        if count > 1:
+            planned.faults.append(f"{show(path)}: more than one of the files and folders would have this path")
+    for source, paths in planned.files:
+        for path in paths:
+            if present.kinds.get(path) is NodeKind.DIRECTORY:
+                planned.faults.append(f"{show(path)}: is a directory, and {shown(source.local)} is a file")
+    for path in targets + sorted(made):
+        if len(path) > limits.DEPTH:
+            planned.faults.append(f"{show(path)}: has {len(path)} names, and a path has at most {limits.DEPTH}")
+        parent = path[:-1]
+        if path and parent not in made and present.kinds.get(parent, NodeKind.DIRECTORY if not parent else None) is not NodeKind.DIRECTORY:
+            planned.faults.append(f"{show(parent)}: is no directory of the volume (-p makes missing ones)")
+    planned.faults[:] = list(dict.fromkeys(planned.faults))
+
+
+def new_paths(planned: Plan, present: Present) -> List[Path]:
+    """The paths that an import adds."""
+    paths = [folder.path for folder in planned.folders] + [path for _, paths in planned.files for path in paths]
+    return [path for path in dict.fromkeys(paths) if path not in present.kinds]
+
+
+def check_counts(planned: Plan, present: Present) -> None:
+    """Names a directory, and nodes of the volume."""
+    added = new_paths(planned, present)
+    for parent, count in Counter(path[:-1] for path in added if path).items():
+        names = len(present.names.get(parent, ())) + count
+        if names > limits.NAMES:
+            planned.faults.append(f"{show(parent)}: would have {names} names, and a directory has at most {limits.NAMES}")
+    nodes = 1 + sum(len(names) for names in present.names.values()) + len(added)
+    if present.whole and nodes > limits.NODES:
+        planned.faults.append(f"the volume would have {nodes} files and directories, and has at most {limits.NODES}")
+
+
+def reckon(planned: Plan, present: Present, space: Optional[Space]) -> None:
+    """Blocks, where the image is there to be looked at."""
+    if space is None or planned.faults:
+        return
+    begin, planned.left = space.next, space.left()
+    reckoner = Reckoner(space)
+    for path, names in present.names.items():
+        reckoner.directory(path, names)
+    fits = [reckoner.make(folder.path) for folder in planned.folders]
+    for source, paths in planned.files:
+        left = source.identity.size
+        for path in paths:
+            size = min(left, limits.FILE)
+            left -= size
+            fits.append(reckoner.replace(size) if path in present.kinds else reckoner.create(path, size))
+    planned.blocks = space.next - begin
+    if not all(fits):
+        planned.faults.append(
+            f"the import takes {planned.blocks} blocks, and a last one may need some more; the image has {planned.left} left"
+        )

@@ -1,0 +1,120 @@
+"""What a command tells while it works: a bar on a terminal, plain lines elsewhere, JSON where that is asked for."""
+
+from __future__ import annotations
+
+import json
+import sys
+import time
+from typing import Any, Optional, TextIO
+
+from .protocol import Path, show
+
+BAR = 24
+"""Columns of the bar."""
+
+
+def size(count: float) -> str:
+    """Bytes, as people read them."""
+    for unit in ("B", "KiB", "MiB", "GiB"):
+        if count < 1024 or unit == "GiB":
+            return f"{count:.0f} {unit}" if unit == "B" else f"{count:.1f} {unit}"
+        count /= 1024
+    raise AssertionError
+
+
+def plural(count: int, one: str, many: str) -> str:
+    """A count with its noun."""
+    return f"{count:,} {one if count == 1 else many}"
+
+
+def clock(seconds: float) -> str:
+    """Seconds, as people read them."""
+    minutes, rest = divmod(int(seconds), 60)
+    hours, minutes = divmod(minutes, 60)
+    return f"{hours}:{minutes:02}:{rest:02}" if hours else f"{minutes}:{rest:02}"
+
+
+def printable(text: str) -> str:
+    """A line in which no name can break the line, or move the cursor of a terminal."""
+    if text.isprintable():
+        return text
+    return "".join(letter if letter.isprintable() else letter.encode("unicode_escape").decode() for letter in text)
+
+
+class Progress:
+    """Steps of a command: files and bytes of a whole."""
+
+    def __init__(self, quiet: bool, as_json: bool, output: Optional[TextIO] = None, errors: Optional[TextIO] = None):
+        self.quiet, self.as_json = quiet, as_json
+        self.output = output or sys.stdout
+        self.errors = errors or sys.stderr
+        self.bar = not quiet and not as_json and self.errors.isatty()
+        self.files = self.bytes = self.done_files = self.done_bytes = 0
+        self.began = self.shown = time.monotonic()
+        self.tqdm: Any = None
+
+    def begin(self, files: int, total: int) -> None:
+        """So many files and bytes are to come."""
+        self.files, self.bytes, self.began = files, total, time.monotonic()
+        if self.bar and total:
+            try:
+                from tqdm import tqdm
+
+                self.tqdm = tqdm(total=total, unit="B", unit_scale=True, unit_divisor=1024, file=self.errors, leave=False)
+            except ImportError:
+                self.tqdm = None
+
+    def told(self, what: str, path: Path, count: int, commit: int) -> None:
+        """A step was done."""
+        if what in ("stored", "same", "got", "differs"):
+            self.done_files += 1
+            self.done_bytes += count
+        if self.as_json:
+            if not self.quiet:
+                step = {"did": what, "path": show(path), "bytes": count, "commit": commit or None}
+                print(json.dumps(step), file=self.output, flush=True)
+        elif self.bar:
+            self._draw(count)
+        elif not self.quiet:
+            words = [what, show(path)] + ([f"({count} bytes)"] if what in ("stored", "got", "would store", "would replace") else [])
+            print(printable(" ".join(words)), file=self.output, flush=True)
+
+    def _draw(self, count: int) -> None:
+        if self.tqdm is not None:
+            self.tqdm.update(count)
+            self.tqdm.set_postfix_str(f"{self.done_files} of {self.files} files", refresh=False)
+            return
+        now = time.monotonic()
+        if now - self.shown < 0.1:
+            return
+        self.shown = now
+        self.errors.write("\r\x1b[K" + self.line(now))
+        self.errors.flush()
+
+    def line(self, now: float) -> str:
+        """The bar: files, bytes, rate and time left."""
+        seconds = max(now - self.began, 1e-6)
+        part = min(self.done_bytes / self.bytes, 1.0) if self.bytes else 1.0
+        rate = self.done_bytes / seconds
+        left = clock((self.bytes - self.done_bytes) / rate) if rate else "-:--"
+        filled = int(part * BAR)
+        return (
+            f"[{'#' * filled}{'.' * (BAR - filled)}] {part:4.0%}  {self.done_files} of {self.files} files"
+            f"  {size(self.done_bytes)} of {size(self.bytes)}  {size(rate)}/s  {left} left"
+        )
+
+    def end(self) -> None:
+        """Clears the bar."""
+        if self.tqdm is not None:
+            self.tqdm.close()
+        elif self.bar:
+            self.errors.write("\r\x1b[K")
+            self.errors.flush()
+
+    def say(self, line: str, **fields: object) -> None:
+        """The result: a line for people, fields for programs."""
+        self.end()
+        if self.as_json:
+            print(json.dumps(fields), file=self.output, flush=True)
+        elif not self.quiet:
+            print(printable(line), file=self.output, flush=True)

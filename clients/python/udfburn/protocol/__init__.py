@@ -1,0 +1,28 @@
+"""The protocol of `udfburn` and `udfburnd`: each frame, request, query, answer, fault and limit as a type.
+
+`encode_message` and `encode_answer` give the one payload of a message or an answer; `decode_message` and
+`decode_answer` read it, and tell its first fault. `frame` puts a payload behind its length, `Frames` cuts a
+stream into payloads.
+"""
+
+from . import limits
+from .answers import (
+    BARE, CLIENTS_FULL, DAMAGED, FAULT, FULL, IS_DIRECTORY, MEMORY, NOT_DIRECTORY, NOT_FOUND,
+    Answer, AnswerCode, BadAnswer, Bare, Code, Committed, Data, Gap, Malformed, Name, Names, Node, NodeKind, Stale,
+    decode_answer, encode_answer,
+)
+from .frames import LENGTH, Frames, frame
+from .messages import (
+    AnyRequest, Cause, Create, Fault, Get, Kind, List, MakeDir, Message, Query, Remove, Rename, Replace, Request, Stat,
+    decode_message, encode_message,
+)
+from .names import InvalidName, InvalidPath, NameFault, Path, PathLike, name_fault, path_of, show, spelled_size
+
+__all__ = [
+    "Answer", "AnswerCode", "AnyRequest", "BARE", "BadAnswer", "Bare", "CLIENTS_FULL", "Cause", "Code", "Committed",
+    "Create", "DAMAGED", "Data", "FAULT", "FULL", "Fault", "Frames", "Gap", "Get", "IS_DIRECTORY", "InvalidName",
+    "InvalidPath", "Kind", "LENGTH", "List", "MEMORY", "MakeDir", "Malformed", "Message", "NOT_DIRECTORY",
+    "NOT_FOUND", "Name", "NameFault", "Names", "Node", "NodeKind", "Path", "PathLike", "Query", "Remove", "Rename",
+    "Replace", "Request", "Stale", "Stat", "decode_answer", "decode_message", "encode_answer", "encode_message",
+    "frame", "limits", "name_fault", "path_of", "show", "spelled_size",
+]

@@ -1,0 +1,266 @@
+"""Answers: their payloads, written and read."""
+
+from __future__ import annotations
+
+import struct
+from dataclasses import dataclass
+from enum import IntEnum
+from typing import Callable, ClassVar, Dict, Tuple, Union
+
+from . import limits
+from .messages import Cause
+from .names import name_fault
+from .reader import Fields, Short
+
+
+class Code(IntEnum):
+    """How a committed request went."""
+
+    DONE = 0
+    NO_PARENT = 1
+    NOT_FOUND = 2
+    EXISTS = 3
+    IS_DIRECTORY = 4
+    NOT_EMPTY = 5
+    INTO_ITSELF = 6
+    ROOT = 7
+    TOO_DEEP = 8
+    DIRECTORY_FULL = 9
+    TOO_MANY = 10
+
+
+class AnswerCode(IntEnum):
+    """The code of an answer that is no reply to a committed request."""
+
+    STALE = 32
+    GAP = 33
+    CLIENTS_FULL = 34
+    FULL = 35
+    FAULT = 36
+    MEMORY = 37
+    MALFORMED = 38
+    DAMAGED = 39
+    DATA = 64
+    NAMES = 65
+    NODE = 66
+    NOT_FOUND = 96
+    IS_DIRECTORY = 97
+    NOT_DIRECTORY = 98
+
+
+class NodeKind(IntEnum):
+    """What a name leads to."""
+
+    FILE = 0
+    DIRECTORY = 1
+
+
+class BadAnswer(Exception):
+    """Bytes that are no answer of this protocol, or not one to what was asked."""
+
+
+@dataclass(frozen=True)
+class Committed:
+    """The request is committed."""
+
+    code: Code
+    commit: int
+
+
+@dataclass(frozen=True)
+class Stale:
+    """The request is older than those whose replies are kept."""
+
+    code: ClassVar[AnswerCode] = AnswerCode.STALE
+    latest: int
+
+
+@dataclass(frozen=True)
+class Gap:
+    """The request's number is not its client's next."""
+
+    code: ClassVar[AnswerCode] = AnswerCode.GAP
+    latest: int
+
+
+@dataclass(frozen=True)
+class Bare:
+    """An answer of its code alone."""
+
+    code: AnswerCode
+
+
+CLIENTS_FULL = Bare(AnswerCode.CLIENTS_FULL)
+FULL = Bare(AnswerCode.FULL)
+FAULT = Bare(AnswerCode.FAULT)
+MEMORY = Bare(AnswerCode.MEMORY)
+DAMAGED = Bare(AnswerCode.DAMAGED)
+NOT_FOUND = Bare(AnswerCode.NOT_FOUND)
+IS_DIRECTORY = Bare(AnswerCode.IS_DIRECTORY)
+NOT_DIRECTORY = Bare(AnswerCode.NOT_DIRECTORY)
+
+BARE: Dict[int, Bare] = {
+    bare.code: bare
+    for bare in (CLIENTS_FULL, FULL, FAULT, MEMORY, DAMAGED, NOT_FOUND, IS_DIRECTORY, NOT_DIRECTORY)
+}
+
+
+@dataclass(frozen=True)
+class Malformed:
+    """The payload says nothing."""
+
+    code: ClassVar[AnswerCode] = AnswerCode.MALFORMED
+    cause: Cause
+
+
+@dataclass(frozen=True)
+class Data:
+    """The bytes of a file."""
+
+    code: ClassVar[AnswerCode] = AnswerCode.DATA
+    data: bytes
+
+
+@dataclass(frozen=True)
+class Name:
+    """A name in a directory."""
+
+    kind: NodeKind
+    name: str
+
+
+@dataclass(frozen=True)
+class Names:
+    """The names in a directory, in stored order."""
+
+    code: ClassVar[AnswerCode] = AnswerCode.NAMES
+    names: Tuple[Name, ...]
+
+
+@dataclass(frozen=True)
+class Node:
+    """What is known of a path. `size` is the bytes of a file, the names of a directory."""
+
+    code: ClassVar[AnswerCode] = AnswerCode.NODE
+    kind: NodeKind
+    moment: int
+    size: int
+
+
+Answer = Union[Committed, Stale, Gap, Bare, Malformed, Data, Names, Node]
+
+
+# ---- written
+
+def encode_answer(answer: Answer) -> bytes:
+    """The payload of an answer."""
+    head = struct.pack("<H", answer.code)
+    if isinstance(answer, Committed):
+        return head + struct.pack("<I", answer.commit)
+    if isinstance(answer, (Stale, Gap)):
+        return head + struct.pack("<Q", answer.latest)
+    if isinstance(answer, Malformed):
+        return head + struct.pack("<H", answer.cause)
+    if isinstance(answer, Data):
+        return head + struct.pack("<I", len(answer.data)) + answer.data
+    if isinstance(answer, Names):
+        return head + struct.pack("<H", len(answer.names)) + b"".join(map(encode_name, answer.names))
+    if isinstance(answer, Node):
+        return head + struct.pack("<BQQ", answer.kind, answer.moment, answer.size)
+    return head
+
+
+def encode_name(name: Name) -> bytes:
+    """A name in the answer to List."""
+    text = name.name.encode()
+    return struct.pack("<BH", name.kind, len(text)) + text
+
+
+# ---- read
+
+def decode_data(fields: Fields) -> Data:
+    """The bytes of a file."""
+    size = fields.number(4)
+    if size > limits.FILE:
+        raise BadAnswer("a file has more bytes than a file may have")
+    return Data(fields.take(size))
+
+
+def decode_name(fields: Fields) -> Name:
+    """A name: one that may stand in a directory, so that it is safe as a local name too."""
+    kind = node_kind(fields)
+    try:
+        name = fields.take(fields.number(2)).decode()
+    except UnicodeDecodeError:
+        raise BadAnswer("a name is not UTF-8") from None
+    if name_fault(name) is not None:
+        raise BadAnswer(f"a directory has a name that may not stand in one: {name!r}")
+    return Name(kind, name)
+
+
+def decode_names(fields: Fields) -> Names:
+    """The names in a directory."""
+    count = fields.number(2)
+    if count > limits.NAMES:
+        raise BadAnswer("a directory has more names than one may have")
+    names = tuple(decode_name(fields) for _ in range(count))
+    if len({name.name for name in names}) < count:
+        raise BadAnswer("a directory has a name twice")
+    return Names(names)
+
+
+def decode_node(fields: Fields) -> Node:
+    """What is known of a path."""
+    node = Node(node_kind(fields), fields.number(8), fields.number(8))
+    most = limits.NAMES if node.kind is NodeKind.DIRECTORY else limits.FILE
+    if node.moment >= limits.MOMENT or node.size > most:
+        raise BadAnswer("a node is past the limits of a volume")
+    return node
+
+
+def node_kind(fields: Fields) -> NodeKind:
+    """The kind of a node."""
+    kind = fields.number(1)
+    if kind > 1:
+        raise BadAnswer(f"there is no kind {kind} of nodes")
+    return NodeKind(kind)
+
+
+def decode_cause(fields: Fields) -> Malformed:
+    """Why a payload says nothing."""
+    cause = fields.number(2)
+    try:
+        return Malformed(Cause(cause))
+    except ValueError:
+        raise BadAnswer(f"there is no cause {cause}") from None
+
+
+READERS: Dict[int, Callable[[Fields], Answer]] = {
+    AnswerCode.STALE: lambda fields: Stale(fields.number(8)),
+    AnswerCode.GAP: lambda fields: Gap(fields.number(8)),
+    AnswerCode.MALFORMED: decode_cause,
+    AnswerCode.DATA: decode_data,
+    AnswerCode.NAMES: decode_names,
+    AnswerCode.NODE: decode_node,
+}
+
+
+def decode_answer(payload: bytes) -> Answer:
+    """The answer of a payload, or `BadAnswer`."""
+    fields = Fields(payload)
+    try:
+        code = fields.number(2)
+        answer: Answer
+        if code <= Code.TOO_MANY:
+            answer = Committed(Code(code), fields.number(4))
+        elif code in BARE:
+            answer = BARE[code]
+        elif code in READERS:
+            answer = READERS[code](fields)
+        else:
+            raise BadAnswer(f"there is no answer of code {code}")
+    except Short:
+        raise BadAnswer("an answer ends inside a field") from None
+    if fields.left():
+        raise BadAnswer("an answer has bytes behind its last field")
+    return answer

@@ -1,0 +1,51 @@
+"""Frames: payloads in a stream, each behind its length."""
+
+from __future__ import annotations
+
+import struct
+from typing import Optional
+
+from . import limits
+from .answers import BadAnswer
+
+LENGTH = 4
+"""Bytes of a frame's length."""
+
+
+def frame(payload: bytes) -> bytes:
+    """A payload in its frame."""
+    if len(payload) > limits.PAYLOAD:
+        raise ValueError("a payload is above the limit")
+    return struct.pack("<I", len(payload)) + payload
+
+
+class Frames:
+    """Cuts a stream, which comes in pieces, into payloads."""
+
+    def __init__(self) -> None:
+        self.bytes = bytearray()
+        self.at = 0
+
+    def feed(self, piece: bytes) -> None:
+        """Adds a piece of the stream."""
+        if self.at:
+            del self.bytes[: self.at]
+            self.at = 0
+        self.bytes += piece
+
+    def take(self) -> Optional[bytes]:
+        """The next payload, once all of it is there."""
+        begin = self.at + LENGTH
+        if len(self.bytes) < begin:
+            return None
+        (length,) = struct.unpack_from("<I", self.bytes, self.at)
+        if length > limits.PAYLOAD:
+            raise BadAnswer(f"a frame says that it has {length} bytes, which is above the limit")
+        if len(self.bytes) < begin + length:
+            return None
+        self.at = begin + length
+        return bytes(self.bytes[begin : begin + length])
+
+    def rest(self) -> int:
+        """The bytes of a frame that is not whole yet."""
+        return len(self.bytes) - self.at

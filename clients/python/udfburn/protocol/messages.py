@@ -1,0 +1,242 @@
+"""Requests, which change the tree, and queries, which read it: their payloads, written and read."""
+
+from __future__ import annotations
+
+import struct
+from dataclasses import dataclass
+from enum import IntEnum
+from functools import lru_cache
+from typing import Any, ClassVar, Dict, Type, Union
+
+from . import limits
+from .names import Path, name_fault
+from .reader import Fields, Short
+
+
+class Kind(IntEnum):
+    """The first byte of a payload."""
+
+    CREATE = 1
+    REPLACE = 2
+    MAKE_DIR = 3
+    RENAME = 4
+    REMOVE = 5
+    GET = 16
+    LIST = 17
+    STAT = 18
+
+
+class Cause(IntEnum):
+    """Why a payload says nothing."""
+
+    TOO_LONG = 51
+    KIND = 52
+    SHORT = 53
+    EXTRA = 54
+    PATH = 55
+    MOMENT = 56
+    CLIENT_ZERO = 57
+    NUMBER_ZERO = 58
+
+
+class Fault(ValueError):
+    """A payload or a message that cannot be said."""
+
+    def __init__(self, cause: Cause):
+        super().__init__(f"{int(cause)} {cause.name}")
+        self.cause = cause
+
+
+@dataclass(frozen=True)
+class Request:
+    """What every request has: who asks, the number of the request, and its moment."""
+
+    kind: ClassVar[Kind]
+    client: int
+    number: int
+    moment: int
+
+
+@dataclass(frozen=True)
+class Create(Request):
+    """A new file."""
+
+    kind: ClassVar[Kind] = Kind.CREATE
+    path: Path
+    data: bytes
+
+
+@dataclass(frozen=True)
+class Replace(Request):
+    """Other bytes for a file that is there."""
+
+    kind: ClassVar[Kind] = Kind.REPLACE
+    path: Path
+    data: bytes
+
+
+@dataclass(frozen=True)
+class MakeDir(Request):
+    """A new directory."""
+
+    kind: ClassVar[Kind] = Kind.MAKE_DIR
+    path: Path
+
+
+@dataclass(frozen=True)
+class Rename(Request):
+    """Another path for a file or a directory."""
+
+    kind: ClassVar[Kind] = Kind.RENAME
+    path: Path
+    to: Path
+
+
+@dataclass(frozen=True)
+class Remove(Request):
+    """A file or an empty directory that goes."""
+
+    kind: ClassVar[Kind] = Kind.REMOVE
+    path: Path
+
+
+@dataclass(frozen=True)
+class Get:
+    """Asks for the bytes of a file."""
+
+    kind: ClassVar[Kind] = Kind.GET
+    path: Path
+
+
+@dataclass(frozen=True)
+class List:
+    """Asks for the names in a directory."""
+
+    kind: ClassVar[Kind] = Kind.LIST
+    path: Path
+
+
+@dataclass(frozen=True)
+class Stat:
+    """Asks what is known of a path."""
+
+    kind: ClassVar[Kind] = Kind.STAT
+    path: Path
+
+
+Query = Union[Get, List, Stat]
+AnyRequest = Union[Create, Replace, MakeDir, Rename, Remove]
+Message = Union[AnyRequest, Query]
+
+REQUESTS: Dict[int, Type[AnyRequest]] = {
+    Kind.CREATE: Create, Kind.REPLACE: Replace, Kind.MAKE_DIR: MakeDir, Kind.RENAME: Rename, Kind.REMOVE: Remove,
+}
+QUERIES: Dict[int, Type[Query]] = {Kind.GET: Get, Kind.LIST: List, Kind.STAT: Stat}
+
+
+# ---- written
+
+@lru_cache(maxsize=1024)
+def encode_path(path: Path) -> bytes:
+    """The field of a path."""
+    if len(path) > limits.PATH_NAMES:
+        raise Fault(Cause.PATH)
+    parts = [bytes((len(path),))]
+    for name in path:
+        if name_fault(name) is not None:
+            raise Fault(Cause.PATH)
+        text = name.encode()
+        parts.append(struct.pack("<H", len(text)))
+        parts.append(text)
+    return b"".join(parts)
+
+
+def encode_message(message: Message) -> bytes:
+    """The one payload of a message."""
+    if not isinstance(message, Request):
+        return bytes((message.kind,)) + encode_path(message.path)
+    check_request(message)
+    head = struct.pack("<BQQQ", message.kind, message.client, message.number, message.moment)
+    payload = head + encode_path(message.path)
+    if isinstance(message, Rename):
+        return payload + encode_path(message.to)
+    if isinstance(message, (Create, Replace)):
+        return b"".join((payload, struct.pack("<I", len(message.data)), message.data))
+    return payload
+
+
+def check_request(message: Request) -> None:
+    """Raises the fault of a request's numbers or data, if they have one."""
+    if not 0 < message.client <= limits.U64:
+        raise Fault(Cause.CLIENT_ZERO)
+    if not 0 < message.number <= limits.U64:
+        raise Fault(Cause.NUMBER_ZERO)
+    if not 0 <= message.moment < limits.MOMENT:
+        raise Fault(Cause.MOMENT)
+    if isinstance(message, (Create, Replace)) and len(message.data) > limits.FILE:
+        raise Fault(Cause.EXTRA)
+
+
+# ---- read
+
+def decode_path(fields: Fields) -> Path:
+    """The path that comes next."""
+    names = []
+    for _ in range(fields.number(1)):
+        text = fields.take(fields.number(2))
+        try:
+            name = text.decode()
+        except UnicodeDecodeError:
+            raise Fault(Cause.PATH) from None
+        if name_fault(name) is not None:
+            raise Fault(Cause.PATH)
+        names.append(name)
+    return tuple(names)
+
+
+def decode_data(fields: Fields) -> bytes:
+    """The data that comes next."""
+    size = fields.number(4)
+    if size > limits.FILE:
+        raise Fault(Cause.EXTRA)
+    return fields.take(size)
+
+
+def decode_request(kind: Type[AnyRequest], fields: Fields) -> AnyRequest:
+    """The request of a kind, its fields in their order."""
+    client = fields.number(8)
+    if client == 0:
+        raise Fault(Cause.CLIENT_ZERO)
+    number = fields.number(8)
+    if number == 0:
+        raise Fault(Cause.NUMBER_ZERO)
+    moment = fields.number(8)
+    if moment >= limits.MOMENT:
+        raise Fault(Cause.MOMENT)
+    said: Dict[str, Any] = {"client": client, "number": number, "moment": moment, "path": decode_path(fields)}
+    if kind is Rename:
+        said["to"] = decode_path(fields)
+    elif kind in (Create, Replace):
+        said["data"] = decode_data(fields)
+    return kind(**said)
+
+
+def decode_message(payload: bytes) -> Message:
+    """The message of a payload, or its first `Fault`."""
+    if len(payload) > limits.PAYLOAD:
+        raise Fault(Cause.TOO_LONG)
+    fields = Fields(payload)
+    try:
+        kind = fields.number(1)
+        message: Message
+        if kind in REQUESTS:
+            message = decode_request(REQUESTS[kind], fields)
+        elif kind in QUERIES:
+            message = QUERIES[kind](decode_path(fields))
+        else:
+            raise Fault(Cause.KIND)
+    except Short:
+        raise Fault(Cause.SHORT) from None
+    if fields.left():
+        raise Fault(Cause.EXTRA)
+    return message

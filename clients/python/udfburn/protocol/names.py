@@ -1,0 +1,104 @@
+"""Names, paths, and how a name is spelled in compressed Unicode."""
+
+from __future__ import annotations
+
+from enum import Enum
+from functools import lru_cache
+from typing import Optional, Sequence, Tuple, Union
+
+from . import limits
+
+Path = Tuple[str, ...]
+"""A path: its names from the root on. The root has none."""
+
+PathLike = Union[str, Sequence[str]]
+"""A path as users write it: a text with slashes, or names."""
+
+
+class NameFault(Enum):
+    """Why a text may not stand in a directory, in the order in which faults are looked for."""
+
+    EMPTY = "is empty"
+    DOTS = "stands for a directory itself or the one above"
+    SLASH = "has a slash"
+    NUL = "has a NUL"
+    WIDE = "has a character without a spelling in compressed Unicode"
+    LONG = "takes more than 255 bytes as it is spelled on the medium"
+
+
+class InvalidName(ValueError):
+    """A text that is no name."""
+
+    def __init__(self, name: str, fault: NameFault):
+        super().__init__(f"{name!r} {fault.value}")
+        self.name = name
+        self.fault = fault
+
+
+def has_spelling(character: str) -> bool:
+    """Whether a character can be spelled: 16 bits, no surrogate, no byte order mark read either way."""
+    code = ord(character)
+    return code < 0x10000 and not 0xD800 <= code < 0xE000 and code not in (0xFEFF, 0xFFFE)
+
+
+def spelled_size(name: str) -> int:
+    """The bytes that a text takes as it is spelled on the medium."""
+    if not name:
+        return 0
+    return 1 + len(name) * (1 if name.isascii() or max(name) <= "\xff" else 2)
+
+
+@lru_cache(maxsize=16384)
+def name_fault(name: str) -> Optional[NameFault]:
+    """The first fault of a text as a name, if it has one."""
+    if not name:
+        return NameFault.EMPTY
+    if name in (".", ".."):
+        return NameFault.DOTS
+    if "/" in name:
+        return NameFault.SLASH
+    if "\0" in name:
+        return NameFault.NUL
+    if not name.isascii() and not all(map(has_spelling, name)):
+        return NameFault.WIDE
+    return NameFault.LONG if spelled_size(name) > limits.SPELLED else None
+
+
+def check_name(name: str) -> str:
+    """The name itself, or `InvalidName`."""
+    fault = name_fault(name)
+    if fault is not None:
+        raise InvalidName(name, fault)
+    return name
+
+
+def path_of(path: PathLike) -> Path:
+    """The names of a path, each of which is one.
+
+    A text begins with a slash; slashes at its end count for nothing. `/` is the root.
+    """
+    if not isinstance(path, str):
+        names = tuple(path)
+    elif not path.startswith("/"):
+        raise InvalidPath(path, "does not begin with a slash")
+    else:
+        stripped = path.strip("/")
+        names = tuple(stripped.split("/")) if stripped else ()
+    for name in names:
+        check_name(name)
+    if len(names) > limits.PATH_NAMES:
+        raise InvalidPath(show(names), f"has more than {limits.PATH_NAMES} names")
+    return names
+
+
+class InvalidPath(ValueError):
+    """A text that is no path."""
+
+    def __init__(self, path: str, why: str):
+        super().__init__(f"{path!r} {why}")
+        self.path = path
+
+
+def show(path: Path) -> str:
+    """A path as users write it."""
+    return "/" + "/".join(path)

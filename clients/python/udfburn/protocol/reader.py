@@ -1,0 +1,32 @@
+"""Fields of a payload, read one behind the other."""
+
+from __future__ import annotations
+
+
+class Short(Exception):
+    """The payload ends inside a field or before one."""
+
+
+class Fields:
+    """A payload that is read from its front."""
+
+    def __init__(self, payload: bytes):
+        self.payload = payload
+        self.at = 0
+
+    def take(self, count: int) -> bytes:
+        """The next bytes."""
+        end = self.at + count
+        if end > len(self.payload):
+            raise Short
+        taken = self.payload[self.at:end]
+        self.at = end
+        return taken
+
+    def number(self, size: int) -> int:
+        """The next number of so many bytes."""
+        return int.from_bytes(self.take(size), "little")
+
+    def left(self) -> int:
+        """How many bytes are left."""
+        return len(self.payload) - self.at

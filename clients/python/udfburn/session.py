@@ -1,0 +1,365 @@
+"""Requests that act once: numbered, kept in the ledger, sent, repeated where their replies did not come, and confirmed.
+
+Never more than four requests are without a reply in the ledger, since the volume keeps the last four replies of a
+client: so each of them can be had again, whatever was lost. Trouble of any kind ends the conversation; what the ledger
+then has without a reply is sent again, one by one, in `recover`. A new process begins in the same way.
+"""
+
+from __future__ import annotations
+
+from collections import deque
+from typing import Deque, Dict, Iterable, Iterator, List, Optional, Tuple
+
+from .connection import Connection, Lost
+from .errors import (
+    ClientsFull, Damaged, ForeignReply, Full, NotCommitted, NumberUsedElsewhere, Rejected, VolumeBehind,
+)
+from .ledger import Ledger, Pending, Reply, Volume
+from .line import DAMAGE, Line
+from .operations import Operation, Outcome, after_all, confirmed, paths_of
+from .protocol import (
+    CLIENTS_FULL, DAMAGED, FAULT, FULL, MEMORY, Answer, AnyRequest, BadAnswer, Committed, Gap, Malformed, Path, Remove, Stale, Stat,
+    decode_message, encode_message, frame, limits, show,
+)
+
+BATCH = limits.REPLIES // 2
+"""Requests that are kept and sent at once: half of those under way, so that the program has work meanwhile."""
+
+
+class Flight:
+    """A request under way, and its answers so far: the reply, and what Stat says of its paths."""
+
+    def __init__(self, operation: Operation, request: AnyRequest):
+        self.operation = operation
+        self.request = request
+        self.payload = encode_message(request)
+        self.paths = paths_of(request)
+        self.answers: List[Answer] = []
+
+    def frames(self) -> bytes:
+        """What is sent: the request, and a question for each of its paths."""
+        return frame(self.payload) + b"".join(frame(encode_message(Stat(path))) for path in self.paths)
+
+    def complete(self) -> bool:
+        return len(self.answers) > len(self.paths)
+
+    def pending(self) -> Pending:
+        return Pending(self.request.number, self.payload, show(self.request.path))
+
+
+class Session:
+    """Requests of one client to one volume."""
+
+    def __init__(self, line: Line, ledger: Ledger):
+        self.line = line
+        self.ledger = ledger
+        self.way = line.way.key()
+        self._volume: Optional[Volume] = None
+        self._commit = 0
+        self._forgetting = False
+        # A conversation that was begun without a greeting knows no numbers.
+        line.drop()
+        line.greet = self._greet
+
+    # ---- a new conversation
+
+    def _greet(self, connection: Connection) -> None:
+        """Asks for the latest number of this client that the volume knows, and compares the ledger.
+
+        The greatest number of all is no client's next one, so it is answered with the latest and commits nothing.
+        """
+        probe = Remove(self.ledger.client, limits.U64, 0, ())
+        connection.send(frame(encode_message(probe)))
+        answer = connection.answer()
+        if answer in (FAULT, MEMORY):
+            raise Lost("the drive fails" if answer == FAULT else "the program has no memory")
+        if answer == DAMAGED:
+            raise Damaged(DAMAGE)
+        if not isinstance(answer, (Gap, Stale)):
+            raise BadAnswer(f"{answer!r} is no answer to a number that is not the next")
+        self._volume = self._settle(answer.latest)
+        self._commit = self.ledger.last_commit(self._volume)
+
+    def _settle(self, latest: int) -> Volume:
+        """The ledger's volume on this way, where its numbers are those that the volume knows."""
+        known = self.ledger.volume(self.way)
+        if known is None or self._forgetting:
+            return self.ledger.learn(self.way, latest)
+        pending = self.ledger.pending(known)
+        last = max([known.latest] + [waiting.number for waiting in pending])
+        if known.latest <= latest <= last:
+            return known
+        if not pending and (latest == 0 or self._by_another_way(latest)):
+            return self.ledger.learn(self.way, latest)
+        where = f"{self.ledger.path}, client {self.ledger.client}, {self.way}"
+        if latest > last:
+            raise NumberUsedElsewhere(
+                f"the volume has requests up to {latest} of this client, and this ledger sent {last} ({where}): another ledger"
+                " with the same client was used, or this one is an old copy. Take a new ledger with a client of its own"
+                " (--ledger FILE), or, where this is the only one left, 'resume --forget'; then 'verify' what is there"
+            )
+        raise VolumeBehind(
+            f"the volume has requests up to {latest} of this client, and {known.latest} were acknowledged ({where}): it is"
+            " another volume, or an older copy of it. Where that is meant, 'resume --forget' begins anew; then 'verify' what is there"
+        )
+
+    def _by_another_way(self, latest: int) -> bool:
+        """Whether this ledger itself has sent so many requests by another way, and all of them have replies."""
+        others = [volume for volume in self.ledger.volumes() if volume.way != self.way]
+        return any(volume.latest == latest and not self.ledger.pending(volume) for volume in others)
+
+    def forget(self) -> List[str]:
+        """Drops what is pending on this way, and learns anew which number the volume knows; gives the dropped paths."""
+        known = self.ledger.volume(self.way)
+        gone = self.ledger.withdraw(known) if known else []
+        self._forgetting = True
+        try:
+            self.line.drop()
+            self.line.get()
+        finally:
+            self._forgetting = False
+        return [pending.path for pending in gone]
+
+    def volume(self) -> Volume:
+        """The volume, once a conversation was begun."""
+        assert self._volume
+        return self._volume
+
+    # ---- what is pending
+
+    def recover(self) -> Dict[int, Committed]:
+        """Sends again what has no reply, one by one, and gives the replies by number. They are in the ledger then, and
+        the tree agrees with them."""
+        known = self.ledger.volume(self.way)
+        if known is None or not self.ledger.pending(known):
+            return {}
+        done: List[Tuple[AnyRequest, Committed]] = []
+        while True:
+            try:
+                connection = self.line.get()
+                waiting = self.ledger.pending(self.volume())
+                if waiting:
+                    self._repeat(connection, waiting[0], done)
+                    continue
+                self._confirm(connection, done)
+                return {request.number: reply for request, reply in done}
+            except Lost as lost:
+                self.line.lost(str(lost))
+            except NotCommitted as error:
+                error.replies = self._confirmed_despite(done)  # type: ignore[attr-defined]
+                raise
+
+    def _repeat(self, connection: Connection, waiting: Pending, done: List[Tuple[AnyRequest, Committed]]) -> None:
+        """Sends a request again, and keeps its reply."""
+        connection.send(frame(waiting.payload))
+        answer = connection.answer()
+        if self.line.troubled(answer):
+            return
+        if isinstance(answer, Committed):
+            self._check_commit(answer)
+            self.ledger.record(self.volume(), [Reply(waiting.number, answer.code, answer.commit, False)], [])
+            self.line.patience.progress()
+            done.append((decode_message(waiting.payload), answer))  # type: ignore[arg-type]
+            return
+        self._not_committed(answer, waiting)
+
+    def _not_committed(self, answer: Answer, waiting: Pending) -> None:
+        """Raises what an answer means that is no reply. What is known to be committed never gives its number back."""
+        if answer == DAMAGED:
+            raise Damaged(DAMAGE)
+        if isinstance(answer, (Gap, Stale)):
+            raise NumberUsedElsewhere(
+                f"number {waiting.number} of client {self.ledger.client} is not its next one, the volume knows {answer.latest}:"
+                " another ledger with the same client is in use. Take a new ledger with a client of its own (--ledger FILE)"
+            )
+        if not (answer in (FULL, CLIENTS_FULL) or isinstance(answer, Malformed)):
+            raise BadAnswer(f"{answer!r} is no answer to a request")
+        gone = ", ".join(pending.path for pending in self.ledger.withdraw(self.volume()))
+        if answer == FULL:
+            raise Full(f"the medium has no room for {waiting.path}, and nothing was written of it (not stored: {gone})."
+                       " Smaller files may still fit; else take another image")
+        if answer == CLIENTS_FULL:
+            raise ClientsFull(
+                f"the volume keeps {limits.CLIENTS} clients for its life, and has them: use the ledger of a client that it knows"
+                " (--ledger FILE, or --client with a new ledger where the old one is lost), or take another image"
+            )
+        assert isinstance(answer, Malformed)
+        raise Rejected(f"{waiting.path}: the program calls the request malformed, {int(answer.cause)} {answer.cause.name}")
+
+    def _confirm(self, connection: Connection, done: List[Tuple[AnyRequest, Committed]]) -> None:
+        """Sees that the tree has what replies say that came behind a lost conversation."""
+        wanted = after_all(done)
+        for path, expected in wanted.items():
+            connection.send(frame(encode_message(Stat(path))))
+            answer = connection.answer()
+            if answer in (FAULT, MEMORY):
+                raise Lost("the program is troubled")
+            if not expected.agrees(answer):
+                raise self._foreign(path, answer)
+        self.ledger.confirm(self.volume(), [request.number for request, _ in done])
+
+    def _confirmed_despite(self, done: List[Tuple[AnyRequest, Committed]]) -> Dict[int, Committed]:
+        """The replies that came before a request which was not committed, where the tree agrees with them."""
+        while True:
+            try:
+                self._confirm(self.line.get(), done)
+                return {request.number: reply for request, reply in done}
+            except Lost as lost:
+                self.line.lost(str(lost))
+
+    def _foreign(self, path: Path, answer: Answer) -> ForeignReply:
+        return ForeignReply(
+            f"{show(path)}: a reply says what the tree does not have ({answer!r}): it is the reply of another ledger with"
+            f" client {self.ledger.client}, or somebody else has changed the path since. Nothing local was deleted because of it."
+            " Compare by 'verify'; where another ledger has this client take a new one (--ledger FILE)"
+        )
+
+    def _check_commit(self, reply: Committed) -> None:
+        """Replies of one client have commits that rise."""
+        if reply.commit <= self._commit:
+            raise ForeignReply(
+                f"a reply says commit {reply.commit}, and commit {self._commit} was acknowledged before: it is the reply of"
+                f" another ledger with client {self.ledger.client}. Take a new ledger with a client of its own (--ledger FILE)"
+            )
+        self._commit = reply.commit
+
+    # ---- requests
+
+    def run(self, operations: Iterable[Operation]) -> Iterator[Outcome]:
+        """Does operations in order, and gives each one's outcome once its reply is in the ledger and confirmed."""
+        with self.line.claim():
+            yield from self._run(iter(operations))
+
+    def _run(self, source: Iterator[Operation]) -> Iterator[Outcome]:
+        self.recover()
+        window: Deque[Flight] = deque()
+        finished: List[Flight] = []
+        try:
+            while True:
+                connection = self._connected(window)
+                fresh = self._next(source, window, finished)
+                self._keep(finished, fresh)
+                window.extend(fresh)
+                troubled = not self._sent(connection, fresh)
+                yield from map(outcome, finished)
+                finished = []
+                if not window:
+                    return
+                if fresh and len(window) < limits.REPLIES and not troubled:
+                    continue
+                if not troubled:
+                    finished, troubled = self._received(connection, window)
+                if troubled:
+                    yield from self._recovered(finished, window)
+                    finished = []
+        finally:
+            if window or finished:
+                self.line.drop()
+
+    def _connected(self, window: Deque[Flight]) -> Connection:
+        """The conversation; where its turn is over and nothing is under way, a new one."""
+        if not window and self.line.over():
+            self.line.drop()
+        return self.line.get()
+
+    def _next(self, source: Iterator[Operation], window: Deque[Flight], finished: List[Flight]) -> List[Flight]:
+        """Operations that there is room for, under the next numbers. None where others are to get their turn."""
+        if window and self.line.over():
+            return []
+        last = window[-1] if window else finished[-1] if finished else None
+        number = last.request.number if last else self.ledger.latest(self.volume())
+        flights: List[Flight] = []
+        while len(flights) < BATCH and len(window) + len(flights) < limits.REPLIES:
+            operation = next(source, None)
+            if operation is None:
+                break
+            number += 1
+            flights.append(Flight(operation, operation.request(self.ledger.client, number)))
+        return flights
+
+    def _keep(self, finished: List[Flight], fresh: List[Flight]) -> None:
+        """Makes replies and new requests durable, in one."""
+        replies = []
+        for flight in finished:
+            reply = flight.answers[0]
+            assert isinstance(reply, Committed)
+            replies.append(Reply(flight.request.number, reply.code, reply.commit, True))
+        self.ledger.record(self.volume(), replies, [flight.pending() for flight in fresh])
+
+    def _sent(self, connection: Connection, fresh: List[Flight]) -> bool:
+        """Sends requests with their questions. Whether the conversation lasted."""
+        try:
+            connection.send(b"".join(flight.frames() for flight in fresh))
+            return True
+        except Lost:
+            return False
+
+    def _received(self, connection: Connection, window: Deque[Flight]) -> Tuple[List[Flight], bool]:
+        """Takes the flights out of the window whose answers came, at least one; and whether there was trouble."""
+        finished: List[Flight] = []
+        try:
+            answer: Optional[Answer] = connection.answer()
+            while window:
+                if answer is not None:
+                    window[0].answers.append(answer)
+                    if len(window[0].answers) == 1 and not isinstance(answer, Committed):
+                        self._check_kind(answer)
+                        return finished, True
+                    if window[0].complete():
+                        self._check(window[0], finished)
+                        finished.append(window.popleft())
+                    answer = connection.ready()
+                elif finished:
+                    break
+                else:
+                    answer = connection.answer()
+        except Lost:
+            return finished, True
+        self.line.patience.progress()
+        return finished, False
+
+    def _check_kind(self, answer: Answer) -> None:
+        """Raises where an answer is none to a request."""
+        bare = (FAULT, MEMORY, FULL, CLIENTS_FULL, DAMAGED)
+        if answer not in bare and not isinstance(answer, (Gap, Stale, Malformed)):
+            raise BadAnswer(f"{answer!r} is no answer to a request")
+
+    def _check(self, flight: Flight, finished: List[Flight]) -> None:
+        """Raises where the tree does not have what a reply says."""
+        reply, *answers = flight.answers
+        assert isinstance(reply, Committed)
+        self._check_commit(reply)
+        if any(answer in (FAULT, MEMORY, DAMAGED) for answer in answers):
+            raise Lost("a question was not answered")
+        if not confirmed(flight.request, reply.code, answers):
+            self._keep(finished, [])
+            self.ledger.record(self.volume(), [Reply(flight.request.number, reply.code, reply.commit, False)], [])
+            raise self._foreign(flight.request.path, answers[0])
+
+    def _recovered(self, finished: List[Flight], window: Deque[Flight]) -> Iterator[Outcome]:
+        """Finishes what was under way when trouble came, and gives the outcomes."""
+        self.line.drop()
+        self._keep(finished, [])
+        yield from map(outcome, finished)
+        flights, error = list(window), None
+        window.clear()
+        try:
+            replies = self.recover()
+        except NotCommitted as failed:
+            replies, error = failed.replies, failed  # type: ignore[attr-defined]
+        for flight in flights:
+            reply = replies.get(flight.request.number)
+            if reply is not None:
+                yield Outcome(flight.operation, reply.code, reply.commit, flight.request.number)
+        if error is not None:
+            raise error
+
+
+def outcome(flight: Flight) -> Outcome:
+    """What the reply of a flight says."""
+    reply = flight.answers[0]
+    assert isinstance(reply, Committed)
+    return Outcome(flight.operation, reply.code, reply.commit, flight.request.number)
+
+
+__all__ = ["Session"]

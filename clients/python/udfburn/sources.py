@@ -1,0 +1,198 @@
+"""Local files and folders: found without following links, read as one whole, deleted only as they were read."""
+
+from __future__ import annotations
+
+import os
+import stat
+from dataclasses import dataclass, field
+from typing import BinaryIO, Iterator, List, Optional, Tuple
+
+from .errors import SourceChanged, SourceError
+from .operations import clamped
+from .protocol import NameFault, Path, limits, name_fault
+
+
+@dataclass(frozen=True)
+class Identity:
+    """What tells whether a file is the one that was seen, as it was then."""
+
+    device: int
+    inode: int
+    size: int
+    modified: int
+    changed: Optional[int]
+
+    @staticmethod
+    def of(status: os.stat_result) -> "Identity":
+        # A link of the same file that goes changes the time of the others, so it tells nothing of them.
+        changed = status.st_ctime_ns if status.st_nlink == 1 else None
+        return Identity(status.st_dev, status.st_ino, status.st_size, status.st_mtime_ns, changed)
+
+    def same(self, other: "Identity") -> bool:
+        """Whether both are of one file that did not change between."""
+        if None in (self.changed, other.changed):
+            return self.key() == other.key()
+        return self == other
+
+    def key(self) -> Tuple[int, int, int, int]:
+        return (self.device, self.inode, self.size, self.modified)
+
+
+@dataclass(frozen=True)
+class Source:
+    """A local file, and the path that it is to have."""
+
+    local: str
+    path: Path
+    identity: Identity
+
+    def moment(self) -> int:
+        """When it was modified, in microseconds, or the nearest moment that can be said."""
+        return clamped(self.identity.modified // 1000)
+
+
+@dataclass(frozen=True)
+class Folder:
+    """A local folder, and the path that it is to have."""
+
+    local: str
+    path: Path
+    modified: int
+
+    def moment(self) -> int:
+        return clamped(self.modified // 1000)
+
+
+@dataclass
+class Scan:
+    """What was found: folders before what is in them, files, and what cannot be stored, each with why."""
+
+    folders: List[Folder] = field(default_factory=list)
+    files: List[Source] = field(default_factory=list)
+    faults: List[str] = field(default_factory=list)
+    skipped: List[str] = field(default_factory=list)
+
+
+KINDS = (
+    (stat.S_ISLNK, "a symbolic link"), (stat.S_ISFIFO, "a named pipe"), (stat.S_ISSOCK, "a socket"),
+    (stat.S_ISBLK, "a block device"), (stat.S_ISCHR, "a character device"),
+)
+
+
+def odd(status: os.stat_result) -> Optional[str]:
+    """What a node is that is neither file nor folder."""
+    if stat.S_ISREG(status.st_mode) or stat.S_ISDIR(status.st_mode):
+        return None
+    return next((text for test, text in KINDS if test(status.st_mode)), "no regular file")
+
+
+def why_not(name: str) -> Optional[str]:
+    """Why a local name may not stand in a directory of a volume."""
+    if any(0xDC80 <= ord(character) <= 0xDCFF for character in name):
+        return "its name is not UTF-8"
+    fault = name_fault(name)
+    if fault is NameFault.WIDE:
+        wide = next(character for character in name if name_fault(character) is NameFault.WIDE)
+        return f"its name has U+{ord(wide):04X}, which has no spelling in compressed Unicode"
+    return None if fault is None else f"its name {fault.value}"
+
+
+def shown(local: str) -> str:
+    """A local path that can be printed whatever bytes it has."""
+    return os.fsencode(local).decode(errors="backslashreplace")
+
+
+def scan(local: str, path: Path, recursive: bool, skip_odd: bool, into: Scan) -> None:
+    """Adds a local file or folder, and what is below it."""
+    try:
+        status = os.lstat(local)
+    except OSError as error:
+        into.faults.append(f"{shown(local)}: {error.strerror}")
+        return
+    strange = odd(status)
+    if strange:
+        (into.skipped if skip_odd else into.faults).append(f"{shown(local)}: is {strange}" + ("" if skip_odd else " (--skip-odd leaves it out)"))
+    elif stat.S_ISREG(status.st_mode):
+        into.files.append(Source(local, path, Identity.of(status)))
+    elif not recursive:
+        into.faults.append(f"{shown(local)}: is a folder (-r stores folders)")
+    else:
+        into.folders.append(Folder(local, path, status.st_mtime_ns))
+        for name in names_in(local, into):
+            fault = why_not(name)
+            if fault:
+                into.faults.append(f"{shown(os.path.join(local, name))}: {fault}")
+            else:
+                scan(os.path.join(local, name), path + (name,), recursive, skip_odd, into)
+
+
+def names_in(folder: str, into: Scan) -> List[str]:
+    """The names in a folder, in an order that is always the same."""
+    try:
+        return sorted(os.listdir(folder), key=os.fsencode)
+    except OSError as error:
+        into.faults.append(f"{shown(folder)}: {error.strerror}")
+        return []
+
+
+def opened(source: Source) -> BinaryIO:
+    """The file, open for reading, where it is the one that was seen."""
+    try:
+        descriptor = os.open(source.local, os.O_RDONLY | os.O_NOFOLLOW | os.O_NONBLOCK | os.O_CLOEXEC)
+    except OSError as error:
+        raise SourceError(f"{shown(source.local)}: {error.strerror}") from error
+    file = os.fdopen(descriptor, "rb", buffering=0)
+    try:
+        unchanged(source, os.fstat(descriptor))
+    except BaseException:
+        file.close()
+        raise
+    return file
+
+
+def unchanged(source: Source, status: os.stat_result) -> None:
+    """Raises where a file is not the one that was seen, or is not as it was."""
+    if not stat.S_ISREG(status.st_mode) or not source.identity.same(Identity.of(status)):
+        raise SourceChanged(f"{shown(source.local)}: changed while it was read, or since it was first seen: store it again")
+
+
+def exactly(file: BinaryIO, count: int) -> bytes:
+    """So many bytes, or fewer where the file ends."""
+    first = file.read(count)
+    if len(first) == count:
+        return first
+    pieces = [first]
+    while pieces[-1] and sum(map(len, pieces)) < count:
+        pieces.append(file.read(count - sum(map(len, pieces))))
+    return b"".join(pieces)
+
+
+def read_parts(source: Source) -> Iterator[bytes]:
+    """The bytes of a file in parts of a mebibyte; the last is given only where the file did not change meanwhile."""
+    left = source.identity.size
+    try:
+        with opened(source) as file:
+            while True:
+                part = exactly(file, min(left, limits.FILE))
+                left -= len(part)
+                if not left or len(part) < limits.FILE:
+                    unchanged(source, os.fstat(file.fileno()))
+                    if left or file.read(1):
+                        raise SourceChanged(f"{shown(source.local)}: has another size than it says")
+                    yield part
+                    return
+                yield part
+    except OSError as error:
+        raise SourceError(f"{shown(source.local)}: {error.strerror}") from error
+
+
+def delete(source: Source) -> None:
+    """Deletes a file, where it is the one that was read, as it was then."""
+    try:
+        unchanged(source, os.lstat(source.local))
+        os.unlink(source.local)
+    except OSError as error:
+        raise SourceError(f"{shown(source.local)}: {error.strerror}") from error
+
+
+__all__ = ["Folder", "Identity", "Scan", "Source", "delete", "opened", "read_parts", "scan", "shown"]

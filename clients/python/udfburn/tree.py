@@ -1,0 +1,378 @@
+"""Whole trees: walked, stored, removed."""
+
+from __future__ import annotations
+
+import hashlib
+from collections import deque
+from dataclasses import dataclass, field
+from itertools import islice
+from typing import Callable, Deque, Iterable, Iterator, List, Optional, Tuple, Type
+
+from .blocks import Space, space_of
+from .client import Client, met, refusal
+from .connection import find_program
+from .errors import Differs, DoesNotFit, SourceError, TooLarge, UsageError
+from .operations import Operation, Outcome, now
+from .preflight import Plan, Present, plan
+from .protocol import (
+    AnyRequest, Code, Create, Data, Get, List as ListQuery, MakeDir, Name, Names, Node, NodeKind, Path, Remove, Replace, Stat, show,
+)
+from .sources import Folder, Scan, Source, delete, read_parts, scan
+from .split import other_paths, stored_paths
+
+CHUNK = 64
+"""Files that are stored before the first of them are read back or deleted."""
+
+
+def walk(client: Client, path: Path) -> Iterator[Tuple[Path, Tuple[Name, ...]]]:
+    """Each directory from a path on, with its names in stored order: level by level."""
+    level = [path]
+    with client.held():
+        while level:
+            below: List[Path] = []
+            # All answers of a level are taken first, since whoever walks asks for more between.
+            for at, answer in zip(level, list(client.ask_all(ListQuery(at) for at in level))):
+                met(ListQuery(at), answer)
+                assert isinstance(answer, Names)
+                yield at, answer.names
+                below += [at + (name.name,) for name in answer.names if name.kind is NodeKind.DIRECTORY]
+            level = below
+
+
+def look(client: Client, paths: Iterable[Path], whole: bool) -> Present:
+    """What the volume has at paths and above them; or all that it has."""
+    present = Present(whole=whole)
+    present.add((), NodeKind.DIRECTORY)
+    if whole:
+        for at, names in walk(client, ()):
+            present.names[at] = [name.name for name in names]
+            for name in names:
+                present.add(at + (name.name,), name.kind)
+        return present
+    asked = sorted({path[:depth] for path in paths for depth in range(1, len(path) + 1)})
+    for answer, path in zip(client.ask_all(map(Stat, asked)), asked):
+        if isinstance(answer, Node):
+            present.add(path, answer.kind)
+    return present
+
+
+# ---- stored
+
+@dataclass(frozen=True)
+class Options:
+    """How folders and files are stored."""
+
+    recursive: bool = False
+    parents: bool = False
+    split: bool = False
+    skip_same: bool = False
+    skip_odd: bool = False
+    delete_source: bool = False
+    verify: bool = False
+    dry_run: bool = False
+    moment: str = "mtime"
+    image: Optional[str] = None
+
+
+@dataclass
+class Summary:
+    """What an import did: counts, and each file that was not stored or not deleted, with why."""
+
+    files: int = 0
+    bytes: int = 0
+    folders: int = 0
+    same: int = 0
+    verified: int = 0
+    deleted: int = 0
+    blocks: Optional[int] = None
+    left: Optional[int] = None
+    failures: List[str] = field(default_factory=list)
+    skipped: List[str] = field(default_factory=list)
+
+
+Told = Callable[[str, Path, int, int], None]
+"""Is told of each step: what was done, the path, its bytes, its commit."""
+
+
+def quiet(*_: object) -> None:
+    """Tells nobody."""
+
+
+@dataclass
+class Job:
+    """A file on its way: the paths of its parts, what was read of it, and what became of it."""
+
+    source: Source
+    paths: List[Path]
+    digests: List[bytes] = field(default_factory=list)
+    done: int = 0
+    commit: int = 0
+    failure: Optional[str] = None
+
+    def fail(self, why: str) -> None:
+        self.failure = self.failure or why
+
+    def stored(self) -> bool:
+        return self.failure is None and self.done == len(self.paths)
+
+
+class Importer:
+    """Stores local files and folders."""
+
+    def __init__(self, client: Client, options: Options, told: Told = quiet):
+        if options.verify and options.dry_run:
+            raise UsageError("nothing is read back of a dry run")
+        self.client = client
+        self.options = options
+        self.told = told
+        self.summary = Summary()
+        self.present = Present()
+        self.same: List[Job] = []
+
+    def plan(self, jobs: Iterable[Tuple[str, Path]]) -> Plan:
+        """Looks at what is to be stored and at what is there, and raises `DoesNotFit` with all that stands against it."""
+        found = Scan()
+        wanted = list(jobs)
+        for local, path in wanted:
+            scan(local, path, self.options.recursive, self.options.skip_odd, found)
+        self.summary.skipped = found.skipped
+        with self.client.held():
+            # What an earlier process began comes first, so that it changes nothing behind what is looked at here.
+            if not self.options.dry_run:
+                self.client.resume()
+            paths = [path for file in found.files for path in stored_paths(file.path, file.identity.size, self.options.split)]
+            whole = bool(found.folders) or self.options.image is not None or self.options.split
+            self.present = look(self.client, paths + [path for _, path in wanted], whole)
+            if self.options.skip_same:
+                self._leave_same(found)
+        if self.options.parents:
+            self._add_parents(found, [path for _, path in wanted])
+        planned = plan(found, self.present, self.options.split, self._space())
+        self.summary.blocks, self.summary.left = planned.blocks, planned.left
+        if planned.faults:
+            raise DoesNotFit("\n".join(planned.faults))
+        return planned
+
+    def _add_parents(self, found: Scan, paths: List[Path]) -> None:
+        """Plans the directories above that are missing."""
+        missing = sorted({path[:depth] for path in paths for depth in range(1, len(path))} - set(self.present.kinds))
+        found.folders[:0] = [Folder("", path, now() * 1000) for path in missing]
+
+    def _space(self) -> Optional[Space]:
+        """What the image has left, where there is one to look at."""
+        way = self.client.way
+        image = self.options.image or (way.path if way.kind == "image" else None)
+        if image is None:
+            return None
+        try:
+            program = way.program or find_program(None)
+        except UsageError:
+            return None
+        # A dry run opens no ledger, and reckons with one client more: 0 is nobody's number.
+        return space_of(image, program, 0 if self.options.dry_run else self.client.session().ledger.client)
+
+    def run(self, planned: Plan) -> Summary:
+        """Stores what was planned."""
+        if self.options.dry_run:
+            return self._tell_plan(planned)
+        with self.client.held():
+            self._make(planned)
+            self._finish_same(planned)
+            jobs = iter([Job(source, paths) for source, paths in planned.files])
+            while True:
+                chunk = list(islice(jobs, CHUNK))
+                if not chunk:
+                    break
+                self._chunk(chunk, planned)
+        return self.summary
+
+    def _tell_plan(self, planned: Plan) -> Summary:
+        for folder in planned.folders:
+            self.told("would make", folder.path, 0, 0)
+        for job in self.same:
+            self.told("same", job.source.path, job.source.identity.size, 0)
+        for source, paths in planned.files:
+            for path in paths:
+                self.told("would replace" if path in self.present.kinds else "would store", path, source.identity.size, 0)
+            for path in planned.stale.get(source.path, []):
+                self.told("would remove", path, 0, 0)
+        self.summary.files, self.summary.folders = len(planned.files), len(planned.folders)
+        self.summary.bytes = sum(source.identity.size for source, _ in planned.files)
+        return self.summary
+
+    def _moment(self, modified: int) -> int:
+        return modified if self.options.moment == "mtime" else now()
+
+    def _make(self, planned: Plan) -> None:
+        """Makes the directories. One that another client made meanwhile is as good."""
+        for outcome in self.client.run(Operation(MakeDir, folder.path, self._moment(folder.moment())) for folder in planned.folders):
+            if outcome.code is Code.DONE:
+                self.summary.folders += 1
+                self.told("made", outcome.operation.path, 0, outcome.commit)
+            elif outcome.code is not Code.EXISTS:
+                raise refusal(outcome)
+
+    def _chunk(self, chunk: List[Job], planned: Plan) -> None:
+        """Stores some files, and then reads them back and deletes their sources where that is asked for."""
+        self._store(chunk, self.client.run(self._operations(chunk)))
+        for job in chunk:
+            if job.stored():
+                self.summary.files += 1
+                self.summary.bytes += job.source.identity.size
+            else:
+                self.summary.failures.append(job.failure or f"{show(job.source.path)}: was not stored")
+        stored = [job for job in chunk if job.stored()]
+        self._remove_stale([job.source.path for job in stored], planned)
+        if self.options.verify:
+            stored = self._read_back(stored)
+        if self.options.delete_source:
+            self._delete(stored)
+
+    # ---- one chunk
+
+    def _operations(self, jobs: List[Job]) -> Iterator[Operation]:
+        """The requests of files, which are read as they are sent. One that cannot be read is left out."""
+        for job in jobs:
+            try:
+                for index, (path, part) in enumerate(zip(job.paths, read_parts(job.source))):
+                    if self.options.verify:
+                        job.digests.append(hashlib.sha256(part).digest())
+                    kind: Type[AnyRequest] = Replace if path in self.present.kinds else Create
+                    yield Operation(kind, path, self._moment(job.source.moment()), part, tag=(job, index))
+            except (SourceError, TooLarge) as error:
+                job.fail(str(error))
+
+    def _store(self, jobs: List[Job], outcomes: Iterator[Outcome]) -> None:
+        """Takes the outcomes. A path that another client made or removed meanwhile is tried the other way, a few times."""
+        again: Deque[Operation] = deque()
+        for _ in range(4):
+            again.clear()
+            for outcome in outcomes:
+                self._take(outcome, again)
+            if not again:
+                return
+            outcomes = self.client.run(list(again))
+        for operation in again:
+            operation.tag[0].fail(f"{show(operation.path)}: another client makes and removes it all the time")
+
+    def _take(self, outcome: Outcome, again: Deque[Operation]) -> None:
+        operation = outcome.operation
+        job: Job = operation.tag[0]
+        if outcome.code is Code.DONE:
+            job.done, job.commit = job.done + 1, outcome.commit
+            self.present.add(operation.path, NodeKind.FILE)
+            self.told("stored", operation.path, len(operation.data), outcome.commit)
+        elif (operation.kind, outcome.code) in ((Create, Code.EXISTS), (Replace, Code.NOT_FOUND)):
+            other: Type[AnyRequest] = Replace if operation.kind is Create else Create
+            again.append(Operation(other, operation.path, operation.moment, operation.data, tag=operation.tag))
+        else:
+            job.fail(str(refusal(outcome)))
+
+    def _leave_same(self, found: Scan) -> None:
+        """Takes the files out of which the volume has all bytes already."""
+        jobs = [Job(source, stored_paths(source.path, source.identity.size, self.options.split)) for source in found.files]
+        there = [job for job in jobs if all(self.present.kinds.get(path) is NodeKind.FILE for path in job.paths)]
+        sized = self._sized(there)
+        answers = self.client.ask_all(Get(path) for job in sized for path in job.paths)
+        self.same = [job for job in sized if compare(job, answers)]
+        left = {id(job.source) for job in self.same}
+        found.files = [source for source in found.files if id(source) not in left]
+
+    def _finish_same(self, planned: Plan) -> None:
+        """What is done with the files that the volume has: their bytes were read just now."""
+        for job in self.same:
+            self.summary.same += 1
+            self.told("same", job.source.path, job.source.identity.size, 0)
+        if self.options.split:
+            for job in self.same:
+                planned.stale[job.source.path] = other_paths(job.source.path, job.source.identity.size, self.present.kinds)
+            self._remove_stale([job.source.path for job in self.same], planned)
+        if self.options.delete_source:
+            self._delete(self.same)
+
+    def _sized(self, jobs: List[Job]) -> List[Job]:
+        """The files whose parts have the right sizes."""
+        answers = self.client.ask_all(Stat(path) for job in jobs for path in job.paths)
+        sized = []
+        for job in jobs:
+            found = [next(answers) for _ in job.paths]
+            if sum(answer.size if isinstance(answer, Node) else -1 for answer in found) == job.source.identity.size:
+                sized.append(job)
+        return sized
+
+    def _remove_stale(self, stored: List[Path], planned: Plan) -> None:
+        """Removes what an earlier file of the same name left, the last part first, so that no part is without those before."""
+        paths = [path for name in stored for path in reversed(planned.stale.get(name, []))]
+        if not paths:
+            return
+        for outcome in self.client.run(Operation(Remove, path, now()) for path in paths):
+            if outcome.code not in (Code.DONE, Code.NOT_FOUND):
+                raise refusal(outcome)
+            self.told("removed", outcome.operation.path, 0, outcome.commit)
+
+    def _read_back(self, jobs: List[Job]) -> List[Job]:
+        """The files whose bytes are on the volume as they were sent."""
+        answers = self.client.ask_all(Get(path) for job in jobs for path in job.paths)
+        verified = []
+        for job in jobs:
+            found = [answer.data if isinstance(answer, Data) else None for answer in islice(answers, len(job.paths))]
+            if [None if data is None else hashlib.sha256(data).digest() for data in found] == job.digests:
+                verified.append(job)
+                self.summary.verified += 1
+            else:
+                self.summary.failures.append(f"{show(job.source.path)}: the volume has other bytes than were stored")
+        return verified
+
+    def _delete(self, jobs: List[Job]) -> None:
+        """Deletes local files, each as it was read."""
+        for job in jobs:
+            try:
+                delete(job.source)
+                self.summary.deleted += 1
+            except SourceError as error:
+                self.summary.failures.append(f"{error} (it was stored, and is not deleted)")
+
+
+def compare(job: Job, answers: Iterator[object]) -> bool:
+    """Whether answers have the bytes of a file. As many are taken as it has parts."""
+    found = list(islice(answers, len(job.paths)))
+    try:
+        parts = list(read_parts(job.source))
+    except SourceError:
+        return False
+    return [answer.data if isinstance(answer, Data) else None for answer in found] == parts
+
+
+def put_all(client: Client, jobs: Iterable[Tuple[str, Path]], options: Options, told: Told = quiet) -> Summary:
+    """Stores local files and folders at paths."""
+    importer = Importer(client, options, told)
+    return importer.run(importer.plan(jobs))
+
+
+def put_tree(client: Client, local: str, path: Path, told: Told = quiet, **options: object) -> Summary:
+    """Stores a folder as a directory. Options are the fields of `Options`. Raises where a file was not stored."""
+    summary = put_all(client, [(local, path)], Options(recursive=True, **options), told)  # type: ignore[arg-type]
+    if summary.failures:
+        raise Differs("\n".join(summary.failures))
+    return summary
+
+
+# ---- removed
+
+def remove_tree(client: Client, path: Path, told: Told = quiet) -> int:
+    """Removes a directory with all below it, from the leaves up; the root itself stays. Gives how many went."""
+    with client.held():
+        found: List[Tuple[Path, NodeKind]] = []
+        for at, names in walk(client, path):
+            found += [(at + (name.name,), name.kind) for name in names]
+        order = sorted(found, key=lambda node: -len(node[0])) + ([(path, NodeKind.DIRECTORY)] if path else [])
+        count = 0
+        for outcome in client.run(Operation(Remove, at, now()) for at, _ in order):
+            if outcome.code not in (Code.DONE, Code.NOT_FOUND):
+                raise refusal(outcome)
+            told("removed", outcome.operation.path, 0, outcome.commit)
+            count += 1
+    return count
+
+
+__all__ = ["Importer", "Options", "Summary", "put_all", "put_tree", "remove_tree", "walk"]

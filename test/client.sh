@@ -1,0 +1,52 @@
+#!/bin/sh
+# The Python client: its unit tests, and its tests over the built programs.
+#
+# usage: test/client.sh [UDFBURN UDFBURND]
+# KILLS of the environment is how often clients and daemons are killed (200). TIMES=1 tells which tests take long.
+# Its last line is 'client: N passed, M failed'. It takes a POSIX shell and Python 3.9 or later (PYTHON names another).
+set -u
+
+here=$(cd "$(dirname "$0")/.." && pwd)
+
+# absolute FILE: its path from any folder.
+absolute() {
+    echo "$(cd "$(dirname "$1")" && pwd)/$(basename "$1")"
+}
+
+UDFBURN=$(absolute "${1:-$here/crates/udfburn/out/udfburn}")
+UDFBURND=$(absolute "${2:-$here/crates/udfburnd/out/udfburnd}")
+export UDFBURN UDFBURND
+for program in "$UDFBURN" "$UDFBURND"; do
+    if ! [ -x "$program" ]; then
+        echo "client: $program is no program"
+        echo 'client: 0 passed, 1 failed'
+        exit 1
+    fi
+done
+
+# Volumes are made in memory where there is room: what is tested is what happens to processes, not to disks.
+free=$(df -Pk /dev/shm 2> /dev/null | awk 'NR == 2 { print $4 }')
+if [ -z "${TMPDIR:-}" ] && [ -w /dev/shm ] && [ "${free:-0}" -gt 1000000 ]; then
+    TMPDIR=/dev/shm
+    export TMPDIR
+fi
+
+output=$(mktemp) || exit 1
+trap 'rm -f "$output"' EXIT
+trap 'exit 1' HUP INT PIPE TERM
+cd "$here/clients/python" || exit 1
+# A user's own ledger and compiled files are left alone.
+status=0
+UDFBURN_LEDGER=/nonexistent/ledger UDFBURN_SOCKET='' PYTHONDONTWRITEBYTECODE=1 PYTHONUTF8=1 \
+    "${PYTHON:-python3}" -m tests > "$output" 2>&1 || status=$?
+sed '$d' "$output"
+last=$(tail -n 1 "$output")
+case $last in
+    *' passed, '*' failed') echo "client: $last" ;;
+    *)
+        echo "$last"
+        echo 'client: 0 passed, 1 failed'
+        status=1
+        ;;
+esac
+exit "$status"
