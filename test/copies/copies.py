@@ -1,0 +1,378 @@
+"""Copies of an image while a daemon writes it, at random moments, and what they hold.
+
+usage: copies.py UDFBURN UDFBURND ROOM [SEED [REQUESTS]]
+
+A client sends requests one behind another; the daemon is killed now and then, and started again. Meanwhile the image is copied
+by cp, dd and rsync, and by a follower that appends what is new. Each copy must be sound, and must be the state behind one of
+the run's commits: none before the last answer that the client had when the copy began, none behind what it had sent when the
+copy was done.
+"""
+
+from __future__ import annotations
+
+import hashlib
+import os
+import random
+import shutil
+import signal
+import socket
+import struct
+import subprocess
+import sys
+import threading
+import time
+from pathlib import Path
+from typing import Callable, Dict, List, Optional, Tuple
+
+sys.path.insert(0, str(Path(__file__).resolve().parent.parent / "readers"))
+
+from frames import (  # noqa: E402
+    BLOCK, CREATE, GET, LIST, MAKE_DIRECTORY, REMOVE, RENAME, REPLACE, STAT,
+    Directory, File, Path as Names, Request, Tree, answers, committed, encode, query,
+)
+
+CAPACITY = 200_000
+FORMAT_MOMENT = 77
+# As many replies as a volume keeps of a client: so many requests may be under way without one that gets lost.
+UNDER_WAY = 4
+# Behind so many the rest of the requests is sent without.
+MOST_COPIES = 80
+
+
+def requests(die: random.Random, count: int) -> List[Request]:
+    """Requests of one client that all go through, with files from nothing to a mebibyte."""
+    tree = Tree(FORMAT_MOMENT)
+    out: List[Request] = []
+    folders: List[Names]
+    for number in range(1, count + 1):
+        nodes = [(path, node) for path, node in tree.walk() if path]
+        files = [path for path, node in nodes if isinstance(node, File)]
+        empty = [path for path, node in nodes if isinstance(node, Directory) and not node.names]
+        folders = [()] + [path for path, node in nodes if isinstance(node, Directory) and len(path) < 8]
+        words = die.choice((0, 1, 100, 234, 235, 700, 2000, 5000, 20_000, 131_072 if die.randrange(4) == 0 else 300))
+        data = die.getrandbits(64).to_bytes(8, "little") * words
+        new = die.choice(folders) + ("n%d" % number,)
+        what = die.randrange(10)
+        request = Request(CREATE, 9, number, number * 1_000_001, new, data)
+        if what == 0:
+            request = Request(MAKE_DIRECTORY, 9, number, number * 1_000_001, new)
+        elif what in (1, 2) and files:
+            request = Request(REPLACE, 9, number, number * 1_000_001, die.choice(files), data)
+        elif what == 3 and files:
+            request = Request(RENAME, 9, number, number * 1_000_001, die.choice(files), b"", new)
+        elif what == 4 and empty + files or len(files) > 60:
+            request = Request(REMOVE, 9, number, number * 1_000_001, die.choice(empty + files))
+        if tree.do(request) != 0:
+            raise AssertionError("a request that is refused")
+        out.append(request)
+    return out
+
+
+class Writer(threading.Thread):
+    """The client, and the daemon that it kills."""
+
+    def __init__(self, daemon: str, room: Path, image: Path, sent: List[Request], die: random.Random) -> None:
+        super().__init__()
+        self.program = daemon
+        self.room = room
+        self.image = image
+        self.requests = sent
+        self.die = die
+        self.answered = 0
+        self.sent = 0
+        self.kills = 0
+        # It writes while this is set: while copies are made, and not while they are judged.
+        self.busy = threading.Event()
+        self.fault: Optional[str] = None
+        self.process: Optional[subprocess.Popen[bytes]] = None
+
+    def start_daemon(self) -> None:
+        path = self.room / "socket"
+        path.unlink(missing_ok=True)
+        with open(self.room / "daemon.errors", "ab") as errors:
+            self.process = subprocess.Popen([self.program, str(self.image), str(path)], stderr=errors)
+
+    def stop_daemon(self) -> None:
+        if self.process is not None:
+            self.process.send_signal(signal.SIGKILL)
+            self.process.wait()
+
+    def connect(self) -> socket.socket:
+        until = time.monotonic() + 20
+        while True:
+            line = socket.socket(socket.AF_UNIX, socket.SOCK_STREAM)
+            try:
+                line.connect(str(self.room / "socket"))
+                line.settimeout(60)
+                return line
+            except OSError:
+                line.close()
+                if time.monotonic() > until:
+                    raise
+                time.sleep(0.01)
+
+    def converse(self, most: int, linger: float) -> None:
+        """Sends up to so many requests; then leaves, a moment after the last was sent and whatever was answered."""
+        line = self.connect()
+        held = b""
+        asked = self.answered
+        past = min(len(self.requests), asked + most)
+        try:
+            while self.answered < past:
+                self.busy.wait()
+                while asked < past and asked - self.answered < UNDER_WAY:
+                    asked += 1
+                    self.sent = max(self.sent, asked)
+                    line.sendall(encode(self.requests[asked - 1]))
+                if asked == past and past < len(self.requests):
+                    time.sleep(linger)
+                    return
+                piece = line.recv(4096)
+                if not piece:
+                    raise ConnectionError("the daemon closed")
+                held += piece
+                while len(held) >= 10:
+                    if held[:10] != committed(0, self.answered + 1):
+                        raise AssertionError("request %d is answered %r" % (self.answered + 1, held[:10]))
+                    held = held[10:]
+                    self.answered += 1
+        finally:
+            line.close()
+
+    def run(self) -> None:
+        try:
+            self.start_daemon()
+            while self.answered < len(self.requests):
+                self.converse(self.die.randrange(5, 60), self.die.uniform(0, 0.003))
+                if self.answered < len(self.requests):
+                    self.stop_daemon()
+                    self.kills += 1
+                    self.start_daemon()
+        except (OSError, AssertionError) as fault:
+            self.fault = str(fault)
+        finally:
+            self.stop_daemon()
+
+
+def run(*words: str, given: bytes = b"") -> bytes:
+    done = subprocess.run(words, input=given, stdout=subprocess.PIPE, stderr=subprocess.PIPE, timeout=300)
+    if done.returncode != 0:
+        raise RuntimeError("%s: status %d: %r" % (" ".join(words), done.returncode, done.stderr))
+    return done.stdout
+
+
+def by_cp(image: Path, copy: Path) -> None:
+    run("cp", str(image), str(copy))
+
+
+def by_cp_of_bytes(image: Path, copy: Path) -> None:
+    """Without a reflink, which would be a copy of one moment."""
+    run("cp", "--reflink=never", "--sparse=never", str(image), str(copy))
+
+
+def by_dd(image: Path, copy: Path) -> None:
+    run("dd", "if=%s" % image, "of=%s" % copy, "bs=%d" % random.choice((512, 2048, 3000, 65536)))
+
+
+def by_rsync(image: Path, copy: Path) -> None:
+    run("rsync", "--append-verify", str(image), str(copy))
+
+
+def by_following(image: Path, copy: Path) -> None:
+    """Appends what is behind the copy's last whole block."""
+    have = copy.stat().st_size // BLOCK if copy.exists() else 0
+    run("dd", "if=%s" % image, "of=%s" % copy, "bs=%d" % BLOCK, "skip=%d" % have, "seek=%d" % have, "conv=notrunc")
+
+
+class Replay:
+    """The tree behind a commit, by doing its requests again."""
+
+    def __init__(self, sent: List[Request]) -> None:
+        self.sent = sent
+        self.held: Dict[int, Tree] = {0: Tree(FORMAT_MOMENT)}
+
+    def behind(self, commit: int) -> Tree:
+        before = max(held for held in self.held if held <= commit)
+        tree = self.held[before].copy()
+        for at in range(before, commit):
+            tree.do(self.sent[at])
+            if (at + 1) % 50 == 0:
+                self.held[at + 1] = tree.copy()
+        return tree
+
+
+def differences(udfburn: str, copy: Path, tree: Tree) -> List[str]:
+    """What the image's tree has otherwise than this one, by questions for each of its nodes."""
+    asked: List[bytes] = []
+    wanted: List[bytes] = []
+    of: List[Names] = []
+    for path, node in tree.walk():
+        file = isinstance(node, File)
+        size = len(node.data) if isinstance(node, File) else len(node.names)
+        asked.append(query(STAT, path))
+        wanted.append(struct.pack("<HBQQ", 66, 0 if file else 1, node.moment, size))
+        if isinstance(node, File):
+            asked.append(query(GET, path))
+            wanted.append(struct.pack("<HI", 64, size) + node.data)
+        else:
+            asked.append(query(LIST, path))
+            body = struct.pack("<HH", 65, size)
+            for name, child in node.names.items():
+                text = name.encode()
+                body += struct.pack("<BH", 0 if isinstance(child, File) else 1, len(text)) + text
+            wanted.append(body)
+        of += [path, path]
+    found = answers(run(udfburn, "apply", str(copy), given=b"".join(asked)))
+    if len(found) != len(wanted):
+        return ["%d answers, not %d" % (len(found), len(wanted))]
+    return ["/%s is %r" % ("/".join(path), got[:40]) for path, got, want in zip(of, found, wanted) if got != want]
+
+
+class Copies:
+    def __init__(self, udfburn: str, sent: List[Request]) -> None:
+        self.udfburn = udfburn
+        self.replay = Replay(sent)
+        self.passed = 0
+        self.failed = 0
+        self.within = 0
+        # By the count of whole blocks, the sums of copies that had so many, and their names.
+        self.sums: Dict[int, List[Tuple[bytes, str]]] = {}
+
+    def remember(self, name: str, copy: Path) -> None:
+        """Keeps what a copy was, to be held against the whole image."""
+        blocks = copy.stat().st_size // BLOCK
+        with open(copy, "rb") as stream:
+            digest = hashlib.sha256(stream.read(blocks * BLOCK)).digest()
+        self.sums.setdefault(blocks, []).append((digest, name))
+
+    def compare(self, image: Path) -> None:
+        """Blocks are written once, so each copy's whole blocks are the first ones of the image at the end."""
+        digest = hashlib.sha256()
+        at = 0
+        with open(image, "rb") as stream:
+            for blocks, copies in sorted(self.sums.items()):
+                digest.update(stream.read((blocks - at) * BLOCK))
+                at = blocks
+                for told, name in copies:
+                    if told == digest.digest():
+                        self.passed += 1
+                    else:
+                        self.failed += 1
+                        print("copies: FAILED: %s is no front of the image" % name)
+
+    def judge(self, name: str, copy: Path, least: int, most: int) -> None:
+        """A copy is sound, is the state behind one of these commits, and questions to it change nothing."""
+        before = copy.stat().st_size
+        try:
+            told = run(self.udfburn, "check", str(copy)).split()
+            log = run(self.udfburn, "log", str(copy)).decode().splitlines()
+            commit, address, files, folders = map(int, log[0].split())
+            tree = self.replay.behind(commit)
+            wrong = differences(self.udfburn, copy, tree)
+            if told != [b"sound", b"%d" % commit]:
+                wrong.append("check tells %r, log %d" % (told, commit))
+            if not least <= commit <= most:
+                wrong.append("it has commit %d, not one from %d to %d" % (commit, least, most))
+            if (files, folders) != tree.count() or len(log) != commit + 1:
+                wrong.append("its log tells %r" % log[0])
+            if copy.stat().st_size != before:
+                wrong.append("it was %d bytes long, and is %d" % (before, copy.stat().st_size))
+            self.within += before != (address + 1) * BLOCK
+        except (RuntimeError, ValueError, IndexError) as fault:
+            wrong = [str(fault)]
+        if not wrong:
+            self.passed += 1
+            return
+        self.failed += 1
+        print("copies: FAILED: %s" % name)
+        for line in wrong[:5]:
+            print("    " + line)
+
+
+def main() -> int:
+    udfburn, udfburnd = (os.path.abspath(word) for word in sys.argv[1:3])
+    room = Path(sys.argv[3])
+    seed = int(sys.argv[4]) if len(sys.argv) > 4 else random.SystemRandom().randrange(1 << 32)
+    count = int(sys.argv[5]) if len(sys.argv) > 5 else 2000
+    # A run that fails is repeated by its seed, as far as moments can be.
+    print("copies: seed %d, %d requests" % (seed, count), flush=True)
+    die = random.Random(seed)
+    random.seed(seed)
+    sent = requests(die, count)
+    copies = Copies(udfburn, sent)
+    image = room / "disc.img"
+    run(udfburn, "format", str(image), "COPIES", str(FORMAT_MOMENT), str(CAPACITY))
+    ways: List[Tuple[str, Callable[[Path, Path], None], Path]] = [
+        ("cp", by_cp, room / "cp.img"), ("cp of bytes", by_cp_of_bytes, room / "bytes.img"), ("dd", by_dd, room / "dd.img"),
+        ("a follower", by_following, room / "followed.img"),
+    ]
+    if shutil.which("rsync"):
+        ways.append(("rsync", by_rsync, room / "rsync.img"))
+    else:
+        print("copies: not tried: rsync is not there")
+        if os.environ.get("CI") == "true":
+            copies.failed += 1
+    writer = Writer(udfburnd, room, image, sent, random.Random(seed + 1))
+    writer.start()
+    made = 0
+    try:
+        while writer.is_alive() and made < MOST_COPIES:
+            name, way, copy = ways[made % len(ways)]
+            made += 1
+            if name == "a follower" and copy.exists() and die.randrange(3) == 0:
+                # It was killed while it wrote, or the copy was cut somewhere.
+                os.truncate(copy, max(0, copy.stat().st_size - die.randrange(9000)))
+            writer.busy.set()
+            time.sleep(die.uniform(0, 0.02))
+            least = writer.answered
+            try:
+                way(image, copy)
+            except RuntimeError as fault:
+                copies.failed += 1
+                print("copies: FAILED: %s" % fault)
+                continue
+            most = writer.sent
+            writer.busy.clear()
+            # What is asked of a copy must not make it another one: questions go to one of their own.
+            asked = room / "asked.img"
+            shutil.copyfile(copy, asked)
+            copies.remember("%s, copy %d" % (name, made), asked)
+            copies.judge("%s, copy %d" % (name, made), asked, least, most)
+    finally:
+        writer.busy.set()
+        writer.join()
+    if writer.fault is not None or writer.answered != count:
+        copies.failed += 1
+        print("copies: FAILED: the run: %s, %d answers" % (writer.fault, writer.answered))
+    print("copies: %d copies, %d of them inside a commit, %d kills" % (made, copies.within, writer.kills), flush=True)
+
+    copies.compare(image)
+    # Fronts of the whole image, at any byte: the last commit whose table's entry is whole.
+    data = image.read_bytes()
+    addresses = {}
+    for line in run(udfburn, "log", str(image)).decode().splitlines():
+        commit, address, _, _ = map(int, line.split())
+        addresses[commit] = address
+    for turn in range(40):
+        length = die.randrange((addresses[0] + 1) * BLOCK, len(data) + 1)
+        if turn % 4 == 0:
+            length = (addresses[die.randrange(count + 1)] + die.randrange(2)) * BLOCK
+        if length < (addresses[0] + 1) * BLOCK:
+            continue
+        commit = max(commit for commit, address in addresses.items() if (address + 1) * BLOCK <= length)
+        front = room / "front.img"
+        front.write_bytes(data[:length])
+        copies.judge("a front of %d bytes" % length, front, commit, commit)
+    for name, way, copy in ways:
+        way(image, copy)
+        if copy.read_bytes() != data:
+            copies.failed += 1
+            print("copies: FAILED: %s of the whole image has other bytes" % name)
+        else:
+            copies.passed += 1
+    print("copies: %d passed, %d failed" % (copies.passed, copies.failed))
+    return 0 if copies.failed == 0 and copies.passed > 0 else 1
+
+
+if __name__ == "__main__":
+    sys.exit(main())

@@ -1,0 +1,206 @@
+#!/bin/sh
+# What the documents name is there: the targets of their links, the files and folders, the functions and definitions, and
+# each line that they quote of a source.
+#
+# usage: test/links.sh [DOCUMENT..]
+# Without words it looks at each document of the repository. Its last line is 'links: N passed, M failed'. It takes a POSIX
+# shell and the tools of a base system.
+#
+# In a document
+#   [text](FILE#heading)     a link: the file is there, and has the heading
+#   `crates/NAME/src/x.rt`   a path from the top of the repository, in code: it is there
+#   src/x.rt, specs/X.antt   a file of some crate, in the text
+#   `FILE`, `name`           a file and what it defines: the name stands in the file
+#   `a::b`, `CamelCase`, `snake_case`   in a document on the code, a name: some source defines the last part
+#   ```antt FILE             a quotation: each line stands in the file, in this order; '..' is for lines left out
+set -u
+
+cd "$(dirname "$0")/.." || exit 1
+room=$(mktemp -d) || exit 1
+trap 'rm -rf "$room"' EXIT
+trap 'exit 1' HUP INT PIPE TERM
+
+if [ $# -eq 0 ]; then
+    find . -name '*.md' ! -path '*/out/*' ! -path './.git/*' | sed 's|^\./||' | sort > "$room/documents"
+else
+    for document in "$@"; do
+        echo "$document"
+    done > "$room/documents"
+fi
+
+# What is named, a line each: the document, its line, the kind, and one or two words, with tabs between.
+cat > "$room/named.awk" <<'AWK'
+function told(kind, first, second) {
+    printf "%s\t%d\t%s\t%s\t%s\n", FILENAME, FNR, kind, first, second
+}
+# The names of the sources: two parts, capitals within, or an underscore.
+function is_name(word) {
+    return word ~ /^[A-Za-z_][A-Za-z0-9_]*(::[A-Za-z_][A-Za-z0-9_]*)+$/ \
+        || word ~ /^[A-Z][a-z0-9]+([A-Z][a-z0-9]*)+$/ \
+        || word ~ /^[a-z][a-z0-9]*(_[a-z0-9]+)+$/
+}
+function is_source(word) {
+    return word ~ /^[a-z]+\/.*\.(rt|antt|py)$/
+}
+FNR == 1 { quoting = 0; fenced = 0; on_code = (FILENAME ~ /^docs\/(ARCHITECTURE|CHANGING|DECISIONS|GLOSSARY|MEASURED|PROOF|PROVED)\.md$/) }
+/^ *```/ {
+    if (fenced) { fenced = 0; quoting = 0; next }
+    fenced = 1
+    file = $2
+    quoting = (file != "")
+    if (quoting) told("quoted", file, "")
+    next
+}
+fenced {
+    if (quoting) {
+        text = $0
+        gsub(/^[ \t]+|[ \t]+$/, "", text)
+        if (text != "" && text != "..") told("line", file, text)
+    }
+    next
+}
+# An indented line is a command or what it shows.
+/^    / { next }
+{
+    rest = $0
+    while (match(rest, /\]\([^) ]+\)/)) {
+        target = substr(rest, RSTART + 2, RLENGTH - 3)
+        if (target !~ /^[a-z]+:/) told("link", target, "")
+        rest = substr(rest, RSTART + RLENGTH)
+    }
+    count = split($0, parts, "`")
+    source = ""
+    for (i = 1; i <= count; i++) {
+        if (i % 2 == 1) {
+            text = parts[i]
+            while (match(text, /(src|specs|proofs)\/[A-Za-z_\/]+\.(rt|antt)/)) {
+                told("some", substr(text, RSTART, RLENGTH), "")
+                text = substr(text, RSTART + RLENGTH)
+            }
+            # A file is followed by what it defines, as `FILE`, `name` and `name`.
+            if (source != "" && parts[i] !~ /^(, |, and | and )$/) source = ""
+            continue
+        }
+        span = parts[i]
+        words = split(span, word, " ")
+        for (j = 1; j <= words; j++) {
+            if (word[j] ~ /^[.A-Za-z_-]+\// && word[j] !~ /[*$]|NAME|\/out\//) told("path", word[j], "")
+        }
+        if (is_source(span)) { source = span; continue }
+        if (source != "" && span ~ /^[A-Za-z_][A-Za-z0-9_:]*$/) { told("in", source, span); continue }
+        source = ""
+        if (on_code && is_name(span)) told("name", span, "")
+    }
+}
+AWK
+while read -r document; do
+    awk -f "$room/named.awk" "$document"
+done < "$room/documents" > "$room/named"
+
+# What the sources define: items, fields, variants, clauses, and the definitions and lemmas of antt.
+find crates \( -name '*.rt' -o -name '*.antt' \) ! -path '*/out/*' -exec cat {} + | awk '
+{
+    gsub(/\([^)]*\)/, "", $0)
+    for (i = 1; i < NF; i++) {
+        if ($i ~ /^(fn|struct|enum|trait|const|static|mod|type|ghost|ensures|requires|record|data|abbrev|pub|unfoldable)$/) {
+            name = $(i + 1)
+            sub(/[^A-Za-z0-9_].*$/, "", name)
+            if (name != "") print name
+        }
+    }
+    name = $1
+    if (name ~ /^[A-Za-z_][A-Za-z0-9_]*[:,(]?$/ && (NF == 1 || $2 ~ /^[:={]/ || name ~ /[:,(]$/)) {
+        sub(/[^A-Za-z0-9_].*$/, "", name)
+        print name
+    }
+}' | sort -u > "$room/defined"
+for crate in crates/*/; do
+    basename "$crate"
+done >> "$room/defined"
+
+passed=0
+failed=0
+pass() {
+    passed=$((passed + 1))
+}
+fail() {
+    failed=$((failed + 1))
+    echo "links: FAILED: $1"
+}
+
+# heading FILE NAME: whether a heading of the file is shown under this name.
+heading() {
+    sed -n 's/^#\{1,6\} *//p' "$1" | tr 'A-Z ' 'a-z-' | sed 's/[^a-z0-9_-]//g' | grep -qx -- "$2"
+}
+
+tab=$(printf '\t')
+while IFS="$tab" read -r document line kind first second; do
+    where="$document:$line"
+    case $kind in
+        link)
+            target=${first%%#*}
+            anchor=
+            case $first in *'#'*) anchor=${first#*#} ;; esac
+            if [ -z "$target" ]; then
+                file=$document
+            else
+                file=$(dirname "$document")/$target
+            fi
+            if ! [ -e "$file" ]; then
+                fail "$where: no file $first"
+            elif [ -n "$anchor" ] && ! heading "$file" "$anchor"; then
+                fail "$where: no heading $first"
+            else
+                pass
+            fi
+            ;;
+        path)
+            # A path begins with what stands at the top; other words with a slash are no paths of the repository.
+            if ! [ -e "${first%%/*}" ]; then
+                continue
+            fi
+            if [ -e "$first" ]; then pass; else fail "$where: no file $first"; fi
+            ;;
+        some)
+            found=
+            for file in crates/*/"$first"; do
+                if [ -e "$file" ]; then found=$file; fi
+            done
+            if [ -n "$found" ]; then pass; else fail "$where: no crate has $first"; fi
+            ;;
+        in)
+            if ! [ -e "${first%%/*}" ]; then
+                continue
+            fi
+            if [ -e "$first" ] && grep -qw -- "${second##*::}" "$first"; then
+                pass
+            else
+                fail "$where: no $second in $first"
+            fi
+            ;;
+        name)
+            if grep -qx -- "${first##*::}" "$room/defined"; then pass; else fail "$where: no $first in the sources"; fi
+            ;;
+        quoted)
+            from=0
+            if [ -e "$first" ]; then pass; else fail "$where: no file $first"; fi
+            ;;
+        line)
+            # The first line behind the one before that has this text.
+            at=$(TEXT=$second awk -v from="$from" 'NR > from && index($0, ENVIRON["TEXT"]) { print NR; exit }' "$first" 2> "$room/errors")
+            if [ -n "$at" ]; then
+                from=$at
+                pass
+            else
+                fail "$where: not in $first: $second"
+            fi
+            ;;
+    esac
+done < "$room/named"
+
+# That nothing was looked at is a failure too.
+if [ "$passed" -eq 0 ]; then
+    fail "nothing is named in the documents"
+fi
+echo "links: $passed passed, $failed failed"
+[ "$failed" -eq 0 ]
