@@ -1,0 +1,102 @@
+#!/bin/sh
+# Installs the programs, their manual pages, the unit of systemd, the documents and, where it is there, the Python client.
+#
+# usage: ./install.sh PREFIX
+#        ./install.sh --uninstall PREFIX
+#
+# PREFIX is an absolute path of plain letters, such as /usr/local. DESTDIR is put in front of each path that is written, and is in none of the
+# files. UDFBURN and UDFBURND name the programs, else those that `rt` built in crates/ are taken. PYTHON_DIR is the folder of the
+# Python package, else PREFIX/lib/udfburn. What was installed is listed in PREFIX/share/doc/udfburn/installed, which is what
+# --uninstall removes, and prints. Images are never touched.
+set -eu
+cd "$(dirname "$0")"
+
+usage() {
+    echo 'usage: install.sh [--uninstall] PREFIX' >&2
+    exit 2
+}
+
+uninstall=
+if [ "${1:-}" = --uninstall ]; then
+    uninstall=1
+    shift
+fi
+[ $# -eq 1 ] || usage
+case $1 in
+    *[!A-Za-z0-9/._+-]*) usage ;;
+    /*) prefix=${1%/} ;;
+    *) usage ;;
+esac
+root=${DESTDIR:-}
+documents=$prefix/share/doc/udfburn
+list=$root$documents/installed
+
+if [ -n "$uninstall" ]; then
+    [ -f "$list" ] || { echo "install.sh: $list is not there" >&2; exit 1; }
+    while IFS= read -r path; do
+        echo "$path"
+        rm -f "$root$path"
+    done < "$list"
+    rm -f "$list"
+    # What Python made of the package, and folders that are ours alone and empty now.
+    python=${PYTHON_DIR:-$prefix/lib/udfburn}/udfburn
+    [ ! -d "$root$python" ] || find "$root$python" -depth \( -path '*/__pycache__/*' -type f -exec rm -f {} + \) -o \
+        \( -type d -exec rmdir {} + \) 2> /dev/null || true
+    for folder in "$documents" "$prefix/lib/udfburn"; do
+        [ ! -d "$root$folder" ] || find "$root$folder" -depth -type d -exec rmdir {} + 2> /dev/null || true
+    done
+    exit 0
+fi
+
+udfburn=${UDFBURN:-crates/udfburn/out/udfburn}
+udfburnd=${UDFBURND:-crates/udfburnd/out/udfburnd}
+for program in "$udfburn" "$udfburnd"; do
+    [ -x "$program" ] || { echo "install.sh: $program is not there: build it by rt, or name it by UDFBURN and UDFBURND" >&2; exit 1; }
+done
+mkdir -p "$root$documents"
+: > "$list.new"
+
+# put MODE FILE PATH: a file, or the standard input for -.
+put() {
+    mkdir -p "$(dirname "$root$3")"
+    rm -f "$root$3"
+    cat "$2" > "$root$3"
+    chmod "$1" "$root$3"
+    echo "$3" >> "$list.new"
+}
+
+put 755 "$udfburn" "$prefix/bin/udfburn"
+put 755 "$udfburnd" "$prefix/bin/udfburnd"
+for page in man/*.[1-9]; do
+    name=$(basename "$page")
+    # The client's page goes with the client.
+    [ "$name" != udfburn-client.1 ] || [ -d clients/python/udfburn ] || continue
+    put 644 "$page" "$prefix/share/man/man${page##*.}/$name"
+done
+sed "s|@bindir@|$prefix/bin|g" packaging/systemd/udfburnd@.service | put 644 - "$prefix/lib/systemd/system/udfburnd@.service"
+put 644 packaging/systemd/udfburn.conf "$prefix/lib/sysusers.d/udfburn.conf"
+for page in README.md CHANGELOG.md docs/*.md docs/*.svg; do
+    [ ! -f "$page" ] || put 644 "$page" "$documents/$(basename "$page")"
+done
+
+if [ -d clients/python/udfburn ]; then
+    python=${PYTHON_DIR:-$prefix/lib/udfburn}
+    (cd clients/python && find udfburn -type f -name '*.py' -o -type f -name py.typed | LC_ALL=C sort) > "$list.python"
+    while IFS= read -r file; do
+        put 644 "clients/python/$file" "$python/$file"
+    done < "$list.python"
+    rm -f "$list.python"
+    put 755 - "$prefix/bin/udfburn-client" << END
+#!/bin/sh
+PYTHONPATH=$python\${PYTHONPATH:+:\$PYTHONPATH} exec python3 -m udfburn "\$@"
+END
+fi
+
+# What an earlier version had and this one has not, goes.
+if [ -f "$list" ]; then
+    while IFS= read -r path; do
+        grep -Fqx -e "$path" "$list.new" || rm -f "$root$path"
+    done < "$list"
+fi
+mv "$list.new" "$list"
+chmod 644 "$list"

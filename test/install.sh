@@ -1,0 +1,279 @@
+#!/bin/sh
+# The installation and the Debian package, each in an empty root; the manual pages, and the unit of systemd.
+#
+# usage: test/install.sh [UDFBURN [UDFBURND]]
+# Its last line is 'install: N passed, M failed'. mandoc and strace are installed where they are not there and we may; what
+# cannot be had is said, and is a failure where CI=true.
+set -u
+absolute() {
+    echo "$(cd "$(dirname "$1")" && pwd)/$(basename "$1")"
+}
+cd "$(dirname "$0")/.." || exit 1
+UDFBURN=$(absolute "${1:-crates/udfburn/out/udfburn}")
+UDFBURND=$(absolute "${2:-crates/udfburnd/out/udfburnd}")
+export UDFBURN UDFBURND
+room=$(mktemp -d) || exit 1
+trap 'rm -rf "$room"' EXIT
+trap 'exit 1' HUP INT PIPE TERM
+PATH=$PATH:/usr/sbin:/sbin
+unset DESTDIR PYTHON_DIR
+passed=0
+failed=0
+
+# holds NAME COMMAND..: whether the command succeeds.
+holds() {
+    name=$1
+    shift
+    if "$@" > "$room/told" 2>&1; then
+        passed=$((passed + 1))
+    else
+        failed=$((failed + 1))
+        echo "install: FAILED: $name"
+        head -n 20 "$room/told"
+    fi
+}
+
+# absent NAME: what cannot be tried.
+absent() {
+    echo "install: not tried: $1 is not there"
+    if [ "${CI:-}" = true ]; then failed=$((failed + 1)); fi
+}
+
+# need COMMAND: installs it from the package of its name where it is not there and we may, and says where it is still absent.
+need() {
+    if ! command -v "$1" > "$room/which" && [ "$(id -u)" -eq 0 ] && command -v apt-get > "$room/which"; then
+        apt-get -q update > "$room/apt.log" 2>&1
+        DEBIAN_FRONTEND=noninteractive apt-get -q -y --no-install-recommends -o DPkg::Lock::Timeout=300 install "$1" \
+            >> "$room/apt.log" 2>&1
+    fi
+    command -v "$1" > "$room/which" || absent "$1"
+}
+
+# same WANTED COMMAND..: whether the command prints the lines of the file WANTED, and nothing else.
+same() {
+    wanted=$1
+    shift
+    "$@" > "$room/found" && diff "$wanted" "$room/found"
+}
+
+# files ROOT: the files below it with their modes.
+files() {
+    (cd "$1" && find . -type f -printf '%m %P\n' | LC_ALL=C sort -k 2)
+}
+
+# silent COMMAND..: whether the command succeeds, and prints nothing.
+silent() {
+    "$@" > "$room/said" 2>&1 && ! [ -s "$room/said" ] || { cat "$room/said"; return 1; }
+}
+
+# expected PREFIX: what an installation has, by what the repository has.
+expected() {
+    client=
+    [ ! -d clients/python/udfburn ] || client=1
+    {
+        echo "755 $1/bin/udfburn"
+        echo "755 $1/bin/udfburnd"
+        echo "644 $1/lib/systemd/system/udfburnd@.service"
+        echo "644 $1/lib/sysusers.d/udfburn.conf"
+        for page in README.md CHANGELOG.md $(cd docs && ls); do
+            case $page in *.md | *.svg) echo "644 $1/share/doc/udfburn/$page" ;; esac
+        done
+        echo "644 $1/share/doc/udfburn/installed"
+        echo "644 $1/share/man/man1/udfburn.1"
+        echo "644 $1/share/man/man5/udfburn-protocol.5"
+        echo "644 $1/share/man/man5/udfburn-volume.5"
+        echo "644 $1/share/man/man8/udfburnd.8"
+        if [ -n "$client" ]; then
+            echo "644 $1/share/man/man1/udfburn-client.1"
+            echo "755 $1/bin/udfburn-client"
+            (cd clients/python && find udfburn -name '*.py' -o -name py.typed) | sed "s|^|644 $1/lib/udfburn/|"
+        fi
+    } | LC_ALL=C sort -k 2
+}
+
+# Words.
+for words in '' 'relative' '/a /b'; do
+    status=0
+    ./install.sh $words > "$room/told" 2>&1 || status=$?
+    holds "install.sh refuses '$words'" [ "$status" -eq 2 ]
+done
+status=0
+./install.sh '/a b' > "$room/told" 2>&1 || status=$?
+holds 'install.sh refuses a space' [ "$status" -eq 2 ]
+holds 'install.sh names a program that is not there' sh -c '! UDFBURN=/nowhere ./install.sh "$1/none" && [ ! -e "$1/none" ]' - "$room"
+
+# An empty root: all is below DESTDIR, and nothing says its name.
+mkdir "$room/root"
+holds 'it installs below DESTDIR' env DESTDIR="$room/root" ./install.sh /usr/local
+expected usr/local > "$room/wanted"
+holds 'it installs these files' same "$room/wanted" files "$room/root"
+holds 'no file has the name of DESTDIR' sh -c '! grep -rF "$1" "$1/root"' - "$room"
+holds 'the program is the one that was built' cmp "$UDFBURN" "$room/root/usr/local/bin/udfburn"
+holds 'the daemon is the one that was built' cmp "$UDFBURND" "$room/root/usr/local/bin/udfburnd"
+holds 'the unit starts the installed daemon' grep -q '^ExecStart=/usr/local/bin/udfburnd ' \
+    "$room/root/usr/local/lib/systemd/system/udfburnd@.service"
+mkdir "$room/root/usr/local/share/doc/udfburn/mine"
+echo old > "$room/root/usr/local/share/doc/udfburn/OLD.md"
+echo /usr/local/share/doc/udfburn/OLD.md >> "$room/root/usr/local/share/doc/udfburn/installed"
+holds 'it installs again' env DESTDIR="$room/root" ./install.sh /usr/local
+holds 'what an earlier version had is gone' same "$room/wanted" files "$room/root"
+grep -v '/installed$' "$room/wanted" | sed 's|^[0-9]* |/|' > "$room/removed"
+DESTDIR=$room/root ./install.sh --uninstall /usr/local > "$room/listed" 2> "$room/errors"
+holds 'the removal is listed' sh -c 'LC_ALL=C sort "$1/listed" | diff "$1/removed" -' - "$room"
+holds 'nothing is left of it' [ -z "$(files "$room/root")" ]
+holds 'nor of its folders' [ ! -e "$room/root/usr/local/share/doc/udfburn" ]
+holds 'a removal of nothing is refused' sh -c '! DESTDIR="$1/root" ./install.sh --uninstall /usr/local' - "$room"
+
+# A prefix of one's own: the programs run from there.
+prefix=$room/prefix
+holds 'it installs into a prefix' ./install.sh "$prefix"
+holds 'an installed program formats' "$prefix/bin/udfburn" format "$room/disc.img" DISC 0 3000
+printf 'sound 0\n' > "$room/wanted"
+holds 'an installed program checks' same "$room/wanted" "$prefix/bin/udfburn" check "$room/disc.img"
+if [ -d clients/python/udfburn ] && [ -f clients/python/udfburn/__main__.py ]; then
+    if command -v python3 > "$room/which"; then
+        holds 'the installed client says its words' "$prefix/bin/udfburn-client" --help
+        # Its page has the options that its commands have.
+        for command in put get ls mkdir mv rm verify resume map; do
+            "$prefix/bin/udfburn-client" "$command" --help
+        done | grep -o -e '--[a-z][a-z-]*' | sort -u > "$room/wanted"
+        sed -n -e 's/\.It.* Fl -help.*//' -e 's/\.\{0,1\}[A-Z][a-z] Fl -/\n--/' -e 's/ Fl -/\n--/g' -e p man/udfburn-client.1 |
+            grep -o -e '^--[a-z][a-z-]*' > "$room/page"
+        grep -q '^\.Fl -help' man/udfburn-client.1 && echo --help >> "$room/page"
+        holds 'its page has its options' same "$room/wanted" sort -u "$room/page"
+    else
+        absent python3
+    fi
+fi
+
+# The Debian package.
+if command -v dpkg-deb > "$room/which"; then
+    holds 'a package is made' packaging/deb/build.sh "$room/deb"
+    package=$(find "$room/deb" -name '*.deb')
+    version=$(sed -n 's/^## \([0-9.]*\).*/\1/p' CHANGELOG.md | head -n 1)
+    printf 'Package: udfburn\nVersion: %s\nArchitecture: %s\n' "$version" "$(dpkg --print-architecture)" > "$room/wanted"
+    holds 'it says what it is' same "$room/wanted" dpkg-deb -f "$package" Package Version Architecture
+    expected usr | sed -e '/doc\/udfburn\/installed$/d' -e 's|CHANGELOG.md$|changelog.gz|' -e 's|\(share/man/.*\)|\1.gz|' \
+        -e 's|usr/lib/udfburn/udfburn|usr/lib/python3/dist-packages/udfburn|' | LC_ALL=C sort -k 2 > "$room/wanted"
+    dpkg-deb -x "$package" "$room/unpacked"
+    holds 'it has these files' same "$room/wanted" files "$room/unpacked"
+    holds 'all of them are root'"'"'s' sh -c '! dpkg-deb -c "$1" | grep -v " root/root "' - "$package"
+    if [ "$(id -u)" -eq 0 ]; then
+        # dpkg's own installation, in a root that has nothing but its list of packages, and the users that a system has.
+        mkdir -p "$room/system/var/lib/dpkg/info" "$room/system/var/lib/dpkg/updates" "$room/system/etc"
+        : > "$room/system/var/lib/dpkg/status"
+        : > "$room/system/var/lib/dpkg/available"
+        printf 'root:x:0:0:root:/root:/bin/sh\n' > "$room/system/etc/passwd"
+        printf 'root:x:0:\n' > "$room/system/etc/group"
+        holds 'dpkg installs it' dpkg --root="$room/system" --log=/dev/null --force-script-chrootless,depends -i "$package"
+        holds 'the installed program is the one that was built' cmp "$UDFBURN" "$room/system/usr/bin/udfburn"
+        holds 'the user of the unit is there' grep -q '^udfburn:' "$room/system/etc/passwd"
+        mkdir -p "$room/system/var/lib/udfburn"
+        echo image > "$room/system/var/lib/udfburn/archive.img"
+        if [ -d "$room/system/usr/lib/python3" ]; then
+            mkdir "$room/system/usr/lib/python3/dist-packages/udfburn/__pycache__"
+            echo made > "$room/system/usr/lib/python3/dist-packages/udfburn/__pycache__/client.pyc"
+        fi
+        holds 'dpkg removes it' dpkg --root="$room/system" --log=/dev/null --force-script-chrootless --purge udfburn
+        holds 'nothing is left of the package' [ -z "$(find "$room/system/usr" -type f 2> "$room/which")" ]
+        holds 'an image stays' [ -f "$room/system/var/lib/udfburn/archive.img" ]
+    else
+        absent 'the right to run dpkg in a root'
+    fi
+else
+    absent dpkg-deb
+fi
+
+# The manual pages.
+need mandoc
+if command -v mandoc > "$room/which"; then
+    for page in man/*.[1-9]; do
+        # Which pages of other programs are there is the machine's own.
+        (cd man && mandoc -T lint "${page##*/}") 2>&1 | grep -v -e 'referenced manual not found' -e 'outdated mandoc.db' \
+            > "$room/lint"
+        holds "$page is clean" silent cat "$room/lint"
+        holds "$page is read" sh -c 'mandoc -T utf8 "$1" | grep -q "$(basename "${1%.*}" | tr a-z A-Z)"' - "$page"
+    done
+fi
+sed -n 's/^\.Xr \(udfburn[^ ]*\) \([1-9]\).*/man\/\1.\2/p' man/*.[1-9] | sort -u > "$room/named"
+holds 'pages name pages' [ -s "$room/named" ]
+while read -r page; do
+    holds "$page is there" [ -f "$page" ]
+done < "$room/named"
+
+# The unit. Its commands, in folders of this test's, as a supervisor runs them.
+mkdir "$room/state"
+"$prefix/bin/udfburn" format "$room/state/archive.img" DISC 0 3000 > "$room/told"
+zeros='\000\000\000\000\000\000\000'
+printf "\\046\\000\\000\\000\\001\\007$zeros\\001$zeros\\000$zeros\\001\\001\\000a\\005\\000\\000\\000hello" > "$room/create"
+printf '\006\000\000\000\000\000\001\000\000\000' > "$room/wanted"
+commands() {
+    sed -n "s/^$1=//p" "$prefix/lib/systemd/system/udfburnd@.service" |
+        sed -e "s|/var/lib/udfburn|$room/state|g" -e "s|/run/udfburn-%i|$room/run|g" -e 's|%i|archive|g'
+}
+
+# supervise MORE WORD..: starts the daemon as the unit does, with MORE behind and these words before, and sends it a request. It
+# is killed, or ends by itself where MORE says so: behind strace it is a process of strace's, which would stay.
+supervise() {
+    more=$1
+    shift
+    mkdir -p "$room/run"
+    commands ExecStartPre > "$room/before"
+    holds 'a start has two commands before it' [ "$(grep -c . "$room/before")" -eq 2 ]
+    while read -r command; do
+        holds "before the start: ${command%% *}" $command
+    done < "$room/before"
+    "$@" $(commands ExecStart) $more > "$room/daemon" 2>&1 &
+    daemon=$!
+    tries=100
+    until [ -S "$room/run/socket" ] || [ "$tries" -eq 0 ]; do
+        tries=$((tries - 1))
+        sleep 0.1
+    done
+    sleep 0.3
+    holds 'the daemon answers' same "$room/wanted" "$prefix/bin/udfburn" send "$room/run/socket" < "$room/create"
+    [ -n "$more" ] || kill -9 "$daemon"
+    wait "$daemon" 2> "$room/ended"
+}
+supervise '' env
+# The socket of the daemon that was killed is still there.
+holds 'a killed daemon leaves its socket' [ -S "$room/run/socket" ]
+supervise '' env
+if command -v systemd-analyze > "$room/which"; then
+    # It looks whether the program that a unit starts is there, as the one that was installed above is.
+    unit=$prefix/lib/systemd/system/udfburnd@.service
+    holds 'the unit is well-formed' silent systemd-analyze verify --man=no "$unit"
+    cp "$unit" "$room/udfburnd@archive.service"
+    holds 'little is exposed' systemd-analyze security --offline=yes --threshold=15 --no-pager "$room/udfburnd@archive.service"
+
+    # What the daemon calls is within the unit's filter.
+    need strace
+    if command -v strace > "$room/which"; then
+        for sign in '' '~'; do
+            sed -n "s/^SystemCallFilter=$sign\(@.*\)/\1/p" "$unit" | tr ' ' '\n' > "$room/sets"
+            while [ -s "$room/sets" ]; do
+                while read -r set; do systemd-analyze syscall-filter "$set"; done < "$room/sets" | grep '^    [a-z@]' |
+                    tr -d ' ' > "$room/calls"
+                grep -v @ "$room/calls"
+                grep @ "$room/calls" > "$room/sets"
+            done > "$room/filter$sign"
+        done
+        holds 'the filter has calls' [ -s "$room/filter" ]
+        holds 'the filter leaves out calls' [ -s "$room/filter~" ]
+        supervise '--connections 1' strace -f -qq -o "$room/trace"
+        sed -n 's/^[0-9]* *\([a-z0-9_]*\)(.*/\1/p' "$room/trace" | sort -u > "$room/called"
+        holds 'the daemon was traced' grep -q '^accept' "$room/called"
+        while read -r call; do
+            holds "$call is within the filter" sh -c 'grep -qx "$2" "$1/filter" && ! grep -qx "$2" "$1/filter~"' - "$room" "$call"
+        done < "$room/called"
+    fi
+else
+    absent systemd-analyze
+fi
+
+# The prefix, behind the use of what it has.
+holds 'the prefix is left' ./install.sh --uninstall "$prefix"
+holds 'nothing is left in it' [ -z "$(find "$prefix" -type f)" ]
+
+echo "install: $passed passed, $failed failed"
+[ "$failed" -eq 0 ]
