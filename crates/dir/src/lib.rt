@@ -33,6 +33,3 @@ pub use laying::{Lay, MAX_BLOCKS, MAX_NAMES};
 pub use read::read_dir;
 pub use size::DataSize;
 pub use whole::lay;
-
-#[cfg(test)]
-mod tests;

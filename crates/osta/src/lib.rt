@@ -20,6 +20,3 @@ pub use label::Label;
 pub use name::Name;
 pub use reading::{check_spelling, expand};
 pub use writing::{compress, one_spelling};
-
-#[cfg(test)]
-mod tests;

@@ -25,6 +25,3 @@ pub use laws::tables;
 pub use place::{clear_start, is_vat_icb};
 pub use record::{KEPT_REPLIES, Record, Replies, Reply};
 pub use table::{Sessions, Vat, Version};
-
-#[cfg(test)]
-mod tests;

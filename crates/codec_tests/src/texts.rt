@@ -1,4 +1,9 @@
-use super::*;
+//! Texts on the medium: spellings, dstrings, names and labels.
+
+use osta::{
+    Label, Name, NameFault, OstaFault, check_spelling, compress, dstring_read, dstring_write,
+    expand,
+};
 use std::str;
 use std::test::Fail;
 

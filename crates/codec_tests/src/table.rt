@@ -1,12 +1,13 @@
+//! Tables: those of small volumes, each fault, kept replies, and starts at which data shows no table's entry.
+
 ghost use Rattle.std.specs.Prelude.{◌<◌};
 
-use super::*;
 use ecma::{Block, Timestamp};
 use icb::{FileEntry, Kind, Place, encode_fe};
 use osta::Label;
 use std::alloc::{AllocError, Global};
-use std::process::Abort;
 use std::test::Fail;
+use vat::{Replies, Reply, VatFault, Version, clear_start, decode_vat, encode_vat, is_vat_icb};
 
 /// The table of a new volume with the label `DISC`.
 const FORMATTED: [u8; 204] = [

@@ -1,9 +1,13 @@
+//! The front of a volume: the checks of its blocks, fields, and what is told of other blocks.
+
 ghost use Rattle.std.specs.Prelude.{◌<◌, ◌≤◌};
 
-use super::*;
 use ecma::{Block, Timestamp, crc, seal};
 use osta::Label;
 use std::test::Fail;
+use volume::{
+    Front, VolumeFault, first_difference, front_block, front_blocks, front_words, read_front,
+};
 
 /// The checks of whole blocks of the front of a volume of 3,000 blocks with the label `DISC` and the moment 0.
 const CHECKS: [(u32, u16); 9] = [

@@ -1,6 +1,8 @@
+//! Directories: the root of a volume, layouts around a block's end, and each fault.
+
 ghost use Rattle.std.specs.Prelude.{◌+◌, ◌<◌, ◌≤◌};
 
-use super::*;
+use dir::{DataSize, Dir, Entry, Fids, Kind, Lay, lay, read_dir};
 use ecma::{Block, crc, seal};
 use indexmap::IndexMap;
 use osta::Name;
