@@ -12,8 +12,6 @@ mod nodes;
 mod paths;
 mod records;
 mod state;
-#[cfg(test)]
-mod tests;
 
 pub use codes::Code;
 pub use nodes::{Content, Entry, Node};

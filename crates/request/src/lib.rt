@@ -25,6 +25,3 @@ pub use laws::{feeding_goes_on, no_answer_begins_another, one_reading, taking_go
 pub use message::{Cause, FILE_BYTES, FileData, MOMENT_LIMIT, Message, Op, Query, Request};
 pub use path::{PATH_NAMES, Path, PathFault};
 pub use payload::read_payload;
-
-#[cfg(test)]
-mod tests;

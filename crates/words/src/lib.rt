@@ -8,8 +8,6 @@
 mod command;
 mod daemon;
 mod number;
-#[cfg(test)]
-mod tests;
 
 pub use command::{Command, Medium, read_command};
 pub use daemon::{DaemonWords, WordsFault, read_daemon};

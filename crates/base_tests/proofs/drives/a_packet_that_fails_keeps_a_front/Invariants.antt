@@ -2,7 +2,7 @@ use Rattle.std.proofs.Common.{◌≡◌, ◌≤◌}
 use Rattle.drive.specs.Journal.{next_of}
 use Rattle.drive.specs.Waiting.{end_of}
 use Rattle.drive.specs.MemDrive.{journal_of, capacity_of}
-use Rattle.drive.proofs.tests.a_packet_that_fails_keeps_a_front.Given as goal
+use Rattle.base_tests.proofs.drives.a_packet_that_fails_keeps_a_front.Given as goal
 
 abbrev pub invariant-loop-i : goal.invariant-loop-i
 invariant-loop-i g l = record {

@@ -1,7 +1,7 @@
 //! Drives over files of the system.
 
-use super::block;
-use crate::{Drive, DriveFault, FileDrive, create_image, open_image};
+use crate::drives::block;
+use drive::{Drive, DriveFault, FileDrive, create_image, open_image};
 use std::fs;
 use std::fs::File;
 use std::os::unix::fs::symlink;

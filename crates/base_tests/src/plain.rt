@@ -3,7 +3,9 @@
 ghost use Rattle.std.specs.Prelude.{IfOk};
 ghost use Rattle.model.specs.PlainState.{IsWhole};
 
-use super::*;
+use model::plain::{
+    ClientRecord, Code, Content, Due, Node, Operation, Refusal, Reply, Request, State,
+};
 use std::alloc::{AllocError, Global};
 use std::test::Fail;
 

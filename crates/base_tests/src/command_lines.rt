@@ -1,5 +1,7 @@
-use crate::{Command, DaemonWords, Medium, WordsFault, read_command, read_daemon};
+//! The words of the two programs.
+
 use std::test::Fail;
+use words::{Command, DaemonWords, Medium, WordsFault, read_command, read_daemon};
 
 #[test]
 fn words_of_the_command(rt: HostRuntime) {

@@ -1,5 +1,10 @@
-use super::*;
+//! Frames, requests, queries and answers: the frames of the protocol's examples in any cut, and the first fault of a payload.
+
 use osta::Name;
+use request::{
+    Answer, Cause, Code, FileData, Frames, Listed, Listing, Message, NodeKind, NodeStatus, Op,
+    Path, PathFault, Query, Reply, encode_answer, read_payload,
+};
 use std::alloc::{AllocError, Global};
 use std::process::Abort;
 use std::test::*;

@@ -1,5 +1,5 @@
 use Rattle.std.proofs.Common.{[]}
-use Rattle.drive.proofs.tests.files.what_is_no_file_is_no_image.Given as goal
+use Rattle.base_tests.proofs.files.a_file_that_takes_no_block_fails.Given as goal
 
 abbrev pub ghost-over : goal.ghost-over
 ghost-over g a = []

@@ -1,0 +1,15 @@
+//! Tests of what stands below the codecs or beside them, by topic: the plain program of the model, drives, messages, and the
+//! words of the programs. They stand in a crate of their own, so that each of those crates is proved once; they use what is
+//! public.
+#![tactic(auto)]
+
+#[cfg(test)]
+mod command_lines;
+#[cfg(test)]
+mod drives;
+#[cfg(test)]
+mod files;
+#[cfg(test)]
+mod messages;
+#[cfg(test)]
+mod plain;
