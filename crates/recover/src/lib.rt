@@ -30,6 +30,3 @@ pub use reading::{BLOCK_BYTES, PARTITION_START, block_count, read_block, read_bl
 pub use state::{State, state_at, state_sharing};
 pub use table::{TableEntry, before, last, lies_below, linked, read_table, table_at, table_entry};
 pub use walk::{FIRST_UNIQUE, PATH_NAMES, ROOT_ADDRESS};
-
-#[cfg(test)]
-mod tests;

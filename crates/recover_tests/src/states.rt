@@ -1,8 +1,14 @@
 //! The states that stand on media made by hand.
 
-use super::*;
+use crate::media::{
+    CAPACITY, Records, USED, created, damage, directory, entry_of_table, label, moment, nested,
+    root_entry, state_of, table_block, table_with, volume_after,
+};
 use drive::Fault;
 use ecma::crc;
+use icb::{FileEntry, Place, encode_fe};
+use recover::{StoreFault, cause, last};
+use std::test::Fail;
 
 #[test]
 fn a_format_is_that_of_the_vectors(rt: HostRuntime) -> Result<(), Fail> {

@@ -2,7 +2,15 @@
 
 ghost use Rattle.std.specs.Prelude.{◌<◌};
 
-use super::*;
+use crate::media::{
+    USED, add, block_of, blocks_of, changed, damage, directory, entry_of_table, file, root_entry,
+    table_block, volume_after, with_bytes,
+};
+use ecma::seal;
+use recover::{cause, last};
+use std::alloc::Global;
+use std::process::Abort;
+use std::test::Fail;
 
 /// What a file identifier says (ECMA-167 4/14.4).
 #[derive(Clone, Copy)]

@@ -1,6 +1,11 @@
 //! The last table of a medium, and the chain from it back to the format.
 
-use super::*;
+use crate::media::{
+    add, chain, changed, created, entry_of_table, renamed, state_of, step, volume_after,
+};
+use drive::MemDrive;
+use recover::{cause, damaged, last};
+use std::test::Fail;
 
 #[test]
 fn a_blank_medium_has_no_table(rt: HostRuntime) {

@@ -2,38 +2,30 @@
 
 ghost use Rattle.std.specs.Prelude.{◌<◌, ◌≤◌};
 
-use super::*;
 use dir::{Dir, Entry, lay};
 use drive::{Drive, MemDrive};
 use ecma::{Block, Timestamp, seal};
 use icb::{FileEntry, FileSet, Place, encode_fe, encode_fsd};
 use indexmap::IndexMap;
 use osta::{Label, Name};
+use recover::{PARTITION_START, State, StoreFault, before, cause, last, state_at};
 use std::alloc::Global;
 use std::process::Abort;
 use std::test::Fail;
 use volume::front_blocks;
 
-mod chains;
-mod directories;
-mod entries;
-mod relations;
-mod sharing;
-mod states;
-mod tables;
+pub(crate) const CAPACITY: u32 = 3_000;
 
-const CAPACITY: u32 = 3_000;
-
-fn label() -> Result<Label, Fail> {
+pub(crate) fn label() -> Result<Label, Fail> {
     Ok(Label::read("DISC")?)
 }
 
-fn moment() -> Result<Timestamp, Fail> {
+pub(crate) fn moment() -> Result<Timestamp, Fail> {
     Ok(Timestamp::of(0).ok_or("the first moment")?)
 }
 
 /// Adds a block behind the others.
-fn add(drive: &mut MemDrive, block: &Block) -> Result<(), Fail> {
+pub(crate) fn add(drive: &mut MemDrive, block: &Block) -> Result<(), Fail> {
     let next = drive.next()?;
     if next >= drive.capacity() {
         return Err(Fail::from("a full drive"));
@@ -43,7 +35,7 @@ fn add(drive: &mut MemDrive, block: &Block) -> Result<(), Fail> {
 }
 
 /// A volume with these blocks in its partition.
-fn volume_of(alloc: Global, capacity: u32, blocks: &[Block]) -> Result<MemDrive, Fail> {
+pub(crate) fn volume_of(alloc: Global, capacity: u32, blocks: &[Block]) -> Result<MemDrive, Fail> {
     let mut drive = MemDrive::new(alloc, capacity, Vec::new(alloc));
     let front = front_blocks(alloc, &label()?, moment()?, CAPACITY)?;
     for block in &front {
@@ -56,7 +48,13 @@ fn volume_of(alloc: Global, capacity: u32, blocks: &[Block]) -> Result<MemDrive,
 }
 
 /// The entry of a directory, for its virtual address.
-fn directory_entry(unique: u64, links: u16, size: u32, first: u32, at: u32) -> Result<Block, Fail>
+pub(crate) fn directory_entry(
+    unique: u64,
+    links: u16,
+    size: u32,
+    first: u32,
+    at: u32,
+) -> Result<Block, Fail>
     requires some { 0 < size }
     requires small { size ≤ 65_536 }
     requires low { first ≤ 1_000 }
@@ -73,7 +71,7 @@ fn directory_entry(unique: u64, links: u16, size: u32, first: u32, at: u32) -> R
 }
 
 /// The entry of the root.
-fn root_entry(links: u16, size: u32, first: u32) -> Result<Block, Fail>
+pub(crate) fn root_entry(links: u16, size: u32, first: u32) -> Result<Block, Fail>
     requires some { 0 < size }
     requires small { size ≤ 65_536 }
     requires low { first ≤ 1_000 }
@@ -82,7 +80,7 @@ fn root_entry(links: u16, size: u32, first: u32) -> Result<Block, Fail>
 }
 
 /// The entry of a table, for its block number.
-fn entry_of_table(size: u32, first: u32, number: u32) -> Result<Block, Fail>
+pub(crate) fn entry_of_table(size: u32, first: u32, number: u32) -> Result<Block, Fail>
     requires some { 0 < size }
     requires small { size ≤ 65_536 }
     requires low { first ≤ 1_000 }
@@ -100,16 +98,16 @@ fn entry_of_table(size: u32, first: u32, number: u32) -> Result<Block, Fail>
 
 /// The numbers of a table without records.
 #[derive(Clone, Copy)]
-struct Numbers {
-    previous: u32,
-    files: u32,
-    directories: u32,
-    next_unique: u32,
-    commits: u32,
+pub(crate) struct Numbers {
+    pub previous: u32,
+    pub files: u32,
+    pub directories: u32,
+    pub next_unique: u32,
+    pub commits: u32,
 }
 
 /// Those of a format.
-const FORMATTED: Numbers = Numbers {
+pub(crate) const FORMATTED: Numbers = Numbers {
     previous: u32::MAX,
     files: 0,
     directories: 1,
@@ -119,14 +117,14 @@ const FORMATTED: Numbers = Numbers {
 
 /// The records of clients, as a version of the sessions has them.
 #[derive(Clone, Copy)]
-struct Records<'a> {
-    version: u8,
-    count: u8,
-    bytes: &'a [u8],
+pub(crate) struct Records<'a> {
+    pub version: u8,
+    pub count: u8,
+    pub bytes: &'a [u8],
 }
 
 /// The block of a table's data without records, on a volume with this label.
-fn table_block(
+pub(crate) fn table_block(
     alloc: Global,
     label: &[u8; 4],
     numbers: Numbers,
@@ -141,7 +139,7 @@ fn table_block(
 }
 
 /// The first block of a table's data.
-fn table_with(
+pub(crate) fn table_with(
     alloc: Global,
     label: &[u8; 4],
     numbers: Numbers,
@@ -153,7 +151,7 @@ fn table_with(
 }
 
 /// The bytes of a table.
-fn table_bytes(
+pub(crate) fn table_bytes(
     alloc: Global,
     label: &[u8; 4],
     numbers: Numbers,
@@ -185,7 +183,7 @@ fn table_bytes(
 }
 
 /// The block that begins with the first 2,048 of these bytes, with zeros behind them.
-fn block_of(bytes: &[u8]) -> Block {
+pub(crate) fn block_of(bytes: &[u8]) -> Block {
     let size = bytes.len().min(2048);
     let mut block = [0; 2048];
     block[..size].copy_from_slice(&bytes[..size]);
@@ -193,7 +191,7 @@ fn block_of(bytes: &[u8]) -> Block {
 }
 
 /// The blocks that hold these bytes, with zeros behind them.
-fn blocks_of(alloc: Global, bytes: &[u8]) -> Result<Vec<Block>, Fail> {
+pub(crate) fn blocks_of(alloc: Global, bytes: &[u8]) -> Result<Vec<Block>, Fail> {
     let mut blocks = Vec::new(alloc);
     for piece in bytes.chunks(2048) {
         blocks.push(block_of(piece))?;
@@ -202,7 +200,7 @@ fn blocks_of(alloc: Global, bytes: &[u8]) -> Result<Vec<Block>, Fail> {
 }
 
 /// A block with some of its bytes changed, each at a place and to a value.
-fn with_bytes(rt: &impl Abort, block: &Block, changes: &[(usize, u8)]) -> Block {
+pub(crate) fn with_bytes(rt: &impl Abort, block: &Block, changes: &[(usize, u8)]) -> Block {
     let mut changed = *block;
     for (at, byte) in changes {
         assert!(rt; *at < changed.len());
@@ -213,17 +211,22 @@ fn with_bytes(rt: &impl Abort, block: &Block, changes: &[(usize, u8)]) -> Block 
 
 /// The tag of a descriptor at the front of a block: which it is, where it stands, and where it ends in its block.
 #[derive(Clone, Copy)]
-struct Sealing {
-    id: u16,
-    location: u32,
-    end: usize,
+pub(crate) struct Sealing {
+    pub id: u16,
+    pub location: u32,
+    pub end: usize,
 }
 
 /// Bytes of a block that are changed, each at a place and to a value.
-type Changes = &'static [(usize, u8)];
+pub(crate) type Changes = &'static [(usize, u8)];
 
 /// The block with some bytes changed and its descriptor sealed again.
-fn resealed(rt: &impl Abort, block: &Block, changes: Changes, sealing: Sealing) -> Block {
+pub(crate) fn resealed(
+    rt: &impl Abort,
+    block: &Block,
+    changes: Changes,
+    sealing: Sealing,
+) -> Block {
     let mut changed = with_bytes(rt, block, changes);
     assert!(rt; 16 <= sealing.end && sealing.end <= 2048);
     seal(sealing.id, sealing.location, &mut changed[..sealing.end]);
@@ -231,7 +234,7 @@ fn resealed(rt: &impl Abort, block: &Block, changes: Changes, sealing: Sealing) 
 }
 
 /// The file set of the format.
-fn file_set() -> Result<Block, Fail> {
+pub(crate) fn file_set() -> Result<Block, Fail> {
     let set = FileSet {
         label: label()?,
         moment: moment()?,
@@ -240,10 +243,10 @@ fn file_set() -> Result<Block, Fail> {
 }
 
 /// A name of a directory, and what it is of: its kind, its virtual address and its unique ID.
-type Item = (&'static str, dir::Kind, u32, u32);
+pub(crate) type Item = (&'static str, dir::Kind, u32, u32);
 
 /// The one block of a directory's data.
-fn directory(
+pub(crate) fn directory(
     rt: &impl Abort,
     alloc: Global,
     first: u32,
@@ -271,7 +274,7 @@ fn directory(
 }
 
 /// The entry of a file of five bytes.
-fn file(unique: u64, at: u32) -> Result<Block, Fail> {
+pub(crate) fn file(unique: u64, at: u32) -> Result<Block, Fail> {
     let entry = FileEntry {
         kind: icb::Kind::File,
         moment: moment()?,
@@ -284,7 +287,7 @@ fn file(unique: u64, at: u32) -> Result<Block, Fail> {
 }
 
 /// The blocks of a format behind the front, at the addresses 257 to 261.
-fn formatted(rt: &impl Abort, alloc: Global) -> Result<[Block; 5], Fail> {
+pub(crate) fn formatted(rt: &impl Abort, alloc: Global) -> Result<[Block; 5], Fail> {
     Ok([
         file_set()?,
         directory(rt, alloc, 1, 1, &[])?,
@@ -295,7 +298,7 @@ fn formatted(rt: &impl Abort, alloc: Global) -> Result<[Block; 5], Fail> {
 }
 
 /// The table of a volume with one file in its root.
-const USED: Numbers = Numbers {
+pub(crate) const USED: Numbers = Numbers {
     previous: 4,
     files: 1,
     directories: 1,
@@ -304,7 +307,7 @@ const USED: Numbers = Numbers {
 };
 
 /// What a commit writes that makes a file `a` in the root, at the addresses 262 to 266.
-fn created(rt: &impl Abort, alloc: Global) -> Result<[Block; 5], Fail> {
+pub(crate) fn created(rt: &impl Abort, alloc: Global) -> Result<[Block; 5], Fail> {
     Ok([
         file(16, 2)?,
         directory(rt, alloc, 6, 1, &[("a", dir::Kind::File, 2, 16)])?,
@@ -315,7 +318,11 @@ fn created(rt: &impl Abort, alloc: Global) -> Result<[Block; 5], Fail> {
 }
 
 /// The volume after a format and these blocks.
-fn volume_after(rt: &impl Abort, alloc: Global, blocks: &[Block]) -> Result<MemDrive, Fail> {
+pub(crate) fn volume_after(
+    rt: &impl Abort,
+    alloc: Global,
+    blocks: &[Block],
+) -> Result<MemDrive, Fail> {
     let mut drive = volume_of(alloc, CAPACITY, &formatted(rt, alloc)?)?;
     for block in blocks {
         add(&mut drive, block)?;
@@ -324,7 +331,12 @@ fn volume_after(rt: &impl Abort, alloc: Global, blocks: &[Block]) -> Result<MemD
 }
 
 /// The volume with one bit of a block changed.
-fn changed(alloc: Global, drive: &MemDrive, at: u32, byte: usize) -> Result<MemDrive, Fail> {
+pub(crate) fn changed(
+    alloc: Global,
+    drive: &MemDrive,
+    at: u32,
+    byte: usize,
+) -> Result<MemDrive, Fail> {
     let mut other = MemDrive::new(alloc, CAPACITY, Vec::new(alloc));
     for (address, block) in drive.journal() {
         let mut copy = *block;
@@ -337,7 +349,7 @@ fn changed(alloc: Global, drive: &MemDrive, at: u32, byte: usize) -> Result<MemD
 }
 
 /// The step of the chain from an address that must be there.
-fn step(
+pub(crate) fn step(
     alloc: Global,
     drive: &mut MemDrive,
     at: u32,
@@ -350,7 +362,7 @@ fn step(
 }
 
 /// The state at an address that must be there.
-fn state_of(
+pub(crate) fn state_of(
     alloc: Global,
     drive: &mut MemDrive,
     at: u32,
@@ -363,7 +375,7 @@ fn state_of(
 }
 
 /// The block and the cause of the damage that is seen below the last table's entry, if there is one.
-fn damage(alloc: Global, drive: &mut MemDrive) -> Result<Option<(u32, u8)>, Fail> {
+pub(crate) fn damage(alloc: Global, drive: &mut MemDrive) -> Result<Option<(u32, u8)>, Fail> {
     let at = last(drive)?.ok_or("a table")?;
     match state_at(alloc, drive, at) {
         Ok(_) => Ok(None),
@@ -373,7 +385,7 @@ fn damage(alloc: Global, drive: &mut MemDrive) -> Result<Option<(u32, u8)>, Fail
 }
 
 /// The chain of a format, of a commit that makes a file, and of one that writes its table alone, by its commits.
-fn chain(rt: &impl Abort, alloc: Global, commits: u32) -> Result<MemDrive, Fail> {
+pub(crate) fn chain(rt: &impl Abort, alloc: Global, commits: u32) -> Result<MemDrive, Fail> {
     let mut drive = volume_after(rt, alloc, &created(rt, alloc)?)?;
     let numbers = Numbers {
         previous: 9,
@@ -389,7 +401,7 @@ fn chain(rt: &impl Abort, alloc: Global, commits: u32) -> Result<MemDrive, Fail>
 }
 
 /// What is seen of the volume whose last commit is the one of `created` with one block put in another's place.
-fn damage_with(
+pub(crate) fn damage_with(
     rt: &impl Abort,
     alloc: Global,
     at: usize,
@@ -404,7 +416,7 @@ fn damage_with(
 }
 
 /// A volume whose directories lie each in the one before, so many below the root.
-fn nested(rt: &impl Abort, alloc: Global, depth: u32) -> Result<MemDrive, Fail> {
+pub(crate) fn nested(rt: &impl Abort, alloc: Global, depth: u32) -> Result<MemDrive, Fail> {
     let mut drive = volume_after(rt, alloc, &[])?;
     let mut entries = vec![in alloc; 0]?;
     let mut above = Vec::new(alloc);
@@ -447,7 +459,7 @@ fn nested(rt: &impl Abort, alloc: Global, depth: u32) -> Result<MemDrive, Fail> 
 }
 
 /// What a commit writes that gives the file `a` of `created` the name `b`, at the addresses 267 to 270.
-fn renamed(rt: &impl Abort, alloc: Global) -> Result<[Block; 4], Fail> {
+pub(crate) fn renamed(rt: &impl Abort, alloc: Global) -> Result<[Block; 4], Fail> {
     let numbers = Numbers {
         previous: 9,
         commits: 2,

@@ -1,6 +1,15 @@
 //! Entries and file sets with faults of their own. Each is sealed again, so that its tag and its check tell of nothing.
 
-use super::*;
+use crate::media::{
+    CAPACITY, Changes, Sealing, add, created, damage, damage_with, directory_entry, entry_of_table,
+    file, file_set, formatted, resealed, root_entry, state_of, step, volume_after, volume_of,
+    with_bytes,
+};
+use ecma::Block;
+use recover::{cause, damaged, last};
+use std::alloc::Global;
+use std::process::Abort;
+use std::test::Fail;
 
 /// The entry of the root, with one extent.
 const ROOT: Sealing = Sealing {

@@ -1,6 +1,13 @@
 //! Tables with faults of their own. Their data has no check.
 
-use super::*;
+use crate::media::{
+    Numbers, Records, USED, add, blocks_of, created, damage, entry_of_table, step, table_block,
+    table_bytes, volume_after,
+};
+use recover::{cause, damaged};
+use std::alloc::Global;
+use std::process::Abort;
+use std::test::Fail;
 
 /// A record of the first version: its client, the latest number, and the reply's code, the field behind it and its commit.
 fn record(client: u8, latest: u8, reply: (u8, u8, u8)) -> [u8; 24] {

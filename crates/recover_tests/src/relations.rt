@@ -1,6 +1,17 @@
 //! Media on which structures do not agree, and what is told of them.
 
-use super::*;
+use crate::media::{
+    CAPACITY, Changes, FORMATTED, Item, Numbers, Sealing, USED, add, changed, created, damage,
+    damage_with, directory, directory_entry, entry_of_table, file, file_set, formatted, label,
+    moment, resealed, root_entry, table_block, volume_after, volume_of, with_bytes,
+};
+use drive::MemDrive;
+use ecma::{Block, Timestamp};
+use icb::{FileEntry, FileSet, Place, encode_fe, encode_fsd};
+use recover::cause;
+use std::alloc::Global;
+use std::process::Abort;
+use std::test::Fail;
 
 #[test]
 fn the_front_is_held_byte_by_byte(rt: HostRuntime) -> Result<(), Fail> {

@@ -4,8 +4,14 @@ ghost use Rattle.drive.specs.Journal.{held};
 ghost use Rattle.drive.specs.MemDrive.{journal_of};
 ghost use Rattle.recover.specs.Known.{IsKnown};
 
-use super::*;
-use drive::Fault;
+use crate::media::{
+    CAPACITY, FORMATTED, Numbers, USED, add, chain, changed, created, directory, entry_of_table,
+    file, formatted, root_entry, state_of, table_block, volume_after, volume_of,
+};
+use drive::{Drive, Fault, MemDrive};
+use recover::{Known, PARTITION_START, State, StoreFault, before, cause, damaged, state_sharing};
+use std::alloc::Global;
+use std::test::Fail;
 
 /// What is told of a state: its commits, or why it is refused.
 type Told = Result<u32, StoreFault>;
