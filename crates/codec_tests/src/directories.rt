@@ -43,13 +43,13 @@ fn add(alloc: Global, dir: &mut Dir, text: &str) -> Result<(), Fail> {
 }
 
 /// The blocks of a directory from block number 6 on.
-fn blocks_of(rt: &impl Abort, alloc: Global, dir: &Dir) -> Result<Vec<Block>, Fail> {
+pub(crate) fn blocks_of(rt: &impl Abort, alloc: Global, dir: &Dir) -> Result<Vec<Block>, Fail> {
     assert!(rt; dir.entries.len() <= 512);
     Ok(lay(alloc, dir, 6)?)
 }
 
 /// The number of the fault of reading one block as a directory at block number 6, or 0.
-fn fault_of(alloc: Global, block: &Block, size: u32) -> u8
+pub(crate) fn fault_of(alloc: Global, block: &Block, size: u32) -> u8
     requires some { 0 < size }
     requires within { size ≤ 2048 }
 {
@@ -151,7 +151,7 @@ fn faults_of_the_end(rt: HostRuntime) {
 }
 
 /// Forty-eight names of one letter, which fill 1,960 bytes behind the parent, and one more.
-fn letters(alloc: Global, last: &str) -> Result<Dir, Fail> {
+pub(crate) fn letters(alloc: Global, last: &str) -> Result<Dir, Fail> {
     let mut dir = empty(alloc);
     for letter in (b'a'..=b'z').chain(b'A'..=b'V') {
         let mut text = String::new(alloc);

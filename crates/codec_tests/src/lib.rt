@@ -7,6 +7,8 @@ mod directories;
 #[cfg(test)]
 mod entries;
 #[cfg(test)]
+mod first_faults;
+#[cfg(test)]
 mod front;
 #[cfg(test)]
 mod structures;

@@ -48,14 +48,14 @@ const USED: [u8; 256] = [
 
 /// The numbers of a table that the bytes are made from, on a volume with the label `DISC`.
 #[derive(Clone, Copy)]
-struct Numbers {
-    previous: u32,
-    files: u32,
-    directories: u32,
-    version: u16,
-    clients: u16,
-    next_unique: u32,
-    commits: u32,
+pub(crate) struct Numbers {
+    pub previous: u32,
+    pub files: u32,
+    pub directories: u32,
+    pub version: u16,
+    pub clients: u16,
+    pub next_unique: u32,
+    pub commits: u32,
 }
 
 /// A root alone, after four commits.
@@ -71,7 +71,7 @@ const ROOT: Numbers = Numbers {
 
 const ICB: u32 = 9;
 
-fn table(
+pub(crate) fn table(
     alloc: Global,
     numbers: Numbers,
     records: &[u8],
@@ -98,11 +98,11 @@ fn table(
 }
 
 /// A reply: its code, the two bytes behind it, its commit.
-type Slot = (u8, u8, u8);
+pub(crate) type Slot = (u8, u8, u8);
 
-const NONE: Slot = (0, 0, 0);
+pub(crate) const NO_REPLY: Slot = (0, 0, 0);
 
-fn record_text(client: u8, latest: u8, slots: [Slot; 4]) -> [u8; 48] {
+pub(crate) fn record_text(client: u8, latest: u8, slots: [Slot; 4]) -> [u8; 48] {
     let [a, b, c, d] = slots;
     [
         client, 0, 0, 0, 0, 0, 0, 0, latest, 0, 0, 0, 0, 0, 0, 0, a.0, 0, a.1, 0, a.2, 0, 0, 0,
@@ -261,28 +261,37 @@ fn record_faults(rt: HostRuntime) -> Result<(), Fail> {
     let three = (10, 0, 3);
     let four = (0, 0, 4);
     for slots in [
-        [one, NONE, NONE, NONE],
-        [two, one, NONE, NONE],
-        [four, two, one, NONE],
+        [one, NO_REPLY, NO_REPLY, NO_REPLY],
+        [two, one, NO_REPLY, NO_REPLY],
+        [four, two, one, NO_REPLY],
         [four, three, two, one],
     ] {
         assert_eq!(rt; record_fault(alloc, 7, 4, slots)?, None);
     }
-    assert_eq!(rt; record_fault(alloc, 0, 4, [one, NONE, NONE, NONE])?, record);
-    assert_eq!(rt; record_fault(alloc, 7, 0, [one, NONE, NONE, NONE])?, record);
+    assert_eq!(rt;
+        record_fault(alloc, 0, 4, [one, NO_REPLY, NO_REPLY, NO_REPLY])?,
+        record
+    );
+    assert_eq!(rt;
+        record_fault(alloc, 7, 0, [one, NO_REPLY, NO_REPLY, NO_REPLY])?,
+        record
+    );
     // two replies to one number
-    assert_eq!(rt; record_fault(alloc, 7, 1, [two, one, NONE, NONE])?, record);
+    assert_eq!(rt;
+        record_fault(alloc, 7, 1, [two, one, NO_REPLY, NO_REPLY])?,
+        record
+    );
     for slots in [
-        [NONE, NONE, NONE, NONE],
-        [(11, 0, 1), NONE, NONE, NONE],
-        [(0, 1, 1), NONE, NONE, NONE],
-        [(0, 0, 5), NONE, NONE, NONE],
-        [one, two, NONE, NONE],
-        [two, two, NONE, NONE],
-        [three, NONE, one, NONE],
-        [three, two, NONE, one],
-        [three, (1, 0, 0), NONE, NONE],
-        [three, (0, 1, 0), NONE, NONE],
+        [NO_REPLY, NO_REPLY, NO_REPLY, NO_REPLY],
+        [(11, 0, 1), NO_REPLY, NO_REPLY, NO_REPLY],
+        [(0, 1, 1), NO_REPLY, NO_REPLY, NO_REPLY],
+        [(0, 0, 5), NO_REPLY, NO_REPLY, NO_REPLY],
+        [one, two, NO_REPLY, NO_REPLY],
+        [two, two, NO_REPLY, NO_REPLY],
+        [three, NO_REPLY, one, NO_REPLY],
+        [three, two, NO_REPLY, one],
+        [three, (1, 0, 0), NO_REPLY, NO_REPLY],
+        [three, (0, 1, 0), NO_REPLY, NO_REPLY],
     ] {
         assert_eq!(rt; record_fault(alloc, 7, 4, slots)?, record);
     }
@@ -294,14 +303,18 @@ fn clients(rt: HostRuntime) -> Result<(), Fail> {
     let alloc = rt.alloc();
     let mut records = Vec::new(alloc);
     for client in 1..65u8 {
-        records.extend_from_slice(&record_text(client, 1, [(0, 0, 1), NONE, NONE, NONE]))?;
+        records.extend_from_slice(&record_text(
+            client,
+            1,
+            [(0, 0, 1), NO_REPLY, NO_REPLY, NO_REPLY],
+        ))?;
     }
     let full = Numbers {
         clients: 64,
         ..ROOT
     };
     assert_eq!(rt; fault(alloc, &table(alloc, full, &records, &[0, 2])?), None);
-    records.extend_from_slice(&record_text(65, 1, [(0, 0, 1), NONE, NONE, NONE]))?;
+    records.extend_from_slice(&record_text(65, 1, [(0, 0, 1), NO_REPLY, NO_REPLY, NO_REPLY]))?;
     let more = Numbers {
         clients: 65,
         ..ROOT
@@ -311,9 +324,9 @@ fn clients(rt: HostRuntime) -> Result<(), Fail> {
         Some(VatFault::Record)
     );
     let mut twice = Vec::new(alloc);
-    twice.extend_from_slice(&record_text(7, 1, [(0, 0, 1), NONE, NONE, NONE]))?;
-    twice.extend_from_slice(&record_text(8, 1, [(0, 0, 2), NONE, NONE, NONE]))?;
-    twice.extend_from_slice(&record_text(7, 2, [(0, 0, 3), NONE, NONE, NONE]))?;
+    twice.extend_from_slice(&record_text(7, 1, [(0, 0, 1), NO_REPLY, NO_REPLY, NO_REPLY]))?;
+    twice.extend_from_slice(&record_text(8, 1, [(0, 0, 2), NO_REPLY, NO_REPLY, NO_REPLY]))?;
+    twice.extend_from_slice(&record_text(7, 2, [(0, 0, 3), NO_REPLY, NO_REPLY, NO_REPLY]))?;
     let three = Numbers { clients: 3, ..ROOT };
     assert_eq!(rt;
         fault(alloc, &table(alloc, three, &twice, &[0, 2])?),
@@ -355,7 +368,7 @@ fn entry_faults(rt: HostRuntime) -> Result<(), Fail> {
 
 #[test]
 fn greatest_number(rt: HostRuntime) -> Result<(), Fail> {
-    let mut text = record_text(7, 0, [(0, 0, 1), NONE, NONE, NONE]);
+    let mut text = record_text(7, 0, [(0, 0, 1), NO_REPLY, NO_REPLY, NO_REPLY]);
     text[8..16].fill(0xFF);
     let bytes = table(rt.alloc(), Numbers { clients: 1, ..ROOT }, &text, &[0, 2])?;
     let vat = decode_vat(rt.alloc(), &bytes, ICB)?;
