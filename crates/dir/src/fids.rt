@@ -3,7 +3,7 @@ ghost use Rattle.std.specs.Prelude.{◌≡◌, ◌↔◌, ◌+◌, ◌<◌, ◌^
 use crate::characteristics::Characteristics;
 use crate::entry::Entry;
 use crate::fault::DirFault;
-use crate::item::{DEVELOPER, FILE_IDENTIFIER, HEAD_SIZE, Item};
+use crate::item::{DEVELOPER, FILE_IDENTIFIER, HEAD_SIZE, Item, VERSION};
 use crate::size::{BLOCK_SIZE, fits, plain_size, rounded};
 use ecma::{Block, Field, LongAd, open_tag, stands_at, u16_at, u32_at};
 use osta::Name;
@@ -65,7 +65,7 @@ impl<'a> Fid<'a> {
         let icb = u32_at(self.bytes, 24);
         let unique = u32_at(self.bytes, 32);
         let head = [
-            Field::U16(1),
+            Field::U16(VERSION),
             Field::U8(self.bytes[18]),
             Field::U8(self.bytes[19]),
             Field::LongAd(LongAd {

@@ -6,10 +6,14 @@ ghost use Rattle.dir.specs.Identifier.{use_of};
 use crate::characteristics::Characteristics;
 use crate::entry::Entry;
 use bitflags::Flags;
+use byteorder::{ByteOrder, LittleEndian};
 use ecma::{LongAd, TAG_SIZE, seal};
 use osta::Name;
 
 pub(crate) const FILE_IDENTIFIER: u16 = 257;
+
+/// The file version number of each identifier (ECMA-167 4/14.4.2).
+pub(crate) const VERSION: u16 = 1;
 
 /// The bytes of an identifier in front of its implementation use.
 pub(crate) const HEAD_SIZE: usize = 38;
@@ -122,11 +126,11 @@ impl Item<'_> {
             unique: self.unique,
         };
         let mut fields = [0; FIELDS_SIZE];
-        fields[..2].copy_from_slice(&1u16.to_le_bytes());
+        LittleEndian::write_u16(&mut fields[..2], VERSION);
         fields[2] = self.characteristics.bits();
         fields[3] = self.name.len() as u8;
         fields[4..20].copy_from_slice(&icb.to_bytes());
-        fields[20..].copy_from_slice(&more.to_le_bytes());
+        LittleEndian::write_u16(&mut fields[20..], more);
         fields
     }
 }

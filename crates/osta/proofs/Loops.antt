@@ -1,12 +1,13 @@
 -- Loops over the characters of a text.
-use Rattle.std.proofs.Common.{◌≡◌, ℕ, ◌+◌, ◌*◌, ◌/◌, ◌%◌, ◌<◌, Bool, true, suc, zero, List, [], ◌∷◌, ◌++◌, length, get_or, take, set, refl, sym, ap, ◌∙◌, append_assoc, arith}
+use Rattle.std.proofs.Common.{◌≡◌, ℕ, ◌+◌, ◌-◌, ◌*◌, ◌/◌, ◌%◌, ◌^◌, ◌<◌, ◌≤◌, Bool, true, suc, zero, List, [], ◌∷◌, ◌++◌, length, get_or, take, drop, set, refl, sym, ap, ◌∙◌, append_assoc, arith}
 use Rattle.std.specs.List.{list_all, flat_map, enumerate_from}
-use Rattle.std.specs.Int.{w16, to_be_bytes}
 use Rattle.std.proofs.lemmas.Bool.{and_parts, ltb-true}
-use Rattle.std.proofs.lemmas.List.{take_more, take_more_set, length-set}
+use Rattle.std.proofs.lemmas.List.{take_at, take_more, take_more_set, length-append, length-take}
 use Rattle.std.proofs.lemmas.List.Concat.{flat_map-append}
 use Rattle.std.proofs.lemmas.List.FromFn.{length-enumerate_from, get_or-enumerate_from}
+use Rattle.byteorder.specs.Endian.{big_bytes}
 use Rattle.osta.specs.Compressed.{is_narrow, has_spelling, two_bytes}
+use borrow.Rule.Slice.PartMut.{put_mid}
 
 -- what each element passes, the one at an index passes
 pub list_all_get : (p : ℕ → Bool) (cs : List ℕ) (n d : ℕ) → n < length cs → list_all p cs ≡ true → p (get_or cs n d) ≡ true
@@ -53,48 +54,43 @@ narrow_step cs into n at c turn room before =
     ∙ (ap (λ (x : ℕ). (8 ∷ take n cs) ++ x ∷ []) turn.character
     ∙ ap (λ (xs : List ℕ). 8 ∷ xs) (sym (take_more cs n c turn.below)))))
 
-wide_cells : (into : List ℕ) (m h l : ℕ) → m + 1 < length into → take (m + 1 + 1) (set (set into m h) (m + 1) l) ≡ take m into ++ (h ∷ l ∷ [])
-wide_cells into m h l room =
-    take_more_set (set into m h) (m + 1) l (omega (arith, length-set into m h))
-    ∙ (ap (λ (xs : List ℕ). xs ++ l ∷ []) (take_more_set into m h (omega arith))
-    ∙ append_assoc (take m into) (h ∷ []) (l ∷ []))
+-- what two bytes that were written over the front of a part make of the whole
+abbrev pub IsPair : ℕ → ℕ → List ℕ → List ℕ → Type 0
+IsPair m c into written = written ≡ big_bytes 2 c ++ drop 2 (take (length into - m) (drop m into))
 
-pub wide_step : (cs into : List ℕ) (n at c h l : ℕ) → IsTurn cs n at c → h ≡ c / 256 → l ≡ c % 256 → 2 * n + 2 < length into → take (2 * n + 1) into ≡ 16 ∷ flat_map two_bytes (take n cs)
-    → take (2 * (n + 1) + 1) (set (set into (2 * at + 1) h) (2 * at + 2) l) ≡ 16 ∷ flat_map two_bytes (take (n + 1) cs)
-wide_step cs into n at c h l turn high low room before =
-    let m = 2 * n + 1 in
-    let from : 2 * at + 1 ≡ m = omega (arith, turn.index) in
-    let next : 2 * at + 2 ≡ m + 1 = omega (arith, turn.index) in
-    let end : 2 * (n + 1) + 1 ≡ m + 1 + 1 = omega arith in
-    let placed : take (2 * (n + 1) + 1) (set (set into (2 * at + 1) h) (2 * at + 2) l) ≡ take (m + 1 + 1) (set (set into m h) (m + 1) l) =
-    ap (λ (k : ℕ). take k (set (set into (2 * at + 1) h) (2 * at + 2) l)) end
-    ∙ (ap (λ (k : ℕ). take (m + 1 + 1) (set (set into k h) (2 * at + 2) l)) from
-    ∙ ap (λ (k : ℕ). take (m + 1 + 1) (set (set into m h) k l)) next) in
-    let spelled : h ∷ l ∷ [] ≡ two_bytes (get_or cs n c) =
-    ap (λ (x : ℕ). x ∷ l ∷ []) high ∙ (ap (λ (x : ℕ). c / 256 ∷ x ∷ []) low ∙ ap two_bytes turn.character) in
-    placed
-    ∙ (wide_cells into m h l (omega arith)
-    ∙ (ap (λ (xs : List ℕ). xs ++ (h ∷ l ∷ [])) before
-    ∙ (ap (λ (xs : List ℕ). (16 ∷ flat_map two_bytes (take n cs)) ++ xs) spelled
-    ∙ ap (λ (xs : List ℕ). 16 ∷ xs) (sym (ap (flat_map two_bytes) (take_more cs n c turn.below) ∙ flat_map-append two_bytes (take n cs) (get_or cs n c ∷ []))))))
+-- a character of 16 bits that was written from a place on
+pair_put : (into written : List ℕ) (m c : ℕ) → m ≤ length into → c < 65536 → IsPair m c into written
+    → take (m + 2) (put_mid m (length into - m) into written) ≡ take m into ++ two_bytes c
+pair_put into written m c room small put =
+    let high : c / 256 ^ 1 % 256 ≡ c / 256 = omega arith in
+    let rest = drop 2 (take (length into - m) (drop m into)) in
+    let behind = drop (length into - m) (drop m into) in
+    let pair : written ≡ two_bytes c ++ rest = put ∙ ap (λ (h : ℕ). h ∷ c % 256 ∷ rest) high in
+    let whole : put_mid m (length into - m) into written ≡ (take m into ++ two_bytes c) ++ (rest ++ behind) =
+    ap (λ (xs : List ℕ). take m into ++ (xs ++ behind)) pair ∙ sym (append_assoc (take m into) (two_bytes c) (rest ++ behind)) in
+    ap (take (m + 2)) whole
+    ∙ take_at (take m into ++ two_bytes c) (rest ++ behind) (m + 2) (omega (arith, length-append (take m into) (two_bytes c), length-take m into))
 
-pub widen_step : (bs into : List ℕ) (n : ℕ) → n < length bs → get_or bs n 0 < 128 → 2 * n + 1 < length into → take (2 * n) into ≡ flat_map two_bytes (take n bs)
-    → take (2 * (n + 1)) (set (set into (2 * n) 0) (2 * n + 1) (get_or bs n 0)) ≡ flat_map two_bytes (take (n + 1) bs)
-widen_step bs into n below ascii room before =
-    let b = get_or bs n 0 in
-    let end : 2 * (n + 1) ≡ 2 * n + 1 + 1 = omega arith in
-    let high : 0 ≡ b / 256 = omega (arith, ascii) in
-    let low : b ≡ b % 256 = omega (arith, ascii) in
-    let spelled : 0 ∷ b ∷ [] ≡ two_bytes b = ap (λ (x : ℕ). x ∷ b ∷ []) high ∙ ap (λ (x : ℕ). b / 256 ∷ x ∷ []) low in
-    ap (λ (k : ℕ). take k (set (set into (2 * n) 0) (2 * n + 1) b)) end
-    ∙ (wide_cells into (2 * n) 0 b room
-    ∙ (ap (λ (xs : List ℕ). xs ++ (0 ∷ b ∷ [])) before
-    ∙ (ap (λ (xs : List ℕ). flat_map two_bytes (take n bs) ++ xs) spelled
-    ∙ sym (ap (flat_map two_bytes) (take_more bs n 0 below) ∙ flat_map-append two_bytes (take n bs) (b ∷ [])))))
+pub wide_step : (cs into written : List ℕ) (n at c : ℕ) → IsTurn cs n at c → c < 65536 → 2 * n + 1 ≤ length into → IsPair (2 * at + 1) c into written
+    → take (2 * n + 1) into ≡ 16 ∷ flat_map two_bytes (take n cs)
+    → take (2 * (n + 1) + 1) (put_mid (2 * at + 1) (length into - (2 * at + 1)) into written) ≡ 16 ∷ flat_map two_bytes (take (n + 1) cs)
+wide_step cs into written n at c turn small room put before =
+    let from : 2 * at + 1 ≡ 2 * n + 1 = omega (arith, turn.index) in
+    let end : 2 * (n + 1) + 1 ≡ 2 * n + 1 + 2 = omega arith in
+    ap (λ (m : ℕ). take m (put_mid (2 * at + 1) (length into - (2 * at + 1)) into written)) end
+    ∙ (ap (λ (m : ℕ). take (2 * n + 1 + 2) (put_mid m (length into - m) into written)) from
+    ∙ (pair_put into written (2 * n + 1) c room small (put ∙ ap (λ (m : ℕ). big_bytes 2 c ++ drop 2 (take (length into - m) (drop m into))) from)
+    ∙ (ap (λ (xs : List ℕ). xs ++ two_bytes c) before
+    ∙ (ap (λ (x : ℕ). (16 ∷ flat_map two_bytes (take n cs)) ++ two_bytes x) turn.character
+    ∙ ap (λ (xs : List ℕ). 16 ∷ xs) (sym (ap (flat_map two_bytes) (take_more cs n c turn.below) ∙ flat_map-append two_bytes (take n cs) (get_or cs n c ∷ [])))))))
 
--- the bytes of a number of 16 bits
-pub high_byte : (c : ℕ) (bytes : List ℕ) → c < 65536 → bytes ≡ to_be_bytes w16 c → get_or bytes 0 0 ≡ c / 256
-high_byte c bytes small told = ap (λ (xs : List ℕ). get_or xs 0 0) told ∙ omega arith
-
-pub low_byte : (c : ℕ) (bytes : List ℕ) → c < 65536 → bytes ≡ to_be_bytes w16 c → get_or bytes 1 0 ≡ c % 256
-low_byte c bytes small told = ap (λ (xs : List ℕ). get_or xs 1 0) told ∙ omega arith
+pub widen_step : (bs into written : List ℕ) (n b : ℕ) → n < length bs → b ≡ get_or bs n 0 → get_or bs n 0 < 128 → 2 * n ≤ length into → IsPair (2 * n) b into written
+    → take (2 * n) into ≡ flat_map two_bytes (take n bs)
+    → take (2 * (n + 1)) (put_mid (2 * n) (length into - 2 * n) into written) ≡ flat_map two_bytes (take (n + 1) bs)
+widen_step bs into written n b below is ascii room put before =
+    let end : 2 * (n + 1) ≡ 2 * n + 2 = omega arith in
+    ap (λ (m : ℕ). take m (put_mid (2 * n) (length into - 2 * n) into written)) end
+    ∙ (pair_put into written (2 * n) b room (omega (arith, ascii)) put
+    ∙ (ap (λ (xs : List ℕ). xs ++ two_bytes b) before
+    ∙ (ap (λ (x : ℕ). flat_map two_bytes (take n bs) ++ two_bytes x) is
+    ∙ sym (ap (flat_map two_bytes) (take_more bs n 0 below) ∙ flat_map-append two_bytes (take n bs) (get_or bs n 0 ∷ [])))))

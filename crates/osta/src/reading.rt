@@ -8,6 +8,7 @@ ghost use Rattle.osta.specs.Compressed as spec;
 
 use crate::fault::OstaFault;
 use crate::writing::{NARROW, WIDE, has_spelling};
+use byteorder::{BigEndian, ByteOrder};
 use std::alloc::{AllocError, Global};
 
 /// Whether bytes are the spelling of a text, or the first fault of them. It takes no memory.
@@ -162,6 +163,6 @@ impl Iterator for Units<'_> {
         let (high, rest) = self.0.split_first()?;
         let (low, rest) = rest.split_first()?;
         self.0 = rest;
-        Some(u16::from_be_bytes([*high, *low]))
+        Some(BigEndian::read_u16(&[*high, *low]))
     }
 }

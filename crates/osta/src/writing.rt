@@ -5,6 +5,7 @@ ghost use Rattle.osta.specs.Fault.{text_fault};
 ghost use Rattle.osta.specs.Compressed as spec;
 
 use crate::fault::NameFault;
+use byteorder::{BigEndian, ByteOrder};
 
 /// The compression identifier of characters of one byte.
 pub(crate) const NARROW: u8 = 8;
@@ -117,9 +118,7 @@ fn write_wide(text: &str, into: &mut [u8])
 {
     into[0] = WIDE;
     for (at, c) in text.chars().enumerate() {
-        let [high, low] = (c as u16).to_be_bytes();
-        into[2 * at + 1] = high;
-        into[2 * at + 2] = low;
+        BigEndian::write_u16(&mut into[2 * at + 1..], c as u16);
     }
 }
 
@@ -130,7 +129,6 @@ pub(crate) fn widen(ascii: &[u8], into: &mut [u8])
     ensures { into.new ≡ flat_map spec.two_bytes ascii.now }
 {
     for (at, byte) in ascii.iter().enumerate() {
-        into[2 * at] = 0;
-        into[2 * at + 1] = *byte;
+        BigEndian::write_u16(&mut into[2 * at..], u16::from(*byte));
     }
 }

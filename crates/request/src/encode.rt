@@ -1,6 +1,7 @@
 //! Writing answers as frames.
 
 ghost use Rattle.std.specs.Prelude.{◌≡◌, ◌≤◌, ◌<◌, ◌+◌, ◌*◌, ◌^◌, ◌++◌, length, OnOk, OnErr};
+ghost use Rattle.std.specs.Int.{w16, w32, w64, to_le_bytes};
 ghost use Rattle.std.specs.List.{flat_map};
 ghost use Rattle.request.specs.Listing.{IsListing};
 ghost use Rattle.request.specs.Spelling.{data_field};
@@ -8,6 +9,7 @@ ghost use Rattle.request.specs.Answers.{answer_code, answer_body, answer_frame, 
 ghost use Rattle.request.specs.Appending.{KeepsFront};
 
 use crate::answer::{Answer, Listed, Listing, NodeKind, NodeStatus};
+use byteorder::{ByteOrder, LittleEndian};
 use osta::Name;
 use std::alloc::AllocError;
 
@@ -33,8 +35,8 @@ fn put_frame(answer: &Answer, out: &mut Vec<u8>) -> Result<(), AllocError>
 {
     let length = 2 + body_len(answer);
     out.reserve(4 + length)?;
-    out.extend_from_slice(&(length as u32).to_le_bytes())?;
-    out.extend_from_slice(&code_of(answer).to_le_bytes())?;
+    put_u32(length as u32, out)?;
+    put_u16(code_of(answer), out)?;
     put_body(answer, out)
 }
 
@@ -94,10 +96,10 @@ fn put_body(answer: &Answer, out: &mut Vec<u8>) -> Result<(), AllocError>
     ensures in_range { OnOk result (IsAnswer answer.now) }
 {
     match answer {
-        Answer::Reply(reply) => out.extend_from_slice(&reply.commit.to_le_bytes()),
-        Answer::Stale(latest) => out.extend_from_slice(&latest.to_le_bytes()),
-        Answer::Gap(latest) => out.extend_from_slice(&latest.to_le_bytes()),
-        Answer::Malformed(cause) => out.extend_from_slice(&cause.number().to_le_bytes()),
+        Answer::Reply(reply) => put_u32(reply.commit, out),
+        Answer::Stale(latest) => put_u64(*latest, out),
+        Answer::Gap(latest) => put_u64(*latest, out),
+        Answer::Malformed(cause) => put_u16(cause.number(), out),
         Answer::Data(data) => put_data(data.as_slice(), out),
         Answer::Names(listing) => put_names(listing, out),
         Answer::Node(status) => put_status(status, out),
@@ -110,7 +112,7 @@ fn put_data(bytes: &[u8], out: &mut Vec<u8>) -> Result<(), AllocError>
     ensures ok { OnOk result (out.new.items ≡ out.old.items ++ data_field bytes.now) }
     ensures err { OnErr result (KeepsFront out.old.items out.new.items) }
 {
-    out.extend_from_slice(&(bytes.len() as u32).to_le_bytes())?;
+    put_u32(bytes.len() as u32, out)?;
     out.extend_from_slice(bytes)
 }
 
@@ -120,7 +122,7 @@ fn put_names(listing: &Listing, out: &mut Vec<u8>) -> Result<(), AllocError>
     ensures in_range { OnOk result (IsListing listing.now) }
 {
     let names = listing.names();
-    out.extend_from_slice(&(names.len() as u16).to_le_bytes())?;
+    put_u16(names.len() as u16, out)?;
     for listed in names {
         put_listed(listed, out)?;
     }
@@ -133,7 +135,7 @@ fn put_listed(listed: &Listed, out: &mut Vec<u8>) -> Result<(), AllocError>
 {
     let text = name_bytes(&listed.name);
     out.push(listed.kind.number())?;
-    out.extend_from_slice(&(text.len() as u16).to_le_bytes())?;
+    put_u16(text.len() as u16, out)?;
     out.extend_from_slice(text)
 }
 
@@ -151,6 +153,36 @@ fn put_status(status: &NodeStatus, out: &mut Vec<u8>) -> Result<(), AllocError>
     ensures in_range { OnOk result ((status.now.moment < 2 ^ 64) × (status.now.size < 2 ^ 64)) }
 {
     out.push(status.kind.number())?;
-    out.extend_from_slice(&status.moment.to_le_bytes())?;
-    out.extend_from_slice(&status.size.to_le_bytes())
+    put_u64(status.moment, out)?;
+    put_u64(status.size, out)
+}
+
+/// Appends a number of two bytes, the lowest byte first.
+fn put_u16(number: u16, out: &mut Vec<u8>) -> Result<(), AllocError>
+    ensures ok { OnOk result (out.new.items ≡ out.old.items ++ to_le_bytes w16 number) }
+    ensures err { OnErr result (out.new.items ≡ out.old.items) }
+{
+    let mut bytes = [0; 2];
+    LittleEndian::write_u16(&mut bytes, number);
+    out.extend_from_slice(&bytes)
+}
+
+/// Appends a number of four bytes, the lowest byte first.
+fn put_u32(number: u32, out: &mut Vec<u8>) -> Result<(), AllocError>
+    ensures ok { OnOk result (out.new.items ≡ out.old.items ++ to_le_bytes w32 number) }
+    ensures err { OnErr result (out.new.items ≡ out.old.items) }
+{
+    let mut bytes = [0; 4];
+    LittleEndian::write_u32(&mut bytes, number);
+    out.extend_from_slice(&bytes)
+}
+
+/// Appends a number of eight bytes, the lowest byte first.
+fn put_u64(number: u64, out: &mut Vec<u8>) -> Result<(), AllocError>
+    ensures ok { OnOk result (out.new.items ≡ out.old.items ++ to_le_bytes w64 number) }
+    ensures err { OnErr result (out.new.items ≡ out.old.items) }
+{
+    let mut bytes = [0; 8];
+    LittleEndian::write_u64(&mut bytes, number);
+    out.extend_from_slice(&bytes)
 }

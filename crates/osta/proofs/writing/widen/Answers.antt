@@ -6,7 +6,9 @@ use Rattle.osta.proofs.Loops.{widen_step}
 use Rattle.osta.proofs.writing.widen.Goals as goal
 
 pub loop-at-preserved : goal.loop-at-preserved
-loop-at-preserved c = widen_step c.args.ascii.now c.loop-at.into c.loop-at.at c.loop-at-test.true (c.requires.ascii c.loop-at.at) (omega (arith, c.loop-at.auto.into, c.requires.room)) c.loop-at.invariant
+loop-at-preserved c =
+    widen_step c.args.ascii.now c.loop-at.into c.write_u16.new.buf c.loop-at.at c.from.result c.loop-at-test.true c.from.ensures (c.requires.ascii c.loop-at.at)
+    (omega (arith, c.loop-at.auto.into, c.requires.room)) c.write_u16.ensures c.loop-at.invariant
 
 pub returns : goal.returns
 returns c =
