@@ -14,3 +14,4 @@ pub mod Tables
 pub mod Told
 pub mod Trees
 pub mod Walks
+pub mod Written

@@ -5,21 +5,13 @@ use Rattle.std.specs.HashMap.{HashMap, get, IsUnchanged, Updates}
 use Rattle.std.specs.Map.{lookup}
 use Rattle.std.proofs.lemmas.Bool.{eqb-true}
 use Rattle.recover.specs.declared.directory.Extent.{Extent}
-use Rattle.recover.specs.declared.kept.EntryPlace.{EntryPlace}
-use Rattle.recover.specs.Known.{same_extent, same_place}
+use Rattle.recover.specs.Known.{same_extent}
 
 -- ---- what compares as equal is the same
 
 both : (a b : Bool) → (a && b) ≡ true → (a ≡ true) × (b ≡ true)
 both true b e = (refl, e)
 both false b e = cc
-
-pub one_place : (x y : EntryPlace) → same_place x y ≡ true → x ≡ y
-one_place x y e =
-    let each = both (x.at == y.at) (x.address == y.address) e in
-    let at : x.at ≡ y.at = eqb-true x.at y.at each.0 in
-    let address : x.address ≡ y.address = eqb-true x.address y.address each.1 in
-    λ i. record { at = at i; address = address i }
 
 pub one_extent : (x y : Extent) → same_extent x y ≡ true → x ≡ y
 one_extent x y e =

@@ -1,9 +1,8 @@
 -- Where a walk is refused no tree has the node: what the medium stores at the end of its path would have been taken.
-use Rattle.std.proofs.Common.{◌≡◌, ℕ, ◌+◌, ◌<◌, ◌≤◌, Bool, true, false, List, [], ◌∷◌, length, take, length-take, nat_eq, ◌++◌, Option, Some, None, refl, sym, ap, ◌∙◌, subst, arith}
+use Rattle.std.proofs.Common.{◌≡◌, ℕ, ◌+◌, ◌<◌, ◌≤◌, Bool, true, false, List, [], ◌∷◌, length, take, length-take, ◌++◌, Option, Some, None, refl, sym, ap, ◌∙◌, subst, arith}
 use Rattle.std.specs.Prelude.{IfSome, count_by, slice_get, All}
 use Rattle.std.specs.Int.{div_ceil}
 use Rattle.std.specs.FinMap.{get}
-use Rattle.std.specs.HashSet.{contains}
 use Rattle.std.proofs.lemmas.Bool.{false≢true, true≢false}
 use Rattle.std.proofs.lemmas.Option.{same_Some, slice_get_within}
 use Rattle.dir.specs.declared.entry.Entry.{Entry as DirEntry}
@@ -32,6 +31,7 @@ use Rattle.recover.specs.declared.walk.Walk.{Walk}
 use Rattle.recover.specs.Forest.{IsDrawn}
 use Rattle.recover.specs.Nodes.{data_of, is_directory, links_of}
 use Rattle.recover.specs.Refused.{Expects, IsBodyRefused, IsNamesRefused, IsReachRefused, IsVisitRefused}
+use Rattle.recover.specs.Marks.{marked}
 use Rattle.recover.specs.Walk.{HasEntry, LeadsTo, LiesBelow, extent_in, icb_kind, nodes_of, reached_in, uniques_in}
 use Rattle.recover.proofs.Expected.{child_expects, drawn, not_deep, not_reached, not_seen}
 use Rattle.recover.proofs.Nodes.{extent_below}
@@ -185,7 +185,7 @@ module _ (M : List (List ℕ)) (before : Walk) (long : length M ≤ before.at) (
       is_taken M before long node tree path is makes identities e entry_at leads (λ body has below.
       r body has (subst (λ n. IfSome body.extent (LiesBelow n)) (sym at) below)
       (subst (λ n. IsDrawn n node.address node.unique) (sym next) (drawn (graph_of udf M before.entries.now) tree is makes before node path e identities))
-      (ap (λ u. contains nat_eq u node.unique) uniques ∙ not_seen (graph_of udf M before.entries.now) tree is makes before node path e identities))
+      (ap (λ u. marked u node.unique) uniques ∙ not_seen (graph_of udf M before.entries.now) tree is makes before node path e identities))
   body_refused entry_at leads now at next uniques _ r = absurd r
 
 -- blocks that hold no such directory

@@ -1,5 +1,5 @@
 -- What was read of a medium, and is not read again.
-use Rattle.std.specs.Prelude.{◌≡◌, ◌==◌, ◌&&◌, ℕ, ⊤, Bool, List, take, Some, IfSome, slice_get, All}
+use Rattle.std.specs.Prelude.{◌≡◌, ◌==◌, ◌&&◌, ℕ, ⊤, Bool, List, take, Some, None, IfSome, get_or, slice_get, All}
 use Rattle.std.specs.HashMap.{get}
 use Rattle.icb.specs.Entry.{Fields, IsEntry}
 use Rattle.dir.specs.Directory.{IsDirectory}
@@ -9,10 +9,11 @@ use Rattle.recover.specs.declared.directory.Extent.{Extent}
 use Rattle.recover.specs.declared.fault.StoreFault.{StoreFault}
 use Rattle.recover.specs.declared.fault.StoreFault.TheVariants.{Device, Damaged}
 use Rattle.recover.specs.declared.known.Known.{Known}
+use Rattle.recover.specs.declared.kept.Directories.{Directories}
+use Rattle.recover.specs.declared.kept.Entries.{Entries}
 use Rattle.recover.specs.declared.kept.EntryPlace.{EntryPlace}
 use Rattle.recover.specs.declared.kept.Names.{Names}
 use Rattle.recover.specs.declared.kept.NodeEntry.{NodeEntry}
-use Rattle.recover.specs.declared.kept.Nodes.{Nodes}
 use Rattle.recover.specs.Nodes.{data_of}
 use Rattle.recover.specs.Walk.{extent_in}
 
@@ -39,20 +40,21 @@ pub record IsNamed (medium : List (List ℕ)) (extent : Extent) (names : Names) 
   pub are : All IsBlock (data_of medium extent)
   pub is : IsDirectory names.dir.parent names.dir.entries.entries extent.first extent.size (data_of medium extent)
 
--- as places and extents are compared
-abbrev pub same_place : EntryPlace → EntryPlace → Bool
-same_place x y = (x.at == y.at) && (x.address == y.address)
+-- each entry that is kept for a virtual address is what the medium has there
+abbrev pub AreEntries : List (List ℕ) → Entries → Type 0
+AreEntries medium entries = (address : ℕ) → IfSome (get_or entries.kept.items address None) (λ k. IsSaid medium (record { at = k.at; address = address }) k.entry)
 
+-- as extents are compared
 abbrev pub same_extent : Extent → Extent → Bool
 same_extent x y = (x.first == y.first) && (x.size == y.size)
 
--- each node that is kept is what the medium has there
-pub record AreNodes (medium : List (List ℕ)) (nodes : Nodes) : Type 0 where
-  pub entries : (place : EntryPlace) → IfSome (get same_place nodes.entries place) (IsSaid medium place)
-  pub directories : (extent : Extent) → IfSome (get same_extent nodes.directories extent) (IsNamed medium extent)
+-- each directory that is kept is what the medium has there
+abbrev pub AreDirectories : List (List ℕ) → Directories → Type 0
+AreDirectories medium directories = (extent : Extent) → IfSome (get same_extent directories.kept extent) (IsNamed medium extent)
 
 -- and so is the front
 pub record IsKnown (medium : List (List ℕ)) (known : Known) : Type 0 where
   pub front : IfSome known.front (λ f. IsFront f.label f.moment f.capacity (take 257 medium))
-  pub before : AreNodes medium known.before
-  pub met : AreNodes medium known.met
+  pub entries : AreEntries medium known.entries
+  pub before : AreDirectories medium known.before
+  pub met : AreDirectories medium known.met

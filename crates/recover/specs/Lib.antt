@@ -3,6 +3,7 @@ pub mod Faults
 pub mod Forest
 pub mod Known
 pub mod Laws
+pub mod Marks
 pub mod Nodes
 pub mod Refused
 pub mod State

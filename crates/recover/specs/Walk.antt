@@ -1,6 +1,5 @@
 -- What the walk through the nodes of a tree sees, and what it keeps.
 use Rattle.std.specs.Prelude.{◌≡◌, ℕ, ◌+◌, ◌<◌, ◌≤◌, ◌^◌, ◌-◌, nat_eq, List, [], Option, Some, None, take, slice_get, All}
-use Rattle.std.specs.HashSet.{contains}
 use Rattle.std.specs.Int.{div_ceil}
 use Rattle.drive.specs.Journal.{Event, held}
 use Rattle.icb.specs.declared.entry.Kind.{Kind as IcbKind}
@@ -20,6 +19,7 @@ use Rattle.recover.specs.declared.walk.Named.{Named}
 use Rattle.recover.specs.declared.walk.Walk.{Walk}
 use Rattle.recover.specs.Forest.{Forest, IsWalked, AreDrawn, Adds, Numbers, by_address, by_identity, height, files_in, directories_in}
 use Rattle.recover.specs.Forest.Forest.{End, Seen}
+use Rattle.recover.specs.Marks.{marked}
 use Rattle.recover.specs.Nodes.{data_of, is_directory, links_of}
 
 -- there are bytes, and they lie within the largest partition and below an address
@@ -65,10 +65,10 @@ pub record LeadsTo (table : List (Option ℕ)) (address entry_at : ℕ) : Type 0
 
 -- the virtual addresses that were reached, and the unique IDs that were seen
 abbrev pub reached_in : Walk → Numbers
-reached_in walk = contains nat_eq walk.reached
+reached_in walk = marked walk.reached
 
 abbrev pub uniques_in : Walk → Numbers
-uniques_in walk = contains nat_eq walk.uniques
+uniques_in walk = marked walk.uniques
 
 -- what is stored under the virtual addresses of the walk
 abbrev pub nodes_of : List Event → Walk → Graph

@@ -5,6 +5,7 @@ ghost use Rattle.std.proofs.Props.{props};
 
 use crate::directory::{Extent, read_directory};
 use crate::fault::{StoreFault, damaged};
+use crate::places::reach;
 use crate::reading::read_block;
 use dir::Dir;
 use drive::Drive;
@@ -39,6 +40,8 @@ impl NodeEntry {
     ghost use Rattle.recover.specs.Walk.{extent_in};
 
     /// Reads the entry that stands there.
+    // (Apart from the way of an entry that is kept, which needs no room for a block.)
+    #[inline(never)]
     pub(crate) fn read<D: Drive>(drive: &mut D, place: EntryPlace) -> Result<NodeEntry, StoreFault>
         requires { place.at < next_of (D.journal drive.old) }
         ensures said { IfOk result (λ entry. IsTrue (D.honest drive.new) → IsSaid (held (D.journal drive.old)) place entry) }
@@ -91,6 +94,7 @@ impl Names {
     ghost use Rattle.recover.specs.Nodes.{IsDirectoryRefused, data_of};
 
     /// Reads the directory whose bytes lie there.
+    #[inline(never)]
     pub(crate) fn read<D: Drive>(
         alloc: Global,
         drive: &mut D,
@@ -112,54 +116,99 @@ impl Names {
     }
 }
 
-/// Nodes that are kept: their entries, and the directories that lie in their extents.
-#[derive(Drop)]
-pub(crate) struct Nodes {
-    entries: HashMap<EntryPlace, NodeEntry>,
-    directories: HashMap<Extent, Names>,
+/// Entries are kept for virtual addresses below this. A sound tree has no other, since a new node takes the least that is free.
+const ADDRESSES: usize = 8_192;
+
+/// An entry that is kept.
+#[derive(Clone, Copy, Debug)]
+struct KeptEntry {
+    /// The address of its block.
+    at: u32,
+    entry: NodeEntry,
 }
 
-impl Nodes {
-    ghost use Rattle.std.specs.Prelude.{ℕ, List, IfSome};
-    ghost use Rattle.recover.specs.Known.{AreNodes, IsNamed, IsSaid};
+/// Entries that are kept, one for each virtual address.
+#[derive(Drop)]
+pub(crate) struct Entries {
+    kept: Vec<Option<KeptEntry>>,
+}
+
+impl Entries {
+    ghost use Rattle.std.specs.Prelude.{◌<◌, ◌≤◌, ℕ, List, IfSome, vec_len};
+    ghost use Rattle.recover.specs.Known.{AreEntries, IsSaid};
 
     /// None yet.
-    pub(crate) fn new(alloc: Global) -> Nodes
-        ensures { (medium : List (List ℕ)) → AreNodes medium result }
+    pub(crate) fn new(alloc: Global) -> Entries
+        ensures { (medium : List (List ℕ)) → AreEntries medium result }
     {
-        Nodes {
-            entries: HashMap::new(alloc),
-            directories: HashMap::new(alloc),
+        Entries {
+            kept: Vec::new(alloc),
         }
     }
 
-    /// What the entry there says, which is not kept any longer.
-    pub(crate) fn take_entry(&mut self, place: EntryPlace) -> Option<NodeEntry>
-        ensures said { (medium : List (List ℕ)) → AreNodes medium self.old → IfSome result (IsSaid medium place) }
-        ensures kept { (medium : List (List ℕ)) → AreNodes medium self.old → AreNodes medium self.new }
+    /// What the entry there says, if it is kept.
+    pub(crate) fn find(&self, place: EntryPlace) -> Option<NodeEntry>
+        ensures { (medium : List (List ℕ)) → AreEntries medium self.now → IfSome result (IsSaid medium place) }
     {
-        self.entries.remove(&place)
+        let index = place.address as usize;
+        if index >= self.kept.len() {
+            return None;
+        }
+        match self.kept[index] {
+            Some(kept) if kept.at == place.at => Some(kept.entry),
+            _ => None,
+        }
     }
 
-    /// Keeps what the entry there says, if there is memory for it.
-    pub(crate) fn keep_entry(&mut self, place: EntryPlace, entry: NodeEntry)
-        ensures { (medium : List (List ℕ)) → IsSaid medium place entry → AreNodes medium self.old → AreNodes medium self.new }
+    /// Keeps what the entry there says in place of the one that was kept for its virtual address, if there is memory for it.
+    pub(crate) fn keep(&mut self, place: EntryPlace, entry: NodeEntry)
+        ensures { (medium : List (List ℕ)) → IsSaid medium place entry → AreEntries medium self.old → AreEntries medium self.new }
     {
-        let _ = self.entries.insert(place, entry);
+        let index = place.address as usize;
+        if index >= ADDRESSES {
+            return;
+        }
+        let Ok(()) = reach(&mut self.kept, index, None) else {
+            return;
+        };
+        self.kept[index] = Some(KeptEntry {
+            at: place.at,
+            entry,
+        });
+    }
+}
+
+/// Directories that are kept, by the extents that they lie in.
+#[derive(Drop)]
+pub(crate) struct Directories {
+    kept: HashMap<Extent, Names>,
+}
+
+impl Directories {
+    ghost use Rattle.std.specs.Prelude.{ℕ, List, IfSome};
+    ghost use Rattle.recover.specs.Known.{AreDirectories, IsNamed};
+
+    /// None yet.
+    pub(crate) fn new(alloc: Global) -> Directories
+        ensures { (medium : List (List ℕ)) → AreDirectories medium result }
+    {
+        Directories {
+            kept: HashMap::new(alloc),
+        }
     }
 
     /// The directory that lies there, which is not kept any longer.
-    pub(crate) fn take_directory(&mut self, extent: Extent) -> Option<Names>
-        ensures named { (medium : List (List ℕ)) → AreNodes medium self.old → IfSome result (IsNamed medium extent) }
-        ensures kept { (medium : List (List ℕ)) → AreNodes medium self.old → AreNodes medium self.new }
+    pub(crate) fn take(&mut self, extent: Extent) -> Option<Names>
+        ensures named { (medium : List (List ℕ)) → AreDirectories medium self.old → IfSome result (IsNamed medium extent) }
+        ensures kept { (medium : List (List ℕ)) → AreDirectories medium self.old → AreDirectories medium self.new }
     {
-        self.directories.remove(&extent)
+        self.kept.remove(&extent)
     }
 
     /// Keeps the directory that lies there, if there is memory for it.
-    pub(crate) fn keep_directory(&mut self, extent: Extent, names: Names)
-        ensures { (medium : List (List ℕ)) → IsNamed medium extent names → AreNodes medium self.old → AreNodes medium self.new }
+    pub(crate) fn keep(&mut self, extent: Extent, names: Names)
+        ensures { (medium : List (List ℕ)) → IsNamed medium extent names → AreDirectories medium self.old → AreDirectories medium self.new }
     {
-        let _ = self.directories.insert(extent, names);
+        let _ = self.kept.insert(extent, names);
     }
 }

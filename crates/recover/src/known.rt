@@ -5,23 +5,25 @@ ghost use Rattle.std.proofs.Props.{props};
 
 use crate::directory::Extent;
 use crate::fault::StoreFault;
-use crate::kept::{EntryPlace, Names, NodeEntry, Nodes};
+use crate::kept::{Directories, Entries, EntryPlace, Names, NodeEntry};
 use crate::state::read_front;
 use drive::Drive;
 use std::alloc::Global;
 use std::mem;
 use volume::Front;
 
-/// The front, and the nodes of the state that was looked at last and of the one that is looked at. A node that both
-/// have is read once. No more is kept than the nodes of two states, however many states are looked at.
+/// The front, an entry for each virtual address, and the directories of the state that was looked at last and of the one
+/// that is looked at. A node that both have is read once. No more is kept than that, however many states are looked at.
 #[derive(Drop)]
 pub struct Known {
     front: Option<Front>,
     keeps_nodes: bool,
-    /// The nodes of the state before, but for those of this one.
-    before: Nodes,
-    /// The nodes of this state that were met so far.
-    met: Nodes,
+    /// The entries that were met last.
+    entries: Entries,
+    /// The directories of the state before, but for those of this one.
+    before: Directories,
+    /// The directories of this state that were met so far.
+    met: Directories,
     ghost limits: { IfSome front (λ f. (512 ≤ f.capacity) × (f.capacity ≤ 450_000)) } by { Prim.hlevel props },
 }
 
@@ -42,8 +44,9 @@ impl Known {
         Known {
             front: None,
             keeps_nodes: true,
-            before: Nodes::new(alloc),
-            met: Nodes::new(alloc),
+            entries: Entries::new(alloc),
+            before: Directories::new(alloc),
+            met: Directories::new(alloc),
         }
     }
 
@@ -54,16 +57,17 @@ impl Known {
         Known {
             front: None,
             keeps_nodes: false,
-            before: Nodes::new(alloc),
-            met: Nodes::new(alloc),
+            entries: Entries::new(alloc),
+            before: Directories::new(alloc),
+            met: Directories::new(alloc),
         }
     }
 
-    /// Goes on to the next state: of the nodes, those of the state that was looked at last are kept.
+    /// Goes on to the next state: of the directories, those of the state that was looked at last are kept.
     pub(crate) fn begin(&mut self, alloc: Global)
         ensures { (medium : List (List ℕ)) → IsKnown medium self.old → IsKnown medium self.new }
     {
-        self.before = mem::replace(&mut self.met, Nodes::new(alloc));
+        self.before = mem::replace(&mut self.met, Directories::new(alloc));
     }
 
     /// What the front tells.
@@ -98,7 +102,7 @@ impl Known {
         self.front = Some(*front);
     }
 
-    /// What the entry there says. It is not kept while it is held beside what its directory says.
+    /// What the entry there says.
     pub(crate) fn entry<D: Drive>(
         &mut self,
         drive: &mut D,
@@ -114,18 +118,22 @@ impl Known {
         ensures honest { IsTrue (D.honest drive.new) → IsTrue (D.honest drive.old) }
         ensures failures { Counts (devices result) (D.failures drive.old) (D.failures drive.new) }
     {
-        match self.before.take_entry(place) {
+        match self.entries.find(place) {
             Some(entry) => Ok(entry),
-            None => NodeEntry::read(drive, place),
+            None => {
+                let entry = NodeEntry::read(drive, place)?;
+                self.keep_entry(place, entry);
+                Ok(entry)
+            }
         }
     }
 
     /// Keeps what the entry there says.
-    pub(crate) fn keep_entry(&mut self, place: EntryPlace, entry: NodeEntry)
+    fn keep_entry(&mut self, place: EntryPlace, entry: NodeEntry)
         ensures { (medium : List (List ℕ)) → IsSaid medium place entry → IsKnown medium self.old → IsKnown medium self.new }
     {
         if self.keeps_nodes {
-            self.met.keep_entry(place, entry);
+            self.entries.keep(place, entry);
         }
     }
 
@@ -148,7 +156,7 @@ impl Known {
         ensures honest { IsTrue (D.honest drive.new) → IsTrue (D.honest drive.old) }
         ensures failures { Counts (devices result) (D.failures drive.old) (D.failures drive.new) }
     {
-        match self.before.take_directory(extent) {
+        match self.before.take(extent) {
             Some(names) => Ok(names),
             None => Names::read(alloc, drive, extent),
         }
@@ -159,7 +167,7 @@ impl Known {
         ensures { (medium : List (List ℕ)) → IsNamed medium extent names → IsKnown medium self.old → IsKnown medium self.new }
     {
         if self.keeps_nodes {
-            self.met.keep_directory(extent, names);
+            self.met.keep(extent, names);
         }
     }
 }

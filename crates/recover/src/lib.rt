@@ -17,6 +17,8 @@ mod fault;
 mod kept;
 mod known;
 mod laws;
+mod marks;
+mod places;
 mod reading;
 mod state;
 mod table;

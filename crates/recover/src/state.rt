@@ -220,7 +220,7 @@ fn check_tree<D: Drive>(
 {
     let sessions = &vat.sessions;
     let mut walk = Walk::new(alloc, at, &vat.entries, sessions.next_unique);
-    walk.visit(alloc, drive, known, Named::root(data_at))?;
+    walk.visit(alloc, drive, known, &Named::root(data_at))?;
     let commits = u64::from(sessions.commits);
     let files = walk.files;
     let directories = walk.directories;

@@ -14,12 +14,12 @@ use crate::directory::{Extent, link_count};
 use crate::fault::{StoreFault, damaged};
 use crate::kept::{EntryPlace, Names};
 use crate::known::Known;
+use crate::marks::Marks;
 use crate::reading::PARTITION_START;
 use crate::table::{address_below, lies_below};
 use dir::{Entry, Kind};
 use drive::Drive;
 use std::alloc::Global;
-use std::collections::HashSet;
 
 /// The greatest number of names in a path of the tree.
 pub const PATH_NAMES: u32 = 16;
@@ -103,8 +103,8 @@ pub(crate) struct Walk<'a> {
     entries: &'a [Option<u32>],
     next_unique: u32,
     /// The virtual addresses that a name led to.
-    reached: HashSet<u32>,
-    uniques: HashSet<u32>,
+    reached: Marks,
+    uniques: Marks,
     pub(crate) files: u32,
     pub(crate) directories: u32,
 }
@@ -141,8 +141,8 @@ impl<'a> Walk<'a> {
             at,
             entries,
             next_unique,
-            reached: HashSet::new(alloc),
-            uniques: HashSet::new(alloc),
+            reached: Marks::new(alloc),
+            uniques: Marks::new(alloc),
             files: 0,
             directories: 0,
         }
@@ -154,18 +154,18 @@ impl<'a> Walk<'a> {
         alloc: Global,
         drive: &mut D,
         known: &mut Known,
-        node: Named,
+        node: &Named,
     ) -> Result<(), StoreFault>
         requires low { 257 ≤ self.old.at }
         requires within { self.old.at < next_of (D.journal drive.old) }
-        requires depth { node.depth ≤ 17 }
+        requires depth { node.now.depth ≤ 17 }
         requires known { IsTrue (D.honest drive.old) → IsKnown (held (D.journal drive.old)) known.old }
-        ensures refused { IfErr result (λ fault. IsTrue (D.honest drive.new) → IsVisitRefused (nodes_of (D.journal drive.old) self.old) self.old node fault) }
-        ensures visits { OnOk result (IsTrue (D.honest drive.new) → Visits (nodes_of (D.journal drive.old) self.old) self.old self.new node) }
+        ensures refused { IfErr result (λ fault. IsTrue (D.honest drive.new) → IsVisitRefused (nodes_of (D.journal drive.old) self.old) self.old node.now fault) }
+        ensures visits { OnOk result (IsTrue (D.honest drive.new) → Visits (nodes_of (D.journal drive.old) self.old) self.old self.new node.now) }
         ensures at { self.new.at ≡ self.old.at }
         ensures entries { self.new.entries.now ≡ self.old.entries.now }
         ensures next_unique { self.new.next_unique ≡ self.old.next_unique }
-        ensures counted { OnOk result (node.kind ≡ Directory → 1 ≤ self.new.directories) }
+        ensures counted { OnOk result (node.now.kind ≡ Directory → 1 ≤ self.new.directories) }
         ensures more { self.old.directories ≤ self.new.directories }
         ensures known { IsTrue (D.honest drive.new) → IsKnown (held (D.journal drive.new)) known.new }
         ensures journal { D.journal drive.new ≡ D.journal drive.old }
@@ -173,8 +173,8 @@ impl<'a> Walk<'a> {
         ensures honest { IsTrue (D.honest drive.new) → IsTrue (D.honest drive.old) }
         ensures failures { Counts (devices result) (D.failures drive.old) (D.failures drive.new) }
     {
-        let entry_at = self.reach(&node)?;
-        let body = self.read_entry(drive, known, &node, entry_at)?;
+        let entry_at = self.reach(node)?;
+        let body = self.read_entry(drive, known, node, entry_at)?;
         match node.kind {
             Kind::File => {
                 self.files = self.files.saturating_add(1);
@@ -192,7 +192,7 @@ impl<'a> Walk<'a> {
         for index in 0..names.dir.entries.len() {
             let (_, entry) = names.dir.entries.get_index(index).unwrap();
             let child = node.child(entry, extent.first + PARTITION_START);
-            self.visit(alloc, drive, known, child)?;
+            self.visit(alloc, drive, known, &child)?;
         }
         known.keep_directory(extent, names);
         Ok(())
@@ -270,7 +270,6 @@ impl<'a> Walk<'a> {
         if !is_below(entry.extent, self.at) {
             return Err(damaged(entry_at, cause::RANGE));
         }
-        known.keep_entry(place, entry);
         Ok(Body {
             links: entry.links,
             extent: entry.extent,

@@ -112,3 +112,11 @@ returns-clause-known g c = λ h.
 
 pub returns-clause-honest : goal.returns-clause-honest
 returns-clause-honest g c = λ h. c.front.ensures.honest (c.table_entry.ensures.honest (c.read_table.ensures.honest (c.check_file_set.ensures.honest h)))
+
+pub returns-in_err-check_file_set-clause-honest : goal.returns-in_err-check_file_set-clause-honest
+returns-in_err-check_file_set-clause-honest g c = λ h. c.front.ensures.honest (c.table_entry.ensures.honest (c.read_table.ensures.honest (c.check_file_set.ensures.honest h)))
+
+pub returns-in_err-check_file_set-clause-known : goal.returns-in_err-check_file_set-clause-known
+returns-in_err-check_file_set-clause-known g c = λ h.
+    let behind = c.check_file_set.ensures.journal ∙ c.read_table.ensures.journal ∙ c.table_entry.ensures.journal in
+    subst (λ (K : List Event). IsKnown (held K) c.front.new.self) (sym behind) (c.front.ensures.known (c.table_entry.ensures.honest (c.read_table.ensures.honest (c.check_file_set.ensures.honest h))))

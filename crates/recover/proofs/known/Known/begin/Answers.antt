@@ -1,10 +1,11 @@
 use Rattle.std.proofs.Common.{sym, subst}
-use Rattle.recover.specs.Known.{AreNodes}
+use Rattle.recover.specs.Known.{AreDirectories}
 use Rattle.recover.proofs.known.Known.begin.Goals as goal
 
 pub returns : goal.returns
 returns c medium known = record {
   front = known.front;
-  before = subst (AreNodes medium) (sym c.replace.ensures.value) known.met;
-  met = subst (AreNodes medium) (sym c.replace.ensures.after) (c.new.ensures medium);
+  entries = known.entries;
+  before = subst (AreDirectories medium) (sym c.replace.ensures.value) known.met;
+  met = subst (AreDirectories medium) (sym c.replace.ensures.after) (c.new.ensures medium);
 }

@@ -23,4 +23,4 @@ invariant-loop-index g l = record {
 }
 
 abbrev pub decreases-visit : goal.decreases-visit
-decreases-visit g l = 17 - l.node.depth
+decreases-visit g l = 17 - l.node.now.depth

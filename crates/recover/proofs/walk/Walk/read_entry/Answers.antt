@@ -40,11 +40,6 @@ returns-clause-drawn g c = c.in_ok-is_new.ensures.drawn c.if-not-is_new.false
 pub returns-clause-uniques : goal.returns-clause-uniques
 returns-clause-uniques g c = c.in_ok-is_new.ensures.uniques c.if-not-is_new.false
 
-pub returns-clause-known : goal.returns-clause-known
-returns-clause-known g c = λ h.
-    c.keep_entry.ensures (held (g.D.Drive.journal c.entry.new.drive))
-    (subst (λ (K : List Event). IsSaid (held K) (record { at = c.args.entry_at; address = c.args.node.now.address }) c.in_ok-entry.entry) (sym c.entry.ensures.journal) (c.in_ok-entry.ensures.said h)) (c.entry.ensures.known h)
-
 pub returns-in_err-entry-clause-refused : goal.returns-in_err-entry-clause-refused
 returns-in_err-entry-clause-refused g c =
     let q = err_from_is_err_and c.from_residual.result c.from_residual.ensures.1 in
