@@ -3,7 +3,8 @@
 #
 # usage: test/client.sh [UDFBURN UDFBURND]
 # KILLS of the environment is how often clients and daemons are killed (200). TIMES=1 tells which tests take long.
-# Its last line is 'client: N passed, M failed'. It takes a POSIX shell and Python 3.9 or later (PYTHON names another).
+# Its last line is 'client: N passed, M failed'. It takes a POSIX shell, Python 3.9 or later (PYTHON names another) and a C
+# compiler, cc, for the library by which the client's calls are followed.
 set -u
 
 here=$(cd "$(dirname "$0")/.." && pwd)

@@ -1,12 +1,15 @@
 """1,000 files of 4 KiB through the socket by this client, beside `udfburn apply` on the same frames.
 
-usage: bench.py UDFBURN UDFBURND [ROUNDS] [FOLDER]
-Rounds in turn; prints each and the ratio of the medians. The client reads the files from a folder, keeps each request
-and reply in its ledger, and confirms each reply by Stat; `apply` gets the frames of the requests alone.
+usage: bench.py [--rounds N] [--quiet US] [--folder FOLDER] UDFBURN UDFBURND
+Rounds in turn; prints each, and the ratio of the medians. The client reads the files from a folder, keeps each request
+and reply in its ledger, and confirms each reply by Stat; `apply` gets the frames of the requests alone. On a disk that
+others use, --quiet 250 counts only the rounds before, within and behind which a block was written and synced in 250
+microseconds, and tries 20 times as many rounds at most.
 """
 
 from __future__ import annotations
 
+import argparse
 import os
 import random
 import shutil
@@ -16,7 +19,7 @@ import subprocess
 import sys
 import tempfile
 import time
-from typing import List, Tuple
+from typing import Iterator, List, Tuple
 
 sys.path.insert(0, os.path.dirname(os.path.abspath(__file__)))
 
@@ -100,25 +103,64 @@ def wait_for(path: str) -> None:
     raise SystemExit("the daemon does not listen")
 
 
-def main(words: List[str]) -> None:
+def sync_time(room: str) -> float:
+    """Microseconds that the disk takes now for a block that is written and synced: the median of twenty."""
+    times = []
+    with open(os.path.join(room, "probe"), "wb", buffering=0) as probe:
+        for _ in range(20):
+            begin = time.perf_counter()
+            probe.write(bytes(2048))
+            os.fsync(probe.fileno())
+            times.append(time.perf_counter() - begin)
+    os.unlink(probe.name)
+    return statistics.median(times) * 1e6
+
+
+def rounds_of(words: argparse.Namespace, room: str) -> Iterator[Tuple[float, float]]:
+    """The seconds of client and `apply` in each round that counts."""
+    local, frames = make_sources(room)
+    udfburn, udfburnd, counted = os.path.abspath(words.udfburn), os.path.abspath(words.udfburnd), 0
+
+    def quiet() -> bool:
+        return words.quiet is None or sync_time(room) <= words.quiet
+
+    for _ in range(words.rounds if words.quiet is None else 20 * words.rounds):
+        if not quiet():
+            time.sleep(0.2)
+            continue
+        client = by_client(udfburn, udfburnd, room, local)
+        if not quiet():
+            continue
+        apply = by_apply(udfburn, room, frames)
+        if quiet():
+            counted += 1
+            yield client, apply
+        if counted == words.rounds:
+            return
+
+
+def main() -> None:
     """Runs the rounds."""
-    if len(words) < 2:
-        raise SystemExit(__doc__)
-    udfburn, udfburnd = map(os.path.abspath, words[:2])
-    rounds = int(words[2]) if len(words) > 2 else 9
-    room = tempfile.mkdtemp(dir=words[3] if len(words) > 3 else None)
+    parser = argparse.ArgumentParser(usage=(__doc__ or "").split("usage: ")[1])
+    parser.add_argument("udfburn")
+    parser.add_argument("udfburnd")
+    parser.add_argument("--rounds", type=int, default=11)
+    parser.add_argument("--quiet", type=float)
+    parser.add_argument("--folder")
+    words = parser.parse_args()
+    room = tempfile.mkdtemp(dir=words.folder)
+    times: List[Tuple[float, float]] = []
     try:
-        local, frames = make_sources(room)
-        times: List[Tuple[float, float]] = []
-        for turn in range(rounds):
-            client, apply = by_client(udfburn, udfburnd, room, local), by_apply(udfburn, room, frames)
+        for client, apply in rounds_of(words, room):
             times.append((client, apply))
-            print(f"round {turn + 1}: client {client * 1000:.1f} ms, apply {apply * 1000:.1f} ms, ratio {client / apply:.2f}")
-        clients, applies = (statistics.median(column) for column in zip(*times))
-        print(f"medians: client {clients * 1000:.1f} ms, apply {applies * 1000:.1f} ms, ratio {clients / applies:.2f}")
+            print(f"round {len(times)}: client {client * 1000:.1f} ms, apply {apply * 1000:.1f} ms, ratio {client / apply:.2f}", flush=True)
     finally:
         shutil.rmtree(room)
+    if not times:
+        raise SystemExit("the disk was never quiet")
+    clients, applies = (statistics.median(column) for column in zip(*times))
+    print(f"{len(times)} rounds, load {os.getloadavg()[0]:.1f}; medians: client {clients * 1000:.1f} ms, apply {applies * 1000:.1f} ms, ratio {clients / applies:.2f}")
 
 
 if __name__ == "__main__":
-    main(sys.argv[1:])
+    main()

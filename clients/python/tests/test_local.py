@@ -11,7 +11,7 @@ from unittest import mock
 
 from udfburn import blocks, errors as e, fetch, split, tree
 from udfburn import protocol as p
-from udfburn.sources import Scan, delete, read_parts, scan
+from udfburn.sources import Identity, Scan, Source, delete, read_parts, scan
 from udfburn.tree import Options, put_all
 
 from .model import Volume
@@ -257,6 +257,24 @@ class Changes(Local):
         self.server.before = before
         self.assertEqual(self.put().files, 1)
         self.assertEqual(self.volume.files()[("x", "a")], b"mine")
+
+    def test_lists_of_requests(self) -> None:
+        """Files are stored as one list, by 64 where something is done behind them, and never too many bytes at once."""
+        status = os.stat(self.write("a", bytes(10)))
+        source = Source(self.folder, (), Identity.of(status))
+
+        def sizes(count: int, **options: bool) -> List[int]:
+            importer = tree.Importer(self.client(), Options(**options))  # type: ignore[arg-type]
+            return [len(chunk) for chunk in importer._chunks(tree.Job(source, [()]) for _ in range(count))]
+
+        self.assertEqual(sizes(0), [])
+        self.assertEqual(sizes(1500), [1024, 476])
+        for option in ("verify", "delete_source", "split"):
+            self.assertEqual(sizes(150, **{option: True}), [64, 64, 22])
+        with mock.patch.object(tree, "LIST_BYTES", 35):
+            self.assertEqual(sizes(7), [3, 3, 1])
+        with mock.patch.object(tree, "LIST_BYTES", 5):
+            self.assertEqual(sizes(3), [1, 1, 1])
 
     def test_moments(self) -> None:
         for name, moment, wanted in (("old", -5, 0), ("late", 5_000_000_000, p.limits.MOMENT - 1), ("plain", 1_700_000_000, 1_700_000_000_000_000)):

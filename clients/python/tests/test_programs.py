@@ -265,6 +265,25 @@ class Limits(WithPrograms):
             os.unlink(os.path.join(folder, str(index)))
         self.assertIn("of 338 blocks", self.run_command("put", "-r", folder, "/x", where=words))
 
+    def test_a_socket_alone_tells_of_no_blocks(self) -> None:
+        """No answer says how many are left: what fits is stored, and the same line goes on once the rest fits."""
+        self.image = os.path.join(self.room, "small.img")
+        self.format(600)
+        self.serve()
+        for index in range(100):
+            self.write(f"many/{index:02}", bytes(9000))
+        folder = os.path.join(self.room, "many")
+        told = self.run_command("put", "-r", "--skip-same", folder, "/x", status=1)
+        stored = self.run_command("ls", "/x").split("\n")[:-1]
+        self.assertIn(f"no room for /x/{len(stored):02}", told)
+        self.assertEqual(stored, [f"f {index:02}" for index in range(len(stored))])
+        self.assertEqual(self.commits(), 1 + len(stored))
+        for index in range(len(stored) + 1, 100):
+            os.unlink(os.path.join(folder, f"{index:02}"))
+        self.write(f"many/{len(stored):02}", b"smaller")
+        self.assertIn(f"stored 1 file, 7 B, {len(stored)} were there", self.run_command("put", "-r", "--skip-same", folder, "/x"))
+        self.assertIn("all are there", self.run_command("verify", folder, "/x"))
+
     def test_every_refusal(self) -> None:
         self.serve()
         client = self.client()

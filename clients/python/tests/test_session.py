@@ -10,7 +10,7 @@ import tempfile
 import threading
 import time
 import unittest
-from typing import List, Optional
+from typing import Iterator, List, Optional
 from unittest import mock
 
 from udfburn import Client, errors as e
@@ -348,6 +348,53 @@ class Turns(WithServer):
             self.assertEqual(self.volume.commits, 60)
             self.assertEqual(len(list(client.ask_all(p.Get((f"f{index}",)) for index in range(60)))), 60)
             self.assertGreater(self.server.conversations, imports + 2)
+
+
+class Ahead(WithServer):
+    """Operations that are taken before there is room for them."""
+
+    def test_the_next_are_taken_while_the_server_is_at_work(self) -> None:
+        taken: List[int] = []
+        ahead: List[int] = []
+
+        def operations() -> Iterator[Operation]:
+            for index, operation in enumerate(creates(20)):
+                taken.append(index + 1)
+                yield operation
+
+        def before(payload: bytes) -> None:
+            request = request_of(payload)
+            if request:
+                time.sleep(0.01)
+                ahead.append(len(taken) - request.number)
+
+        self.server.before = before
+        self.assertEqual([outcome.number for outcome in self.client().run(operations())], list(range(1, 21)))
+        # Of four under way the first is at work, and at most two are taken behind them.
+        self.assertIn(max(ahead), (4, 5))
+
+    def test_numbers_are_those_of_the_volume_that_is_there(self) -> None:
+        """Between a conversation that was lost and the next turn another volume is put in place, which knows no number."""
+        client, probes, lost = self.client(), [0], [False]
+
+        def before(payload: bytes) -> None:
+            probes[0] += is_probe(payload)
+            if is_probe(payload) and probes[0] == 3:
+                self.server.volume = Volume()
+
+        def say(payload: bytes, answer: p.Answer) -> Optional[bytes]:
+            request = request_of(payload)
+            if request and request.number == 2 and not lost[0]:
+                lost[0] = True
+                return None
+            return honestly(payload, answer)
+
+        self.server.before, self.server.say = before, say
+        with mock.patch("udfburn.line.TURN", 0.0):
+            outcomes = list(client.run(creates(7)))
+        self.assertEqual([outcome.code for outcome in outcomes], [p.Code.DONE] * 7)
+        self.assertEqual([outcome.number for outcome in outcomes], [1, 2, 1, 2, 3, 4, 5])
+        self.assertEqual(len(self.volume.files()), 5)
 
 
 class Numbers(unittest.TestCase):

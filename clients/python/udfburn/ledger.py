@@ -50,6 +50,13 @@ WHERE volume = ?1 AND number > (SELECT max(number) FROM request WHERE volume = ?
 """
 """What has no reply: it is among the last four. Four payloads are kept for a volume, each in the place of an older one."""
 
+KEPT_FRAME = "INSERT INTO frame VALUES (?, ?) ON CONFLICT (id) DO UPDATE SET payload = excluded.payload"
+"""Writes a payload over an older one, in the pages of that where both have one size."""
+
+LOG_PAGES = 64
+"""Pages that the base's log has before they are taken over into the base, and it is written from its front again. While the
+log grows, each synchronisation waits for the journal of the file system, and so for what others have written there."""
+
 
 @dataclass(frozen=True)
 class Volume:
@@ -131,6 +138,7 @@ class Ledger:
             base.execute("PRAGMA locking_mode = EXCLUSIVE")
             base.execute("PRAGMA journal_mode = WAL")
             base.execute("PRAGMA synchronous = FULL")
+            base.execute(f"PRAGMA wal_autocheckpoint = {LOG_PAGES}")
             base.execute("PRAGMA cache_size = -16384")
         except sqlite3.DatabaseError as error:
             base.close()
@@ -226,7 +234,7 @@ class Ledger:
                 "INSERT INTO request (volume, number, path) VALUES (?, ?, ?)", [(volume.id, r.number, r.path) for r in requests]
             )
             self._base.executemany(
-                "REPLACE INTO frame VALUES (?, ?)", [(volume.id * 4 + r.number % 4, r.payload) for r in requests]
+                KEPT_FRAME, [(volume.id * 4 + r.number % 4, r.payload) for r in requests]
             )
 
     @contextmanager

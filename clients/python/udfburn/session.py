@@ -32,19 +32,52 @@ class Flight:
     def __init__(self, operation: Operation, request: AnyRequest):
         self.operation = operation
         self.request = request
-        self.payload = encode_message(request)
+        self.pending = Pending(request.number, encode_message(request), show(request.path))
         self.paths = paths_of(request)
         self.answers: List[Answer] = []
 
-    def frames(self) -> bytes:
+    def frames(self) -> List[bytes]:
         """What is sent: the request, and a question for each of its paths."""
-        return frame(self.payload) + b"".join(frame(encode_message(Stat(path))) for path in self.paths)
+        return [frame(self.pending.payload), *(frame(encode_message(Stat(path))) for path in self.paths)]
 
     def complete(self) -> bool:
         return len(self.answers) > len(self.paths)
 
-    def pending(self) -> Pending:
-        return Pending(self.request.number, self.payload, show(self.request.path))
+
+class Supply:
+    """Operations as they come, of which some are taken ahead, read and made requests, while the program is at work."""
+
+    def __init__(self, operations: Iterator[Operation], client: int):
+        self.operations = operations
+        self.client = client
+        self.ahead: Deque[Flight] = deque()
+
+    def look_ahead(self, last: int) -> None:
+        """Makes ready what is sent next, behind the request of this number."""
+        while len(self.ahead) < BATCH and self._take(last + len(self.ahead) + 1):
+            pass
+
+    def next(self, number: int, count: int) -> List[Flight]:
+        """At most so many flights, from this number on."""
+        flights: List[Flight] = []
+        while len(flights) < count and (self.ahead or self._take(number)):
+            flight = self.ahead.popleft()
+            # Behind a conversation that was lost the next number may be another one.
+            if flight.request.number != number:
+                flight = self._flight(flight.operation, number)
+            flights.append(flight)
+            number += 1
+        return flights
+
+    def _take(self, number: int) -> bool:
+        operation = next(self.operations, None)
+        if operation is None:
+            return False
+        self.ahead.append(self._flight(operation, number))
+        return True
+
+    def _flight(self, operation: Operation, number: int) -> Flight:
+        return Flight(operation, operation.request(self.client, number))
 
 
 class Session:
@@ -228,16 +261,16 @@ class Session:
     def run(self, operations: Iterable[Operation]) -> Iterator[Outcome]:
         """Does operations in order, and gives each one's outcome once its reply is in the ledger and confirmed."""
         with self.line.claim():
-            yield from self._run(iter(operations))
+            yield from self._run(Supply(iter(operations), self.ledger.client))
 
-    def _run(self, source: Iterator[Operation]) -> Iterator[Outcome]:
+    def _run(self, supply: Supply) -> Iterator[Outcome]:
         self.recover()
         window: Deque[Flight] = deque()
         finished: List[Flight] = []
         try:
             while True:
                 connection = self._connected(window)
-                fresh = self._next(source, window, finished)
+                fresh = self._next(supply, window, finished)
                 self._keep(finished, fresh)
                 window.extend(fresh)
                 troubled = not self._sent(connection, fresh)
@@ -248,6 +281,7 @@ class Session:
                 if fresh and len(window) < limits.REPLIES and not troubled:
                     continue
                 if not troubled:
+                    supply.look_ahead(window[-1].request.number)
                     finished, troubled = self._received(connection, window)
                 if troubled:
                     yield from self._recovered(finished, window)
@@ -262,20 +296,13 @@ class Session:
             self.line.drop()
         return self.line.get()
 
-    def _next(self, source: Iterator[Operation], window: Deque[Flight], finished: List[Flight]) -> List[Flight]:
-        """Operations that there is room for, under the next numbers. None where others are to get their turn."""
+    def _next(self, supply: Supply, window: Deque[Flight], finished: List[Flight]) -> List[Flight]:
+        """Requests that there is room for, under the next numbers. None where others are to get their turn."""
         if window and self.line.over():
             return []
         last = window[-1] if window else finished[-1] if finished else None
         number = last.request.number if last else self.ledger.latest(self.volume())
-        flights: List[Flight] = []
-        while len(flights) < BATCH and len(window) + len(flights) < limits.REPLIES:
-            operation = next(source, None)
-            if operation is None:
-                break
-            number += 1
-            flights.append(Flight(operation, operation.request(self.ledger.client, number)))
-        return flights
+        return supply.next(number + 1, min(BATCH, limits.REPLIES - len(window)))
 
     def _keep(self, finished: List[Flight], fresh: List[Flight]) -> None:
         """Makes replies and new requests durable, in one."""
@@ -284,12 +311,12 @@ class Session:
             reply = flight.answers[0]
             assert isinstance(reply, Committed)
             replies.append(Reply(flight.request.number, reply.code, reply.commit, True))
-        self.ledger.record(self.volume(), replies, [flight.pending() for flight in fresh])
+        self.ledger.record(self.volume(), replies, [flight.pending for flight in fresh])
 
     def _sent(self, connection: Connection, fresh: List[Flight]) -> bool:
         """Sends requests with their questions. Whether the conversation lasted."""
         try:
-            connection.send(b"".join(flight.frames() for flight in fresh))
+            connection.send(b"".join(piece for flight in fresh for piece in flight.frames()))
             return True
         except Lost:
             return False

@@ -88,7 +88,7 @@ def odd(status: os.stat_result) -> Optional[str]:
 
 def why_not(name: str) -> Optional[str]:
     """Why a local name may not stand in a directory of a volume."""
-    if any(0xDC80 <= ord(character) <= 0xDCFF for character in name):
+    if not name.isascii() and any(0xDC80 <= ord(character) <= 0xDCFF for character in name):
         return "its name is not UTF-8"
     fault = name_fault(name)
     if fault is NameFault.WIDE:

@@ -15,13 +15,18 @@ from .errors import Differs, DoesNotFit, SourceError, TooLarge, UsageError
 from .operations import Operation, Outcome, now
 from .preflight import Plan, Present, plan
 from .protocol import (
-    AnyRequest, Code, Create, Data, Get, List as ListQuery, MakeDir, Name, Names, Node, NodeKind, Path, Remove, Replace, Stat, show,
+    AnyRequest, Code, Create, Data, Get, List as ListQuery, MakeDir, Name, Names, Node, NodeKind, Path, Remove, Replace, Stat, limits,
+    show,
 )
 from .sources import Folder, Scan, Source, delete, read_parts, scan
 from .split import other_paths, stored_paths
 
 CHUNK = 64
-"""Files that are stored before the first of them are read back or deleted."""
+"""Files that are stored before the first of them are read back or deleted, or what an earlier one left is removed."""
+
+LIST_FILES, LIST_BYTES = 1024, 64 * limits.FILE
+"""Files that are stored as one list of requests where nothing is done with them behind it, and their bytes, which memory has
+where other clients make the same paths."""
 
 
 def walk(client: Client, path: Path) -> Iterator[Tuple[Path, Tuple[Name, ...]]]:
@@ -178,13 +183,24 @@ class Importer:
         with self.client.held():
             self._make(planned)
             self._finish_same(planned)
-            jobs = iter([Job(source, paths) for source, paths in planned.files])
-            while True:
-                chunk = list(islice(jobs, CHUNK))
-                if not chunk:
-                    break
+            for chunk in self._chunks(Job(source, paths) for source, paths in planned.files):
                 self._chunk(chunk, planned)
         return self.summary
+
+    def _chunks(self, jobs: Iterable[Job]) -> Iterator[List[Job]]:
+        """The files that are stored together: the fewer lists, the less often nothing is under way."""
+        options = self.options
+        most = CHUNK if options.verify or options.delete_source or options.split else LIST_FILES
+        chunk: List[Job] = []
+        size = 0
+        for job in jobs:
+            if chunk and (len(chunk) == most or size + job.source.identity.size > LIST_BYTES):
+                yield chunk
+                chunk, size = [], 0
+            chunk.append(job)
+            size += job.source.identity.size
+        if chunk:
+            yield chunk
 
     def _tell_plan(self, planned: Plan) -> Summary:
         for folder in planned.folders:

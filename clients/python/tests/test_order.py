@@ -1,0 +1,200 @@
+"""The order of what the client does, by a log of its calls: what the ledger has on its disk when a request goes out, and when a
+source is removed, wherever the power fails."""
+
+from __future__ import annotations
+
+import os
+import random
+import sqlite3
+import struct
+import subprocess
+import sys
+import unittest
+from enum import IntEnum
+from typing import Dict, Iterator, List, NamedTuple, Optional, Set, Tuple
+
+from udfburn import protocol as p
+
+from .server import request_of
+from .test_session import PACKAGE, WithServer
+
+HERE = os.path.dirname(os.path.abspath(__file__))
+RECORD = struct.Struct("<4Iq")
+PENDING = "SELECT number, payload FROM request JOIN frame ON frame.id = volume * 4 + number % 4 WHERE code IS NULL"
+CONFIRMED = "SELECT path FROM request WHERE code = 0 AND confirmed"
+
+
+class Kind(IntEnum):
+    """What a call did; in the order of calls.c."""
+
+    WRITTEN = 0
+    SYNCED = 1
+    CUT = 2
+    REMOVED = 3
+    SENT = 4
+
+
+class Call(NamedTuple):
+    kind: Kind
+    path: str
+    offset: int
+    data: bytes
+
+
+def read_calls(log: str) -> Iterator[Call]:
+    """The calls of a log, in order."""
+    with open(log, "rb") as file:
+        while True:
+            head = file.read(RECORD.size)
+            if not head:
+                return
+            kind, path, data, _, offset = RECORD.unpack(head)
+            yield Call(Kind(kind), os.fsdecode(file.read(path)), offset, file.read(data))
+
+
+class Kept:
+    """A file: what a loss of power leaves for certain, and the writes and cuts since, of which it may leave any."""
+
+    def __init__(self) -> None:
+        self.certain = bytearray()
+        self.since: List[Call] = []
+
+    def sync(self) -> None:
+        self.certain = self.left(self.since)
+        self.since = []
+
+    def left(self, calls: List[Call]) -> bytearray:
+        """What is there where these of the calls reached the disk."""
+        found = bytearray(self.certain)
+        for call in calls:
+            if call.kind is Kind.CUT:
+                del found[call.offset :]
+                found.extend(bytes(call.offset - len(found)))
+            else:
+                found.extend(bytes(max(0, call.offset - len(found))))
+                found[call.offset : call.offset + len(call.data)] = call.data
+        return found
+
+
+Files = Dict[str, bytes]
+
+
+class Disk:
+    """The files below a folder, as a loss of power may leave them."""
+
+    def __init__(self) -> None:
+        self.files: Dict[str, Kept] = {}
+        self.chance = random.Random(5)
+
+    def take(self, call: Call) -> None:
+        file = self.files.setdefault(call.path, Kept())
+        if call.kind is Kind.SYNCED:
+            file.sync()
+        elif call.kind is Kind.REMOVED:
+            del self.files[call.path]
+        else:
+            file.since.append(call)
+
+    def states(self) -> List[Files]:
+        """The disk with none of what was not synchronised, with all of it, and with some by chance."""
+        return [
+            {path: bytes(file.left([call for call in file.since if self.chance.random() < share])) for path, file in self.files.items()}
+            for share in (0.0, 1.0, 0.5)
+        ]
+
+
+class Order(WithServer):
+    """An import that deletes its sources, followed call by call."""
+
+    FILES = 48
+
+    def setUp(self) -> None:
+        super().setUp()
+        self.room = os.path.realpath(self.room)
+        self.sources = os.path.join(self.room, "sources")
+        os.makedirs(self.sources)
+        chance = random.Random(6)
+        for index in range(self.FILES):
+            # Some take one page of the ledger, some several, and one more than a socket takes at once.
+            size = 600_000 if index == 17 else chance.randrange(9000)
+            with open(os.path.join(self.sources, f"f{index}"), "wb") as file:
+                file.write(chance.randbytes(size))
+
+    def logged(self, *words: str) -> List[Call]:
+        """Imports in a process of its own, and gives its calls on the ledger, its removals and what it sent."""
+        library, log = os.path.join(self.room, "calls.so"), os.path.join(self.room, "log")
+        subprocess.run(["cc", "-O1", "-Wall", "-shared", "-fPIC", "-o", library, os.path.join(HERE, "calls.c"), "-ldl"], check=True)
+        environment = {**os.environ, "PYTHONPATH": PACKAGE, "LD_PRELOAD": library, "WATCHED": self.room, "WATCHED_LOG": log}
+        ledger = os.path.join(self.room, "kept", "ledger.sqlite")
+        command = [sys.executable, "-m", "udfburn", "put", "-r", "--quiet", "--delete-source", *words, "--ledger", ledger]
+        subprocess.run([*command, "--socket", self.server.path, self.sources, "/x"], check=True, env=environment)
+        return list(read_calls(log))
+
+    def asked(self, files: Files, words: str) -> List[Tuple[object, ...]]:
+        """What a ledger has that is opened behind a loss of power."""
+        room = os.path.join(self.room, "after")
+        os.makedirs(room, exist_ok=True)
+        for name in ("ledger.sqlite", "ledger.sqlite-wal"):
+            data = files.get(os.path.join(self.room, "kept", name))
+            if data is not None:
+                with open(os.path.join(room, name), "wb") as file:
+                    file.write(data)
+        base = sqlite3.connect(os.path.join(room, "ledger.sqlite"))
+        try:
+            return base.execute(words).fetchall()
+        except sqlite3.DatabaseError:
+            # What was never synchronised is no ledger yet.
+            return []
+        finally:
+            base.close()
+            for name in os.listdir(room):
+                os.unlink(os.path.join(room, name))
+
+    def check_sent(self, states: List[Files], payload: bytes, sent: Set[int]) -> None:
+        """A request that goes out is pending in every state, with at most three others."""
+        request = request_of(payload)
+        if request is None:
+            return
+        sent.add(request.number)
+        for state in states:
+            pending = dict(self.asked(state, PENDING))
+            self.assertEqual(pending.get(request.number), payload, f"request {request.number} was sent before it was kept")
+            self.assertLessEqual(len(pending), 4)
+
+    def follow(self, calls: List[Call]) -> "tuple[Set[int], Set[str]]":
+        """Checks each call, and gives the numbers that were sent and the sources that were removed."""
+        disk, sent, removed = Disk(), set(), set()  # type: ignore[var-annotated]
+        stream, begun = p.Frames(), disk.states()
+        for call in calls:
+            if call.kind is Kind.SENT:
+                states = disk.states()
+                begun = begun if stream.rest() else states
+                stream.feed(call.data)
+                payload: Optional[bytes] = stream.take()
+                while payload is not None:
+                    self.check_sent(begun, payload, sent)
+                    begun, payload = states, stream.take()
+            elif call.kind is Kind.REMOVED and call.path.startswith(self.sources):
+                path = "/x/" + os.path.basename(call.path)
+                for state in disk.states():
+                    self.assertIn((path,), self.asked(state, CONFIRMED), f"{path} was removed before its reply was kept")
+                removed.add(path)
+            elif call.path.startswith(os.path.join(self.room, "kept", "ledger.sqlite")):
+                disk.take(call)
+        return sent, removed
+
+    def check(self, *words: str) -> None:
+        sent, removed = self.follow(self.logged(*words))
+        self.assertEqual(sent, set(range(1, self.FILES + 2)))
+        self.assertEqual(removed, {f"/x/f{index}" for index in range(self.FILES)})
+        self.assertEqual(len(self.volume.files()), self.FILES)
+
+    def test_kept_then_sent_and_kept_then_removed(self) -> None:
+        self.check()
+
+    def test_also_where_bytes_are_read_back(self) -> None:
+        self.check("--verify")
+
+
+if __name__ == "__main__":
+    unittest.main()
