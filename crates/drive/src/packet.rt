@@ -1,7 +1,8 @@
 //! Blocks on their way to a drive, in packets that one write may be given.
 ghost use Rattle.std.specs.Prelude.{◌≡◌, ◌+◌, ◌*◌, ◌/◌, ◌==◌, ◌<◌, ◌≤◌, if◌then◌else◌, ◌∷◌, ◌++◌, [], length, vec_len, is_err, IfOk, OnOk, OnErr};
 ghost use Rattle.std.specs.Vec.{vec_capacity};
-ghost use Rattle.drive.specs.Journal.{written, next_of, AddsFront, counted};
+ghost use Rattle.drive.specs.Journal.{written, next_of, AddsFront};
+ghost use Rattle.drive.specs.Reads.{Writes};
 ghost use Rattle.drive.specs.Waiting.{Waiting, end_of, Takes, Stops};
 
 use crate::{Block, Drive, DriveFault, PACKET};
@@ -14,9 +15,7 @@ pub fn write_packets<D: Drive>(drive: &mut D, at: u32, blocks: &[Block]) -> Resu
     requires fits { at + length blocks.now ≤ D.capacity drive.old }
     ensures ok { OnOk result (D.journal drive.new ≡ D.journal drive.old ++ written at blocks.now) }
     ensures err { OnErr result (AddsFront (D.journal drive.old) at blocks.now (D.journal drive.new)) }
-    ensures capacity { D.capacity drive.new ≡ D.capacity drive.old }
-    ensures failures { D.failures drive.new ≡ counted (is_err result) (D.failures drive.old) }
-    ensures honest { D.honest drive.new ≡ D.honest drive.old }
+    ensures writes { Writes D.Drive (is_err result) drive.old drive.new }
 {
     let _capacity = drive.capacity();
     let mut done = 0;
@@ -42,9 +41,7 @@ pub fn write_last_alone<D: Drive>(
     requires fits { at + length blocks.now ≤ D.capacity drive.old }
     ensures ok { OnOk result (D.journal drive.new ≡ D.journal drive.old ++ written at blocks.now) }
     ensures err { OnErr result (AddsFront (D.journal drive.old) at blocks.now (D.journal drive.new)) }
-    ensures capacity { D.capacity drive.new ≡ D.capacity drive.old }
-    ensures failures { D.failures drive.new ≡ counted (is_err result) (D.failures drive.old) }
-    ensures honest { D.honest drive.new ≡ D.honest drive.old }
+    ensures writes { Writes D.Drive (is_err result) drive.old drive.new }
 {
     let _capacity = drive.capacity();
     let (before, last) = blocks.split_at(blocks.len().saturating_sub(1));
@@ -102,9 +99,7 @@ impl PacketWriter {
         requires fits { end_of self.old < D.capacity drive.old }
         ensures ok { OnOk result (Takes (D.journal drive.old) self.old (block.now ∷ []) (D.journal drive.new) self.new) }
         ensures err { OnErr result (Stops (D.journal drive.old) self.old (block.now ∷ []) (D.journal drive.new)) }
-        ensures capacity { D.capacity drive.new ≡ D.capacity drive.old }
-        ensures failures { D.failures drive.new ≡ counted (is_err result) (D.failures drive.old) }
-        ensures honest { D.honest drive.new ≡ D.honest drive.old }
+        ensures writes { Writes D.Drive (is_err result) drive.old drive.new }
     {
         if self.waiting() == PACKET {
             match self.finish(drive) {
@@ -122,9 +117,7 @@ impl PacketWriter {
         requires fits { end_of self.old + length blocks.now ≤ D.capacity drive.old }
         ensures ok { OnOk result (Takes (D.journal drive.old) self.old blocks.now (D.journal drive.new) self.new) }
         ensures err { OnErr result (Stops (D.journal drive.old) self.old blocks.now (D.journal drive.new)) }
-        ensures capacity { D.capacity drive.new ≡ D.capacity drive.old }
-        ensures failures { D.failures drive.new ≡ counted (is_err result) (D.failures drive.old) }
-        ensures honest { D.honest drive.new ≡ D.honest drive.old }
+        ensures writes { Writes D.Drive (is_err result) drive.old drive.new }
     {
         let (packets, rest) = blocks.split_at(self.straight(blocks.len()));
         self.put_packets(drive, packets)?;
@@ -152,9 +145,7 @@ impl PacketWriter {
         requires fits { end_of self.old + length blocks.now ≤ D.capacity drive.old }
         ensures ok { OnOk result (Takes (D.journal drive.old) self.old blocks.now (D.journal drive.new) self.new) }
         ensures err { OnErr result (Stops (D.journal drive.old) self.old blocks.now (D.journal drive.new)) }
-        ensures capacity { D.capacity drive.new ≡ D.capacity drive.old }
-        ensures failures { D.failures drive.new ≡ counted (is_err result) (D.failures drive.old) }
-        ensures honest { D.honest drive.new ≡ D.honest drive.old }
+        ensures writes { Writes D.Drive (is_err result) drive.old drive.new }
     {
         let _capacity = drive.capacity();
         if blocks.is_empty() {
@@ -175,9 +166,7 @@ impl PacketWriter {
         requires fits { end_of self.old + length blocks.now ≤ D.capacity drive.old }
         ensures ok { OnOk result (Takes (D.journal drive.old) self.old blocks.now (D.journal drive.new) self.new) }
         ensures err { OnErr result (Stops (D.journal drive.old) self.old blocks.now (D.journal drive.new)) }
-        ensures capacity { D.capacity drive.new ≡ D.capacity drive.old }
-        ensures failures { D.failures drive.new ≡ counted (is_err result) (D.failures drive.old) }
-        ensures honest { D.honest drive.new ≡ D.honest drive.old }
+        ensures writes { Writes D.Drive (is_err result) drive.old drive.new }
     {
         for block in blocks {
             self.put(drive, block)?;
@@ -192,9 +181,7 @@ impl PacketWriter {
         ensures ok { OnOk result (D.journal drive.new ≡ D.journal drive.old ++ written self.old.at self.old.blocks) }
         ensures empty { OnOk result (self.new ≡ record { at = end_of self.old; blocks = [] }) }
         ensures err { OnErr result (AddsFront (D.journal drive.old) self.old.at self.old.blocks (D.journal drive.new)) }
-        ensures capacity { D.capacity drive.new ≡ D.capacity drive.old }
-        ensures failures { D.failures drive.new ≡ counted (is_err result) (D.failures drive.old) }
-        ensures honest { D.honest drive.new ≡ D.honest drive.old }
+        ensures writes { Writes D.Drive (is_err result) drive.old drive.new }
     {
         let _capacity = drive.capacity();
         if self.packet.is_empty() {

@@ -3,7 +3,7 @@ use Rattle.std.proofs.Common.{◌≡◌, List, [], ◌∷◌, ◌++◌, Option, 
 use Rattle.std.specs.Option.{option_to_list}
 use Rattle.std.proofs.lemmas.List.{append-nil, take_more}
 use Rattle.std.proofs.lemmas.List.Sums.{sum_by-append}
-use Rattle.recover.specs.Faults.{Counts}
+use Rattle.drive.specs.Reads.{Counts}
 use Rattle.request.specs.declared.answer.Answer.{Answer}
 use Rattle.engine.specs.declared.runs.Delivery.{Delivery}
 use Rattle.engine.specs.declared.runs.Delivery.TheVariants.{Frame, Restart}

@@ -3,7 +3,7 @@ use Rattle.std.proofs.Common.{◌≡◌, ℕ, ◌+◌, ◌≤◌, ◌++◌, List
 use Rattle.drive.specs.Journal.{Event}
 use Rattle.model.specs.Session.{State, Due}
 use Rattle.model.specs.Session.Due.{New}
-use Rattle.recover.specs.Faults.{Counts}
+use Rattle.drive.specs.Reads.{Counts}
 use Rattle.request.specs.declared.answer.Answer.{Answer}
 use Rattle.request.specs.declared.message.Message.{Message}
 use Rattle.request.specs.declared.message.Message.TheVariants as message
@@ -55,9 +55,6 @@ committed_due due before a after e h = subst (λ (d : Due). IsDue d before a aft
 pub dealt_new : (due : Due) (volume : ℕ) (S : State) (request : Request) (during : Situation) (store : Store) (a : Answer) (behind : Situation) → New ≡ due
     → IsApplied volume S request during a behind → IsDealt due volume S request during store a behind
 dealt_new due volume S request during store a behind e h = subst (λ (d : Due). IsDealt d volume S request during store a behind) e h
-
-pub counts_as : (m n f g : ℕ) → m ≡ n → Counts n f g → Counts m f g
-counts_as m n f g e h = subst (λ (k : ℕ). Counts k f g) (sym e) h
 
 -- ---- at the state that stands
 

@@ -2,7 +2,7 @@
 use Rattle.std.specs.Prelude.{◌≡◌, ◌⊎◌, ⊤, ℕ, false, List, length, map, None, IfSome}
 use Rattle.model.specs.Session.{Due, due_by, record_of}
 use Rattle.model.specs.Session.Due.{Repeat, Stale, Gap, ClientsFull, New}
-use Rattle.recover.specs.Faults.{Counts}
+use Rattle.drive.specs.Reads.{Counts}
 use Rattle.request.specs.declared.answer.Answer.{Answer}
 use Rattle.request.specs.declared.answer.Answer.TheVariants as answer
 use Rattle.request.specs.declared.answer.Reply.{Reply}

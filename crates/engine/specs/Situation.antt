@@ -1,6 +1,7 @@
 -- What an engine and its drive are between two messages.
 use Rattle.std.specs.Prelude.{◌≡◌, ℕ, ◌++◌, Bool, false, List, Option, Some, IfSome, IsTrue}
 use Rattle.drive.specs.Journal.{Event, Once, held}
+use Rattle.drive.specs.declared.Drive.{Ghosts}
 use Rattle.store.specs.declared.store.Store.{Store}
 use Rattle.store.specs.Agrees.{Agrees}
 use Rattle.store.specs.Opened.{NothingStands}
@@ -32,9 +33,12 @@ pub record Follows (before after : Situation) : Type 0 where
 abbrev pub situation : Option Store → List Event → ℕ → ℕ → Bool → Situation
 situation store journal failures capacity honest = record { store = store; journal = journal; failures = failures; capacity = capacity; honest = honest }
 
--- an engine beside a drive
-abbrev pub seen : Engine → List Event → ℕ → ℕ → Bool → Situation
-seen engine journal failures capacity honest = situation engine.store journal failures capacity honest
+-- a store, or an engine, beside a drive
+abbrev pub situation_on : {D : Type 0} → Ghosts D → Option Store → D → Situation
+situation_on drive store d = situation store (drive.journal d) (drive.failures d) (drive.capacity d) (drive.honest d)
+
+abbrev pub seen_on : {D : Type 0} → Ghosts D → Engine → D → Situation
+seen_on drive engine d = situation_on drive engine.store d
 
 -- No state stands on the drive's journal, and no store is open.
 pub record HoldsNothing (s : Situation) : Type 0 where

@@ -3,12 +3,14 @@
 ghost use Rattle.std.specs.Prelude.{◌≡◌, ◌⊎◌, ℕ, Some, None, Ok, Err, IsTrue, IfOk, IfErr, OnErr, false};
 ghost use Rattle.model.specs.Session.{State};
 ghost use Rattle.model.specs.Tree.{Path};
-ghost use Rattle.recover.specs.Faults.{Counts, IsShortage, devices, failures_of};
+ghost use Rattle.drive.specs.Reads.{Reads};
+ghost use Rattle.drive.specs.Reads as drives;
+ghost use Rattle.recover.specs.Faults.{IsShortage, devices, failures_of};
 ghost use Rattle.request.specs.declared.answer.Answer.TheVariants as answers;
 ghost use Rattle.request.specs.declared.message.Query.TheVariants as queries;
 ghost use Rattle.store.specs.Agrees.{Agrees};
 ghost use Rattle.store.specs.Calls.{Knows};
-ghost use Rattle.engine.specs.Situation.{IsReady, Follows, HoldsNothing, seen, situation};
+ghost use Rattle.engine.specs.Situation.{IsReady, Follows, HoldsNothing, seen_on, situation_on};
 ghost use Rattle.engine.specs.Answered.{Answered, due_of, IsDue, IsNothingThere, IsTold, MayFail, faults};
 ghost use Rattle.engine.specs.Called.{Calls, IsDealt, IsQueried, failed, refused, get_refused, list_refused, stat_refused};
 ghost use Rattle.engine.specs.Steps.{IsAt};
@@ -34,15 +36,13 @@ impl Engine {
 
     /// The answer to a message. Where a write fails, the medium is opened again for the next message that needs it.
     pub fn answer<D: Drive>(&mut self, alloc: Global, drive: &mut D, message: Message) -> Answer
-        requires { IsReady (seen self.old (D.journal drive.old) (D.failures drive.old) (D.capacity drive.old) (D.honest drive.old)) }
-        ensures answered { Answered message (seen self.old (D.journal drive.old) (D.failures drive.old) (D.capacity drive.old) (D.honest drive.old)) result
-            (seen self.new (D.journal drive.new) (D.failures drive.new) (D.capacity drive.new) (D.honest drive.new)) }
+        requires { IsReady (seen_on D.Drive self.old drive.old) }
+        ensures answered { Answered message (seen_on D.Drive self.old drive.old) result (seen_on D.Drive self.new drive.new) }
         // On an honest drive, where a state stands that an open store knows.
-        ensures calls { (volume : ℕ) (S : State) → IsTrue (D.honest drive.new) → IsAt volume S (seen self.old (D.journal drive.old) (D.failures drive.old) (D.capacity drive.old) (D.honest drive.old)) → Calls volume message S (seen self.old (D.journal drive.old) (D.failures drive.old) (D.capacity drive.old) (D.honest drive.old)) result
-            (seen self.new (D.journal drive.new) (D.failures drive.new) (D.capacity drive.new) (D.honest drive.new)) }
+        ensures calls { (volume : ℕ) (S : State) → IsTrue (D.honest drive.new) → IsAt volume S (seen_on D.Drive self.old drive.old) → Calls volume message S (seen_on D.Drive self.old drive.old) result (seen_on D.Drive self.new drive.new) }
         // On an honest drive where nothing stands.
-        ensures nothing { IsTrue (D.honest drive.new) → HoldsNothing (seen self.old (D.journal drive.old) (D.failures drive.old) (D.capacity drive.old) (D.honest drive.old)) → IsNothingThere message (seen self.old (D.journal drive.old) (D.failures drive.old) (D.capacity drive.old) (D.honest drive.old)) result
-            (seen self.new (D.journal drive.new) (D.failures drive.new) (D.capacity drive.new) (D.honest drive.new)) }
+        ensures nothing { IsTrue (D.honest drive.new) → HoldsNothing (seen_on D.Drive self.old drive.old) → IsNothingThere message (seen_on D.Drive self.old drive.old) result (seen_on D.Drive self.new drive.new) }
+        ensures lent { drives.Follows D.Drive (faults result) drive.old drive.new }
     {
         match message {
             Message::Malformed(cause) => Answer::Malformed(cause),
@@ -68,18 +68,15 @@ impl Engine {
 
     /// Takes the store out: the one that is open, or one that is opened now.
     fn take_open<D: Drive>(&mut self, alloc: Global, drive: &mut D) -> Result<Store, StoreFault>
-        requires { IsReady (seen self.old (D.journal drive.old) (D.failures drive.old) (D.capacity drive.old) (D.honest drive.old)) }
+        requires { IsReady (seen_on D.Drive self.old drive.old) }
         ensures agrees { IfOk result (Agrees (D.journal drive.new) (D.capacity drive.new)) }
         ensures open { IfOk result (λ store. store.is_stopped ≡ false) }
-        ensures knows { (volume : ℕ) (S : State) → IsTrue (D.honest drive.new) → IsAt volume S (seen self.old (D.journal drive.old) (D.failures drive.old) (D.capacity drive.old) (D.honest drive.old)) → IfOk result (Knows (D.capacity drive.old) volume (D.journal drive.old) S) }
-        ensures short { (volume : ℕ) (S : State) → IsTrue (D.honest drive.new) → IsAt volume S (seen self.old (D.journal drive.old) (D.failures drive.old) (D.capacity drive.old) (D.honest drive.old)) → IfErr result IsShortage }
-        ensures nothing { IsTrue (D.honest drive.new) → HoldsNothing (seen self.old (D.journal drive.old) (D.failures drive.old) (D.capacity drive.old) (D.honest drive.old)) → IfOk result (λ store. ⊥) }
+        ensures knows { (volume : ℕ) (S : State) → IsTrue (D.honest drive.new) → IsAt volume S (seen_on D.Drive self.old drive.old) → IfOk result (Knows (D.capacity drive.old) volume (D.journal drive.old) S) }
+        ensures short { (volume : ℕ) (S : State) → IsTrue (D.honest drive.new) → IsAt volume S (seen_on D.Drive self.old drive.old) → IfErr result IsShortage }
+        ensures nothing { IsTrue (D.honest drive.new) → HoldsNothing (seen_on D.Drive self.old drive.old) → IfOk result (λ store. ⊥) }
         ensures taken { self.new.store ≡ None }
         ensures stays { (kept : _) → self.old.store ≡ Some kept → kept.is_stopped ≡ false → (result ≡ Ok kept) × (drive.new ≡ drive.old) }
-        ensures journal { D.journal drive.new ≡ D.journal drive.old }
-        ensures capacity { D.capacity drive.new ≡ D.capacity drive.old }
-        ensures honest { IsTrue (D.honest drive.new) → IsTrue (D.honest drive.old) }
-        ensures failures { Counts (devices result) (D.failures drive.old) (D.failures drive.new) }
+        ensures reads { Reads D.Drive (devices result) drive.old drive.new }
     {
         match self.store.take() {
             Some(store) if !store.stopped() => Ok(store),
@@ -97,13 +94,10 @@ fn answer_request<D: Drive>(
     request: &Request,
 ) -> Answer
     requires { Agrees (D.journal drive.old) (D.capacity drive.old) store.old }
-    ensures due { IsDue (due_of store.old request.now.client request.now.number) (situation (Some store.old) (D.journal drive.old) (D.failures drive.old) (D.capacity drive.old) (D.honest drive.old)) result
-        (situation (Some store.new) (D.journal drive.new) (D.failures drive.new) (D.capacity drive.new) (D.honest drive.new)) }
-    ensures follows { Follows (situation (Some store.old) (D.journal drive.old) (D.failures drive.old) (D.capacity drive.old) (D.honest drive.old))
-        (situation (Some store.new) (D.journal drive.new) (D.failures drive.new) (D.capacity drive.new) (D.honest drive.new)) }
-    ensures dealt { (volume : ℕ) (S : State) → IsTrue (D.honest drive.new) → Knows (D.capacity drive.old) volume (D.journal drive.old) S store.old → store.old.is_stopped ≡ false → IsDealt (due_of store.old request.now.client request.now.number) volume S request.now (situation (Some store.old) (D.journal drive.old) (D.failures drive.old) (D.capacity drive.old) (D.honest drive.old)) store.old result
-        (situation (Some store.new) (D.journal drive.new) (D.failures drive.new) (D.capacity drive.new) (D.honest drive.new)) }
-    ensures failures { Counts (faults result) (D.failures drive.old) (D.failures drive.new) }
+    ensures due { IsDue (due_of store.old request.now.client request.now.number) (situation_on D.Drive (Some store.old) drive.old) result (situation_on D.Drive (Some store.new) drive.new) }
+    ensures follows { Follows (situation_on D.Drive (Some store.old) drive.old) (situation_on D.Drive (Some store.new) drive.new) }
+    ensures dealt { (volume : ℕ) (S : State) → IsTrue (D.honest drive.new) → Knows (D.capacity drive.old) volume (D.journal drive.old) S store.old → store.old.is_stopped ≡ false → IsDealt (due_of store.old request.now.client request.now.number) volume S request.now (situation_on D.Drive (Some store.old) drive.old) store.old result (situation_on D.Drive (Some store.new) drive.new) }
+    ensures lent { drives.Follows D.Drive (faults result) drive.old drive.new }
 {
     match store.due(request.client, request.number) {
         Due::Repeat(reply) => Answer::Reply(reply),
@@ -123,10 +117,7 @@ fn answer_query<D: Drive>(store: &mut Store, alloc: Global, drive: &mut D, query
     ensures told { IsTold query.now result }
     ensures queried { (volume : ℕ) (S : State) → IsTrue (D.honest drive.new) → Knows (D.capacity drive.old) volume (D.journal drive.old) S store.old → store.old.is_stopped ≡ false → IsQueried S query.now result × Knows (D.capacity drive.old) volume (D.journal drive.old) S store.new }
     ensures agrees { Agrees (D.journal drive.new) (D.capacity drive.new) store.new }
-    ensures journal { D.journal drive.new ≡ D.journal drive.old }
-    ensures capacity { D.capacity drive.new ≡ D.capacity drive.old }
-    ensures honest { IsTrue (D.honest drive.new) → IsTrue (D.honest drive.old) }
-    ensures failures { Counts (faults result) (D.failures drive.old) (D.failures drive.new) }
+    ensures reads { Reads D.Drive (faults result) drive.old drive.new }
 {
     match query {
         Query::Get(path) => match store.get(alloc, drive, path) {

@@ -4,10 +4,10 @@ ghost use Rattle.std.specs.Prelude.{◌≡◌, ◌≤◌, ℕ, None, IsTrue, IfO
 ghost use Rattle.drive.specs.Journal.{held, Once};
 ghost use Rattle.medium.specs.Volume.{Stands};
 ghost use Rattle.model.specs.Session.{State};
-ghost use Rattle.recover.specs.Faults.{Counts};
+ghost use Rattle.drive.specs.Reads.{Counts, Follows};
 ghost use Rattle.udf.specs.Udf.{udf};
 ghost use Rattle.engine.specs.Answered.{faults};
-ghost use Rattle.engine.specs.Situation.{IsReady, seen, situation};
+ghost use Rattle.engine.specs.Situation.{IsReady, seen_on, situation_on};
 ghost use Rattle.engine.specs.Delivered.{Delivers, Runs};
 ghost use Rattle.engine.specs.Headline.{DeliversBy, RunHolds};
 ghost use Rattle.engine.specs.Steps.{IsAt};
@@ -33,16 +33,14 @@ pub fn run<D: Drive>(
     drive: &mut D,
     deliveries: &[Delivery],
 ) -> Result<Vec<Answer>, AllocError>
-    ensures ok { IfOk result (λ answers. Runs deliveries.now answers.items
-        (situation None (D.journal drive.old) (D.failures drive.old) (D.capacity drive.old) (D.honest drive.old))
-        (situation None (D.journal drive.new) (D.failures drive.new) (D.capacity drive.new) (D.honest drive.new))) }
+    ensures ok { IfOk result (λ answers. Runs deliveries.now answers.items (situation_on D.Drive None drive.old) (situation_on D.Drive None drive.new)) }
     // On an honest drive where a state stands: what stands at each front of what was written.
     ensures holds { (volume : ℕ) (S : State) → IsTrue (D.honest drive.new) → Once (D.journal drive.old) → Stands udf (D.capacity drive.old) volume (held (D.journal drive.old)) S
         → IfOk result (λ answers. RunHolds volume (D.capacity drive.old) deliveries.now S (D.journal drive.old) answers.items (D.journal drive.new)) }
     // No more answers tell of a failing drive than failures were counted.
     ensures failures { IfOk result (λ answers. Counts (sum_by faults answers.items) (D.failures drive.old) (D.failures drive.new)) }
-    ensures err { OnErr result (situation None (D.journal drive.new) (D.failures drive.new) (D.capacity drive.new) (D.honest drive.new)
-        ≡ situation None (D.journal drive.old) (D.failures drive.old) (D.capacity drive.old) (D.honest drive.old)) }
+    ensures err { OnErr result (situation_on D.Drive None drive.new ≡ situation_on D.Drive None drive.old) }
+    ensures lent { Follows D.Drive 0 drive.old drive.new }
 {
     let mut answers = Vec::with_capacity(alloc, deliveries.len())?;
     let mut engine = Engine::new();
@@ -61,13 +59,12 @@ fn deliver<D: Drive>(
     drive: &mut D,
     delivery: &Delivery,
 ) -> Option<Answer>
-    requires { IsReady (seen engine.old (D.journal drive.old) (D.failures drive.old) (D.capacity drive.old) (D.honest drive.old)) }
-    ensures delivers { Delivers delivery.now (seen engine.old (D.journal drive.old) (D.failures drive.old) (D.capacity drive.old) (D.honest drive.old)) result
-        (seen engine.new (D.journal drive.new) (D.failures drive.new) (D.capacity drive.new) (D.honest drive.new)) }
-    ensures by { (volume : ℕ) (S : State) → IsTrue (D.honest drive.new) → IsAt volume S (seen engine.old (D.journal drive.old) (D.failures drive.old) (D.capacity drive.old) (D.honest drive.old))
-        → DeliversBy volume delivery.now S (seen engine.old (D.journal drive.old) (D.failures drive.old) (D.capacity drive.old) (D.honest drive.old)) result
-        (seen engine.new (D.journal drive.new) (D.failures drive.new) (D.capacity drive.new) (D.honest drive.new)) }
-    ensures ready { IsReady (seen engine.new (D.journal drive.new) (D.failures drive.new) (D.capacity drive.new) (D.honest drive.new)) }
+    requires { IsReady (seen_on D.Drive engine.old drive.old) }
+    ensures delivers { Delivers delivery.now (seen_on D.Drive engine.old drive.old) result (seen_on D.Drive engine.new drive.new) }
+    ensures by { (volume : ℕ) (S : State) → IsTrue (D.honest drive.new) → IsAt volume S (seen_on D.Drive engine.old drive.old)
+        → DeliversBy volume delivery.now S (seen_on D.Drive engine.old drive.old) result (seen_on D.Drive engine.new drive.new) }
+    ensures ready { IsReady (seen_on D.Drive engine.new drive.new) }
+    ensures lent { Follows D.Drive 0 drive.old drive.new }
 {
     match delivery {
         Delivery::Restart => {

@@ -2,10 +2,11 @@
 
 ghost use Rattle.std.specs.Prelude.{OnOk, OnErr};
 ghost use Rattle.std.specs.Io.KnownBytes.{Appends};
+ghost use Rattle.drive.specs.Reads.{Follows};
 ghost use Rattle.request.specs.Answers.{answer_frame};
 ghost use Rattle.request.specs.Frames.{IsIdle};
 ghost use Rattle.engine.specs.Streams.{PutsFront};
-ghost use Rattle.engine.specs.Situation.{IsReady, seen};
+ghost use Rattle.engine.specs.Situation.{IsReady, seen_on};
 ghost use Rattle.engine.specs.Served.{Answering, AnswersSome, ServesSome, ServesAll};
 
 use crate::engine::Engine;
@@ -39,14 +40,13 @@ pub fn serve<R: Read, W: Write, D: Drive>(
     engine: &mut Engine,
     drive: &mut D,
 ) -> Result<(), ServeFault>
-    requires { IsReady (seen engine.old (D.journal drive.old) (D.failures drive.old) (D.capacity drive.old) (D.honest drive.old)) }
-    ensures ok { OnOk result (ServesAll (seen engine.old (D.journal drive.old) (D.failures drive.old) (D.capacity drive.old) (D.honest drive.old))
-        (seen engine.new (D.journal drive.new) (D.failures drive.new) (D.capacity drive.new) (D.honest drive.new))
+    requires { IsReady (seen_on D.Drive engine.old drive.old) }
+    ensures ok { OnOk result (ServesAll (seen_on D.Drive engine.old drive.old) (seen_on D.Drive engine.new drive.new)
         (R.remaining reader.old) (R.remaining reader.new) (W.contents writer.old) (W.contents writer.new)) }
-    ensures err { OnErr result (ServesSome (seen engine.old (D.journal drive.old) (D.failures drive.old) (D.capacity drive.old) (D.honest drive.old))
-        (seen engine.new (D.journal drive.new) (D.failures drive.new) (D.capacity drive.new) (D.honest drive.new))
+    ensures err { OnErr result (ServesSome (seen_on D.Drive engine.old drive.old) (seen_on D.Drive engine.new drive.new)
         (R.remaining reader.old) (R.remaining reader.new) (W.contents writer.old) (W.contents writer.new)) }
-    ensures ready { IsReady (seen engine.new (D.journal drive.new) (D.failures drive.new) (D.capacity drive.new) (D.honest drive.new)) }
+    ensures ready { IsReady (seen_on D.Drive engine.new drive.new) }
+    ensures lent { Follows D.Drive 0 drive.old drive.new }
 {
     let mut piece = match vec![in alloc; 0u8; PIECE_BYTES] {
         Ok(piece) => piece,
@@ -81,17 +81,14 @@ fn answer_all<W: Write, D: Drive>(
     engine: &mut Engine,
     drive: &mut D,
 ) -> Result<(), ServeFault>
-    requires { IsReady (seen engine.old (D.journal drive.old) (D.failures drive.old) (D.capacity drive.old) (D.honest drive.old)) }
-    ensures ok { OnOk result (Answering frames.old frames.new
-        (seen engine.old (D.journal drive.old) (D.failures drive.old) (D.capacity drive.old) (D.honest drive.old))
-        (seen engine.new (D.journal drive.new) (D.failures drive.new) (D.capacity drive.new) (D.honest drive.new))
+    requires { IsReady (seen_on D.Drive engine.old drive.old) }
+    ensures ok { OnOk result (Answering frames.old frames.new (seen_on D.Drive engine.old drive.old) (seen_on D.Drive engine.new drive.new)
         (W.contents writer.old) (W.contents writer.new)) }
     ensures idle { OnOk result (IsIdle frames.new) }
-    ensures err { OnErr result (AnswersSome frames.old frames.new
-        (seen engine.old (D.journal drive.old) (D.failures drive.old) (D.capacity drive.old) (D.honest drive.old))
-        (seen engine.new (D.journal drive.new) (D.failures drive.new) (D.capacity drive.new) (D.honest drive.new))
+    ensures err { OnErr result (AnswersSome frames.old frames.new (seen_on D.Drive engine.old drive.old) (seen_on D.Drive engine.new drive.new)
         (W.contents writer.old) (W.contents writer.new)) }
-    ensures ready { IsReady (seen engine.new (D.journal drive.new) (D.failures drive.new) (D.capacity drive.new) (D.honest drive.new)) }
+    ensures ready { IsReady (seen_on D.Drive engine.new drive.new) }
+    ensures lent { Follows D.Drive 0 drive.old drive.new }
 {
     while let Some(message) = frames.take() {
         let answer = engine.answer(alloc, drive, message);

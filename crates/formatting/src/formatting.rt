@@ -2,13 +2,14 @@
 
 ghost use Rattle.std.specs.Prelude.{◌≡◌, ◌↔◌, ℕ, ◌<◌, ◌≤◌, ◌∷◌, [], Ok, Err, IsTrue, None, IsSome, IsNone, IfOk, IfErr, IfSome, OnOk, is_err, length, slice_index};
 ghost use Rattle.drive.specs.Journal.{counted, held, next_of};
+ghost use Rattle.drive.specs.Reads.{Follows, Reads};
 ghost use Rattle.dir.specs.Directory.{identifiers};
 ghost use Rattle.dir.specs.Layout.{identifier_blocks};
 ghost use Rattle.ecma.specs.Descriptor.{padded};
 ghost use Rattle.icb.specs.Entry.{IsEntry};
 ghost use Rattle.osta.specs.FirstFault.{first_fault};
 ghost use Rattle.osta.specs.Label.{IsLabel, label_faults};
-ghost use Rattle.recover.specs.Faults.{Counts, devices};
+ghost use Rattle.recover.specs.Faults.{devices};
 ghost use Rattle.recover.specs.declared.fault.StoreFault.TheVariants as fault;
 ghost use Rattle.formatting.specs.NewVolume.{words_of, words_on, IsBlockAt, IsSeen, IsBegun, AreBlocks, IsFormatted, IsRefused, OneFormat};
 ghost use Rattle.udf.specs.Udf.{IsBlock};
@@ -58,9 +59,7 @@ pub fn format<D: Drive>(
     ensures err { IfErr result (IsRefused (D.capacity drive.old) (words_on (D.capacity drive.old) label.now moment) (D.journal drive.old) (D.journal drive.new) (D.honest drive.new)) }
     ensures label { (result ≡ Err fault.Label) ↔ IsSome (first_fault (label_faults label.now)) }
     ensures small { (result ≡ Err fault.Small) ↔ (IsNone (first_fault (label_faults label.now)) × (D.capacity drive.old < 512)) }
-    ensures capacity { D.capacity drive.new ≡ D.capacity drive.old }
-    ensures honest { IsTrue (D.honest drive.new) → IsTrue (D.honest drive.old) }
-    ensures failures { Counts (devices result) (D.failures drive.old) (D.failures drive.new) }
+    ensures follows { Follows D.Drive (devices result) drive.old drive.new }
 {
     let label = match Label::read(label) {
         Ok(label) => label,
@@ -130,9 +129,7 @@ fn begun<D: Drive>(drive: &mut D, parts: &Parts) -> Result<Option<u32>, DriveFau
     ensures next { IfOk result (λ found. IfSome found (λ next. (next ≡ next_of (D.journal drive.old)) × (next ≤ 262))) }
     ensures seen { IfOk result (λ found. IfSome found (IsSeen (words_of parts.now) (D.journal drive.old) (D.honest drive.new))) }
     ensures other { result ≡ Ok None → IsTrue (D.honest drive.new) → IsBegun (words_of parts.now) (held (D.journal drive.old)) → ⊥ }
-    ensures journal { D.journal drive.new ≡ D.journal drive.old }
-    ensures capacity { D.capacity drive.new ≡ D.capacity drive.old }
-    ensures honest { IsTrue (D.honest drive.new) → IsTrue (D.honest drive.old) }
+    ensures reads { Reads D.Drive 0 drive.old drive.new }
     ensures failures { D.failures drive.new ≡ counted (is_err result) (D.failures drive.old) }
 {
     let next = match drive.next() {

@@ -1,7 +1,7 @@
 //! The program `udfburnd`.
 
 ghost use Rattle.std.specs.Prelude.{◌≡◌, ◌≤◌, map, IfErr};
-ghost use Rattle.engine.specs.Situation.{IsReady, seen};
+ghost use Rattle.engine.specs.Situation.{IsReady, seen_on};
 ghost use Rattle.words.specs.Daemon.{AsksDaemon};
 ghost use Rattle.programs.specs.Status.{IsRefusal};
 
@@ -109,8 +109,8 @@ pub fn serve_one<D: Drive>(
     engine: &mut Engine,
     drive: &mut D,
 ) -> Result<(), Fault>
-    requires { IsReady (seen engine.old (D.journal drive.old) (D.failures drive.old) (D.capacity drive.old) (D.honest drive.old)) }
-    ensures ready { IsReady (seen engine.new (D.journal drive.new) (D.failures drive.new) (D.capacity drive.new) (D.honest drive.new)) }
+    requires { IsReady (seen_on D.Drive engine.old drive.old) }
+    ensures ready { IsReady (seen_on D.Drive engine.new drive.new) }
     ensures refusal { IfErr result IsRefusal }
 {
     let patience = Some(Duration::from_secs(PATIENCE));

@@ -1,11 +1,7 @@
 -- How many failures of the drive a refusal stands for.
-use Rattle.std.specs.Prelude.{◌≡◌, ◌⊎◌, ℕ, ◌+◌, ◌-◌, ◌^◌, ◌<◌, ◌≤◌, Result, Ok, Err}
+use Rattle.std.specs.Prelude.{◌≡◌, ◌⊎◌, ℕ, Result, Ok, Err}
 use Rattle.recover.specs.declared.fault.StoreFault.{StoreFault}
 use Rattle.recover.specs.declared.fault.StoreFault.TheVariants.{NotBlank, Label, Small, Device, Memory, NotFormatted, Damaged, Full, Stopped, NoCommit, NotFound, IsDirectory, NotDirectory}
-
--- so many failures were counted at least, while the count is below its top
-abbrev pub Counts : ℕ → ℕ → ℕ → Type 0
-Counts n before now = now < 2 ^ 64 - 1 → before + n ≤ now
 
 abbrev pub failures_of : StoreFault → ℕ
 failures_of NotBlank = 0

@@ -35,7 +35,8 @@ impl NodeEntry {
     ghost use Rattle.std.specs.Prelude.{◌≡◌, ◌<◌, IsTrue, IfOk, IfErr};
     ghost use Rattle.drive.specs.Journal.{held, next_of};
     ghost use Rattle.icb.specs.Entry.{place_of};
-    ghost use Rattle.recover.specs.Faults.{Counts, devices};
+    ghost use Rattle.drive.specs.Reads.{Reads};
+    ghost use Rattle.recover.specs.Faults.{devices};
     ghost use Rattle.recover.specs.Known.{IsSaid, IsUnsaid};
     ghost use Rattle.recover.specs.Walk.{extent_in};
 
@@ -46,10 +47,7 @@ impl NodeEntry {
         requires { place.at < next_of (D.journal drive.old) }
         ensures said { IfOk result (λ entry. IsTrue (D.honest drive.new) → IsSaid (held (D.journal drive.old)) place entry) }
         ensures refused { IfErr result (λ fault. IsTrue (D.honest drive.new) → IsUnsaid (held (D.journal drive.old)) place fault) }
-        ensures journal { D.journal drive.new ≡ D.journal drive.old }
-        ensures capacity { D.capacity drive.new ≡ D.capacity drive.old }
-        ensures honest { IsTrue (D.honest drive.new) → IsTrue (D.honest drive.old) }
-        ensures failures { Counts (devices result) (D.failures drive.old) (D.failures drive.new) }
+        ensures reads { Reads D.Drive (devices result) drive.old drive.new }
     {
         let block = read_block(drive, place.at)?;
         match decode_fe(&block, place.address) {
@@ -89,7 +87,8 @@ impl Names {
     ghost use Rattle.std.specs.Prelude.{◌≡◌, ◌+◌, ◌<◌, ◌≤◌, IsTrue, IfOk, IfErr};
     ghost use Rattle.std.specs.Int.{div_ceil};
     ghost use Rattle.drive.specs.Journal.{held, next_of};
-    ghost use Rattle.recover.specs.Faults.{Counts, devices};
+    ghost use Rattle.drive.specs.Reads.{Reads};
+    ghost use Rattle.recover.specs.Faults.{devices};
     ghost use Rattle.recover.specs.Known.{IsNamed};
     ghost use Rattle.recover.specs.Nodes.{IsDirectoryRefused, data_of};
 
@@ -105,10 +104,7 @@ impl Names {
         requires within { extent.first + 257 + div_ceil extent.size 2048 ≤ next_of (D.journal drive.old) }
         ensures named { IfOk result (λ names. IsTrue (D.honest drive.new) → IsNamed (held (D.journal drive.old)) extent names) }
         ensures refused { IfErr result (λ fault. IsTrue (D.honest drive.new) → IsDirectoryRefused extent (data_of (held (D.journal drive.old)) extent) fault) }
-        ensures journal { D.journal drive.new ≡ D.journal drive.old }
-        ensures capacity { D.capacity drive.new ≡ D.capacity drive.old }
-        ensures honest { IsTrue (D.honest drive.new) → IsTrue (D.honest drive.old) }
-        ensures failures { Counts (devices result) (D.failures drive.old) (D.failures drive.new) }
+        ensures reads { Reads D.Drive (devices result) drive.old drive.new }
     {
         Ok(Names {
             dir: read_directory(alloc, drive, extent)?,

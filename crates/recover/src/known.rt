@@ -32,7 +32,8 @@ impl Known {
     ghost use Rattle.std.specs.Int.{div_ceil};
     ghost use Rattle.drive.specs.Journal.{held, next_of};
     ghost use Rattle.volume.specs.Front.{IsFront};
-    ghost use Rattle.recover.specs.Faults.{Counts, devices};
+    ghost use Rattle.drive.specs.Reads.{Reads};
+    ghost use Rattle.recover.specs.Faults.{devices};
     ghost use Rattle.recover.specs.Known.{IsKnown, IsNamed, IsSaid, IsUnsaid};
     ghost use Rattle.recover.specs.Nodes.{IsDirectoryRefused, data_of};
     ghost use Rattle.recover.specs.State.{IsFrontRefused};
@@ -78,10 +79,7 @@ impl Known {
         ensures refused { IfErr result (λ fault. IsTrue (D.honest drive.new) → IsFrontRefused (take 257 (held (D.journal drive.old))) fault) }
         ensures limits { IfOk result (λ front. (512 ≤ front.capacity) × (front.capacity ≤ 450_000)) }
         ensures known { IsTrue (D.honest drive.new) → IsKnown (held (D.journal drive.new)) self.new }
-        ensures journal { D.journal drive.new ≡ D.journal drive.old }
-        ensures capacity { D.capacity drive.new ≡ D.capacity drive.old }
-        ensures honest { IsTrue (D.honest drive.new) → IsTrue (D.honest drive.old) }
-        ensures failures { Counts (devices result) (D.failures drive.old) (D.failures drive.new) }
+        ensures reads { Reads D.Drive (devices result) drive.old drive.new }
     {
         match self.front {
             Some(front) => Ok(front),
@@ -113,10 +111,7 @@ impl Known {
         ensures said { IfOk result (λ entry. IsTrue (D.honest drive.new) → IsSaid (held (D.journal drive.old)) place entry) }
         ensures refused { IfErr result (λ fault. IsTrue (D.honest drive.new) → IsUnsaid (held (D.journal drive.old)) place fault) }
         ensures known { IsTrue (D.honest drive.new) → IsKnown (held (D.journal drive.new)) self.new }
-        ensures journal { D.journal drive.new ≡ D.journal drive.old }
-        ensures capacity { D.capacity drive.new ≡ D.capacity drive.old }
-        ensures honest { IsTrue (D.honest drive.new) → IsTrue (D.honest drive.old) }
-        ensures failures { Counts (devices result) (D.failures drive.old) (D.failures drive.new) }
+        ensures reads { Reads D.Drive (devices result) drive.old drive.new }
     {
         match self.entries.find(place) {
             Some(entry) => Ok(entry),
@@ -151,10 +146,7 @@ impl Known {
         ensures named { IfOk result (λ names. IsTrue (D.honest drive.new) → IsNamed (held (D.journal drive.old)) extent names) }
         ensures refused { IfErr result (λ fault. IsTrue (D.honest drive.new) → IsDirectoryRefused extent (data_of (held (D.journal drive.old)) extent) fault) }
         ensures known { IsTrue (D.honest drive.new) → IsKnown (held (D.journal drive.new)) self.new }
-        ensures journal { D.journal drive.new ≡ D.journal drive.old }
-        ensures capacity { D.capacity drive.new ≡ D.capacity drive.old }
-        ensures honest { IsTrue (D.honest drive.new) → IsTrue (D.honest drive.old) }
-        ensures failures { Counts (devices result) (D.failures drive.old) (D.failures drive.new) }
+        ensures reads { Reads D.Drive (devices result) drive.old drive.new }
     {
         match self.before.take(extent) {
             Some(names) => Ok(names),

@@ -6,7 +6,8 @@ ghost use Rattle.std.specs.Int.{div_ceil};
 ghost use Rattle.drive.specs.Journal.{AreWhole, held, last_at, next_of};
 ghost use Rattle.recover.specs.declared.fault.StoreFault.TheVariants.{Device};
 ghost use Rattle.recover.specs.Blocks.{blocks_at, bytes_at};
-ghost use Rattle.recover.specs.Faults.{Counts, IsShortage, devices};
+ghost use Rattle.drive.specs.Reads.{Reads};
+ghost use Rattle.recover.specs.Faults.{IsShortage, devices};
 
 use crate::fault::StoreFault;
 use drive::Drive;
@@ -33,10 +34,7 @@ pub fn read_block<D: Drive>(drive: &mut D, at: u32) -> Result<Block, StoreFault>
     ensures block { IfOk result IsBlock }
     ensures whole { AreWhole (D.journal drive.old) }
     ensures device { IfErr result (λ fault. fault ≡ Device) }
-    ensures journal { D.journal drive.new ≡ D.journal drive.old }
-    ensures capacity { D.capacity drive.new ≡ D.capacity drive.old }
-    ensures honest { IsTrue (D.honest drive.new) → IsTrue (D.honest drive.old) }
-    ensures failures { Counts (devices result) (D.failures drive.old) (D.failures drive.new) }
+    ensures reads { Reads D.Drive (devices result) drive.old drive.new }
 {
     let mut block = [0; 2048];
     match drive.read(at, &mut block) {
@@ -66,10 +64,7 @@ pub fn read_blocks<D: Drive>(
     ensures blocks { IfOk result (λ blocks. All IsBlock blocks.items) }
     ensures count { IfOk result (λ blocks. vec_len blocks ≡ count) }
     ensures refused { IfErr result IsShortage }
-    ensures journal { D.journal drive.new ≡ D.journal drive.old }
-    ensures capacity { D.capacity drive.new ≡ D.capacity drive.old }
-    ensures honest { IsTrue (D.honest drive.new) → IsTrue (D.honest drive.old) }
-    ensures failures { Counts (devices result) (D.failures drive.old) (D.failures drive.new) }
+    ensures reads { Reads D.Drive (devices result) drive.old drive.new }
 {
     let mut blocks = Vec::with_capacity(alloc, count as usize)?;
     for i in 0..count {
@@ -91,10 +86,7 @@ pub fn read_bytes<D: Drive>(
     ensures read { IfOk result (λ bytes. IsTrue (D.honest drive.new) → bytes.items ≡ bytes_at (held (D.journal drive.old)) at size) }
     ensures size { IfOk result (λ bytes. vec_len bytes ≡ size) }
     ensures refused { IfErr result IsShortage }
-    ensures journal { D.journal drive.new ≡ D.journal drive.old }
-    ensures capacity { D.capacity drive.new ≡ D.capacity drive.old }
-    ensures honest { IsTrue (D.honest drive.new) → IsTrue (D.honest drive.old) }
-    ensures failures { Counts (devices result) (D.failures drive.old) (D.failures drive.new) }
+    ensures reads { Reads D.Drive (devices result) drive.old drive.new }
 {
     let mut bytes = Vec::with_capacity(alloc, size as usize)?;
     for i in 0..block_count(size) {

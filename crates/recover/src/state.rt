@@ -4,7 +4,8 @@ ghost use Rattle.std.specs.Prelude.{◌≡◌, ℕ, ◌<◌, ◌≤◌, ◌+◌,
 ghost use Rattle.drive.specs.Journal.{held, next_of};
 ghost use Rattle.vat.specs.Table.{IsTableAt, view};
 ghost use Rattle.volume.specs.Front.{IsFront};
-ghost use Rattle.recover.specs.Faults.{Counts, devices};
+ghost use Rattle.drive.specs.Reads.{Reads};
+ghost use Rattle.recover.specs.Faults.{devices};
 ghost use Rattle.recover.specs.Known.{IsKnown};
 ghost use Rattle.recover.specs.State.{HasFileSet, HasTree, IsCounted, IsDescribed, IsFrontRefused, IsSetRefused, IsShown, IsSound, IsStateRefused, IsTreeRefused};
 ghost use Rattle.recover.specs.Tables.{HasTable};
@@ -55,10 +56,7 @@ pub fn state_at<D: Drive>(alloc: Global, drive: &mut D, at: u32) -> Result<State
     ensures sound { IfOk result (IsSound at (D.capacity drive.old)) }
     // The table that it keeps is the one whose entry stands there.
     ensures table { IfOk result (λ state. IsTrue (D.honest drive.new) → HasTable (held (D.journal drive.old)) at (view state.vat)) }
-    ensures journal { D.journal drive.new ≡ D.journal drive.old }
-    ensures capacity { D.capacity drive.new ≡ D.capacity drive.old }
-    ensures honest { IsTrue (D.honest drive.new) → IsTrue (D.honest drive.old) }
-    ensures failures { Counts (devices result) (D.failures drive.old) (D.failures drive.new) }
+    ensures reads { Reads D.Drive (devices result) drive.old drive.new }
 {
     let mut known = Known::of_no_nodes(alloc);
     state_sharing(alloc, drive, &mut known, at)
@@ -81,10 +79,7 @@ pub fn state_sharing<D: Drive>(
     ensures table { IfOk result (λ state. IsTrue (D.honest drive.new) → HasTable (held (D.journal drive.old)) at (view state.vat)) }
     // What is known stays so, whatever was found.
     ensures known { IsTrue (D.honest drive.new) → IsKnown (held (D.journal drive.new)) known.new }
-    ensures journal { D.journal drive.new ≡ D.journal drive.old }
-    ensures capacity { D.capacity drive.new ≡ D.capacity drive.old }
-    ensures honest { IsTrue (D.honest drive.new) → IsTrue (D.honest drive.old) }
-    ensures failures { Counts (devices result) (D.failures drive.old) (D.failures drive.new) }
+    ensures reads { Reads D.Drive (devices result) drive.old drive.new }
 {
     known.begin(alloc);
     let (state, data_at) = described(alloc, drive, known, at)?;
@@ -93,6 +88,7 @@ pub fn state_sharing<D: Drive>(
 }
 
 /// What stands there but for the tree, beside the address of the first block of the table's data.
+#[tactic(auto, using(drive::proofs::Reading::reads_then))]
 fn described<D: Drive>(
     alloc: Global,
     drive: &mut D,
@@ -107,10 +103,7 @@ fn described<D: Drive>(
     ensures limits { IfOk result (λ found. (512 ≤ found.0.capacity) × (found.0.capacity ≤ 450_000) × (found.0.capacity ≤ D.capacity drive.old)) }
     ensures table { IfOk result (λ found. (bytes : List ℕ) × IsTableAt (at - 257) (view found.0.vat) bytes) }
     ensures known { IsTrue (D.honest drive.new) → IsKnown (held (D.journal drive.new)) known.new }
-    ensures journal { D.journal drive.new ≡ D.journal drive.old }
-    ensures capacity { D.capacity drive.new ≡ D.capacity drive.old }
-    ensures honest { IsTrue (D.honest drive.new) → IsTrue (D.honest drive.old) }
-    ensures failures { Counts (devices result) (D.failures drive.old) (D.failures drive.new) }
+    ensures reads { Reads D.Drive (devices result) drive.old drive.new }
 {
     let front = known.front(drive)?;
     if front.capacity > drive.capacity() {
@@ -133,15 +126,13 @@ fn described<D: Drive>(
 }
 
 /// Reads the front, block by block.
+#[tactic(auto, using(drive::proofs::Reading::reads_then))]
 pub(crate) fn read_front<D: Drive>(drive: &mut D) -> Result<Front, StoreFault>
     requires within { 257 ≤ next_of (D.journal drive.old) }
     ensures front { IfOk result (λ front. IsTrue (D.honest drive.new) → IsFront front.label front.moment front.capacity (take 257 (held (D.journal drive.old)))) }
     ensures refused { IfErr result (λ fault. IsTrue (D.honest drive.new) → IsFrontRefused (take 257 (held (D.journal drive.old))) fault) }
     ensures limits { IfOk result (λ front. (512 ≤ front.capacity) × (front.capacity ≤ 450_000)) }
-    ensures journal { D.journal drive.new ≡ D.journal drive.old }
-    ensures capacity { D.capacity drive.new ≡ D.capacity drive.old }
-    ensures honest { IsTrue (D.honest drive.new) → IsTrue (D.honest drive.old) }
-    ensures failures { Counts (devices result) (D.failures drive.old) (D.failures drive.new) }
+    ensures reads { Reads D.Drive (devices result) drive.old drive.new }
 {
     let primary = read_block(drive, PRIMARY)?;
     let partition = read_block(drive, PARTITION)?;
@@ -171,10 +162,7 @@ fn check_file_set<D: Drive>(
     requires within { at < next_of (D.journal drive.old) }
     ensures set { OnOk result (IsTrue (D.honest drive.new) → HasFileSet (take at (held (D.journal drive.old))) vat.now.entries.items front.now.label front.now.moment) }
     ensures refused { IfErr result (λ fault. IsTrue (D.honest drive.new) → IsSetRefused (take at (held (D.journal drive.old))) vat.now.entries.items front.now.label front.now.moment fault) }
-    ensures journal { D.journal drive.new ≡ D.journal drive.old }
-    ensures capacity { D.capacity drive.new ≡ D.capacity drive.old }
-    ensures honest { IsTrue (D.honest drive.new) → IsTrue (D.honest drive.old) }
-    ensures failures { Counts (devices result) (D.failures drive.old) (D.failures drive.new) }
+    ensures reads { Reads D.Drive (devices result) drive.old drive.new }
 {
     let set_at = match address_below(&vat.entries, 0, at) {
         Some(set_at) => set_at,
@@ -213,10 +201,7 @@ fn check_tree<D: Drive>(
     ensures counts { OnOk result (IsCounted at vat.now) }
     ensures refused { IfErr result (λ fault. IsTrue (D.honest drive.new) → IsTreeRefused (take at (held (D.journal drive.old))) at vat.now fault) }
     ensures known { IsTrue (D.honest drive.new) → IsKnown (held (D.journal drive.new)) known.new }
-    ensures journal { D.journal drive.new ≡ D.journal drive.old }
-    ensures capacity { D.capacity drive.new ≡ D.capacity drive.old }
-    ensures honest { IsTrue (D.honest drive.new) → IsTrue (D.honest drive.old) }
-    ensures failures { Counts (devices result) (D.failures drive.old) (D.failures drive.new) }
+    ensures reads { Reads D.Drive (devices result) drive.old drive.new }
 {
     let sessions = &vat.sessions;
     let mut walk = Walk::new(alloc, at, &vat.entries, sessions.next_unique);

@@ -7,7 +7,8 @@ ghost use Rattle.icb.specs.declared.entry.Kind.TheVariants as kinds;
 ghost use Rattle.icb.specs.Entry.{Fits, fields_of, place_of};
 ghost use Rattle.icb.specs.Entry.Place.{Extent};
 ghost use Rattle.vat.specs.Table.{IsTableAt, view};
-ghost use Rattle.recover.specs.Faults.{Counts, devices};
+ghost use Rattle.drive.specs.Reads.{Reads};
+ghost use Rattle.recover.specs.Faults.{devices};
 ghost use Rattle.recover.specs.declared.fault.StoreFault.TheVariants.{Device};
 ghost use Rattle.recover.specs.Tables.{HasDataBelow, IsBefore, IsBeforeRefused, IsEntryAt, IsEntryRefused, IsLast, IsTableRefused, HasTable, IsAtRefused, IsLinkRefused, data_of};
 ghost use Rattle.recover.specs.Walk.{LeadsTo};
@@ -37,10 +38,7 @@ pub fn last<D: Drive>(drive: &mut D) -> Result<Option<u32>, StoreFault>
     ensures last { IfOk result (λ found. IsTrue (D.honest drive.new) → IsLast (held (D.journal drive.old)) found) }
     ensures within { IfOk result (λ found. IfSome found (λ at. (257 ≤ at) × (at < next_of (D.journal drive.old)))) }
     ensures device { IfErr result (λ fault. fault ≡ Device) }
-    ensures journal { D.journal drive.new ≡ D.journal drive.old }
-    ensures capacity { D.capacity drive.new ≡ D.capacity drive.old }
-    ensures honest { IsTrue (D.honest drive.new) → IsTrue (D.honest drive.old) }
-    ensures failures { Counts (devices result) (D.failures drive.old) (D.failures drive.new) }
+    ensures reads { Reads D.Drive (devices result) drive.old drive.new }
 {
     let mut left = match drive.next() {
         Ok(next) => next,
@@ -63,10 +61,7 @@ pub fn table_entry<D: Drive>(drive: &mut D, at: u32) -> Result<TableEntry, Store
     ensures found { IfOk result (λ e. IsTrue (D.honest drive.new) → IsEntryAt (held (D.journal drive.old)) at e) }
     ensures refused { IfErr result (λ fault. IsTrue (D.honest drive.new) → IsEntryRefused (held (D.journal drive.old)) at fault) }
     ensures below { IfOk result (HasDataBelow at) }
-    ensures journal { D.journal drive.new ≡ D.journal drive.old }
-    ensures capacity { D.capacity drive.new ≡ D.capacity drive.old }
-    ensures honest { IsTrue (D.honest drive.new) → IsTrue (D.honest drive.old) }
-    ensures failures { Counts (devices result) (D.failures drive.old) (D.failures drive.new) }
+    ensures reads { Reads D.Drive (devices result) drive.old drive.new }
 {
     let block = read_block(drive, at)?;
     let entry = match decode_fe(&block, at - PARTITION_START) {
@@ -116,10 +111,7 @@ pub fn read_table<D: Drive>(
     ensures table { IfOk result (λ vat. (bytes : List ℕ) × (IsTrue (D.honest drive.new) → bytes ≡ data_of (held (D.journal drive.old)) entry.now) × IsTableAt (at - 257) (view vat) bytes) }
     ensures refused { IfErr result (λ fault. IsTrue (D.honest drive.new) → IsTableRefused (at - 257) entry.now (data_of (held (D.journal drive.old)) entry.now) fault) }
     ensures previous { IfOk result (λ vat. IfSome vat.previous (λ number. number + 257 < at)) }
-    ensures journal { D.journal drive.new ≡ D.journal drive.old }
-    ensures capacity { D.capacity drive.new ≡ D.capacity drive.old }
-    ensures honest { IsTrue (D.honest drive.new) → IsTrue (D.honest drive.old) }
-    ensures failures { Counts (devices result) (D.failures drive.old) (D.failures drive.new) }
+    ensures reads { Reads D.Drive (devices result) drive.old drive.new }
 {
     let start = entry.first + PARTITION_START;
     let bytes = read_bytes(alloc, drive, start, entry.size)?;
@@ -145,10 +137,7 @@ pub fn table_at<D: Drive>(alloc: Global, drive: &mut D, at: u32) -> Result<Vat, 
     ensures refused { IfErr result (λ fault. IsTrue (D.honest drive.new) → IsAtRefused (held (D.journal drive.old)) at fault) }
     ensures previous { IfOk result (λ vat. IfSome vat.previous (λ number. number + 257 < at)) }
     ensures first { IfOk result (λ vat. IsNone vat.previous ↔ (vat.sessions.commits ≡ 0)) }
-    ensures journal { D.journal drive.new ≡ D.journal drive.old }
-    ensures capacity { D.capacity drive.new ≡ D.capacity drive.old }
-    ensures honest { IsTrue (D.honest drive.new) → IsTrue (D.honest drive.old) }
-    ensures failures { Counts (devices result) (D.failures drive.old) (D.failures drive.new) }
+    ensures reads { Reads D.Drive (devices result) drive.old drive.new }
 {
     let entry = table_entry(drive, at)?;
     let vat = read_table(alloc, drive, at, &entry)?;
@@ -170,10 +159,7 @@ pub fn linked<D: Drive>(
     ensures refused { IfErr result (λ fault. IsTrue (D.honest drive.new) → IsLinkRefused (held (D.journal drive.old)) (number + 257) commits fault) }
     ensures previous { IfOk result (λ vat. IfSome vat.previous (λ earlier. earlier < number)) }
     ensures first { IfOk result (λ vat. IsNone vat.previous ↔ (vat.sessions.commits ≡ 0)) }
-    ensures journal { D.journal drive.new ≡ D.journal drive.old }
-    ensures capacity { D.capacity drive.new ≡ D.capacity drive.old }
-    ensures honest { IsTrue (D.honest drive.new) → IsTrue (D.honest drive.old) }
-    ensures failures { Counts (devices result) (D.failures drive.old) (D.failures drive.new) }
+    ensures reads { Reads D.Drive (devices result) drive.old drive.new }
 {
     let at = number + PARTITION_START;
     let vat = table_at(alloc, drive, at)?;
@@ -212,10 +198,7 @@ pub fn before<D: Drive>(alloc: Global, drive: &mut D, at: u32) -> Result<Option<
     ensures before { IfOk result (λ found. IsTrue (D.honest drive.new) → IsBefore (held (D.journal drive.old)) at found) }
     ensures refused { IfErr result (λ fault. IsTrue (D.honest drive.new) → IsBeforeRefused (held (D.journal drive.old)) at fault) }
     ensures below { IfOk result (λ found. IfSome found (λ earlier. (257 ≤ earlier) × (earlier < at))) }
-    ensures journal { D.journal drive.new ≡ D.journal drive.old }
-    ensures capacity { D.capacity drive.new ≡ D.capacity drive.old }
-    ensures honest { IsTrue (D.honest drive.new) → IsTrue (D.honest drive.old) }
-    ensures failures { Counts (devices result) (D.failures drive.old) (D.failures drive.new) }
+    ensures reads { Reads D.Drive (devices result) drive.old drive.new }
 {
     let vat = table_at(alloc, drive, at)?;
     let number = match vat.previous {

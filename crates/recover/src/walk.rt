@@ -3,7 +3,8 @@
 ghost use Rattle.std.specs.Prelude.{◌≡◌, ◌↔◌, ◌+◌, ◌<◌, ◌≤◌, ◌^◌, IsTrue, IfOk, IfErr, IfSome, OnOk};
 ghost use Rattle.std.specs.Int.{div_ceil};
 ghost use Rattle.drive.specs.Journal.{held, next_of};
-ghost use Rattle.recover.specs.Faults.{Counts, devices};
+ghost use Rattle.drive.specs.Reads.{Reads};
+ghost use Rattle.recover.specs.Faults.{devices};
 ghost use Rattle.recover.specs.Known.{IsKnown};
 ghost use Rattle.recover.specs.Refused.{IsNamesRefused};
 ghost use Rattle.recover.specs.Walk.{HasNames, LiesBelow, icb_kind};
@@ -113,7 +114,7 @@ impl<'a> Walk<'a> {
     ghost use Rattle.std.specs.Prelude.{◌≡◌, ◌+◌, ◌<◌, ◌≤◌, ◌^◌, ℕ, IsTrue, IfOk, IfErr, IfSome, OnOk, false, take};
     ghost use Rattle.std.specs.Int.{div_ceil};
     ghost use Rattle.drive.specs.Journal.{held, next_of};
-    ghost use Rattle.recover.specs.Faults.{Counts, devices};
+    ghost use Rattle.recover.specs.Faults.{devices};
     ghost use Rattle.recover.specs.declared.fault.StoreFault.TheVariants.{Memory};
     ghost use Rattle.recover.specs.Forest.{IsDrawn, Puts};
     ghost use Rattle.recover.specs.Known.{IsKnown};
@@ -168,10 +169,7 @@ impl<'a> Walk<'a> {
         ensures counted { OnOk result (node.now.kind ≡ Directory → 1 ≤ self.new.directories) }
         ensures more { self.old.directories ≤ self.new.directories }
         ensures known { IsTrue (D.honest drive.new) → IsKnown (held (D.journal drive.new)) known.new }
-        ensures journal { D.journal drive.new ≡ D.journal drive.old }
-        ensures capacity { D.capacity drive.new ≡ D.capacity drive.old }
-        ensures honest { IsTrue (D.honest drive.new) → IsTrue (D.honest drive.old) }
-        ensures failures { Counts (devices result) (D.failures drive.old) (D.failures drive.new) }
+        ensures reads { Reads D.Drive (devices result) drive.old drive.new }
     {
         let entry_at = self.reach(node)?;
         let body = self.read_entry(drive, known, node, entry_at)?;
@@ -250,10 +248,7 @@ impl<'a> Walk<'a> {
         ensures files { self.new.files ≡ self.old.files }
         ensures directories { self.new.directories ≡ self.old.directories }
         ensures known { IsTrue (D.honest drive.new) → IsKnown (held (D.journal drive.new)) known.new }
-        ensures journal { D.journal drive.new ≡ D.journal drive.old }
-        ensures capacity { D.capacity drive.new ≡ D.capacity drive.old }
-        ensures honest { IsTrue (D.honest drive.new) → IsTrue (D.honest drive.old) }
-        ensures failures { Counts (devices result) (D.failures drive.old) (D.failures drive.new) }
+        ensures reads { Reads D.Drive (devices result) drive.old drive.new }
     {
         let place = EntryPlace {
             at: entry_at,
@@ -319,10 +314,7 @@ fn read_names<D: Drive>(
     ensures names { IfOk result (λ names. IsTrue (D.honest drive.new) → HasNames (held (D.journal drive.old)) above links extent names.dir) }
     ensures refused { IfErr result (λ fault. IsTrue (D.honest drive.new) → IsNamesRefused (held (D.journal drive.old)) above links extent fault) }
     ensures known { IsTrue (D.honest drive.new) → IsKnown (held (D.journal drive.new)) known.new }
-    ensures journal { D.journal drive.new ≡ D.journal drive.old }
-    ensures capacity { D.capacity drive.new ≡ D.capacity drive.old }
-    ensures honest { IsTrue (D.honest drive.new) → IsTrue (D.honest drive.old) }
-    ensures failures { Counts (devices result) (D.failures drive.old) (D.failures drive.new) }
+    ensures reads { Reads D.Drive (devices result) drive.old drive.new }
 {
     let names = known.directory(alloc, drive, extent)?;
     if names.dir.parent != above {

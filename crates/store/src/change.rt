@@ -5,13 +5,14 @@ ghost use Rattle.std.specs.Cmp.Lexicographic.{pointwise};
 ghost use Rattle.std.specs.FinMap.{len};
 ghost use Rattle.std.specs.Map.{lookup};
 ghost use Rattle.drive.specs.Journal.{next_of};
+ghost use Rattle.drive.specs.Reads.{Reads};
 ghost use Rattle.model.specs.Addresses as addresses;
 ghost use Rattle.model.specs.Change.{new_body};
 ghost use Rattle.model.specs.Graph.{Stored, entries_of, is_directory, whole};
 ghost use Rattle.model.specs.Operation.{moves_too_deep};
 ghost use Rattle.model.specs.Operation.Operation.{Remove, Rename, Replace};
 ghost use Rattle.model.specs.Tree.{Path, Tree, begins_with, has_names};
-ghost use Rattle.recover.specs.Faults.{Counts, IsShortage, devices};
+ghost use Rattle.recover.specs.Faults.{IsShortage, devices};
 ghost use Rattle.recover.specs.declared.fault.StoreFault.TheVariants.{Memory};
 ghost use Rattle.table.specs.Below.{AreBelow};
 ghost use Rattle.store.specs.Cache.{AreKept};
@@ -118,10 +119,7 @@ impl Directories {
         ensures does { (tree : Tree) → Shows (D.honest drive.new) (D.journal drive.old) self.old before.now.nodes.at before.now.nodes.entries.now tree → before.now.node_count ≡ len tree → IfOk result (Does (graph_below before.now.nodes.at before.now.nodes.entries.now (D.journal drive.old)) (addresses.free_address before.now.nodes.entries.now) tree (said_operation request.now.op) moment before.now.next_unique) }
         ensures short { (tree : Tree) → Shows (D.honest drive.new) (D.journal drive.old) self.old before.now.nodes.at before.now.nodes.entries.now tree → IfErr result IsShortage }
         ensures kept { IsTrue (D.honest drive.new) → AreKept (D.journal drive.old) self.old → AreKept (D.journal drive.old) self.new }
-        ensures journal { D.journal drive.new ≡ D.journal drive.old }
-        ensures capacity { D.capacity drive.new ≡ D.capacity drive.old }
-        ensures honest { IsTrue (D.honest drive.new) → IsTrue (D.honest drive.old) }
-        ensures failures { Counts (devices result) (D.failures drive.old) (D.failures drive.new) }
+        ensures reads { Reads D.Drive (devices result) drive.old drive.new }
     {
         match &request.op {
             Op::Create { path, bytes } => {
@@ -162,10 +160,7 @@ impl Directories {
         ensures does { (tree : Tree) → Shows (D.honest drive.new) (D.journal drive.old) self.old before.now.nodes.at before.now.nodes.entries.now tree → before.now.node_count ≡ len tree → IfOk result (Does (graph_below before.now.nodes.at before.now.nodes.entries.now (D.journal drive.old)) (addresses.free_address before.now.nodes.entries.now) tree (addition names.now thing.entry) moment before.now.next_unique) }
         ensures short { (tree : Tree) → Shows (D.honest drive.new) (D.journal drive.old) self.old before.now.nodes.at before.now.nodes.entries.now tree → IfErr result IsShortage }
         ensures kept { IsTrue (D.honest drive.new) → AreKept (D.journal drive.old) self.old → AreKept (D.journal drive.old) self.new }
-        ensures journal { D.journal drive.new ≡ D.journal drive.old }
-        ensures capacity { D.capacity drive.new ≡ D.capacity drive.old }
-        ensures honest { IsTrue (D.honest drive.new) → IsTrue (D.honest drive.old) }
-        ensures failures { Counts (devices result) (D.failures drive.old) (D.failures drive.new) }
+        ensures reads { Reads D.Drive (devices result) drive.old drive.new }
     {
         let Some((name, above)) = names.split_last() else {
             return Ok(Change::refused(alloc, Code::Root));
@@ -211,10 +206,7 @@ impl Directories {
         ensures does { (tree : Tree) (moment identity : ℕ) → Shows (D.honest drive.new) (D.journal drive.old) self.old before.now.nodes.at before.now.nodes.entries.now tree → IfOk result (Does (graph_below before.now.nodes.at before.now.nodes.entries.now (D.journal drive.old)) (addresses.free_address before.now.nodes.entries.now) tree (Replace names.now bytes.now) moment identity) }
         ensures short { (tree : Tree) → Shows (D.honest drive.new) (D.journal drive.old) self.old before.now.nodes.at before.now.nodes.entries.now tree → IfErr result IsShortage }
         ensures kept { IsTrue (D.honest drive.new) → AreKept (D.journal drive.old) self.old → AreKept (D.journal drive.old) self.new }
-        ensures journal { D.journal drive.new ≡ D.journal drive.old }
-        ensures capacity { D.capacity drive.new ≡ D.capacity drive.old }
-        ensures honest { IsTrue (D.honest drive.new) → IsTrue (D.honest drive.old) }
-        ensures failures { Counts (devices result) (D.failures drive.old) (D.failures drive.new) }
+        ensures reads { Reads D.Drive (devices result) drive.old drive.new }
     {
         if names.is_empty() {
             return Ok(Change::refused(alloc, Code::Root));
@@ -248,10 +240,7 @@ impl Directories {
         ensures does { (tree : Tree) (identity : ℕ) → Shows (D.honest drive.new) (D.journal drive.old) self.old before.now.nodes.at before.now.nodes.entries.now tree → IfOk result (Does (graph_below before.now.nodes.at before.now.nodes.entries.now (D.journal drive.old)) (addresses.free_address before.now.nodes.entries.now) tree (Remove names.now) moment identity) }
         ensures short { (tree : Tree) → Shows (D.honest drive.new) (D.journal drive.old) self.old before.now.nodes.at before.now.nodes.entries.now tree → IfErr result IsShortage }
         ensures kept { IsTrue (D.honest drive.new) → AreKept (D.journal drive.old) self.old → AreKept (D.journal drive.old) self.new }
-        ensures journal { D.journal drive.new ≡ D.journal drive.old }
-        ensures capacity { D.capacity drive.new ≡ D.capacity drive.old }
-        ensures honest { IsTrue (D.honest drive.new) → IsTrue (D.honest drive.old) }
-        ensures failures { Counts (devices result) (D.failures drive.old) (D.failures drive.new) }
+        ensures reads { Reads D.Drive (devices result) drive.old drive.new }
     {
         let Some((name, above)) = names.split_last() else {
             return Ok(Change::refused(alloc, Code::Root));
@@ -288,10 +277,7 @@ impl Directories {
         ensures does { (tree : Tree) (identity : ℕ) → Shows (D.honest drive.new) (D.journal drive.old) self.old before.now.nodes.at before.now.nodes.entries.now tree → IfOk result (Does (graph_below before.now.nodes.at before.now.nodes.entries.now (D.journal drive.old)) (addresses.free_address before.now.nodes.entries.now) tree (Rename from.now to.now) moment identity) }
         ensures short { (tree : Tree) → Shows (D.honest drive.new) (D.journal drive.old) self.old before.now.nodes.at before.now.nodes.entries.now tree → IfErr result IsShortage }
         ensures kept { IsTrue (D.honest drive.new) → AreKept (D.journal drive.old) self.old → AreKept (D.journal drive.old) self.new }
-        ensures journal { D.journal drive.new ≡ D.journal drive.old }
-        ensures capacity { D.capacity drive.new ≡ D.capacity drive.old }
-        ensures honest { IsTrue (D.honest drive.new) → IsTrue (D.honest drive.old) }
-        ensures failures { Counts (devices result) (D.failures drive.old) (D.failures drive.new) }
+        ensures reads { Reads D.Drive (devices result) drive.old drive.new }
     {
         let Some((old_name, above)) = from.split_last() else {
             return Ok(Change::refused(alloc, Code::Root));
@@ -348,10 +334,7 @@ impl Directories {
         ensures deep { (tree : Tree) (from to : Path) → Shows (D.honest drive.new) (D.journal drive.old) self.old before.now.nodes.at before.now.nodes.entries.now tree → IsAt (graph_below before.now.nodes.at before.now.nodes.entries.now (D.journal drive.old)) from node → length from ≡ names_before → length to ≡ names_behind → IfOk result (λ deep. deep ≡ moves_too_deep from to tree) }
         ensures short { (tree : Tree) (from : Path) → Shows (D.honest drive.new) (D.journal drive.old) self.old before.now.nodes.at before.now.nodes.entries.now tree → IsAt (graph_below before.now.nodes.at before.now.nodes.entries.now (D.journal drive.old)) from node → IfErr result IsShortage }
         ensures kept { IsTrue (D.honest drive.new) → AreKept (D.journal drive.old) self.old → AreKept (D.journal drive.old) self.new }
-        ensures journal { D.journal drive.new ≡ D.journal drive.old }
-        ensures capacity { D.capacity drive.new ≡ D.capacity drive.old }
-        ensures honest { IsTrue (D.honest drive.new) → IsTrue (D.honest drive.old) }
-        ensures failures { Counts (devices result) (D.failures drive.old) (D.failures drive.new) }
+        ensures reads { Reads D.Drive (devices result) drive.old drive.new }
     {
         if names_behind <= names_before {
             return Ok(false);
@@ -383,10 +366,7 @@ impl Directories {
         ensures does { (tree : Tree) (from to : Path) (identity : ℕ) → Shows (D.honest drive.new) (D.journal drive.old) self.old before.now.nodes.at before.now.nodes.entries.now tree → IsWithin (graph_below before.now.nodes.at before.now.nodes.entries.now (D.journal drive.old)) tree from to parent old_name.now new_name.now → IfOk result (Does (graph_below before.now.nodes.at before.now.nodes.entries.now (D.journal drive.old)) (addresses.free_address before.now.nodes.entries.now) tree (Rename from to) moment identity) }
         ensures short { (tree : Tree) (from to : Path) → Shows (D.honest drive.new) (D.journal drive.old) self.old before.now.nodes.at before.now.nodes.entries.now tree → IsWithin (graph_below before.now.nodes.at before.now.nodes.entries.now (D.journal drive.old)) tree from to parent old_name.now new_name.now → IfErr result IsShortage }
         ensures kept { IsTrue (D.honest drive.new) → AreKept (D.journal drive.old) self.old → AreKept (D.journal drive.old) self.new }
-        ensures journal { D.journal drive.new ≡ D.journal drive.old }
-        ensures capacity { D.capacity drive.new ≡ D.capacity drive.old }
-        ensures honest { IsTrue (D.honest drive.new) → IsTrue (D.honest drive.old) }
-        ensures failures { Counts (devices result) (D.failures drive.old) (D.failures drive.new) }
+        ensures reads { Reads D.Drive (devices result) drive.old drive.new }
     {
         let (_, mut content) = self.open(alloc, drive, &before.nodes, parent.address)?;
         let mut change = Change::refused(alloc, Code::Done);
@@ -399,6 +379,7 @@ impl Directories {
     }
 
     /// From one directory to another.
+    #[tactic(auto, using(drive::proofs::Reading::reads_then))]
     fn move_to<'r, D: Drive>(
         &mut self,
         alloc: Global,
@@ -414,10 +395,7 @@ impl Directories {
         ensures does { (tree : Tree) (from to : Path) (identity : ℕ) → Shows (D.honest drive.new) (D.journal drive.old) self.old before.now.nodes.at before.now.nodes.entries.now tree → IsBetween (graph_below before.now.nodes.at before.now.nodes.entries.now (D.journal drive.old)) tree from to node loses.entry.0 gains.entry.0 loses.entry.1.now gains.entry.1.now → IfOk result (Does (graph_below before.now.nodes.at before.now.nodes.entries.now (D.journal drive.old)) (addresses.free_address before.now.nodes.entries.now) tree (Rename from to) moment identity) }
         ensures short { (tree : Tree) (from to : Path) → Shows (D.honest drive.new) (D.journal drive.old) self.old before.now.nodes.at before.now.nodes.entries.now tree → IsBetween (graph_below before.now.nodes.at before.now.nodes.entries.now (D.journal drive.old)) tree from to node loses.entry.0 gains.entry.0 loses.entry.1.now gains.entry.1.now → IfErr result IsShortage }
         ensures kept { IsTrue (D.honest drive.new) → AreKept (D.journal drive.old) self.old → AreKept (D.journal drive.old) self.new }
-        ensures journal { D.journal drive.new ≡ D.journal drive.old }
-        ensures capacity { D.capacity drive.new ≡ D.capacity drive.old }
-        ensures honest { IsTrue (D.honest drive.new) → IsTrue (D.honest drive.old) }
-        ensures failures { Counts (devices result) (D.failures drive.old) (D.failures drive.new) }
+        ensures reads { Reads D.Drive (devices result) drive.old drive.new }
     {
         let (target, mut gaining) = self.open(alloc, drive, &before.nodes, gains.0.address)?;
         if gaining.dir.entries.len() >= DIRECTORY_NAMES {
@@ -456,10 +434,7 @@ impl Directories {
         ensures made { change.new.made ≡ change.old.made }
         ensures removed { change.new.removed ≡ change.old.removed }
         ensures kept { IsTrue (D.honest drive.new) → AreKept (D.journal drive.old) self.old → AreKept (D.journal drive.old) self.new }
-        ensures journal { D.journal drive.new ≡ D.journal drive.old }
-        ensures capacity { D.capacity drive.new ≡ D.capacity drive.old }
-        ensures honest { IsTrue (D.honest drive.new) → IsTrue (D.honest drive.old) }
-        ensures failures { Counts (devices result) (D.failures drive.old) (D.failures drive.new) }
+        ensures reads { Reads D.Drive (devices result) drive.old drive.new }
     {
         if !node.is_directory() {
             return Ok(());
@@ -485,10 +460,7 @@ impl Directories {
         ensures has { IfOk result (λ has. IsTrue (D.honest drive.new) → AreKept (D.journal drive.old) self.old → (s : Stored) → graph_below before.now.nodes.at before.now.nodes.entries.now (D.journal drive.old) node.address s → names_directory node.kind ≡ is_directory s → has ≡ nat_lt 0 (length (entries_of s))) }
         ensures short { IfErr result (λ fault. IsTrue (D.honest drive.new) → (s : Stored) → graph_below before.now.nodes.at before.now.nodes.entries.now (D.journal drive.old) node.address s → names_directory node.kind ≡ is_directory s → IsShortage fault) }
         ensures kept { IsTrue (D.honest drive.new) → AreKept (D.journal drive.old) self.old → AreKept (D.journal drive.old) self.new }
-        ensures journal { D.journal drive.new ≡ D.journal drive.old }
-        ensures capacity { D.capacity drive.new ≡ D.capacity drive.old }
-        ensures honest { IsTrue (D.honest drive.new) → IsTrue (D.honest drive.old) }
-        ensures failures { Counts (devices result) (D.failures drive.old) (D.failures drive.new) }
+        ensures reads { Reads D.Drive (devices result) drive.old drive.new }
     {
         if !node.is_directory() {
             return Ok(false);

@@ -1,9 +1,10 @@
 //! A commit: what is planned is written, and then kept.
 
 ghost use Rattle.std.specs.Prelude.{◌≡◌, ℕ, ◌+◌, ◌<◌, ◌≤◌, ◌^◌, ◌++◌, [], ◌∷◌, false, true, Err, is_err, length, IsTrue, IfOk, IfErr, OnOk, OnErr};
-ghost use Rattle.drive.specs.Journal.{Once, next_of, written, AddsFront, counted};
+ghost use Rattle.drive.specs.Journal.{Once, next_of, written, AddsFront};
+ghost use Rattle.drive.specs.Reads.{Follows, Writes};
 ghost use Rattle.drive.specs.Waiting.{end_of, Takes, Stops};
-ghost use Rattle.recover.specs.Faults.{Counts, devices};
+ghost use Rattle.recover.specs.Faults.{devices};
 ghost use Rattle.model.specs.Session.{State};
 ghost use Rattle.store.specs.Agrees.{Agrees};
 ghost use Rattle.store.specs.Asked.{said_request};
@@ -37,9 +38,7 @@ fn write_file<D: Drive>(
     requires fits { end_of writer.old.packets + length (file_list file.now) ≤ D.capacity drive.old }
     ensures ok { OnOk result (Takes (D.journal drive.old) writer.old.packets (file_list file.now) (D.journal drive.new) writer.new.packets) }
     ensures err { OnErr result (Stops (D.journal drive.old) writer.old.packets (file_list file.now) (D.journal drive.new)) }
-    ensures capacity { D.capacity drive.new ≡ D.capacity drive.old }
-    ensures failures { D.failures drive.new ≡ counted (is_err result) (D.failures drive.old) }
-    ensures honest { IsTrue (D.honest drive.new) → IsTrue (D.honest drive.old) }
+    ensures writes { Writes D.Drive (is_err result) drive.old drive.new }
 {
     let Some(placed) = file else {
         return Ok(());
@@ -60,9 +59,7 @@ fn write_directory<D: Drive>(
     requires fits { end_of writer.old.packets + length (directory_list placed.now) ≤ D.capacity drive.old }
     ensures ok { OnOk result (Takes (D.journal drive.old) writer.old.packets (directory_list placed.now) (D.journal drive.new) writer.new.packets) }
     ensures err { OnErr result (Stops (D.journal drive.old) writer.old.packets (directory_list placed.now) (D.journal drive.new)) }
-    ensures capacity { D.capacity drive.new ≡ D.capacity drive.old }
-    ensures failures { D.failures drive.new ≡ counted (is_err result) (D.failures drive.old) }
-    ensures honest { IsTrue (D.honest drive.new) → IsTrue (D.honest drive.old) }
+    ensures writes { Writes D.Drive (is_err result) drive.old drive.new }
 {
     let content = &placed.directory.content;
     writer.put_directory(drive, &content.dir, placed.extent.first)?;
@@ -80,9 +77,7 @@ fn write_directories<D: Drive>(
     requires fits { end_of writer.old.packets + length (directories_list directories.now) ≤ D.capacity drive.old }
     ensures ok { OnOk result (Takes (D.journal drive.old) writer.old.packets (directories_list directories.now) (D.journal drive.new) writer.new.packets) }
     ensures err { OnErr result (Stops (D.journal drive.old) writer.old.packets (directories_list directories.now) (D.journal drive.new)) }
-    ensures capacity { D.capacity drive.new ≡ D.capacity drive.old }
-    ensures failures { D.failures drive.new ≡ counted (is_err result) (D.failures drive.old) }
-    ensures honest { IsTrue (D.honest drive.new) → IsTrue (D.honest drive.old) }
+    ensures writes { Writes D.Drive (is_err result) drive.old drive.new }
 {
     for placed in directories {
         write_directory(writer, drive, placed)?;
@@ -102,9 +97,7 @@ fn write_table<D: Drive>(
     requires fits { end_of writer.old.packets + length (table_data table.now ++ table.now.entry ∷ []) ≤ D.capacity drive.old }
     ensures ok { OnOk result (Takes (D.journal drive.old) writer.old.packets (table_data table.now ++ table.now.entry ∷ []) (D.journal drive.new) writer.new.packets) }
     ensures err { OnErr result (Stops (D.journal drive.old) writer.old.packets (table_data table.now ++ table.now.entry ∷ []) (D.journal drive.new)) }
-    ensures capacity { D.capacity drive.new ≡ D.capacity drive.old }
-    ensures failures { D.failures drive.new ≡ counted (is_err result) (D.failures drive.old) }
-    ensures honest { IsTrue (D.honest drive.new) → IsTrue (D.honest drive.old) }
+    ensures writes { Writes D.Drive (is_err result) drive.old drive.new }
 {
     writer.put_bytes(drive, table.gap, &table.bytes)?;
     writer.finish(drive)?;
@@ -121,9 +114,7 @@ impl Plan<'_> {
         ensures directories { self.new.directories.items ≡ self.old.directories.items }
         ensures table { self.new.table ≡ self.old.table }
         ensures reply { self.new.reply ≡ self.old.reply }
-        ensures capacity { D.capacity drive.new ≡ D.capacity drive.old }
-        ensures failures { D.failures drive.new ≡ counted (is_err result) (D.failures drive.old) }
-        ensures honest { IsTrue (D.honest drive.new) → IsTrue (D.honest drive.old) }
+        ensures writes { Writes D.Drive (is_err result) drive.old drive.new }
     {
         let held = self.held();
         self.writer.hold(held);
@@ -165,9 +156,7 @@ impl Store {
         ensures refused { IfErr result (IsRefused self.old request.now (D.capacity drive.old) (D.journal drive.old) (D.journal drive.new) self.new) }
         ensures stopped { self.old.is_stopped ≡ true → (result ≡ Err Stopped) × (self.new ≡ self.old) × (drive.new ≡ drive.old) }
         ensures goes_on { OnOk result (self.new.is_stopped ≡ false) }
-        ensures capacity { D.capacity drive.new ≡ D.capacity drive.old }
-        ensures honest { IsTrue (D.honest drive.new) → IsTrue (D.honest drive.old) }
-        ensures failures { Counts (devices result) (D.failures drive.old) (D.failures drive.new) }
+        ensures follows { Follows D.Drive (devices result) drive.old drive.new }
     {
         if self.is_stopped {
             return Err(StoreFault::Stopped);
@@ -202,9 +191,7 @@ impl Store {
         ensures stopped { self.new.is_stopped ≡ is_err result }
         ensures volume { self.new.capacity ≡ self.old.capacity }
         ensures device { IfErr result (λ fault. fault ≡ Device) }
-        ensures capacity { D.capacity drive.new ≡ D.capacity drive.old }
-        ensures honest { IsTrue (D.honest drive.new) → IsTrue (D.honest drive.old) }
-        ensures failures { Counts (devices result) (D.failures drive.old) (D.failures drive.new) }
+        ensures follows { Follows D.Drive (devices result) drive.old drive.new }
     {
         let mut plan = plan;
         let written = plan.write(drive);

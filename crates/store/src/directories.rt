@@ -3,7 +3,8 @@
 ghost use Rattle.std.specs.Prelude.{◌≡◌, ◌+◌, ◌<◌, ◌≤◌, List, IsTrue, IfOk, IfErr};
 ghost use Rattle.std.specs.Int.{div_ceil};
 ghost use Rattle.drive.specs.Journal.{Event, held, next_of};
-ghost use Rattle.recover.specs.Faults.{Counts, devices};
+ghost use Rattle.drive.specs.Reads.{Reads};
+ghost use Rattle.recover.specs.Faults.{devices};
 ghost use Rattle.recover.specs.Nodes.{IsDirectoryRefused, data_of};
 ghost use Rattle.table.specs.Below.{AreBelow};
 ghost use Rattle.std.specs.Map.{lookup};
@@ -66,10 +67,7 @@ impl Directories {
         ensures lies { IfOk result (λ content. IsTrue (D.honest drive.new) → AreKept (D.journal drive.old) self.old → LiesThere (D.journal drive.old) extent content) }
         ensures refused { IfErr result (λ fault. IsTrue (D.honest drive.new) → IsDirectoryRefused extent (data_of (held (D.journal drive.old)) extent) fault) }
         ensures kept { (journal : List Event) → AreKept journal self.old → AreKept journal self.new }
-        ensures journal { D.journal drive.new ≡ D.journal drive.old }
-        ensures capacity { D.capacity drive.new ≡ D.capacity drive.old }
-        ensures honest { IsTrue (D.honest drive.new) → IsTrue (D.honest drive.old) }
-        ensures failures { Counts (devices result) (D.failures drive.old) (D.failures drive.new) }
+        ensures reads { Reads D.Drive (devices result) drive.old drive.new }
     {
         match self.cache.pop(&extent) {
             Some(content) => Ok(content),
@@ -100,10 +98,7 @@ impl Directories {
         ensures lies { IfOk result (λ read. IsTrue (D.honest drive.new) → AreKept (D.journal drive.old) self.old → LiesThere (D.journal drive.old) read.0.extent read.1) }
         ensures refused { IfErr result (λ fault. IsTrue (D.honest drive.new) → (s : Stored) → graph_below nodes.now.at nodes.now.entries.now (D.journal drive.old) address s → is_directory s ≡ true → IsShortage fault) }
         ensures kept { IsTrue (D.honest drive.new) → AreKept (D.journal drive.old) self.old → AreKept (D.journal drive.old) self.new }
-        ensures journal { D.journal drive.new ≡ D.journal drive.old }
-        ensures capacity { D.capacity drive.new ≡ D.capacity drive.old }
-        ensures honest { IsTrue (D.honest drive.new) → IsTrue (D.honest drive.old) }
-        ensures failures { Counts (devices result) (D.failures drive.old) (D.failures drive.new) }
+        ensures reads { Reads D.Drive (devices result) drive.old drive.new }
     {
         let placed = nodes.directory(drive, address)?;
         let content = self.take(alloc, drive, placed.extent)?;
@@ -124,10 +119,7 @@ impl Directories {
         ensures found { IfOk result (λ found. IsTrue (D.honest drive.new) → AreKept (D.journal drive.old) self.old → (content : Content) × LiesThere (D.journal drive.old) extent content × (found ≡ lookup (pointwise nat_eq name.now) content.dir.entries.entries)) }
         ensures refused { IfErr result (λ fault. IsTrue (D.honest drive.new) → IsDirectoryRefused extent (data_of (held (D.journal drive.old)) extent) fault) }
         ensures kept { IsTrue (D.honest drive.new) → AreKept (D.journal drive.old) self.old → AreKept (D.journal drive.old) self.new }
-        ensures journal { D.journal drive.new ≡ D.journal drive.old }
-        ensures capacity { D.capacity drive.new ≡ D.capacity drive.old }
-        ensures honest { IsTrue (D.honest drive.new) → IsTrue (D.honest drive.old) }
-        ensures failures { Counts (devices result) (D.failures drive.old) (D.failures drive.new) }
+        ensures reads { Reads D.Drive (devices result) drive.old drive.new }
     {
         let content = self.take(alloc, drive, extent)?;
         let entry = content.dir.entries.get(name).copied();
@@ -148,10 +140,7 @@ impl Directories {
         ensures found { (tree : Tree) → Shows (D.honest drive.new) (D.journal drive.old) self.old nodes.now.at nodes.now.entries.now tree → IfOk result (IsFound (graph_below nodes.now.at nodes.now.entries.now (D.journal drive.old)) tree names.now) }
         ensures refused { (tree : Tree) → Shows (D.honest drive.new) (D.journal drive.old) self.old nodes.now.at nodes.now.entries.now tree → IfErr result IsShortage }
         ensures kept { IsTrue (D.honest drive.new) → AreKept (D.journal drive.old) self.old → AreKept (D.journal drive.old) self.new }
-        ensures journal { D.journal drive.new ≡ D.journal drive.old }
-        ensures capacity { D.capacity drive.new ≡ D.capacity drive.old }
-        ensures honest { IsTrue (D.honest drive.new) → IsTrue (D.honest drive.old) }
-        ensures failures { Counts (devices result) (D.failures drive.old) (D.failures drive.new) }
+        ensures reads { Reads D.Drive (devices result) drive.old drive.new }
     {
         let mut node = ROOT;
         for name in names {
@@ -184,10 +173,7 @@ impl Directories {
         ensures found { (tree : Tree) → Shows (D.honest drive.new) (D.journal drive.old) self.old nodes.now.at nodes.now.entries.now tree → IfOk result (IsFoundDirectory (graph_below nodes.now.at nodes.now.entries.now (D.journal drive.old)) tree names.now) }
         ensures refused { (tree : Tree) → Shows (D.honest drive.new) (D.journal drive.old) self.old nodes.now.at nodes.now.entries.now tree → IfErr result IsShortage }
         ensures kept { IsTrue (D.honest drive.new) → AreKept (D.journal drive.old) self.old → AreKept (D.journal drive.old) self.new }
-        ensures journal { D.journal drive.new ≡ D.journal drive.old }
-        ensures capacity { D.capacity drive.new ≡ D.capacity drive.old }
-        ensures honest { IsTrue (D.honest drive.new) → IsTrue (D.honest drive.old) }
-        ensures failures { Counts (devices result) (D.failures drive.old) (D.failures drive.new) }
+        ensures reads { Reads D.Drive (devices result) drive.old drive.new }
     {
         let Some(node) = self.find(alloc, drive, nodes, names)? else {
             return Ok(None);
@@ -213,10 +199,7 @@ impl Directories {
         ensures height { (tree : Tree) (path : Path) (node : Node) → Shows (D.honest drive.new) (D.journal drive.old) self.old nodes.now.at nodes.now.entries.now tree → IsAt (graph_below nodes.now.at nodes.now.entries.now (D.journal drive.old)) path node → names_directory node.kind ≡ true → node.address ≡ address → IfOk result (IsHeight tree path left) }
         ensures short { (tree : Tree) (path : Path) (node : Node) → Shows (D.honest drive.new) (D.journal drive.old) self.old nodes.now.at nodes.now.entries.now tree → IsAt (graph_below nodes.now.at nodes.now.entries.now (D.journal drive.old)) path node → names_directory node.kind ≡ true → node.address ≡ address → IfErr result IsShortage }
         ensures kept { IsTrue (D.honest drive.new) → AreKept (D.journal drive.old) self.old → AreKept (D.journal drive.old) self.new }
-        ensures journal { D.journal drive.new ≡ D.journal drive.old }
-        ensures capacity { D.capacity drive.new ≡ D.capacity drive.old }
-        ensures honest { IsTrue (D.honest drive.new) → IsTrue (D.honest drive.old) }
-        ensures failures { Counts (devices result) (D.failures drive.old) (D.failures drive.new) }
+        ensures reads { Reads D.Drive (devices result) drive.old drive.new }
     {
         if left == 0 {
             return Ok(0);

@@ -2,9 +2,10 @@
 
 ghost use Rattle.std.specs.Prelude.{◌≡◌, ◌+◌, ◌<◌, ◌≤◌, ◌↔◌, ℕ, List, All, Err, IsTrue, IfOk, IfErr, OnOk, false, length};
 ghost use Rattle.drive.specs.Journal.{held, next_of};
+ghost use Rattle.drive.specs.Reads.{Reads};
 ghost use Rattle.model.specs.Session as said;
 ghost use Rattle.vat.specs.Table.{view};
-ghost use Rattle.recover.specs.Faults.{Counts, devices};
+ghost use Rattle.recover.specs.Faults.{devices};
 ghost use Rattle.recover.specs.State.{IsShown};
 ghost use Rattle.recover.specs.declared.state.State.{State};
 ghost use Rattle.recover.specs.declared.fault.StoreFault.TheVariants.{NoCommit, Stopped};
@@ -69,10 +70,11 @@ pub struct Snapshot {
 impl Snapshot {
     ghost use Rattle.std.specs.Prelude.{◌≡◌, ◌≤◌, IsTrue, IfOk, IfErr, Err, false};
     ghost use Rattle.drive.specs.Journal.{Once, next_of};
+    ghost use Rattle.drive.specs.Reads.{Reads};
     ghost use Rattle.medium.specs.Runs as runs;
     ghost use Rattle.model.specs.Tree.{Tree};
     ghost use Rattle.vat.specs.Table.{view};
-    ghost use Rattle.recover.specs.Faults.{Counts, devices};
+    ghost use Rattle.recover.specs.Faults.{devices};
     ghost use Rattle.recover.specs.declared.fault.StoreFault.TheVariants.{Stopped};
     ghost use Rattle.store.specs.Agrees.{Agrees};
     ghost use Rattle.store.specs.Cache.{AreKept};
@@ -112,10 +114,7 @@ impl Snapshot {
         ensures stopped { IsTrue store.old.is_stopped → result ≡ Err Stopped }
         ensures same { SameVolume store.old store.new }
         ensures agrees { Agrees (D.journal drive.new) (D.capacity drive.new) store.new }
-        ensures journal { D.journal drive.new ≡ D.journal drive.old }
-        ensures capacity { D.capacity drive.new ≡ D.capacity drive.old }
-        ensures honest { IsTrue (D.honest drive.new) → IsTrue (D.honest drive.old) }
-        ensures failures { Counts (devices result) (D.failures drive.old) (D.failures drive.new) }
+        ensures reads { Reads D.Drive (devices result) drive.old drive.new }
     {
         if store.is_stopped {
             return Err(StoreFault::Stopped);
@@ -143,10 +142,7 @@ impl Snapshot {
         ensures stopped { IsTrue store.old.is_stopped → result ≡ Err Stopped }
         ensures same { SameVolume store.old store.new }
         ensures agrees { Agrees (D.journal drive.new) (D.capacity drive.new) store.new }
-        ensures journal { D.journal drive.new ≡ D.journal drive.old }
-        ensures capacity { D.capacity drive.new ≡ D.capacity drive.old }
-        ensures honest { IsTrue (D.honest drive.new) → IsTrue (D.honest drive.old) }
-        ensures failures { Counts (devices result) (D.failures drive.old) (D.failures drive.new) }
+        ensures reads { Reads D.Drive (devices result) drive.old drive.new }
     {
         if store.is_stopped {
             return Err(StoreFault::Stopped);
@@ -174,10 +170,7 @@ impl Snapshot {
         ensures stopped { IsTrue store.old.is_stopped → result ≡ Err Stopped }
         ensures same { SameVolume store.old store.new }
         ensures agrees { Agrees (D.journal drive.new) (D.capacity drive.new) store.new }
-        ensures journal { D.journal drive.new ≡ D.journal drive.old }
-        ensures capacity { D.capacity drive.new ≡ D.capacity drive.old }
-        ensures honest { IsTrue (D.honest drive.new) → IsTrue (D.honest drive.old) }
-        ensures failures { Counts (devices result) (D.failures drive.old) (D.failures drive.new) }
+        ensures reads { Reads D.Drive (devices result) drive.old drive.new }
     {
         if store.is_stopped {
             return Err(StoreFault::Stopped);
@@ -201,10 +194,7 @@ impl Store {
         // Where it is refused no list is the history, or the drive failed or memory was short.
         ensures refused { self.now.is_stopped ≡ false → IfErr result (λ fault. IsTrue (D.honest drive.new) → IsHistoryRefused (held (D.journal drive.old)) self.now.at fault) }
         ensures within { IfOk result (λ commits. All (λ c. (257 ≤ c.at) × (c.at < next_of (D.journal drive.old))) commits.items) }
-        ensures journal { D.journal drive.new ≡ D.journal drive.old }
-        ensures capacity { D.capacity drive.new ≡ D.capacity drive.old }
-        ensures honest { IsTrue (D.honest drive.new) → IsTrue (D.honest drive.old) }
-        ensures failures { Counts (devices result) (D.failures drive.old) (D.failures drive.new) }
+        ensures reads { Reads D.Drive (devices result) drive.old drive.new }
     {
         if self.is_stopped {
             return Err(StoreFault::Stopped);
@@ -236,10 +226,7 @@ impl Store {
         ensures table { IfOk result (λ s. IsTrue (D.honest drive.new) → IsTableOf (held (D.journal drive.old)) self.now.at commit s.at s.vat) }
         ensures shown { IfOk result (λ s. IsTrue (D.honest drive.new) → (state : State) × IsShown (D.capacity drive.old) (held (D.journal drive.old)) s.at state × (state.vat ≡ s.vat)) }
         ensures within { IfOk result (λ s. s.at < next_of (D.journal drive.new)) }
-        ensures journal { D.journal drive.new ≡ D.journal drive.old }
-        ensures capacity { D.capacity drive.new ≡ D.capacity drive.old }
-        ensures honest { IsTrue (D.honest drive.new) → IsTrue (D.honest drive.old) }
-        ensures failures { Counts (devices result) (D.failures drive.old) (D.failures drive.new) }
+        ensures reads { Reads D.Drive (devices result) drive.old drive.new }
     {
         if self.is_stopped {
             return Err(StoreFault::Stopped);
@@ -263,10 +250,7 @@ impl Store {
         ensures table { IfOk result (λ found. IsTrue (D.honest drive.new) → IsTableOf (held (D.journal drive.old)) self.now.at commit found.0 found.1) }
         ensures refused { IfErr result (λ fault. IsTrue (D.honest drive.new) → IsWayRefused (held (D.journal drive.old)) self.now.at commit fault) }
         ensures within { IfOk result (λ found. (257 ≤ found.0) × (found.0 < next_of (D.journal drive.old))) }
-        ensures journal { D.journal drive.new ≡ D.journal drive.old }
-        ensures capacity { D.capacity drive.new ≡ D.capacity drive.old }
-        ensures honest { IsTrue (D.honest drive.new) → IsTrue (D.honest drive.old) }
-        ensures failures { Counts (devices result) (D.failures drive.old) (D.failures drive.new) }
+        ensures reads { Reads D.Drive (devices result) drive.old drive.new }
     {
         let mut at = self.at;
         let mut vat = table_at(alloc, drive, at)?;
@@ -290,10 +274,7 @@ impl Store {
         // Where it is refused none stood after one of them, or the drive failed or memory was short.
         ensures refused { (volume : ℕ) (T : said.State) → IsTrue (D.honest drive.new) → Knows (D.capacity drive.old) volume (D.journal drive.old) T self.now → self.now.is_stopped ≡ false → IfErr result (IsCheckRefused (D.capacity drive.old) volume (held (D.journal drive.old)) T.commits) }
         ensures history { OnOk result (IsTrue (D.honest drive.new) → IsChecked (D.capacity drive.old) (held (D.journal drive.old)) self.now.at) }
-        ensures journal { D.journal drive.new ≡ D.journal drive.old }
-        ensures capacity { D.capacity drive.new ≡ D.capacity drive.old }
-        ensures honest { IsTrue (D.honest drive.new) → IsTrue (D.honest drive.old) }
-        ensures failures { Counts (devices result) (D.failures drive.old) (D.failures drive.new) }
+        ensures reads { Reads D.Drive (devices result) drive.old drive.new }
     {
         let commits = self.history(alloc, drive)?;
         check_states(alloc, drive, &commits)?;
@@ -310,10 +291,7 @@ fn check_states<D: Drive>(
     requires within { All (λ c. (257 ≤ c.at) × (c.at < next_of (D.journal drive.old))) commits.now }
     ensures shown { OnOk result (IsTrue (D.honest drive.new) → AreShown (D.capacity drive.old) (held (D.journal drive.old)) commits.now) }
     ensures refused { IfErr result (λ fault. IsTrue (D.honest drive.new) → AreUnshown (D.capacity drive.old) (held (D.journal drive.old)) commits.now fault) }
-    ensures journal { D.journal drive.new ≡ D.journal drive.old }
-    ensures capacity { D.capacity drive.new ≡ D.capacity drive.old }
-    ensures honest { IsTrue (D.honest drive.new) → IsTrue (D.honest drive.old) }
-    ensures failures { Counts (devices result) (D.failures drive.old) (D.failures drive.new) }
+    ensures reads { Reads D.Drive (devices result) drive.old drive.new }
 {
     let mut known = Known::new(alloc);
     for i in 0..commits.len() {

@@ -3,9 +3,10 @@
 ghost use Rattle.std.specs.Prelude.{◌≡◌, ◌+◌, ◌<◌, ◌≤◌, IsTrue, IfOk, IfErr, length, true};
 ghost use Rattle.std.specs.Int.{div_ceil};
 ghost use Rattle.drive.specs.Journal.{AreWhole, next_of};
+ghost use Rattle.drive.specs.Reads.{Reads};
 ghost use Rattle.model.specs.Addresses as addresses;
 ghost use Rattle.model.specs.Graph.{Stored, is_directory};
-ghost use Rattle.recover.specs.Faults.{Counts, devices, failures_of};
+ghost use Rattle.recover.specs.Faults.{devices, failures_of};
 ghost use Rattle.recover.specs.declared.fault.StoreFault.TheVariants.{Device};
 ghost use Rattle.table.specs.Below.{AreBelow, IsUsed};
 ghost use Rattle.store.specs.Shows.{LiesIn, graph_below};
@@ -44,10 +45,7 @@ impl Nodes<'_> {
         ensures refused { IfErr result (λ fault. (s : Stored) → graph_below self.now.at self.now.entries.now (D.journal drive.old) address s → fault ≡ Device) }
         ensures used { IfOk result (λ _. IsUsed address self.now.entries.now) }
         ensures whole { IfOk result (λ _. AreWhole (D.journal drive.old)) }
-        ensures journal { D.journal drive.new ≡ D.journal drive.old }
-        ensures capacity { D.capacity drive.new ≡ D.capacity drive.old }
-        ensures honest { IsTrue (D.honest drive.new) → IsTrue (D.honest drive.old) }
-        ensures failures { Counts (devices result) (D.failures drive.old) (D.failures drive.new) }
+        ensures reads { Reads D.Drive (devices result) drive.old drive.new }
     {
         let table_at = self.at;
         let index = address as usize;
@@ -73,10 +71,7 @@ impl Nodes<'_> {
         ensures refused { IfErr result (λ fault. IsTrue (D.honest drive.new) → (s : Stored) → graph_below self.now.at self.now.entries.now (D.journal drive.old) address s → is_directory s ≡ true → fault ≡ Device) }
         ensures used { IfOk result (λ _. IsUsed address self.now.entries.now) }
         ensures data { IfOk result (λ p. (0 < p.extent.size) × (p.extent.first ≤ 449_743) × (p.extent.first + 257 + div_ceil p.extent.size 2048 ≤ self.now.at)) }
-        ensures journal { D.journal drive.new ≡ D.journal drive.old }
-        ensures capacity { D.capacity drive.new ≡ D.capacity drive.old }
-        ensures honest { IsTrue (D.honest drive.new) → IsTrue (D.honest drive.old) }
-        ensures failures { Counts (devices result) (D.failures drive.old) (D.failures drive.new) }
+        ensures reads { Reads D.Drive (devices result) drive.old drive.new }
     {
         let (block, at) = self.entry_block(drive, address)?;
         let entry = match decode_fe(&block, address) {

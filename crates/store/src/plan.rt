@@ -3,6 +3,7 @@
 ghost use Rattle.std.specs.Prelude.{min, ◌≡◌, ℕ, ◌+◌, ◌-◌, ◌*◌, ◌<◌, ◌≤◌, ◌^◌, Some, IsTrue, IfOk, IfErr, OnOk, IfSome, All, Err, false, is_err, length, map, List, ◌⊎◌};
 ghost use Rattle.std.specs.Int.{div_ceil};
 ghost use Rattle.drive.specs.Journal.{next_of};
+ghost use Rattle.drive.specs.Reads.{Reads};
 ghost use Rattle.osta.specs.Compressed.{compressed};
 ghost use Rattle.dir.specs.Directory.{IsEntry};
 ghost use Rattle.dir.specs.Identifier.{plain_size};
@@ -13,7 +14,7 @@ ghost use Rattle.medium.specs.Plan.{WritesNodes, Written};
 ghost use Rattle.recover.specs.declared.fault.StoreFault.TheVariants.{Full, Memory};
 ghost use Rattle.udf.specs.Udf.{udf};
 ghost use Rattle.vat.specs.Table.{Fits, view};
-ghost use Rattle.recover.specs.Faults.{Counts, IsShortage, devices};
+ghost use Rattle.recover.specs.Faults.{IsShortage, devices};
 ghost use Rattle.request.specs.Numbers.{code_number};
 ghost use Rattle.store.specs.Agrees.{Agrees, Keeps};
 ghost use Rattle.table.specs.Below.{AreBelow, IsUsed};
@@ -72,6 +73,7 @@ pub(crate) struct PlacedTable {
 
 impl Store {
     /// Plans a commit. All memory that it needs is taken here.
+    #[tactic(auto, using(drive::proofs::Reading::reads_then))]
     pub(crate) fn plan<'r, D: Drive>(
         &self,
         alloc: Global,
@@ -92,10 +94,7 @@ impl Store {
         ensures full { result ≡ Err Full → self.now.capacity < next_of (D.journal drive.old) + needs.change_need change.entry (begun self.now.at request.now.client request.now.number (code_number change.entry.code) change.entry.made (view self.now.vat)) }
         // Where the table takes each change, nothing else is refused.
         ensures refused { ((written : List Written) → map (λ w. w.address) written ≡ map (λ n. n.address) (change_writings moment change.entry) → AreTaken change.entry.made written change.entry.removed (committed self.now.at request.now.client request.now.number (code_number change.entry.code) (view self.now.vat))) → IfErr result (λ fault. IsShortage fault ⊎ (fault ≡ Full)) }
-        ensures journal { D.journal drive.new ≡ D.journal drive.old }
-        ensures capacity { D.capacity drive.new ≡ D.capacity drive.old }
-        ensures honest { IsTrue (D.honest drive.new) → IsTrue (D.honest drive.old) }
-        ensures failures { Counts (devices result) (D.failures drive.old) (D.failures drive.new) }
+        ensures reads { Reads D.Drive (devices result) drive.old drive.new }
     {
         let next = match drive.next() {
             Ok(next) => next,

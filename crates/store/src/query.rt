@@ -2,9 +2,10 @@
 
 ghost use Rattle.std.specs.Prelude.{◌≡◌, ℕ, IsTrue, IfOk, IfErr, Err, false};
 ghost use Rattle.drive.specs.Journal.{Once};
+ghost use Rattle.drive.specs.Reads.{Reads};
 ghost use Rattle.medium.specs.Runs as runs;
 ghost use Rattle.model.specs.Tree.{Tree};
-ghost use Rattle.recover.specs.Faults.{Counts, devices};
+ghost use Rattle.recover.specs.Faults.{devices};
 ghost use Rattle.recover.specs.declared.fault.StoreFault.TheVariants.{Stopped};
 ghost use Rattle.store.specs.Agrees.{Agrees};
 ghost use Rattle.store.specs.Cache.{AreKept};
@@ -35,10 +36,7 @@ impl Store {
         ensures stopped { IsTrue self.old.is_stopped → result ≡ Err Stopped }
         ensures same { SameVolume self.old self.new }
         ensures agrees { Agrees (D.journal drive.new) (D.capacity drive.new) self.new }
-        ensures journal { D.journal drive.new ≡ D.journal drive.old }
-        ensures capacity { D.capacity drive.new ≡ D.capacity drive.old }
-        ensures honest { IsTrue (D.honest drive.new) → IsTrue (D.honest drive.old) }
-        ensures failures { Counts (devices result) (D.failures drive.old) (D.failures drive.new) }
+        ensures reads { Reads D.Drive (devices result) drive.old drive.new }
     {
         if self.is_stopped {
             return Err(StoreFault::Stopped);
@@ -64,10 +62,7 @@ impl Store {
         ensures stopped { IsTrue self.old.is_stopped → result ≡ Err Stopped }
         ensures same { SameVolume self.old self.new }
         ensures agrees { Agrees (D.journal drive.new) (D.capacity drive.new) self.new }
-        ensures journal { D.journal drive.new ≡ D.journal drive.old }
-        ensures capacity { D.capacity drive.new ≡ D.capacity drive.old }
-        ensures honest { IsTrue (D.honest drive.new) → IsTrue (D.honest drive.old) }
-        ensures failures { Counts (devices result) (D.failures drive.old) (D.failures drive.new) }
+        ensures reads { Reads D.Drive (devices result) drive.old drive.new }
     {
         if self.is_stopped {
             return Err(StoreFault::Stopped);
@@ -93,10 +88,7 @@ impl Store {
         ensures stopped { IsTrue self.old.is_stopped → result ≡ Err Stopped }
         ensures same { SameVolume self.old self.new }
         ensures agrees { Agrees (D.journal drive.new) (D.capacity drive.new) self.new }
-        ensures journal { D.journal drive.new ≡ D.journal drive.old }
-        ensures capacity { D.capacity drive.new ≡ D.capacity drive.old }
-        ensures honest { IsTrue (D.honest drive.new) → IsTrue (D.honest drive.old) }
-        ensures failures { Counts (devices result) (D.failures drive.old) (D.failures drive.new) }
+        ensures reads { Reads D.Drive (devices result) drive.old drive.new }
     {
         if self.is_stopped {
             return Err(StoreFault::Stopped);

@@ -3,11 +3,12 @@
 
 ghost use Rattle.std.specs.Prelude.{◌≡◌, ℕ, ◌<◌, ◌≤◌, List, IsTrue, IfOk, IfErr, length, map, true, false};
 ghost use Rattle.drive.specs.Journal.{Once, next_of};
+ghost use Rattle.drive.specs.Reads.{Reads};
 ghost use Rattle.medium.specs.Runs as runs;
 ghost use Rattle.model.specs.Tree.{Tree};
 ghost use Rattle.model.specs.Graph.{Stored, entries_of, is_directory};
 ghost use Rattle.model.specs.Graph.Body.{Bytes, Entries};
-ghost use Rattle.recover.specs.Faults.{Counts, IsShortage, devices};
+ghost use Rattle.recover.specs.Faults.{IsShortage, devices};
 ghost use Rattle.udf.specs.Said.{names_directory, said_entries};
 ghost use Rattle.table.specs.Below.{AreBelow};
 ghost use Rattle.store.specs.Cache.{AreKept, LiesThere};
@@ -41,10 +42,7 @@ impl Directories {
         ensures told { (tree : Tree) → Shows (D.honest drive.new) (D.journal drive.old) self.old nodes.now.at nodes.now.entries.now tree → IfOk result (λ bytes. runs.told tree (runs.Query.Get path.now) ≡ runs.Answer.Data bytes) }
         ensures refused { (tree : Tree) → Shows (D.honest drive.new) (D.journal drive.old) self.old nodes.now.at nodes.now.entries.now tree → IfErr result (IsRefused (runs.told tree (runs.Query.Get path.now))) }
         ensures kept { IsTrue (D.honest drive.new) → AreKept (D.journal drive.old) self.old → AreKept (D.journal drive.old) self.new }
-        ensures journal { D.journal drive.new ≡ D.journal drive.old }
-        ensures capacity { D.capacity drive.new ≡ D.capacity drive.old }
-        ensures honest { IsTrue (D.honest drive.new) → IsTrue (D.honest drive.old) }
-        ensures failures { Counts (devices result) (D.failures drive.old) (D.failures drive.new) }
+        ensures reads { Reads D.Drive (devices result) drive.old drive.new }
     {
         let node = self.node(alloc, drive, nodes, path)?;
         if node.is_directory() {
@@ -66,10 +64,7 @@ impl Directories {
         ensures told { (tree : Tree) → Shows (D.honest drive.new) (D.journal drive.old) self.old nodes.now.at nodes.now.entries.now tree → IfOk result (λ listing. runs.told tree (runs.Query.List_ path.now) ≡ runs.Answer.Names (said_names listing)) }
         ensures refused { (tree : Tree) → Shows (D.honest drive.new) (D.journal drive.old) self.old nodes.now.at nodes.now.entries.now tree → IfErr result (IsRefused (runs.told tree (runs.Query.List_ path.now))) }
         ensures kept { IsTrue (D.honest drive.new) → AreKept (D.journal drive.old) self.old → AreKept (D.journal drive.old) self.new }
-        ensures journal { D.journal drive.new ≡ D.journal drive.old }
-        ensures capacity { D.capacity drive.new ≡ D.capacity drive.old }
-        ensures honest { IsTrue (D.honest drive.new) → IsTrue (D.honest drive.old) }
-        ensures failures { Counts (devices result) (D.failures drive.old) (D.failures drive.new) }
+        ensures reads { Reads D.Drive (devices result) drive.old drive.new }
     {
         let node = self.node(alloc, drive, nodes, path)?;
         if !node.is_directory() {
@@ -94,10 +89,7 @@ impl Directories {
         ensures told { (tree : Tree) → Once (D.journal drive.old) → Shows (D.honest drive.new) (D.journal drive.old) self.old nodes.now.at nodes.now.entries.now tree → IfOk result (λ status. runs.told tree (runs.Query.Stat path.now) ≡ runs.Answer.NodeIs (asked.is_directory status.kind) status.moment status.size) }
         ensures refused { (tree : Tree) → Shows (D.honest drive.new) (D.journal drive.old) self.old nodes.now.at nodes.now.entries.now tree → IfErr result (IsRefused (runs.told tree (runs.Query.Stat path.now))) }
         ensures kept { IsTrue (D.honest drive.new) → AreKept (D.journal drive.old) self.old → AreKept (D.journal drive.old) self.new }
-        ensures journal { D.journal drive.new ≡ D.journal drive.old }
-        ensures capacity { D.capacity drive.new ≡ D.capacity drive.old }
-        ensures honest { IsTrue (D.honest drive.new) → IsTrue (D.honest drive.old) }
-        ensures failures { Counts (devices result) (D.failures drive.old) (D.failures drive.new) }
+        ensures reads { Reads D.Drive (devices result) drive.old drive.new }
     {
         let node = self.node(alloc, drive, nodes, path)?;
         let (moment, bytes) = moment_and_size(drive, nodes, node.address)?;
@@ -129,10 +121,7 @@ impl Directories {
         ensures found { (tree : Tree) → Shows (D.honest drive.new) (D.journal drive.old) self.old nodes.now.at nodes.now.entries.now tree → IfOk result (IsAt (graph_below nodes.now.at nodes.now.entries.now (D.journal drive.old)) path.now) }
         ensures missing { (tree : Tree) → Shows (D.honest drive.new) (D.journal drive.old) self.old nodes.now.at nodes.now.entries.now tree → IfErr result (IsMissing tree path.now) }
         ensures kept { IsTrue (D.honest drive.new) → AreKept (D.journal drive.old) self.old → AreKept (D.journal drive.old) self.new }
-        ensures journal { D.journal drive.new ≡ D.journal drive.old }
-        ensures capacity { D.capacity drive.new ≡ D.capacity drive.old }
-        ensures honest { IsTrue (D.honest drive.new) → IsTrue (D.honest drive.old) }
-        ensures failures { Counts (devices result) (D.failures drive.old) (D.failures drive.new) }
+        ensures reads { Reads D.Drive (devices result) drive.old drive.new }
     {
         match self.find(alloc, drive, nodes, path.names())? {
             Some(node) => Ok(node),
@@ -153,10 +142,7 @@ impl Directories {
         ensures count { IfOk result (λ count. IsTrue (D.honest drive.new) → AreKept (D.journal drive.old) self.old → (s : Stored) → graph_below nodes.now.at nodes.now.entries.now (D.journal drive.old) address s → is_directory s ≡ true → count ≡ length (entries_of s)) }
         ensures short { IfErr result (λ fault. IsTrue (D.honest drive.new) → (s : Stored) → graph_below nodes.now.at nodes.now.entries.now (D.journal drive.old) address s → is_directory s ≡ true → IsShortage fault) }
         ensures kept { IsTrue (D.honest drive.new) → AreKept (D.journal drive.old) self.old → AreKept (D.journal drive.old) self.new }
-        ensures journal { D.journal drive.new ≡ D.journal drive.old }
-        ensures capacity { D.capacity drive.new ≡ D.capacity drive.old }
-        ensures honest { IsTrue (D.honest drive.new) → IsTrue (D.honest drive.old) }
-        ensures failures { Counts (devices result) (D.failures drive.old) (D.failures drive.new) }
+        ensures reads { Reads D.Drive (devices result) drive.old drive.new }
     {
         let (placed, content) = self.open(alloc, drive, nodes, address)?;
         let count = content.dir.entries.len() as u64;
@@ -176,10 +162,7 @@ fn moment_and_size<D: Drive>(
     ensures moment { IfOk result (λ read. IsTrue (D.honest drive.new) → (s : Stored) → graph_below nodes.now.at nodes.now.entries.now (D.journal drive.old) address s → read.0 ≡ s.moment) }
     ensures size { IfOk result (λ read. IsTrue (D.honest drive.new) → Once (D.journal drive.old) → (s : Stored) → graph_below nodes.now.at nodes.now.entries.now (D.journal drive.old) address s → (bytes : List ℕ) → s.body ≡ Bytes bytes → read.1 ≡ length bytes) }
     ensures short { IfErr result (λ fault. IsTrue (D.honest drive.new) → (s : Stored) → graph_below nodes.now.at nodes.now.entries.now (D.journal drive.old) address s → IsShortage fault) }
-    ensures journal { D.journal drive.new ≡ D.journal drive.old }
-    ensures capacity { D.capacity drive.new ≡ D.capacity drive.old }
-    ensures honest { IsTrue (D.honest drive.new) → IsTrue (D.honest drive.old) }
-    ensures failures { Counts (devices result) (D.failures drive.old) (D.failures drive.new) }
+    ensures reads { Reads D.Drive (devices result) drive.old drive.new }
 {
     let (block, at) = nodes.entry_block(drive, address)?;
     match decode_fe(&block, address) {
@@ -199,10 +182,7 @@ fn file_data<D: Drive>(
     requires within { nodes.now.at ≤ next_of (D.journal drive.old) }
     ensures bytes { IfOk result (λ read. IsTrue (D.honest drive.new) → (s : Stored) → graph_below nodes.now.at nodes.now.entries.now (D.journal drive.old) address s → is_directory s ≡ false → s.body ≡ Bytes read) }
     ensures short { IfErr result (λ fault. IsTrue (D.honest drive.new) → (s : Stored) → graph_below nodes.now.at nodes.now.entries.now (D.journal drive.old) address s → is_directory s ≡ false → IsShortage fault) }
-    ensures journal { D.journal drive.new ≡ D.journal drive.old }
-    ensures capacity { D.capacity drive.new ≡ D.capacity drive.old }
-    ensures honest { IsTrue (D.honest drive.new) → IsTrue (D.honest drive.old) }
-    ensures failures { Counts (devices result) (D.failures drive.old) (D.failures drive.new) }
+    ensures reads { Reads D.Drive (devices result) drive.old drive.new }
 {
     let (block, at) = nodes.entry_block(drive, address)?;
     let entry = match decode_fe(&block, address) {

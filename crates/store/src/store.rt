@@ -1,8 +1,9 @@
 //! A store, and how it is opened.
 
 ghost use Rattle.std.specs.Prelude.{◌≡◌, ◌≤◌, ℕ, IsTrue, IfOk, IfErr, false};
-ghost use Rattle.recover.specs.Faults.{Counts, devices};
+ghost use Rattle.recover.specs.Faults.{devices};
 ghost use Rattle.drive.specs.Journal.{held, Once};
+ghost use Rattle.drive.specs.Reads.{Reads};
 ghost use Rattle.medium.specs.Volume.{Stands};
 ghost use Rattle.model.specs.Session as said;
 ghost use Rattle.store.specs.Agrees.{Agrees};
@@ -43,10 +44,7 @@ impl Store {
         ensures agrees { IfOk result (Agrees (D.journal drive.old) (D.capacity drive.old)) }
         ensures kept { IfOk result (λ store. AreKept (D.journal drive.new) store.directories) }
         ensures stopped { IfOk result (λ store. store.is_stopped ≡ false) }
-        ensures journal { D.journal drive.new ≡ D.journal drive.old }
-        ensures capacity { D.capacity drive.new ≡ D.capacity drive.old }
-        ensures honest { IsTrue (D.honest drive.new) → IsTrue (D.honest drive.old) }
-        ensures failures { Counts (devices result) (D.failures drive.old) (D.failures drive.new) }
+        ensures reads { Reads D.Drive (devices result) drive.old drive.new }
     {
         let at = match last(drive)? {
             Some(at) => at,

@@ -2,7 +2,8 @@
 
 ghost use Rattle.std.specs.Prelude.{◌≡◌, ◌+◌, ◌*◌, ◌<◌, ◌≤◌, ◌^◌, [], ◌∷◌, ◌++◌, length, replicate, is_err, IsTrue, IfOk, OnOk, OnErr};
 ghost use Rattle.std.specs.Int.{div_ceil};
-ghost use Rattle.drive.specs.Journal.{next_of, written, AddsFront, counted};
+ghost use Rattle.drive.specs.Journal.{next_of, written, AddsFront};
+ghost use Rattle.drive.specs.Reads.{Writes};
 ghost use Rattle.drive.specs.Waiting.{end_of, Takes, Stops};
 ghost use Rattle.dir.specs.Directory.{directory_blocks};
 ghost use Rattle.ecma.specs.Descriptor.{padded};
@@ -57,9 +58,7 @@ impl Writer {
         requires fits { end_of self.old.packets < D.capacity drive.old }
         ensures ok { OnOk result (Takes (D.journal drive.old) self.old.packets (block.now ∷ []) (D.journal drive.new) self.new.packets) }
         ensures err { OnErr result (Stops (D.journal drive.old) self.old.packets (block.now ∷ []) (D.journal drive.new)) }
-        ensures capacity { D.capacity drive.new ≡ D.capacity drive.old }
-        ensures failures { D.failures drive.new ≡ counted (is_err result) (D.failures drive.old) }
-        ensures honest { IsTrue (D.honest drive.new) → IsTrue (D.honest drive.old) }
+        ensures writes { Writes D.Drive (is_err result) drive.old drive.new }
     {
         let held = self.held.saturating_add(self.packets.waiting() + 1);
         self.most_held = self.most_held.max(held);
@@ -72,9 +71,7 @@ impl Writer {
         requires fits { end_of self.old.packets + count ≤ D.capacity drive.old }
         ensures ok { OnOk result (Takes (D.journal drive.old) self.old.packets (replicate count zeros) (D.journal drive.new) self.new.packets) }
         ensures err { OnErr result (Stops (D.journal drive.old) self.old.packets (replicate count zeros) (D.journal drive.new)) }
-        ensures capacity { D.capacity drive.new ≡ D.capacity drive.old }
-        ensures failures { D.failures drive.new ≡ counted (is_err result) (D.failures drive.old) }
-        ensures honest { IsTrue (D.honest drive.new) → IsTrue (D.honest drive.old) }
+        ensures writes { Writes D.Drive (is_err result) drive.old drive.new }
     {
         for i in 0..count {
             self.put(drive, &ZEROS)?;
@@ -88,9 +85,7 @@ impl Writer {
         requires fits { end_of self.old.packets + length blocks.now ≤ D.capacity drive.old }
         ensures ok { OnOk result (Takes (D.journal drive.old) self.old.packets blocks.now (D.journal drive.new) self.new.packets) }
         ensures err { OnErr result (Stops (D.journal drive.old) self.old.packets blocks.now (D.journal drive.new)) }
-        ensures capacity { D.capacity drive.new ≡ D.capacity drive.old }
-        ensures failures { D.failures drive.new ≡ counted (is_err result) (D.failures drive.old) }
-        ensures honest { IsTrue (D.honest drive.new) → IsTrue (D.honest drive.old) }
+        ensures writes { Writes D.Drive (is_err result) drive.old drive.new }
     {
         let left = blocks.len() - self.packets.straight(blocks.len());
         let waiting = self.packets.waiting().saturating_add(left);
@@ -106,9 +101,7 @@ impl Writer {
         requires fits { end_of self.old.packets + div_ceil (length bytes.now) 2048 ≤ D.capacity drive.old }
         ensures ok { OnOk result (Takes (D.journal drive.old) self.old.packets (packed bytes.now) (D.journal drive.new) self.new.packets) }
         ensures err { OnErr result (Stops (D.journal drive.old) self.old.packets (packed bytes.now) (D.journal drive.new)) }
-        ensures capacity { D.capacity drive.new ≡ D.capacity drive.old }
-        ensures failures { D.failures drive.new ≡ counted (is_err result) (D.failures drive.old) }
-        ensures honest { IsTrue (D.honest drive.new) → IsTrue (D.honest drive.old) }
+        ensures writes { Writes D.Drive (is_err result) drive.old drive.new }
     {
         let (blocks, text) = bytes.as_chunks::<BLOCK_SIZE>();
         self.put_all(drive, blocks)?;
@@ -123,9 +116,7 @@ impl Writer {
         requires fits { end_of self.old.packets + div_ceil (length text.now) 2048 ≤ D.capacity drive.old }
         ensures ok { OnOk result (Takes (D.journal drive.old) self.old.packets (packed text.now) (D.journal drive.new) self.new.packets) }
         ensures err { OnErr result (Stops (D.journal drive.old) self.old.packets (packed text.now) (D.journal drive.new)) }
-        ensures capacity { D.capacity drive.new ≡ D.capacity drive.old }
-        ensures failures { D.failures drive.new ≡ counted (is_err result) (D.failures drive.old) }
-        ensures honest { IsTrue (D.honest drive.new) → IsTrue (D.honest drive.old) }
+        ensures writes { Writes D.Drive (is_err result) drive.old drive.new }
     {
         if text.is_empty() {
             return Ok(());
@@ -145,9 +136,7 @@ impl Writer {
         requires fits { end_of self.old.packets + (gap + div_ceil (length bytes.now) 2048) ≤ D.capacity drive.old }
         ensures ok { OnOk result (Takes (D.journal drive.old) self.old.packets (replicate gap zeros ++ packed bytes.now) (D.journal drive.new) self.new.packets) }
         ensures err { OnErr result (Stops (D.journal drive.old) self.old.packets (replicate gap zeros ++ packed bytes.now) (D.journal drive.new)) }
-        ensures capacity { D.capacity drive.new ≡ D.capacity drive.old }
-        ensures failures { D.failures drive.new ≡ counted (is_err result) (D.failures drive.old) }
-        ensures honest { IsTrue (D.honest drive.new) → IsTrue (D.honest drive.old) }
+        ensures writes { Writes D.Drive (is_err result) drive.old drive.new }
     {
         self.put_zeros(drive, gap)?;
         self.put_data(drive, bytes)?;
@@ -167,9 +156,7 @@ impl Writer {
         requires fits { end_of self.old.packets + length (directory_blocks directory.now first) ≤ D.capacity drive.old }
         ensures ok { OnOk result (Takes (D.journal drive.old) self.old.packets (directory_blocks directory.now first) (D.journal drive.new) self.new.packets) }
         ensures err { OnErr result (Stops (D.journal drive.old) self.old.packets (directory_blocks directory.now first) (D.journal drive.new)) }
-        ensures capacity { D.capacity drive.new ≡ D.capacity drive.old }
-        ensures failures { D.failures drive.new ≡ counted (is_err result) (D.failures drive.old) }
-        ensures honest { IsTrue (D.honest drive.new) → IsTrue (D.honest drive.old) }
+        ensures writes { Writes D.Drive (is_err result) drive.old drive.new }
     {
         let mut lay = Lay::new(directory, first);
         while let Some(block) = lay.next_block() {
@@ -185,9 +172,7 @@ impl Writer {
         ensures ok { OnOk result (D.journal drive.new ≡ D.journal drive.old ++ written self.old.packets.at self.old.packets.blocks) }
         ensures empty { OnOk result (self.new.packets ≡ record { at = end_of self.old.packets; blocks = [] }) }
         ensures err { OnErr result (AddsFront (D.journal drive.old) self.old.packets.at self.old.packets.blocks (D.journal drive.new)) }
-        ensures capacity { D.capacity drive.new ≡ D.capacity drive.old }
-        ensures failures { D.failures drive.new ≡ counted (is_err result) (D.failures drive.old) }
-        ensures honest { IsTrue (D.honest drive.new) → IsTrue (D.honest drive.old) }
+        ensures writes { Writes D.Drive (is_err result) drive.old drive.new }
     {
         self.packets.finish(drive)
     }

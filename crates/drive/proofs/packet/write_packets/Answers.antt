@@ -1,5 +1,6 @@
-use Rattle.std.proofs.Common.{◌∙◌, arith}
+use Rattle.std.proofs.Common.{arith}
 use Rattle.drive.proofs.Packing.{packet_written, packet_front, packet_begins}
+use Rattle.drive.proofs.Reading.{writes_then}
 use Rattle.drive.proofs.packet.write_packets.Goals as goal
 
 pub write-requires-clause-begins : goal.write-requires-clause-begins
@@ -12,7 +13,5 @@ pub loop-done-preserved : goal.loop-done-preserved
 loop-done-preserved g c = record {
   in_range = omega arith;
   journal = packet_written (g.D.Drive.journal c.args.drive.now) (g.D.Drive.journal c.loop-done.drive) (g.D.Drive.journal c.write.new.self) c.args.at c.loop-done.done c.min-end.result c.args.blocks.now (omega arith) (omega arith) c.loop-done.invariant.journal c.in-Ok.ensures.ok;
-  capacity = c.write.ensures.capacity ∙ c.loop-done.invariant.capacity;
-  failures = c.in-Ok.ensures.failures ∙ c.loop-done.invariant.failures;
-  honest = c.write.ensures.honest ∙ c.loop-done.invariant.honest;
+  writes = writes_then c.loop-done.invariant.writes (record { capacity = c.write.ensures.capacity; failures = c.in-Ok.ensures.failures; misreads = c.write.ensures.misreads; honest = c.write.ensures.honest });
 }

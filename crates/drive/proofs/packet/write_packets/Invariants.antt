@@ -1,5 +1,6 @@
-use Rattle.std.proofs.Common.{◌≡◌, ◌-◌, ◌≤◌, ◌++◌, length, take}
+use Rattle.std.proofs.Common.{◌≡◌, false, ◌-◌, ◌≤◌, ◌++◌, length, take}
 use Rattle.drive.specs.Journal.{written}
+use Rattle.drive.specs.Reads.{Writes}
 use Rattle.drive.proofs.packet.write_packets.Given as goal
 
 -- what was written so far is a front of the blocks
@@ -7,9 +8,7 @@ abbrev pub invariant-loop-done : goal.invariant-loop-done
 invariant-loop-done g l = record {
   in_range : l.done ≤ length l.blocks;
   journal : g.D.Drive.journal l.drive ≡ g.D.Drive.journal l.fn.drive ++ written l.at (take l.done l.blocks);
-  capacity : g.D.Drive.capacity l.drive ≡ g.D.Drive.capacity l.fn.drive;
-  failures : g.D.Drive.failures l.drive ≡ g.D.Drive.failures l.fn.drive;
-  honest : g.D.Drive.honest l.drive ≡ g.D.Drive.honest l.fn.drive;
+  writes : Writes g.D.Drive false l.fn.drive l.drive;
 }
 
 abbrev pub decreases-loop-done : goal.decreases-loop-done

@@ -1,7 +1,7 @@
 use Rattle.std.proofs.Common.{Ok, Err, refl, sym, inl, inr}
 use Rattle.engine.proofs.Fronts.{behind_refused, open_unwritten}
 use Rattle.engine.proofs.Next.{is_next}
-use Rattle.engine.proofs.Rows.{committed_due, counts_as, dealt_new}
+use Rattle.engine.proofs.Rows.{committed_due, dealt_new}
 use Rattle.engine.proofs.engine.answer_request.Goals as goal
 
 pub apply-requires-clause-next : goal.apply-requires-clause-next
@@ -18,7 +18,7 @@ returns-in-Ok-clause-dealt g c volume S honest knows going = dealt_new _ volume 
   kept = c.apply.new.self;
   store = refl;
   applies = c.in-Ok.ensures.applies volume S honest knows going;
-  capacity = c.in-Ok.ensures.capacity;
+  capacity = c.in-Ok.ensures.follows.capacity;
 })
 
 pub returns-in-Err : goal.returns-in-Err
@@ -27,8 +27,8 @@ returns-in-Err g c = record {
   follows = record {
     ready = c.in-Err.ensures.agrees;
     front = behind_refused _ _ _ _ _ _ _ c.in-Err.ensures.refused;
-    capacity = c.in-Err.ensures.capacity;
-    honest = c.in-Err.ensures.honest;
+    capacity = c.in-Err.ensures.follows.capacity;
+    honest = c.in-Err.ensures.follows.honest;
   };
   dealt = λ volume S honest knows going. dealt_new _ volume S _ _ _ _ _ c.in-New.ensures (record {
     result = Err c.in-Err.fault;
@@ -36,7 +36,7 @@ returns-in-Err g c = record {
     kept = c.apply.new.self;
     store = refl;
     applies = c.in-Err.ensures.applies volume S honest knows going;
-    capacity = c.in-Err.ensures.capacity;
+    capacity = c.in-Err.ensures.follows.capacity;
   });
-  failures = counts_as _ _ _ _ c.refusal.ensures.device c.in-Err.ensures.failures;
+  lent = rw c.refusal.ensures.device c.in-Err.ensures.follows;
 }

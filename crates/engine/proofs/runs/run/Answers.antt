@@ -1,5 +1,6 @@
 use Rattle.std.proofs.Common.{rules, arith, ◌≡◌, ◌++◌, take}
 use Rattle.std.specs.Option.{option_to_list}
+use Rattle.drive.proofs.Reading.{follows_none, follows_then}
 use Rattle.engine.proofs.Delivering.{all_counted, next_delivered}
 use Rattle.engine.proofs.Running.{begun_run, ended_run, next_run}
 use Rattle.engine.proofs.runs.run.Goals as goal
@@ -10,6 +11,7 @@ loop-delivery-init g c = record {
   delivered = search rules;
   held = λ volume S honest once stands. begun_run volume S _ _ _ _ _ _ once stands (search rules) (search rules);
   ready = search rules;
+  lent = follows_none _ _;
   room = search rules;
   count = search rules;
 }
@@ -27,6 +29,7 @@ loop-delivery-preserved g c =
                 next_run volume c.args.deliveries.now c.loop-delivery.delivery-index c.delivery-item.result S _ _ _ _ c.loop-delivery.answers.items c.match-deliver.answers.items _
                 c.deliver.result _ (omega arith) c.delivery-item.is c.deliver.ensures.delivers more (inv.held volume S) (c.deliver.ensures.by volume);
             ready = c.deliver.ensures.ready;
+            lent = follows_then inv.lent c.deliver.ensures.lent;
             room = search rules;
             count = search rules;
           }
@@ -39,6 +42,7 @@ loop-delivery-preserved g c =
                 next_run volume c.args.deliveries.now c.loop-delivery.delivery-index c.delivery-item.result S _ _ _ _ c.loop-delivery.answers.items c.match-deliver.answers.items _
                 c.deliver.result _ (omega arith) c.delivery-item.is c.deliver.ensures.delivers more (inv.held volume S) (c.deliver.ensures.by volume);
             ready = c.deliver.ensures.ready;
+            lent = follows_then inv.lent c.deliver.ensures.lent;
             room = search rules;
             count = search rules;
           }

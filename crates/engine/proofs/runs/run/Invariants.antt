@@ -4,7 +4,8 @@ use Rattle.drive.specs.Journal.{held, Once}
 use Rattle.medium.specs.Volume.{Stands}
 use Rattle.model.specs.Session.{State}
 use Rattle.udf.specs.Udf.{udf}
-use Rattle.engine.specs.Situation.{IsReady, seen, situation}
+use Rattle.drive.specs.Reads.{Follows}
+use Rattle.engine.specs.Situation.{IsReady, seen_on, situation_on}
 use Rattle.engine.specs.Delivered.{AllDelivered}
 use Rattle.engine.specs.Headline.{IsRun}
 use Rattle.engine.proofs.runs.run.Given as goal
@@ -12,15 +13,16 @@ use Rattle.engine.proofs.runs.run.Given as goal
 abbrev pub invariant-loop-delivery : goal.invariant-loop-delivery
 invariant-loop-delivery g l = record {
   delivered : AllDelivered (take l.delivery-index l.deliveries)
-      (situation None (g.D.Drive.journal l.fn.drive) (g.D.Drive.failures l.fn.drive) (g.D.Drive.capacity l.fn.drive) (g.D.Drive.honest l.fn.drive))
+      (situation_on g.D.Drive None l.fn.drive)
       l.answers.items
-      (seen l.engine (g.D.Drive.journal l.drive) (g.D.Drive.failures l.drive) (g.D.Drive.capacity l.drive) (g.D.Drive.honest l.drive));
+      (seen_on g.D.Drive l.engine l.drive);
   held : (volume : ℕ) (S : State) → IsTrue (g.D.Drive.honest l.drive) → Once (g.D.Drive.journal l.fn.drive) → Stands udf (g.D.Drive.capacity l.fn.drive) volume (held (g.D.Drive.journal l.fn.drive)) S
       → IsRun volume (take l.delivery-index l.deliveries) S
-      (situation None (g.D.Drive.journal l.fn.drive) (g.D.Drive.failures l.fn.drive) (g.D.Drive.capacity l.fn.drive) (g.D.Drive.honest l.fn.drive))
+      (situation_on g.D.Drive None l.fn.drive)
       l.answers.items
-      (seen l.engine (g.D.Drive.journal l.drive) (g.D.Drive.failures l.drive) (g.D.Drive.capacity l.drive) (g.D.Drive.honest l.drive));
-  ready : IsReady (seen l.engine (g.D.Drive.journal l.drive) (g.D.Drive.failures l.drive) (g.D.Drive.capacity l.drive) (g.D.Drive.honest l.drive));
+      (seen_on g.D.Drive l.engine l.drive);
+  ready : IsReady (seen_on g.D.Drive l.engine l.drive);
+  lent : Follows g.D.Drive 0 l.fn.drive l.drive;
   room : length l.deliveries ≤ vec_capacity l.answers;
   count : vec_len l.answers ≤ l.delivery-index;
 }

@@ -1,4 +1,5 @@
 use Rattle.std.proofs.Common.{rules}
+use Rattle.drive.proofs.Reading.{follows_any, follows_then}
 use Rattle.engine.proofs.Messages.{answering_kept, answering_more, answering_some, on_err}
 use Rattle.engine.proofs.serving.answer_all.Goals as goal
 
@@ -7,6 +8,7 @@ loop-message-preserved g c = record {
   answering = answering_more _ c.loop-message.frames _ _ _ _ _ (g.W.Write.contents c.loop-message.writer) _ c.in-Some.message c.answer-answer.result
       c.loop-message.invariant.answering c.in-Some.ensures.some (record { answered = c.answer-answer.ensures.answered; calls = c.answer-answer.ensures.calls }) (search rules);
   ready = c.answer-answer.ensures.answered.follows.ready;
+  lent = follows_then c.loop-message.invariant.lent (follows_any c.answer-answer.ensures.lent);
 }
 
 pub returns-in_err-write_answer-clause-err : goal.returns-in_err-write_answer-clause-err
@@ -19,3 +21,6 @@ pub returns-then-is_err-clause-err : goal.returns-then-is_err-clause-err
 returns-then-is_err-clause-err g c =
     answering_kept _ c.loop-message.frames _ _ _ _ (g.W.Write.contents c.loop-message.writer) _ (search rules)
     c.loop-message.invariant.answering c.flush.ensures.bytes
+
+pub returns-in_err-write_answer-clause-lent : goal.returns-in_err-write_answer-clause-lent
+returns-in_err-write_answer-clause-lent g c = follows_then c.loop-message.invariant.lent (follows_any c.answer-answer.ensures.lent)

@@ -1,4 +1,5 @@
-use Rattle.engine.specs.Situation.{IsReady, seen}
+use Rattle.drive.specs.Reads.{Follows}
+use Rattle.engine.specs.Situation.{IsReady, seen_on}
 use Rattle.engine.specs.Served.{Answering}
 use Rattle.engine.proofs.Messages.{left_of}
 use Rattle.engine.proofs.serving.answer_all.Given as goal
@@ -6,10 +7,11 @@ use Rattle.engine.proofs.serving.answer_all.Given as goal
 abbrev pub invariant-loop-message : goal.invariant-loop-message
 invariant-loop-message g l = record {
   answering : Answering l.fn.frames l.frames
-      (seen l.fn.engine (g.D.Drive.journal l.fn.drive) (g.D.Drive.failures l.fn.drive) (g.D.Drive.capacity l.fn.drive) (g.D.Drive.honest l.fn.drive))
-      (seen l.engine (g.D.Drive.journal l.drive) (g.D.Drive.failures l.drive) (g.D.Drive.capacity l.drive) (g.D.Drive.honest l.drive))
+      (seen_on g.D.Drive l.fn.engine l.fn.drive)
+      (seen_on g.D.Drive l.engine l.drive)
       (g.W.Write.contents l.fn.writer) (g.W.Write.contents l.writer);
-  ready : IsReady (seen l.engine (g.D.Drive.journal l.drive) (g.D.Drive.failures l.drive) (g.D.Drive.capacity l.drive) (g.D.Drive.honest l.drive));
+  ready : IsReady (seen_on g.D.Drive l.engine l.drive);
+  lent : Follows g.D.Drive 0 l.fn.drive l.drive;
 }
 
 abbrev pub decreases-loop-message : goal.decreases-loop-message

@@ -1,4 +1,5 @@
 use Rattle.std.proofs.Common.{rules, ◌≡◌, ℕ, List, [], Option, Some, take, refl, sym, subst, ap, inl, arith, ◌∙◌}
+use Rattle.drive.proofs.Reading.{follows_none, follows_then}
 use Rattle.request.specs.Frames.{IsIdle, fed}
 use Rattle.engine.proofs.Messages.{serving_none, serving_more, serving_some, serving_read, serving_kept, serving_stops, serving_ends, serving_over, on_err, on_ok, over, filled}
 use Rattle.engine.proofs.serving.serve.Goals as goal
@@ -11,6 +12,7 @@ loop-init g c = record {
   serving = serving_none _ _ _ _ c.new-frames.ensures;
   idle = subst (λ (r : Option (List ℕ)). IsIdle r) (sym c.new-frames.ensures) (inl (omega arith));
   ready = search rules;
+  lent = follows_none _ _;
   room = search rules;
 }
 
@@ -61,8 +63,15 @@ loop-preserved g c =
           c.loop.invariant.serving c.in_ok-count.ensures.ok fed_is (search rules);
       idle = search rules;
       ready = c.answer_all.ensures.ready;
+      lent = follows_then c.loop.invariant.lent c.answer_all.ensures.lent;
       room = search rules;
     }
 
 pub returns-clause-err : goal.returns-clause-err
 returns-clause-err g c = serving_stops c.loop.frames _ _ _ _ _ _ c.loop.invariant.serving
+
+pub returns-in_err-answer_all-clause-lent : goal.returns-in_err-answer_all-clause-lent
+returns-in_err-answer_all-clause-lent g c = follows_then c.loop.invariant.lent c.answer_all.ensures.lent
+
+pub returns-then-is_over-clause-lent : goal.returns-then-is_over-clause-lent
+returns-then-is_over-clause-lent g c = follows_then c.loop.invariant.lent c.answer_all.ensures.lent

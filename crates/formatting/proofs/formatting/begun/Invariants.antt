@@ -1,4 +1,5 @@
-use Rattle.std.proofs.Common.{◌≡◌, IsTrue}
+use Rattle.std.proofs.Common.{◌≡◌}
+use Rattle.drive.specs.Reads.{Reads}
 use Rattle.formatting.specs.NewVolume.{words_of, IsSeen}
 use Rattle.formatting.proofs.formatting.begun.Given as goal
 
@@ -6,8 +7,6 @@ use Rattle.formatting.proofs.formatting.begun.Given as goal
 abbrev pub invariant-loop-n : goal.invariant-loop-n
 invariant-loop-n g l = record {
   seen : IsSeen (words_of l.parts) (g.D.Drive.journal l.fn.drive) (g.D.Drive.honest l.drive) l.n;
-  journal : g.D.Drive.journal l.drive ≡ g.D.Drive.journal l.fn.drive;
-  capacity : g.D.Drive.capacity l.drive ≡ g.D.Drive.capacity l.fn.drive;
-  honest : IsTrue (g.D.Drive.honest l.drive) → IsTrue (g.D.Drive.honest l.fn.drive);
+  reads : Reads g.D.Drive 0 l.fn.drive l.drive;
   failures : g.D.Drive.failures l.drive ≡ g.D.Drive.failures l.fn.drive;
 }

@@ -22,7 +22,7 @@ returns-in-Ok-write_last_alone-clause-ok g c =
     let written : behind ≡ between ++ written c.in-Ok-Some.count c.in-Ok-rest.blocks.items = c.in-Ok-write_last_alone.ensures.ok ∙ ap (λ (bs : List Block). between ++ written c.in-Ok-Some.count bs) c.deref.ensures.value in
     subst (λ w. IsFormatted capacity w before behind now) words
     (formatted_is capacity (words_of parts) parts.low parts.high room before between behind (g.D.Drive.honest c.begun.new.drive) now c.in-Ok-Some.count c.in-Ok-rest.blocks.items
-    c.in-Ok-Some.ensures.journal next.0 next.1 seen c.in-Ok-rest.ensures (subst IsTrue c.in-Ok-write_last_alone.ensures.honest) written)
+    c.in-Ok-Some.ensures.reads.journal next.0 next.1 seen c.in-Ok-rest.ensures (subst IsTrue c.in-Ok-write_last_alone.ensures.writes.honest) written)
 
 pub returns-clause-err : goal.returns-clause-err
 returns-clause-err g c =
@@ -41,4 +41,4 @@ returns-clause-err g c =
     let adds : AddsFront between c.in-Ok-Some.count c.in-Ok-rest.blocks.items behind = subst (λ (bs : List Block). AddsFront between c.in-Ok-Some.count bs behind) c.deref.ensures.value c.in-Err-write_last_alone.ensures.err in
     inr (subst (λ w. IsCut capacity w before behind now) words
     (cut_is capacity (words_of parts) parts.low parts.high room before between behind (g.D.Drive.honest c.begun.new.drive) now c.in-Ok-Some.count c.in-Ok-rest.blocks.items
-    c.in-Ok-Some.ensures.journal next.0 next.1 seen c.in-Ok-rest.ensures (subst IsTrue c.in-Err-write_last_alone.ensures.honest) adds))
+    c.in-Ok-Some.ensures.reads.journal next.0 next.1 seen c.in-Ok-rest.ensures (subst IsTrue c.in-Err-write_last_alone.ensures.writes.honest) adds))

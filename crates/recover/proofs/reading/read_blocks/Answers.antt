@@ -1,7 +1,8 @@
-use Rattle.std.proofs.Common.{◌+◌, ◌<◌, ◌∙◌, arith, rules}
+use Rattle.std.proofs.Common.{◌+◌, ◌<◌, arith, rules}
 use Rattle.std.proofs.lemmas.List.Elements.{All-push}
 use Rattle.udf.specs.Udf.{IsBlock}
 use Rattle.drive.specs.Journal.{held, next_of}
+use Rattle.drive.proofs.Reading.{reads_then}
 use Rattle.recover.proofs.Blocks.{blocks_more}
 use Rattle.recover.proofs.Held.{held_at}
 use Rattle.recover.proofs.reading.read_blocks.Goals as goal
@@ -11,12 +12,9 @@ loop-i-preserved g c = record {
   blocks = rw c.in_ok-push.ensures.items (All-push IsBlock _ _ c.loop-i.invariant.blocks c.in_ok-block.ensures.block);
   count = search rules;
   read = λ h.
-      let there = rw c.loop-i.invariant.journal at (c.in_ok-block.ensures.read h) in
+      let there = rw c.loop-i.invariant.reads.journal at (c.in_ok-block.ensures.read h) in
       let below : c.args.at + c.loop-i.i < next_of (g.D.Drive.journal c.args.drive.now) = omega arith in
       let more = blocks_more (held (g.D.Drive.journal c.args.drive.now)) c.args.at c.loop-i.i c.in_ok-block.block (held_at _ _ _ below there) in
-      cc (c.in_ok-push.ensures.items, c.loop-i.invariant.read (c.read_block.ensures.honest h), more);
-  journal = c.read_block.ensures.journal ∙ c.loop-i.invariant.journal;
-  capacity = c.read_block.ensures.capacity ∙ c.loop-i.invariant.capacity;
-  honest = λ h. c.loop-i.invariant.honest (c.read_block.ensures.honest h);
-  failures = search rules;
+      cc (c.in_ok-push.ensures.items, c.loop-i.invariant.read (c.read_block.ensures.reads.honest h), more);
+  reads = reads_then c.loop-i.invariant.reads c.in_ok-block.ensures.reads;
 }

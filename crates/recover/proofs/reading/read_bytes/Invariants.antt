@@ -1,7 +1,7 @@
 use Rattle.std.proofs.Common.{◌≡◌, ◌*◌, IsTrue, vec_len}
 use Rattle.std.specs.Prelude.{min}
 use Rattle.drive.specs.Journal.{held}
-use Rattle.recover.specs.Faults.{Counts}
+use Rattle.drive.specs.Reads.{Reads}
 use Rattle.recover.proofs.Blocks.{Gathered}
 use Rattle.recover.proofs.reading.read_bytes.Given as goal
 
@@ -9,8 +9,5 @@ abbrev pub invariant-loop-i : goal.invariant-loop-i
 invariant-loop-i g l = record {
   size : vec_len l.bytes ≡ min l.size (l.i * 2048);
   read : IsTrue (g.D.Drive.honest l.drive) → Gathered (held (g.D.Drive.journal l.fn.drive)) l.at l.i l.size l.bytes.items;
-  journal : g.D.Drive.journal l.drive ≡ g.D.Drive.journal l.fn.drive;
-  capacity : g.D.Drive.capacity l.drive ≡ g.D.Drive.capacity l.fn.drive;
-  honest : IsTrue (g.D.Drive.honest l.drive) → IsTrue (g.D.Drive.honest l.fn.drive);
-  failures : Counts 0 (g.D.Drive.failures l.fn.drive) (g.D.Drive.failures l.drive);
+  reads : Reads g.D.Drive 0 l.fn.drive l.drive;
 }

@@ -1,6 +1,7 @@
-use Rattle.std.proofs.Common.{◌≡◌, ◌<◌, ◌≤◌, ◌∙◌, List, refl, sym, subst, length, arith, rules}
+use Rattle.std.proofs.Common.{◌≡◌, ◌<◌, ◌≤◌, List, refl, sym, subst, length, arith}
 use Rattle.std.proofs.lemmas.Option.{none-some}
 use Rattle.drive.specs.Journal.{Event, held, next_of}
+use Rattle.drive.proofs.Reading.{reads_then}
 use Rattle.recover.proofs.Fronts.{BeginsFront, more_front, no_block, no_front, no_words, whole_front}
 use Rattle.recover.proofs.Held.{held_at, length-held}
 use Rattle.recover.proofs.state.read_front.Goals as goal
@@ -11,27 +12,21 @@ loop-n-init g c = record {
   words = λ h. (
     c.in_ok-primary.primary,
     c.in_ok-partition.partition,
-    c.in_ok-primary.ensures.read (c.read_block-2.ensures.honest h),
-    rw c.read_block.ensures.journal at (c.in_ok-partition.ensures.read h),
+    c.in_ok-primary.ensures.read (c.read_block-2.ensures.reads.honest h),
+    rw c.read_block.ensures.reads.journal at (c.in_ok-partition.ensures.read h),
     c.in-Ok.ensures.tells,
   );
-  journal = c.read_block-2.ensures.journal ∙ c.read_block.ensures.journal;
-  capacity = c.read_block-2.ensures.capacity ∙ c.read_block.ensures.capacity;
-  honest = λ h. c.read_block.ensures.honest (c.read_block-2.ensures.honest h);
-  failures = search rules;
+  reads = reads_then c.in_ok-primary.ensures.reads c.in_ok-partition.ensures.reads;
 }
 
 pub loop-n-preserved : goal.loop-n-preserved
 loop-n-preserved g c = record {
   seen = λ h.
-      let there = rw (c.loop-n.invariant.journal) at (c.in_ok-block.ensures.read h) in
+      let there = rw (c.loop-n.invariant.reads.journal) at (c.in_ok-block.ensures.read h) in
       let below : c.loop-n.n < next_of (g.D.Drive.journal c.args.drive.now) = omega arith in
-      more_front _ _ _ _ _ _ (held_at _ _ _ below there) (c.in-None.ensures.none) (c.loop-n.invariant.seen (c.read_block-in-loop-n.ensures.honest h));
-  words = λ h. c.loop-n.invariant.words (c.read_block-in-loop-n.ensures.honest h);
-  journal = c.read_block-in-loop-n.ensures.journal ∙ c.loop-n.invariant.journal;
-  capacity = c.read_block-in-loop-n.ensures.capacity ∙ c.loop-n.invariant.capacity;
-  honest = λ h. c.loop-n.invariant.honest (c.read_block-in-loop-n.ensures.honest h);
-  failures = search rules;
+      more_front _ _ _ _ _ _ (held_at _ _ _ below there) (c.in-None.ensures.none) (c.loop-n.invariant.seen (c.read_block-in-loop-n.ensures.reads.honest h));
+  words = λ h. c.loop-n.invariant.words (c.read_block-in-loop-n.ensures.reads.honest h);
+  reads = reads_then c.loop-n.invariant.reads c.in_ok-block.ensures.reads;
 }
 
 pub returns-clause-front : goal.returns-clause-front
@@ -48,8 +43,8 @@ returns-in-Err-Field-clause-refused g c = rw c.damaged.ensures (λ h. (
       let J : List Event = g.D.Drive.journal c.args.drive.now in
       let first : 32 < next_of J = omega (arith, c.requires.within) in
       let second : 34 < next_of J = omega (arith, c.requires.within) in
-      no_words label moment capacity (held J) c.in_ok-primary.primary c.in_ok-partition.partition _ (held_at J 32 _ first (c.in_ok-primary.ensures.read (c.read_block-2.ensures.honest h)))
-      (held_at J 34 _ second (rw c.read_block.ensures.journal at (c.in_ok-partition.ensures.read h))) c.in-Err-Field.ensures.fault,
+      no_words label moment capacity (held J) c.in_ok-primary.primary c.in_ok-partition.partition _ (held_at J 32 _ first (c.in_ok-primary.ensures.read (c.read_block-2.ensures.reads.honest h)))
+      (held_at J 34 _ second (rw c.read_block.ensures.reads.journal at (c.in_ok-partition.ensures.read h))) c.in-Err-Field.ensures.fault,
 ))
 
 pub returns-in-Some-clause-refused : goal.returns-in-Some-clause-refused
@@ -61,8 +56,8 @@ returns-in-Some-clause-refused g c = rw c.damaged-in-Some.ensures (λ h. (
       let second : 34 < next_of J = omega (arith, c.requires.within) in
       let here : c.loop-n.n < next_of J = omega (arith, c.requires.within, c.loop-n-test.true) in
       let inside : c.loop-n.n < 257 = omega (arith, c.loop-n-test.true) in
-      let words = c.loop-n.invariant.words (c.read_block-in-loop-n.ensures.honest h) in
+      let words = c.loop-n.invariant.words (c.read_block-in-loop-n.ensures.reads.honest h) in
       no_block label moment capacity (held J) c.in-Ok.front words.0 words.1 c.loop-n.n c.in_ok-block.block (held_at J 32 _ first words.2) (held_at J 34 _ second words.3)
-      words.4 inside (held_at J c.loop-n.n _ here (rw c.loop-n.invariant.journal at (c.in_ok-block.ensures.read h)))
+      words.4 inside (held_at J c.loop-n.n _ here (rw c.loop-n.invariant.reads.journal at (c.in_ok-block.ensures.read h)))
       (λ is. none-some c.in-Some.field-0 (sym (c.in-Some.ensures.only is))),
 ))

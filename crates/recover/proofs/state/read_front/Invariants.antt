@@ -1,7 +1,7 @@
 use Rattle.std.proofs.Common.{◌≡◌, ℕ, IsTrue, List, Some}
 use Rattle.volume.specs.Reading.{Tells}
 use Rattle.drive.specs.Journal.{held, last_at}
-use Rattle.recover.specs.Faults.{Counts}
+use Rattle.drive.specs.Reads.{Reads}
 use Rattle.recover.proofs.Fronts.{BeginsFront}
 use Rattle.recover.proofs.state.read_front.Given as goal
 
@@ -9,8 +9,5 @@ abbrev pub invariant-loop-n : goal.invariant-loop-n
 invariant-loop-n g l = record {
   seen : IsTrue (g.D.Drive.honest l.drive) → BeginsFront l.front.label l.front.moment l.front.capacity l.n (held (g.D.Drive.journal l.fn.drive));
   words : IsTrue (g.D.Drive.honest l.drive) → (primary : List ℕ) × (partition : List ℕ) × (last_at (g.D.Drive.journal l.fn.drive) 32 ≡ Some primary) × (last_at (g.D.Drive.journal l.fn.drive) 34 ≡ Some partition) × Tells l.front primary partition;
-  journal : g.D.Drive.journal l.drive ≡ g.D.Drive.journal l.fn.drive;
-  capacity : g.D.Drive.capacity l.drive ≡ g.D.Drive.capacity l.fn.drive;
-  honest : IsTrue (g.D.Drive.honest l.drive) → IsTrue (g.D.Drive.honest l.fn.drive);
-  failures : Counts 0 (g.D.Drive.failures l.fn.drive) (g.D.Drive.failures l.drive);
+  reads : Reads g.D.Drive 0 l.fn.drive l.drive;
 }

@@ -9,12 +9,12 @@ returns-in-None-clause-before g c = λ h. (view c.in_ok-vat.vat, c.in_ok-vat.ens
 pub returns-clause-before : goal.returns-clause-before
 returns-clause-before g c = λ h. (
   view c.in_ok-vat.vat,
-  c.in_ok-vat.ensures.table (c.linked.ensures.honest h),
+  c.in_ok-vat.ensures.table (c.linked.ensures.reads.honest h),
   c.in-Some.number,
   c.in-Some.is,
   refl,
   view c.in_ok-linked.field-0,
-  rw c.table_at.ensures.journal at (c.in_ok-linked.ensures.table h),
+  rw c.table_at.ensures.reads.journal at (c.in_ok-linked.ensures.table h),
   c.in_ok-linked.ensures.commits,
 )
 
@@ -28,8 +28,8 @@ returns-in_err-linked-clause-refused g c =
     let q = err_from_is_err_and c.from_residual-in_err-linked.result c.from_residual-in_err-linked.ensures.1 in
     rw q.1 (rw q.2 (λ h. inr (
       view c.in_ok-vat.vat,
-      c.in_ok-vat.ensures.table (c.linked.ensures.honest h),
+      c.in_ok-vat.ensures.table (c.linked.ensures.reads.honest h),
       c.in-Some.number,
       c.in-Some.is,
-      rw c.table_at.ensures.journal at (c.in_err-linked.ensures.refused h),
+      rw c.table_at.ensures.reads.journal at (c.in_err-linked.ensures.refused h),
     )))

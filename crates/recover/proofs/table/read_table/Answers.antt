@@ -14,5 +14,5 @@ returns-clause-refused g c = rw c.damaged.ensures (λ h.
     let other : c.in-Err.fault ≡ vat_faults.Memory → ⊥ = search rules in
     table_refused _ c.args.entry.now _ _ c.in-Err.fault _ (c.deref.ensures.value ∙ c.in_ok-bytes.ensures.read h) c.number.ensures other c.in-Err.ensures.fault)
 
-pub returns-clause-failures : goal.returns-clause-failures
-returns-clause-failures g c = rw c.damaged.ensures c.in_ok-bytes.ensures.failures
+pub returns-clause-reads : goal.returns-clause-reads
+returns-clause-reads g c = rw c.damaged.ensures c.in_ok-bytes.ensures.reads

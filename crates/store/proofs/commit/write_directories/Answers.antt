@@ -1,5 +1,6 @@
-use Rattle.std.proofs.Common.{◌≡◌, ◌+◌, ◌∙◌, length, take, drop, get_or, sym, ap, arith, length-append}
+use Rattle.std.proofs.Common.{◌≡◌, ◌+◌, length, take, drop, get_or, sym, ap, arith, length-append}
 use Rattle.std.proofs.lemmas.Result.{err_from_is_err_and}
+use Rattle.drive.proofs.Reading.{writes_then}
 use Rattle.store.specs.Plan.{directory_list, directories_list}
 use Rattle.store.proofs.Plans.{list_more, list_front}
 use Rattle.store.proofs.Puttings.{takes_both, stops_first, stops_second}
@@ -15,7 +16,7 @@ write_directory-requires-clause-fits g c =
     let p = c.placed-item.result in
     let is : get_or ds i p ≡ p = (let told = c.placed-item.is in cc) in
     let more = list_more ds i p c.loop-placed-test.true is in
-    omega (arith, c.requires.fits, c.loop-placed.invariant.takes.ends, c.loop-placed.invariant.capacity, ap length more, length-append (directories_list (take i ds)) (directory_list p), ap length (list_front (i + 1) ds), length-append (directories_list (take (i + 1) ds)) (directories_list (drop (i + 1) ds)))
+    omega (arith, c.requires.fits, c.loop-placed.invariant.takes.ends, c.loop-placed.invariant.writes.capacity, ap length more, length-append (directories_list (take i ds)) (directory_list p), ap length (list_front (i + 1) ds), length-append (directories_list (take (i + 1) ds)) (directories_list (drop (i + 1) ds)))
 
 pub returns-in_err-write_directory-clause-err : goal.returns-in_err-write_directory-clause-err
 returns-in_err-write_directory-clause-err g c =
@@ -37,7 +38,5 @@ loop-placed-preserved g c =
     let more = list_more ds i p c.loop-placed-test.true is in
     record {
       takes = takes_both (g.D.Drive.journal c.args.drive.now) (g.D.Drive.journal c.loop-placed.drive) (g.D.Drive.journal c.write_directory.new.drive) c.args.writer.now.packets c.loop-placed.writer.packets c.write_directory.new.writer.packets (directories_list (take i ds)) (directory_list p) (directories_list (take (i + 1) ds)) (sym more) c.loop-placed.invariant.takes c.in_ok-write_directory.ensures.ok;
-      capacity = c.write_directory.ensures.capacity ∙ c.loop-placed.invariant.capacity;
-      failures = c.in_ok-write_directory.ensures.failures ∙ c.loop-placed.invariant.failures;
-      honest = λ h. c.loop-placed.invariant.honest (c.write_directory.ensures.honest h);
+      writes = writes_then c.loop-placed.invariant.writes c.in_ok-write_directory.ensures.writes;
     }

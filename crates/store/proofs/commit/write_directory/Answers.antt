@@ -8,7 +8,7 @@ pub put_directory-requires-clause-fits : goal.put_directory-requires-clause-fits
 put_directory-requires-clause-fits g c = omega (arith, c.requires.fits, length-append (directory_data c.args.placed.now) (c.args.placed.now.entry ∷ []))
 
 pub put-requires-clause-fits : goal.put-requires-clause-fits
-put-requires-clause-fits g c = omega (arith, c.requires.fits, length-append (directory_data c.args.placed.now) (c.args.placed.now.entry ∷ []), c.in_ok-put_directory.ensures.ok.ends, c.put_directory.ensures.capacity)
+put-requires-clause-fits g c = omega (arith, c.requires.fits, length-append (directory_data c.args.placed.now) (c.args.placed.now.entry ∷ []), c.in_ok-put_directory.ensures.ok.ends, c.put_directory.ensures.writes.capacity)
 
 pub returns-in_err-put_directory-clause-err : goal.returns-in_err-put_directory-clause-err
 returns-in_err-put_directory-clause-err g c =

@@ -21,7 +21,7 @@ put-requires-clause-fits g c =
     let out = c.outside_of.result.now in
     let front = replicate p.gap zeros ++ packed out in
     let whole : front ++ p.entry ∷ [] ≡ file_list c.args.file.now = ap (λ (bs : List ℕ). (replicate p.gap zeros ++ packed bs) ++ p.entry ∷ []) (c.outside_of.ensures ∙ ap outside c.as_slice-bytes.ensures.bytes) ∙ sym (ap file_list c.in-Some.is) in
-    omega (arith, c.requires.fits, ap length whole, length-append front (p.entry ∷ []), c.in_ok-put_bytes.ensures.ok.ends, c.put_bytes.ensures.capacity)
+    omega (arith, c.requires.fits, ap length whole, length-append front (p.entry ∷ []), c.in_ok-put_bytes.ensures.ok.ends, c.put_bytes.ensures.writes.capacity)
 
 pub returns-in_err-put_bytes-clause-err : goal.returns-in_err-put_bytes-clause-err
 returns-in_err-put_bytes-clause-err g c =

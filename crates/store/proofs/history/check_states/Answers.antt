@@ -1,7 +1,7 @@
-use Rattle.std.proofs.Common.{◌∙◌, ◌<◌, length, refl, arith, rules}
+use Rattle.std.proofs.Common.{◌<◌, length, arith}
 use Rattle.std.proofs.lemmas.Result.{err_from_is_err_and}
+use Rattle.drive.proofs.Reading.{reads_none, reads_then}
 use Rattle.drive.specs.Journal.{held}
-use Rattle.recover.specs.Faults.{Counts}
 use Rattle.recover.specs.State.{IsShown}
 use Rattle.recover.specs.declared.state.State.{State}
 use Rattle.store.specs.declared.history.Commit.{Commit}
@@ -13,23 +13,17 @@ pub loop-i-init : goal.loop-i-init
 loop-i-init g c = record {
   shown = λ h k d lt. absurd (omega (arith, lt));
   known = λ h. c.new-known.ensures (held (g.D.Drive.journal c.args.drive.now));
-  journal = refl;
-  capacity = refl;
-  honest = λ h. h;
-  failures = search rules;
+  reads = reads_none _ _;
 }
 
 pub loop-i-preserved : goal.loop-i-preserved
 loop-i-preserved g c = record {
   shown = λ h. one_more (λ (m : Commit). (state : State) × IsShown (g.D.Drive.capacity c.args.drive.now) (held (g.D.Drive.journal c.args.drive.now)) m.at state) c.args.commits.now c.loop-i.i _
-      (c.loop-i.invariant.shown (c.state_sharing.ensures.honest h))
+      (c.loop-i.invariant.shown (c.state_sharing.ensures.reads.honest h))
       (let there : c.loop-i.i < length c.args.commits.now = omega (arith, c.loop-i-test.true) in there)
-      (c.in_ok-state_sharing.field-0, rw c.loop-i.invariant.capacity at (rw c.loop-i.invariant.journal at (c.in_ok-state_sharing.ensures.shown h)));
+      (c.in_ok-state_sharing.field-0, rw c.loop-i.invariant.reads.capacity at (rw c.loop-i.invariant.reads.journal at (c.in_ok-state_sharing.ensures.shown h)));
   known = c.state_sharing.ensures.known;
-  journal = c.state_sharing.ensures.journal ∙ c.loop-i.invariant.journal;
-  capacity = c.state_sharing.ensures.capacity ∙ c.loop-i.invariant.capacity;
-  honest = λ h. c.loop-i.invariant.honest (c.state_sharing.ensures.honest h);
-  failures = (let failures : Counts 0 (g.D.Drive.failures c.args.drive.now) (g.D.Drive.failures c.state_sharing.new.drive) = λ few. omega (arith, c.in_ok-state_sharing.ensures.failures, c.loop-i.invariant.failures) in failures);
+  reads = reads_then c.loop-i.invariant.reads c.in_ok-state_sharing.ensures.reads;
 }
 
 pub returns-clause-shown : goal.returns-clause-shown
@@ -40,4 +34,4 @@ returns-in_err-state_sharing-clause-refused g c =
     let q = err_from_is_err_and c.from_residual.result c.from_residual.ensures.1 in
     let there : c.loop-i.i < length c.args.commits.now = omega (arith, c.loop-i-test.true) in
     rw (q.1, q.2) (λ h. unshown_at (held (g.D.Drive.journal c.args.drive.now)) (g.D.Drive.capacity c.args.drive.now) c.args.commits.now c.loop-i.i _ there _
-    (rw c.loop-i.invariant.capacity at (rw c.loop-i.invariant.journal at (c.in_err-state_sharing.ensures.refused h))))
+    (rw c.loop-i.invariant.reads.capacity at (rw c.loop-i.invariant.reads.journal at (c.in_err-state_sharing.ensures.refused h))))

@@ -1,6 +1,6 @@
-use Rattle.std.proofs.Common.{◌≡◌, ◌<◌, ℕ, IsTrue, slice_index_or}
+use Rattle.std.proofs.Common.{◌<◌, ℕ, IsTrue, slice_index_or}
 use Rattle.drive.specs.Journal.{held}
-use Rattle.recover.specs.Faults.{Counts}
+use Rattle.drive.specs.Reads.{Reads}
 use Rattle.recover.specs.Known.{IsKnown}
 use Rattle.recover.specs.State.{IsShown}
 use Rattle.recover.specs.declared.state.State.{State}
@@ -12,8 +12,5 @@ invariant-loop-i g l = record {
   shown : IsTrue (g.D.Drive.honest l.drive) → (k : ℕ) (d : Commit) → k < l.i
       → (state : State) × IsShown (g.D.Drive.capacity l.fn.drive) (held (g.D.Drive.journal l.fn.drive)) (slice_index_or l.fn.commits k d).at state;
   known : IsTrue (g.D.Drive.honest l.drive) → IsKnown (held (g.D.Drive.journal l.drive)) l.known;
-  journal : g.D.Drive.journal l.drive ≡ g.D.Drive.journal l.fn.drive;
-  capacity : g.D.Drive.capacity l.drive ≡ g.D.Drive.capacity l.fn.drive;
-  honest : IsTrue (g.D.Drive.honest l.drive) → IsTrue (g.D.Drive.honest l.fn.drive);
-  failures : Counts 0 (g.D.Drive.failures l.fn.drive) (g.D.Drive.failures l.drive);
+  reads : Reads g.D.Drive 0 l.fn.drive l.drive;
 }

@@ -2,6 +2,7 @@ use Rattle.std.proofs.Common.{◌≡◌, ◌+◌, ◌∙◌, sym, ap, subst, Lis
 use Rattle.std.specs.Prelude.{IsOkAnd}
 use Rattle.std.proofs.lemmas.Bool.{false≢true}
 use Rattle.std.proofs.lemmas.Result.{err_from_is_err_and}
+use Rattle.drive.proofs.Reading.{reads_then}
 use Rattle.drive.specs.Journal.{Event, held}
 use Rattle.recover.specs.Blocks.{bytes_at}
 use Rattle.recover.specs.Faults.{IsShortage}
@@ -65,12 +66,17 @@ pub returns-in_ok-bytes-in-Extent-clause-bytes : goal.returns-in_ok-bytes-in-Ext
 returns-in_ok-bytes-in-Extent-clause-bytes g c honest s there file =
     let J = g.D.Drive.journal c.args.drive.now in
     let at = c.args.nodes.now.at in
-    let b = c.in_ok-block.ensures.block (c.in_ok-bytes-in-Extent.ensures.honest honest) s there in
+    let b = c.in_ok-block.ensures.block (c.in_ok-bytes-in-Extent.ensures.reads.honest honest) s there in
     let ok = decoded c.in_ok-block.block there.block c.args.address there.fields c.decode_fe.result b.0 there.entry c.decode_fe.ensures.only in
     let same = subst (λ r. IsOkAnd r (λ e. icb.fields_of e ≡ fields_of there.fields)) c.in-Ok.is ok in
     let h = has_bytes at c.args.nodes.now.entries.now J c.args.address s there file in
-    let read = c.in_ok-bytes-in-Extent.ensures.read honest ∙ ap (λ (K : List Event). bytes_at (held K) (c.in-Extent.first + 257) c.in-Ok.entry.size) c.in_ok-block.ensures.journal in
+    let read = c.in_ok-bytes-in-Extent.ensures.read honest ∙ ap (λ (K : List Event). bytes_at (held K) (c.in-Extent.first + 257) c.in-Ok.entry.size) c.in_ok-block.ensures.reads.journal in
     (stored_extent at J s there.fields c.in-Ok.entry h same c.in-Extent.first c.in-Extent.is).1 ∙ ap Bytes (sym (c.new-in-Extent.ensures ∙ read))
 
-pub returns-in_ok-bytes-in-Extent-clause-honest : goal.returns-in_ok-bytes-in-Extent-clause-honest
-returns-in_ok-bytes-in-Extent-clause-honest g c honest = c.in_ok-block.ensures.honest (c.in_ok-bytes-in-Extent.ensures.honest honest)
+pub returns-in_err-bytes-in-Extent-clause-reads : goal.returns-in_err-bytes-in-Extent-clause-reads
+returns-in_err-bytes-in-Extent-clause-reads g c =
+    let p = err_from_is_err_and c.from_residual-in_err-bytes-in-Extent.result c.from_residual-in_err-bytes-in-Extent.ensures.1 in
+    rw (p.1, p.2) (reads_then c.in_ok-block.ensures.reads c.in_err-bytes-in-Extent.ensures.reads)
+
+pub returns-in_ok-bytes-in-Extent-clause-reads : goal.returns-in_ok-bytes-in-Extent-clause-reads
+returns-in_ok-bytes-in-Extent-clause-reads g c = reads_then c.in_ok-block.ensures.reads c.in_ok-bytes-in-Extent.ensures.reads

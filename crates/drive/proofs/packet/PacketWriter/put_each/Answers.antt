@@ -1,6 +1,7 @@
-use Rattle.std.proofs.Common.{[], ◌∙◌}
+use Rattle.std.proofs.Common.{[]}
 use Rattle.std.proofs.lemmas.Result.{err_from_is_err_and}
 use Rattle.drive.proofs.Packing.{takes_next, stops_next}
+use Rattle.drive.proofs.Reading.{writes_then}
 use Rattle.drive.proofs.packet.PacketWriter.put_each.Goals as goal
 
 pub returns-in_err-put-clause-err : goal.returns-in_err-put-clause-err
@@ -11,7 +12,5 @@ returns-in_err-put-clause-err g c =
 pub loop-block-preserved : goal.loop-block-preserved
 loop-block-preserved g c = record {
   taken = takes_next (g.D.Drive.journal c.args.drive.now) (g.D.Drive.journal c.loop-block.drive) (g.D.Drive.journal c.put.new.drive) c.args.self.now c.loop-block.self c.put.new.self c.loop-block.block-index c.args.blocks.now [] c.loop-block-test.true c.loop-block.invariant.taken c.in_ok-put.ensures.ok;
-  capacity = c.put.ensures.capacity ∙ c.loop-block.invariant.capacity;
-  failures = c.in_ok-put.ensures.failures ∙ c.loop-block.invariant.failures;
-  honest = c.put.ensures.honest ∙ c.loop-block.invariant.honest;
+  writes = writes_then c.loop-block.invariant.writes c.in_ok-put.ensures.writes;
 }

@@ -1,5 +1,6 @@
 use Rattle.std.proofs.Common.{rules, Some, refl}
-use Rattle.engine.specs.Situation.{Situation, situation}
+use Rattle.drive.proofs.Reading.{reads_are, reads_follows, reads_then}
+use Rattle.engine.specs.Situation.{Situation, situation_on}
 use Rattle.engine.proofs.Rows.{request_answered, same_situation, knows_there, request_calls, request_short, query_calls, query_short}
 use Rattle.engine.proofs.engine.Engine.answer.Goals as goal
 
@@ -8,21 +9,21 @@ returns-in-Ok-clause-answered g c =
     let d = g.D.Drive in
     let drive = c.take_open.new.drive in
     let store = c.in-Ok.store in
-    let during = situation (Some store) (d.journal drive) (d.failures drive) (d.capacity drive) (d.honest drive) in
+    let during = situation_on d (Some store) drive in
     request_answered c.args.message c.in-Request.request _ during _ store c.answer_request-answer.result c.in-Request.is
     (record {
       opens = record {
         opened = (refl, c.in-Ok.ensures.open);
-        journal = c.in-Ok.ensures.journal;
+        journal = c.in-Ok.ensures.reads.journal;
         stays = λ kept o.
             let same = c.in-Ok.ensures.stays kept o.0 o.1 in
             same_situation d.journal d.failures d.capacity d.honest (Some store) _ drive c.args.drive.now (search rules) same.1;
       };
-      capacity = c.in-Ok.ensures.capacity;
-      honest = c.in-Ok.ensures.honest;
-      failures = c.in-Ok.ensures.failures;
+      capacity = c.in-Ok.ensures.reads.capacity;
+      honest = c.in-Ok.ensures.reads.honest;
+      failures = c.in-Ok.ensures.reads.failures;
     })
-    c.answer_request-answer.ensures.due c.answer_request-answer.ensures.follows c.answer_request-answer.ensures.failures
+    c.answer_request-answer.ensures.due c.answer_request-answer.ensures.follows c.answer_request-answer.ensures.lent.failures
 
 pub returns-in-Ok-clause-calls : goal.returns-in-Ok-clause-calls
 returns-in-Ok-clause-calls g c volume S honest at =
@@ -30,11 +31,11 @@ returns-in-Ok-clause-calls g c volume S honest at =
     let first = c.args.drive.now in
     let drive = c.take_open.new.drive in
     let store = c.in-Ok.store in
-    let during : Situation = situation (Some store) (d.journal drive) (d.failures drive) (d.capacity drive) (d.honest drive) in
+    let during : Situation = situation_on d (Some store) drive in
     let opened = c.in-Ok.ensures in
     let known = opened.knows volume S (c.answer_request-answer.ensures.follows.honest honest) at in
-    let knows = knows_there (d.capacity first) (d.capacity drive) volume (d.journal first) (d.journal drive) S store opened.capacity opened.journal known in
-    request_calls volume S c.args.message c.in-Request.request _ during _ store c.answer_request-answer.result c.in-Request.is (record { journal = opened.journal; capacity = opened.capacity; knows = knows })
+    let knows = knows_there (d.capacity first) (d.capacity drive) volume (d.journal first) (d.journal drive) S store opened.reads.capacity opened.reads.journal known in
+    request_calls volume S c.args.message c.in-Request.request _ during _ store c.answer_request-answer.result c.in-Request.is (record { journal = opened.reads.journal; capacity = opened.reads.capacity; knows = knows })
     (c.answer_request-answer.ensures.dealt volume S honest knows opened.open)
 
 pub returns-in-Ok-take_open-clause-calls : goal.returns-in-Ok-take_open-clause-calls
@@ -44,20 +45,20 @@ returns-in-Ok-take_open-clause-calls g c volume S honest at =
     let drive = c.take_open-in-Query.new.drive in
     let last = c.answer_query-answer.new.drive in
     let store = c.in-Ok-take_open.store in
-    let during : Situation = situation (Some store) (d.journal drive) (d.failures drive) (d.capacity drive) (d.honest drive) in
+    let during : Situation = situation_on d (Some store) drive in
     let opened = c.in-Ok-take_open.ensures in
     let read = c.answer_query-answer.ensures in
-    let known = opened.knows volume S (read.honest honest) at in
-    let knows = knows_there (d.capacity first) (d.capacity drive) volume (d.journal first) (d.journal drive) S store opened.capacity opened.journal known in
+    let known = opened.knows volume S (read.reads.honest honest) at in
+    let knows = knows_there (d.capacity first) (d.capacity drive) volume (d.journal first) (d.journal drive) S store opened.reads.capacity opened.reads.journal known in
     let queried = read.queried volume S honest knows opened.open in
-    query_calls volume S c.args.message c.in-Query.query _ during _ store c.answer_query-answer.result c.in-Query.is (record { journal = opened.journal; capacity = opened.capacity; knows = knows })
+    query_calls volume S c.args.message c.in-Query.query _ during _ store c.answer_query-answer.result c.in-Query.is (record { journal = opened.reads.journal; capacity = opened.reads.capacity; knows = knows })
     (record {
       result = queried.0;
       kept = c.answer_query-answer.new.store;
       store = refl;
-      journal = read.journal;
-      capacity = read.capacity;
-      knows = λ still. knows_there (d.capacity drive) (d.capacity last) volume (d.journal drive) (d.journal last) S c.answer_query-answer.new.store read.capacity read.journal queried.1;
+      journal = read.reads.journal;
+      capacity = read.reads.capacity;
+      knows = λ still. knows_there (d.capacity drive) (d.capacity last) volume (d.journal drive) (d.journal last) S c.answer_query-answer.new.store read.reads.capacity read.reads.journal queried.1;
     })
 
 pub returns-in-Request-clause-calls : goal.returns-in-Request-clause-calls
@@ -65,8 +66,8 @@ returns-in-Request-clause-calls g c volume S honest at = request_short volume S 
   refusal = c.in-Err.fault;
   shortage = c.in-Err.ensures.short volume S honest at;
   told = c.failure.ensures.failed;
-  journal = c.in-Err.ensures.journal;
-  capacity = c.in-Err.ensures.capacity;
+  journal = c.in-Err.ensures.reads.journal;
+  capacity = c.in-Err.ensures.reads.capacity;
   store = c.in-Err.ensures.taken;
 })
 
@@ -75,8 +76,8 @@ returns-clause-calls g c volume S honest at = query_short volume S c.args.messag
   refusal = c.in-Err-take_open.fault;
   shortage = c.in-Err-take_open.ensures.short volume S honest at;
   told = c.failure-in-Err-take_open.ensures.failed;
-  journal = c.in-Err-take_open.ensures.journal;
-  capacity = c.in-Err-take_open.ensures.capacity;
+  journal = c.in-Err-take_open.ensures.reads.journal;
+  capacity = c.in-Err-take_open.ensures.reads.capacity;
   store = c.in-Err-take_open.ensures.taken;
 })
 
@@ -84,10 +85,22 @@ pub returns-in-Ok-clause-nothing : goal.returns-in-Ok-clause-nothing
 returns-in-Ok-clause-nothing g c honest holds = absurd (c.in-Ok.ensures.nothing (c.answer_request-answer.ensures.follows.honest honest) holds)
 
 pub returns-in-Ok-take_open-clause-nothing : goal.returns-in-Ok-take_open-clause-nothing
-returns-in-Ok-take_open-clause-nothing g c honest holds = absurd (c.in-Ok-take_open.ensures.nothing (c.answer_query-answer.ensures.honest honest) holds)
+returns-in-Ok-take_open-clause-nothing g c honest holds = absurd (c.in-Ok-take_open.ensures.nothing (c.answer_query-answer.ensures.reads.honest honest) holds)
 
 pub returns-in-Request-clause-nothing : goal.returns-in-Request-clause-nothing
-returns-in-Request-clause-nothing g c honest holds = rw c.in-Request.is (c.failure.ensures.fails, c.in-Err.ensures.journal, c.in-Err.ensures.taken)
+returns-in-Request-clause-nothing g c honest holds = rw c.in-Request.is (c.failure.ensures.fails, c.in-Err.ensures.reads.journal, c.in-Err.ensures.taken)
 
 pub returns-clause-nothing : goal.returns-clause-nothing
-returns-clause-nothing g c honest holds = rw c.in-Query.is (c.failure-in-Err-take_open.ensures.fails, c.in-Err-take_open.ensures.journal, c.in-Err-take_open.ensures.taken)
+returns-clause-nothing g c honest holds = rw c.in-Query.is (c.failure-in-Err-take_open.ensures.fails, c.in-Err-take_open.ensures.reads.journal, c.in-Err-take_open.ensures.taken)
+
+pub returns-in-Ok-clause-lent : goal.returns-in-Ok-clause-lent
+returns-in-Ok-clause-lent g c = reads_follows c.in-Ok.ensures.reads c.answer_request-answer.ensures.lent
+
+pub returns-in-Ok-take_open-clause-lent : goal.returns-in-Ok-take_open-clause-lent
+returns-in-Ok-take_open-clause-lent g c = reads_are (reads_then c.in-Ok-take_open.ensures.reads c.answer_query-answer.ensures.reads)
+
+pub returns-in-Request-clause-lent : goal.returns-in-Request-clause-lent
+returns-in-Request-clause-lent g c = rw c.failure.ensures.device (reads_are c.in-Err.ensures.reads)
+
+pub returns-clause-lent : goal.returns-clause-lent
+returns-clause-lent g c = rw c.failure-in-Err-take_open.ensures.device (reads_are c.in-Err-take_open.ensures.reads)

@@ -3,6 +3,7 @@ use Rattle.std.specs.Prelude.{IfSome, slice_get, option_map}
 use Rattle.std.specs.Map.Iter.{deref_pair}
 use Rattle.std.proofs.lemmas.Result.{err_from_is_err_and}
 use Rattle.drive.specs.Journal.{Event, held}
+use Rattle.drive.proofs.Reading.{reads_then}
 use Rattle.recover.specs.declared.directory.Extent.{Extent}
 use Rattle.recover.specs.Forest.{IsDrawn, Puts}
 use Rattle.recover.specs.Known.{IsNamed}
@@ -39,10 +40,10 @@ loop-index-init g t c = record {
   begun = λ h.
       let J : List Event = g.D.Drive.journal c.args.drive.now in
       let long : c.args.self.now.at ≤ length (take c.args.self.now.at (held J)) = omega (arith, length-take c.args.self.now.at (held J), length-held J, c.requires.within) in
-      let entry = subst (λ (n : ℕ). HasEntry (take n (held J)) c.in_ok-entry_at.entry_at c.args.node.now c.in_ok-body.body) c.reach.ensures.at (c.in_ok-body.ensures.entry (c.read_names.ensures.honest h)) in
+      let entry = subst (λ (n : ℕ). HasEntry (take n (held J)) c.in_ok-entry_at.entry_at c.args.node.now c.in_ok-body.body) c.reach.ensures.at (c.in_ok-body.ensures.entry (c.read_names.ensures.reads.honest h)) in
       let below = subst (λ (n : ℕ). IfSome c.in_ok-body.body.extent (LiesBelow n)) c.reach.ensures.at c.in_ok-body.ensures.extent in
       let here = subst (λ (o : Option Extent). IfSome o (LiesBelow c.args.self.now.at)) c.in-Some.is below in
-      let names = subst (λ (K : List Event). HasNames (held K) c.args.node.now.above c.in_ok-body.body.links c.in-Some.extent c.in_ok-names.names.dir) c.read_entry.ensures.journal (c.in_ok-names.ensures.names h) in
+      let names = subst (λ (K : List Event). HasNames (held K) c.args.node.now.above c.in_ok-body.body.links c.in-Some.extent c.in_ok-names.names.dir) c.read_entry.ensures.reads.journal (c.in_ok-names.ensures.names h) in
       let seen = directory_seen (held J) c.args.self.now.entries.now c.args.node.now c.in_ok-body.body c.in_ok-entry_at.entry_at c.args.self.now.at c.in_ok-entry_at.ensures.leads entry long c.in-Directory.is c.in-Some.extent c.in-Some.is here
       c.in_ok-names.names.dir names in
       let files : Tallied c.args.self.now.files 0 c.read_entry.new.self.files =
@@ -64,33 +65,27 @@ loop-index-init g t c = record {
   counted = search rules;
   known = c.read_names.ensures.known;
   names = λ h.
-      let names = subst (λ (K : List Event). HasNames (held K) c.args.node.now.above c.in_ok-body.body.links c.in-Some.extent c.in_ok-names.names.dir) c.read_entry.ensures.journal (c.in_ok-names.ensures.names h) in
+      let names = subst (λ (K : List Event). HasNames (held K) c.args.node.now.above c.in_ok-body.body.links c.in-Some.extent c.in_ok-names.names.dir) c.read_entry.ensures.reads.journal (c.in_ok-names.ensures.names h) in
       record { are = names.are; is = names.is };
-  journal = c.read_names.ensures.journal ∙ c.read_entry.ensures.journal;
-  capacity = c.read_names.ensures.capacity ∙ c.read_entry.ensures.capacity;
-  honest = λ h. c.read_entry.ensures.honest (c.read_names.ensures.honest h);
-  failures = search rules;
+  reads = reads_then c.in_ok-body.ensures.reads c.in_ok-names.ensures.reads;
 }
 
 pub loop-index-preserved : goal.loop-index-preserved
 loop-index-preserved g t c = record {
   begun = λ h.
-      let visits = visits_same _ _ c.loop-index.self c.args.self.now _ _ _ c.loop-index.invariant.journal c.loop-index.invariant.at c.loop-index.invariant.entries (c.in_ok-visit.ensures.visits h) in
+      let visits = visits_same _ _ c.loop-index.self c.args.self.now _ _ _ c.loop-index.invariant.reads.journal c.loop-index.invariant.at c.loop-index.invariant.entries (c.in_ok-visit.ensures.visits h) in
       let there : slice_get c.in_ok-names.names.dir.entries.entries c.loop-index.index ≡ Some (c.unwrap.result.0.now, c.unwrap.result.1.now) = sym c.get_index.ensures.entry ∙ ap (option_map deref_pair) c.unwrap.ensures in
       begun_more (nodes_of (g.D.Drive.journal c.args.drive.now) c.args.self.now) c.args.self.now c.loop-index.self c.visit.new.self c.args.node.now c.child-child.result c.in_ok-names.names.dir.entries.entries c.loop-index.index
       c.unwrap.result.0.now c.unwrap.result.1.now there c.child-child.ensures.kind c.child-child.ensures.address c.child-child.ensures.unique c.child-child.ensures.above c.child-child.ensures.depth
-      c.loop-index.invariant.next_unique (c.loop-index.invariant.begun (c.visit.ensures.honest h)) visits;
+      c.loop-index.invariant.next_unique (c.loop-index.invariant.begun (c.visit.ensures.reads.honest h)) visits;
   at = c.visit.ensures.at ∙ c.loop-index.invariant.at;
   entries = c.visit.ensures.entries ∙ c.loop-index.invariant.entries;
   next_unique = c.visit.ensures.next_unique ∙ c.loop-index.invariant.next_unique;
   more = omega (arith, c.visit.ensures.more, c.loop-index.invariant.more);
   counted = omega (arith, c.visit.ensures.more, c.loop-index.invariant.counted);
   known = c.visit.ensures.known;
-  names = λ h. c.loop-index.invariant.names (c.visit.ensures.honest h);
-  journal = c.visit.ensures.journal ∙ c.loop-index.invariant.journal;
-  capacity = c.visit.ensures.capacity ∙ c.loop-index.invariant.capacity;
-  honest = λ h. c.loop-index.invariant.honest (c.visit.ensures.honest h);
-  failures = search rules;
+  names = λ h. c.loop-index.invariant.names (c.visit.ensures.reads.honest h);
+  reads = reads_then c.loop-index.invariant.reads c.in_ok-visit.ensures.reads;
 }
 
 pub returns-clause-visits : goal.returns-clause-visits
@@ -101,7 +96,7 @@ returns-clause-visits g t c = λ h.
 pub returns-clause-known : goal.returns-clause-known
 returns-clause-known g t c = λ h.
     c.keep_directory.ensures (held (g.D.Drive.journal c.loop-index.drive))
-    (subst (λ (K : List Event). IsNamed (held K) c.in-Some.extent c.in_ok-names.names) (sym c.loop-index.invariant.journal) (c.loop-index.invariant.names h)) (c.loop-index.invariant.known h)
+    (subst (λ (K : List Event). IsNamed (held K) c.in-Some.extent c.in_ok-names.names) (sym c.loop-index.invariant.reads.journal) (c.loop-index.invariant.names h)) (c.loop-index.invariant.known h)
 
 pub returns-in_err-entry_at-clause-refused : goal.returns-in_err-entry_at-clause-refused
 returns-in_err-entry_at-clause-refused g t c =
@@ -124,10 +119,10 @@ returns-in_err-names-clause-refused g t c =
     let J : List Event = g.D.Drive.journal c.args.drive.now in
     let q = err_from_is_err_and c.from_residual-in_err-names.result c.from_residual-in_err-names.ensures.1 in
     rw (q.1, q.2) (λ h.
-    let entry = subst (λ (n : ℕ). HasEntry (take n (held J)) c.in_ok-entry_at.entry_at c.args.node.now c.in_ok-body.body) c.reach.ensures.at (c.in_ok-body.ensures.entry (c.read_names.ensures.honest h)) in
+    let entry = subst (λ (n : ℕ). HasEntry (take n (held J)) c.in_ok-entry_at.entry_at c.args.node.now c.in_ok-body.body) c.reach.ensures.at (c.in_ok-body.ensures.entry (c.read_names.ensures.reads.honest h)) in
     let below = subst (λ (o : Option Extent). IfSome o (LiesBelow c.args.self.now.at)) c.in-Some.is (subst (λ (n : ℕ). IfSome c.in_ok-body.body.extent (LiesBelow n)) c.reach.ensures.at c.in_ok-body.ensures.extent) in
     names_refused (held J) c.args.self.now c.args.node.now c.in_ok-entry_at.entry_at c.in_ok-entry_at.ensures.leads c.in_ok-body.body entry c.in-Directory.is c.in-Some.extent c.in-Some.is below _
-    (subst (λ (K : List Event). IsNamesRefused (held K) c.args.node.now.above c.in_ok-body.body.links c.in-Some.extent c.in_err-names.field-0.0) c.read_entry.ensures.journal (c.in_err-names.ensures.refused h)))
+    (subst (λ (K : List Event). IsNamesRefused (held K) c.args.node.now.above c.in_ok-body.body.links c.in-Some.extent c.in_err-names.field-0.0) c.read_entry.ensures.reads.journal (c.in_err-names.ensures.refused h)))
 
 pub returns-in_err-visit-clause-refused : goal.returns-in_err-visit-clause-refused
 returns-in_err-visit-clause-refused g t c =
@@ -137,5 +132,10 @@ returns-in_err-visit-clause-refused g t c =
     rw (q.1, q.2) (λ h.
     child_refused (nodes_of J c.args.self.now) c.args.self.now c.loop-index.self c.args.node.now c.child-child.result c.in_ok-names.names.dir.entries.entries c.loop-index.index
     c.unwrap.result.0.now c.unwrap.result.1.now there c.child-child.ensures.kind c.child-child.ensures.address c.child-child.ensures.unique c.child-child.ensures.above c.child-child.ensures.depth
-    c.loop-index.invariant.next_unique (c.loop-index.invariant.begun (c.visit.ensures.honest h)) _
-    (refused_same _ _ c.loop-index.self c.args.self.now _ _ c.in_err-visit.field-0.0 c.loop-index.invariant.journal c.loop-index.invariant.at c.loop-index.invariant.entries (c.in_err-visit.ensures.refused h)))
+    c.loop-index.invariant.next_unique (c.loop-index.invariant.begun (c.visit.ensures.reads.honest h)) _
+    (refused_same _ _ c.loop-index.self c.args.self.now _ _ c.in_err-visit.field-0.0 c.loop-index.invariant.reads.journal c.loop-index.invariant.at c.loop-index.invariant.entries (c.in_err-visit.ensures.refused h)))
+
+pub returns-in_err-visit-clause-reads : goal.returns-in_err-visit-clause-reads
+returns-in_err-visit-clause-reads g t c =
+    let q = err_from_is_err_and c.from_residual-in_err-visit.result c.from_residual-in_err-visit.ensures.1 in
+    rw (q.1, q.2) (reads_then c.loop-index.invariant.reads c.in_err-visit.ensures.reads)

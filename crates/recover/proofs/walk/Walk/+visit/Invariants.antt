@@ -1,6 +1,6 @@
 use Rattle.std.proofs.Common.{◌≡◌, ◌-◌, ◌≤◌, IsTrue}
 use Rattle.drive.specs.Journal.{held}
-use Rattle.recover.specs.Faults.{Counts}
+use Rattle.drive.specs.Reads.{Reads}
 use Rattle.recover.specs.Known.{IsKnown, IsNamed}
 use Rattle.recover.specs.Walk.{nodes_of}
 use Rattle.recover.proofs.Walks.{Begun}
@@ -16,10 +16,7 @@ invariant-loop-index g l = record {
   counted : 1 ≤ l.self.directories;
   known : IsTrue (g.D.Drive.honest l.drive) → IsKnown (held (g.D.Drive.journal l.drive)) l.known;
   names : IsTrue (g.D.Drive.honest l.drive) → IsNamed (held (g.D.Drive.journal l.fn.drive)) l.extent l.names;
-  journal : g.D.Drive.journal l.drive ≡ g.D.Drive.journal l.fn.drive;
-  capacity : g.D.Drive.capacity l.drive ≡ g.D.Drive.capacity l.fn.drive;
-  honest : IsTrue (g.D.Drive.honest l.drive) → IsTrue (g.D.Drive.honest l.fn.drive);
-  failures : Counts 0 (g.D.Drive.failures l.fn.drive) (g.D.Drive.failures l.drive);
+  reads : Reads g.D.Drive 0 l.fn.drive l.drive;
 }
 
 abbrev pub decreases-visit : goal.decreases-visit

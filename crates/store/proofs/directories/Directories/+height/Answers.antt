@@ -1,6 +1,7 @@
 use Rattle.std.proofs.Common.{◌≡◌, ◌∙◌, ◌+◌, ◌-◌, ◌<◌, ◌≤◌, sym, ap, subst, refl, [], ◌∷◌, ◌++◌, Some, arith, rules}
 use Rattle.std.specs.Prelude.{slice_get, max}
 use Rattle.std.proofs.lemmas.Result.{err_from_is_err_and}
+use Rattle.drive.proofs.Reading.{reads_then}
 use Rattle.recover.specs.Faults.{IsShortage}
 use Rattle.recover.specs.declared.fault.StoreFault.{StoreFault}
 use Rattle.dir.specs.declared.entry.Entry.{Entry}
@@ -17,11 +18,8 @@ returns-then-left-eq0-clause-height g t c tree path node s here dir address =
 pub loop-index-init : goal.loop-index-init
 loop-index-init g t c = record {
   bound = omega arith;
-  journal = c.in_ok-placed.ensures.journal;
-  capacity = c.in_ok-placed.ensures.capacity;
-  honest = c.in_ok-placed.ensures.honest;
   still = λ h. h;
-  failures = λ below. c.in_ok-placed.ensures.failures below;
+  reads = c.in_ok-placed.ensures.reads;
   kept = c.in_ok-placed.ensures.kept;
   height = λ tree path node s here dir address.
       height_none tree path c.args.left c.in_ok-placed.content.dir.entries.entries (there_at c.args.nodes.now.at c.args.nodes.now.entries.now (g.D.Drive.journal c.args.drive.now) tree s.tree s.makes path node here);
@@ -40,11 +38,8 @@ loop-index-preserved-in_default g t c =
     let next : c.max-most.result ≡ max c.loop-index.most (0 + 1) = c.max-most.ensures ∙ ord_max_is c.loop-index.most 1 in
     record {
       bound = omega (arith, next, max_within c.loop-index.most 1 c.args.left c.loop-index.invariant.bound some);
-      journal = c.loop-index.invariant.journal;
-      capacity = c.loop-index.invariant.capacity;
-      honest = c.loop-index.invariant.honest;
       still = c.loop-index.invariant.still;
-      failures = λ below. c.loop-index.invariant.failures below;
+      reads = c.loop-index.invariant.reads;
       kept = c.loop-index.invariant.kept;
       height = λ tree path node s here dir address.
           let there = stored_on at entries J tree s.tree s.makes J refl c.args.address path node here address in
@@ -65,19 +60,19 @@ returns-in_err-below-clause-short g t c tree path node s here dir address =
     let name = c.unwrap.result.0.now in
     let entry : Entry = c.unwrap.result.1.now in
     let found : slice_get es c.loop-index.index ≡ Some (name, entry) = search rules in
-    let h1 = c.in_err-below.ensures.honest s.honest in
+    let h1 = c.in_err-below.ensures.reads.honest s.honest in
     let there = stored_on at entries J tree s.tree s.makes J refl c.args.address path node here address in
     let shown = c.in_ok-placed.ensures.opened (c.loop-index.invariant.still h1) s.kept here.found.stored there (sym here.kind ∙ dir) in
-    let leads = leads_on at entries J tree s.tree s.makes J1 c.loop-index.invariant.journal path node here c.in_ok-placed.placed c.in_ok-placed.content shown c.loop-index.index name entry found in
-    let s1 = shows_on (g.D.Drive.honest c.height.new.drive) J J1 c.args.self.now c.loop-index.self at entries tree c.loop-index.invariant.journal (c.loop-index.invariant.kept h1 s.kept) s in
+    let leads = leads_on at entries J tree s.tree s.makes J1 c.loop-index.invariant.reads.journal path node here c.in_ok-placed.placed c.in_ok-placed.content shown c.loop-index.index name entry found in
+    let s1 = shows_on (g.D.Drive.honest c.height.new.drive) J J1 c.args.self.now c.loop-index.self at entries tree c.loop-index.invariant.reads.journal (c.loop-index.invariant.kept h1 s.kept) s in
     let p = err_from_is_err_and c.from_residual-in_err-below.result c.from_residual-in_err-below.ensures.1 in
     let short = c.in_err-below.ensures.short tree (path ++ name ∷ []) (record { kind = entry.kind; address = entry.icb; unique = entry.unique }) s1 leads (ap names_directory c.in-Directory.is) refl in
     rw p.1 (subst (λ (f : StoreFault). IsShortage f) (sym p.2) short)
 
 pub returns-in_err-below-clause-kept : goal.returns-in_err-below-clause-kept
 returns-in_err-below-clause-kept g t c honest kept =
-    let kept1 = c.loop-index.invariant.kept (c.in_err-below.ensures.honest honest) kept in
-    kept_on (g.D.Drive.journal c.args.drive.now) (g.D.Drive.journal c.loop-index.drive) c.loop-index.self c.height.new.self c.loop-index.invariant.journal (c.in_err-below.ensures.kept honest) kept1
+    let kept1 = c.loop-index.invariant.kept (c.in_err-below.ensures.reads.honest honest) kept in
+    kept_on (g.D.Drive.journal c.args.drive.now) (g.D.Drive.journal c.loop-index.drive) c.loop-index.self c.height.new.self c.loop-index.invariant.reads.journal (c.in_err-below.ensures.kept honest) kept1
 
 pub loop-index-preserved : goal.loop-index-preserved
 loop-index-preserved g t c =
@@ -94,24 +89,18 @@ loop-index-preserved g t c =
     let next : c.max-most-in-loop-index.result ≡ max c.loop-index.most (c.in_ok-below.below + 1) = c.max-most-in-loop-index.ensures ∙ ord_max_is c.loop-index.most (c.in_ok-below.below + 1) in
     record {
       bound = omega (arith, next, max_within c.loop-index.most (c.in_ok-below.below + 1) c.args.left c.loop-index.invariant.bound (omega (arith, under, some)));
-      journal = c.in_ok-below.ensures.journal ∙ c.loop-index.invariant.journal;
-      capacity = c.in_ok-below.ensures.capacity ∙ c.loop-index.invariant.capacity;
-      honest = λ h. c.loop-index.invariant.honest (c.in_ok-below.ensures.honest h);
-      still = λ h. c.loop-index.invariant.still (c.in_ok-below.ensures.honest h);
-      failures = λ below.
-          let second = c.in_ok-below.ensures.failures below in
-          let first = c.loop-index.invariant.failures (omega (arith, below, second)) in
-          omega (arith, first, second);
+      still = λ h. c.loop-index.invariant.still (c.in_ok-below.ensures.reads.honest h);
+      reads = reads_then c.loop-index.invariant.reads c.in_ok-below.ensures.reads;
       kept = λ honest kept.
-          let kept1 = c.loop-index.invariant.kept (c.in_ok-below.ensures.honest honest) kept in
-          kept_on J J1 c.loop-index.self c.height.new.self c.loop-index.invariant.journal (c.in_ok-below.ensures.kept honest) kept1;
+          let kept1 = c.loop-index.invariant.kept (c.in_ok-below.ensures.reads.honest honest) kept in
+          kept_on J J1 c.loop-index.self c.height.new.self c.loop-index.invariant.reads.journal (c.in_ok-below.ensures.kept honest) kept1;
       height = λ tree path node s here dir address.
-          let h1 = c.in_ok-below.ensures.honest s.honest in
+          let h1 = c.in_ok-below.ensures.reads.honest s.honest in
           let there = stored_on at entries J tree s.tree s.makes J refl c.args.address path node here address in
           let shown = c.in_ok-placed.ensures.opened (c.loop-index.invariant.still h1) s.kept here.found.stored there (sym here.kind ∙ dir) in
-          let leads = leads_on at entries J tree s.tree s.makes J1 c.loop-index.invariant.journal path node here c.in_ok-placed.placed c.in_ok-placed.content shown c.loop-index.index name entry found in
-          let s1 = shows_on (g.D.Drive.honest c.height.new.drive) J J1 c.args.self.now c.loop-index.self at entries tree c.loop-index.invariant.journal (c.loop-index.invariant.kept h1 s.kept) s in
-          let s0 = shows_before (g.D.Drive.honest c.height.new.drive) (g.D.Drive.honest c.loop-index.drive) J c.args.self.now at entries tree c.in_ok-below.ensures.honest s in
+          let leads = leads_on at entries J tree s.tree s.makes J1 c.loop-index.invariant.reads.journal path node here c.in_ok-placed.placed c.in_ok-placed.content shown c.loop-index.index name entry found in
+          let s1 = shows_on (g.D.Drive.honest c.height.new.drive) J J1 c.args.self.now c.loop-index.self at entries tree c.loop-index.invariant.reads.journal (c.loop-index.invariant.kept h1 s.kept) s in
+          let s0 = shows_before (g.D.Drive.honest c.height.new.drive) (g.D.Drive.honest c.loop-index.drive) J c.args.self.now at entries tree c.in_ok-below.ensures.reads.honest s in
           let deeper = c.in_ok-below.ensures.height tree (path ++ name ∷ []) (record { kind = entry.kind; address = entry.icb; unique = entry.unique }) s1 leads (ap names_directory c.in-Directory.is) refl in
           height_more tree path c.args.left es c.loop-index.index c.loop-index.most c.in_ok-below.below c.max-most-in-loop-index.result name entry found some c.loop-index.invariant.bound under next
           (c.loop-index.invariant.height tree path node s0 here dir address) deeper;

@@ -1,5 +1,5 @@
 use Rattle.std.proofs.Common.{◌≡◌, ◌≤◌, true, IsTrue}
-use Rattle.recover.specs.Faults.{Counts}
+use Rattle.drive.specs.Reads.{Reads}
 use Rattle.model.specs.Tree.{Path, Tree}
 use Rattle.udf.specs.Said.{names_directory}
 use Rattle.table.specs.declared.node.Node.{Node}
@@ -15,11 +15,8 @@ decreases-height g l = l.left
 abbrev pub invariant-loop-index : goal.invariant-loop-index
 invariant-loop-index g l = record {
   bound : l.most ≤ l.left;
-  journal : g.D.Drive.journal l.drive ≡ g.D.Drive.journal l.fn.drive;
-  capacity : g.D.Drive.capacity l.drive ≡ g.D.Drive.capacity l.fn.drive;
-  honest : IsTrue (g.D.Drive.honest l.drive) → IsTrue (g.D.Drive.honest l.fn.drive);
   still : IsTrue (g.D.Drive.honest l.drive) → IsTrue (g.D.Drive.honest l.initial.drive);
-  failures : Counts 0 (g.D.Drive.failures l.fn.drive) (g.D.Drive.failures l.drive);
+  reads : Reads g.D.Drive 0 l.fn.drive l.drive;
   kept : IsTrue (g.D.Drive.honest l.drive) → AreKept (g.D.Drive.journal l.fn.drive) l.fn.self → AreKept (g.D.Drive.journal l.fn.drive) l.self;
   height : (tree : Tree) (path : Path) (node : Node) → Shows (g.D.Drive.honest l.drive) (g.D.Drive.journal l.fn.drive) l.fn.self l.fn.nodes.at l.fn.nodes.entries.now tree
       → IsAt (graph_below l.fn.nodes.at l.fn.nodes.entries.now (g.D.Drive.journal l.fn.drive)) path node → names_directory node.kind ≡ true → node.address ≡ l.fn.address

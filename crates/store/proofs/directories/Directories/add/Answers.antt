@@ -1,4 +1,4 @@
-use Rattle.std.proofs.Common.{rules, ◌≡◌, ◌∙◌, ℕ, ◌∷◌, [], not, Bool, true, false, List, Option, None, inr, refl, sym, ap, subst, ◌++◌, arith, is_some, length, take}
+use Rattle.std.proofs.Common.{rules, ◌≡◌, ◌∙◌, ℕ, ◌∷◌, [], not, Bool, true, false, List, Option, None, inr, refl, sym, ap, subst, ◌++◌, is_some, length, take}
 use denote.Enum.Bare.{same_true, true_same}
 use Rattle.std.specs.Prelude.{nat_eq}
 use Rattle.std.specs.Map.{lookup}
@@ -6,6 +6,7 @@ use Rattle.std.specs.FinMap.{len}
 use Rattle.std.specs.Cmp.Lexicographic.{pointwise}
 use Rattle.std.proofs.lemmas.Bool.{true≢false, le-ltb}
 use Rattle.std.proofs.lemmas.Result.{err_from_is_err_and}
+use Rattle.drive.proofs.Reading.{reads_then}
 use Rattle.drive.specs.Journal.{Event, held}
 use Rattle.dir.specs.declared.entry.Entry.{Entry}
 use Rattle.medium.specs.Plan.{Writing}
@@ -14,7 +15,6 @@ use Rattle.model.specs.Addresses.{free_address}
 use Rattle.model.specs.Change.{new_body}
 use Rattle.model.specs.Graph.{whole}
 use Rattle.model.specs.Tree.{Name}
-use Rattle.recover.specs.Faults.{devices, failures_of}
 use Rattle.request.specs.Numbers.{code_number}
 use Rattle.request.specs.contracts.answer.Code.{the_type}
 use Rattle.request.specs.declared.answer.Code.TheVariants as code
@@ -39,8 +39,8 @@ not_no false e = sym e
 
 pub returns-in_err-placed-clause-kept : goal.returns-in_err-placed-clause-kept
 returns-in_err-placed-clause-kept g c honest kept =
-    kept_on (g.D.Drive.journal c.args.drive.now) (g.D.Drive.journal c.find_directory.new.drive) c.find_directory.new.self c.open.new.self c.in_ok-parent.ensures.journal (c.in_err-placed.ensures.kept honest)
-    (c.in_ok-parent.ensures.kept (c.in_err-placed.ensures.honest honest) kept)
+    kept_on (g.D.Drive.journal c.args.drive.now) (g.D.Drive.journal c.find_directory.new.drive) c.find_directory.new.self c.open.new.self c.in_ok-parent.ensures.reads.journal (c.in_err-placed.ensures.kept honest)
+    (c.in_ok-parent.ensures.kept (c.in_err-placed.ensures.reads.honest honest) kept)
 
 pub returns-then-ne-clause-does : goal.returns-then-ne-clause-does
 returns-then-ne-clause-does g c tree s few =
@@ -51,10 +51,10 @@ returns-then-ne-clause-does g c tree s few =
     let graph = graph_below at entries J in
     let above = c.in-Some.above.now in
     let one = stored_one udf exact (take at (held J)) entries in
-    let s1 = shows_before (g.D.Drive.honest c.open.new.drive) (g.D.Drive.honest c.find_directory.new.drive) J c.args.self.now at entries tree c.in_ok-placed.ensures.honest s in
+    let s1 = shows_before (g.D.Drive.honest c.open.new.drive) (g.D.Drive.honest c.find_directory.new.drive) J c.args.self.now at entries tree c.in_ok-placed.ensures.reads.honest s in
     let here = subst (λ (o : Option Node). IsFoundDirectory graph tree above o) c.in-Some-2.is (c.in_ok-parent.ensures.found tree s1) in
-    let kept1 = subst (λ (K : List Event). AreKept K c.find_directory.new.self) (sym c.in_ok-parent.ensures.journal) (c.in_ok-parent.ensures.kept s1.honest s.kept) in
-    let there = there_too at entries J tree s.tree s.makes at entries J1 refl refl c.in_ok-parent.ensures.journal c.in-Some.above.now c.in-Some-2.parent here.0 in
+    let kept1 = subst (λ (K : List Event). AreKept K c.find_directory.new.self) (sym c.in_ok-parent.ensures.reads.journal) (c.in_ok-parent.ensures.kept s1.honest s.kept) in
+    let there = there_too at entries J tree s.tree s.makes at entries J1 refl refl c.in_ok-parent.ensures.reads.journal c.in-Some.above.now c.in-Some-2.parent here.0 in
     let shown = c.in_ok-placed.ensures.opened s.honest kept1 here.0.found.stored there (stored_directory graph above c.in-Some-2.parent here.0 here.1) in
     let listed = c.in_ok-placed.content.dir.entries.entries in
     let code_is = add_there c.args.names.now c.in-Some.above.now c.in-Some.name.now c.in-Some.ensures.cases.0 c.args.thing tree graph one s.tree s.makes c.in-Some-2.parent here.0 here.1 c.in_ok-placed.placed c.in_ok-placed.content shown
@@ -66,8 +66,8 @@ returns-then-ne-clause-does g c tree s few =
 pub returns-then-ne-clause-kept : goal.returns-then-ne-clause-kept
 returns-then-ne-clause-kept g c honest kept =
     let J1 = g.D.Drive.journal c.find_directory.new.drive in
-    let kept1 = subst (λ (K : List Event). AreKept K c.find_directory.new.self) (sym c.in_ok-parent.ensures.journal) (c.in_ok-parent.ensures.kept (c.in_ok-placed.ensures.honest honest) kept) in
-    subst (λ (K : List Event). AreKept K c.keep.new.self) c.in_ok-parent.ensures.journal (c.keep.ensures J1 (c.in_ok-placed.ensures.lies honest kept1) (c.in_ok-placed.ensures.kept honest kept1))
+    let kept1 = subst (λ (K : List Event). AreKept K c.find_directory.new.self) (sym c.in_ok-parent.ensures.reads.journal) (c.in_ok-parent.ensures.kept (c.in_ok-placed.ensures.reads.honest honest) kept) in
+    subst (λ (K : List Event). AreKept K c.keep.new.self) c.in_ok-parent.ensures.reads.journal (c.keep.ensures J1 (c.in_ok-placed.ensures.lies honest kept1) (c.in_ok-placed.ensures.kept honest kept1))
 
 pub returns-in_err-kind-clause-short : goal.returns-in_err-kind-clause-short
 returns-in_err-kind-clause-short g c tree s =
@@ -76,8 +76,8 @@ returns-in_err-kind-clause-short g c tree s =
 
 pub returns-in_err-kind-clause-kept : goal.returns-in_err-kind-clause-kept
 returns-in_err-kind-clause-kept g c honest kept =
-    kept_on (g.D.Drive.journal c.args.drive.now) (g.D.Drive.journal c.find_directory.new.drive) c.find_directory.new.self c.open.new.self c.in_ok-parent.ensures.journal (c.in_ok-placed.ensures.kept honest)
-    (c.in_ok-parent.ensures.kept (c.in_ok-placed.ensures.honest honest) kept)
+    kept_on (g.D.Drive.journal c.args.drive.now) (g.D.Drive.journal c.find_directory.new.drive) c.find_directory.new.self c.open.new.self c.in_ok-parent.ensures.reads.journal (c.in_ok-placed.ensures.kept honest)
+    (c.in_ok-parent.ensures.kept (c.in_ok-placed.ensures.reads.honest honest) kept)
 
 pub returns-in_err-clone-clause-short : goal.returns-in_err-clone-clause-short
 returns-in_err-clone-clause-short g c tree s =
@@ -86,8 +86,8 @@ returns-in_err-clone-clause-short g c tree s =
 
 pub returns-in_err-clone-clause-kept : goal.returns-in_err-clone-clause-kept
 returns-in_err-clone-clause-kept g c honest kept =
-    kept_on (g.D.Drive.journal c.args.drive.now) (g.D.Drive.journal c.find_directory.new.drive) c.find_directory.new.self c.open.new.self c.in_ok-parent.ensures.journal (c.in_ok-placed.ensures.kept honest)
-    (c.in_ok-parent.ensures.kept (c.in_ok-placed.ensures.honest honest) kept)
+    kept_on (g.D.Drive.journal c.args.drive.now) (g.D.Drive.journal c.find_directory.new.drive) c.find_directory.new.self c.open.new.self c.in_ok-parent.ensures.reads.journal (c.in_ok-placed.ensures.kept honest)
+    (c.in_ok-parent.ensures.kept (c.in_ok-placed.ensures.reads.honest honest) kept)
 
 pub returns-in_err-add-clause-short : goal.returns-in_err-add-clause-short
 returns-in_err-add-clause-short g c tree s =
@@ -96,24 +96,13 @@ returns-in_err-add-clause-short g c tree s =
 
 pub returns-in_err-add-clause-kept : goal.returns-in_err-add-clause-kept
 returns-in_err-add-clause-kept g c honest kept =
-    kept_on (g.D.Drive.journal c.args.drive.now) (g.D.Drive.journal c.find_directory.new.drive) c.find_directory.new.self c.open.new.self c.in_ok-parent.ensures.journal (c.in_ok-placed.ensures.kept honest)
-    (c.in_ok-parent.ensures.kept (c.in_ok-placed.ensures.honest honest) kept)
+    kept_on (g.D.Drive.journal c.args.drive.now) (g.D.Drive.journal c.find_directory.new.drive) c.find_directory.new.self c.open.new.self c.in_ok-parent.ensures.reads.journal (c.in_ok-placed.ensures.kept honest)
+    (c.in_ok-parent.ensures.kept (c.in_ok-placed.ensures.reads.honest honest) kept)
 
 pub returns-in_err-push-clause-kept : goal.returns-in_err-push-clause-kept
 returns-in_err-push-clause-kept g c honest kept =
-    kept_on (g.D.Drive.journal c.args.drive.now) (g.D.Drive.journal c.find_directory.new.drive) c.find_directory.new.self c.open.new.self c.in_ok-parent.ensures.journal (c.in_ok-placed.ensures.kept honest)
-    (c.in_ok-parent.ensures.kept (c.in_ok-placed.ensures.honest honest) kept)
-
-pub returns-in_err-push-clause-honest : goal.returns-in_err-push-clause-honest
-returns-in_err-push-clause-honest g c honest = c.in_ok-parent.ensures.honest (c.in_ok-placed.ensures.honest honest)
-
-pub returns-in_err-push-clause-failures : goal.returns-in_err-push-clause-failures
-returns-in_err-push-clause-failures g c below =
-    let p = err_from_is_err_and c.from_residual-in_err-push.result c.from_residual-in_err-push.ensures.1 in
-    let none : devices c.from_residual-in_err-push.result ≡ 0 = ap devices p.1 ∙ ap failures_of p.2 in
-    let second = c.in_ok-placed.ensures.failures below in
-    let first = c.in_ok-parent.ensures.failures (omega (arith, below, second)) in
-    omega (arith, none, second, first)
+    kept_on (g.D.Drive.journal c.args.drive.now) (g.D.Drive.journal c.find_directory.new.drive) c.find_directory.new.self c.open.new.self c.in_ok-parent.ensures.reads.journal (c.in_ok-placed.ensures.kept honest)
+    (c.in_ok-parent.ensures.kept (c.in_ok-placed.ensures.reads.honest honest) kept)
 
 pub returns-clause-does : goal.returns-clause-does
 returns-clause-does g c tree s few =
@@ -131,10 +120,10 @@ returns-clause-does g c tree s few =
     let parent = c.in-Some-2.parent in
     let content = c.in_ok-placed.content in
     let one = stored_one udf exact (take at (held J)) entries in
-    let s1 = shows_before (g.D.Drive.honest c.open.new.drive) (g.D.Drive.honest c.find_directory.new.drive) J c.args.self.now at entries tree c.in_ok-placed.ensures.honest s in
+    let s1 = shows_before (g.D.Drive.honest c.open.new.drive) (g.D.Drive.honest c.find_directory.new.drive) J c.args.self.now at entries tree c.in_ok-placed.ensures.reads.honest s in
     let here = subst (λ (o : Option Node). IsFoundDirectory graph tree above o) c.in-Some-2.is (c.in_ok-parent.ensures.found tree s1) in
-    let kept1 = subst (λ (K : List Event). AreKept K c.find_directory.new.self) (sym c.in_ok-parent.ensures.journal) (c.in_ok-parent.ensures.kept s1.honest s.kept) in
-    let there = there_too at entries J tree s.tree s.makes at entries J1 refl refl c.in_ok-parent.ensures.journal above parent here.0 in
+    let kept1 = subst (λ (K : List Event). AreKept K c.find_directory.new.self) (sym c.in_ok-parent.ensures.reads.journal) (c.in_ok-parent.ensures.kept s1.honest s.kept) in
+    let there = there_too at entries J tree s.tree s.makes at entries J1 refl refl c.in_ok-parent.ensures.reads.journal above parent here.0 in
     let shown = c.in_ok-placed.ensures.opened s.honest kept1 here.0.found.stored there (stored_directory graph above c.in-Some-2.parent here.0 here.1) in
     let listed = content.dir.entries.entries in
     let found = lookup (pointwise nat_eq name) listed in
@@ -160,5 +149,13 @@ returns-clause-does g c tree s few =
 
 pub returns-clause-kept : goal.returns-clause-kept
 returns-clause-kept g c honest kept =
-    kept_on (g.D.Drive.journal c.args.drive.now) (g.D.Drive.journal c.find_directory.new.drive) c.find_directory.new.self c.open.new.self c.in_ok-parent.ensures.journal (c.in_ok-placed.ensures.kept honest)
-    (c.in_ok-parent.ensures.kept (c.in_ok-placed.ensures.honest honest) kept)
+    kept_on (g.D.Drive.journal c.args.drive.now) (g.D.Drive.journal c.find_directory.new.drive) c.find_directory.new.self c.open.new.self c.in_ok-parent.ensures.reads.journal (c.in_ok-placed.ensures.kept honest)
+    (c.in_ok-parent.ensures.kept (c.in_ok-placed.ensures.reads.honest honest) kept)
+
+pub returns-in_err-push-clause-reads : goal.returns-in_err-push-clause-reads
+returns-in_err-push-clause-reads g c =
+    let p = err_from_is_err_and c.from_residual-in_err-push.result c.from_residual-in_err-push.ensures.1 in
+    rw (p.1, p.2) (reads_then c.in_ok-parent.ensures.reads c.in_ok-placed.ensures.reads)
+
+pub returns-clause-reads : goal.returns-clause-reads
+returns-clause-reads g c = reads_then c.in_ok-parent.ensures.reads c.in_ok-placed.ensures.reads

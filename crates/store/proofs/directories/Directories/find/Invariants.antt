@@ -1,6 +1,6 @@
-use Rattle.std.proofs.Common.{◌≡◌, IsTrue, take}
+use Rattle.std.proofs.Common.{IsTrue, take}
+use Rattle.drive.specs.Reads.{Reads}
 use Rattle.model.specs.Tree.{Tree}
-use Rattle.recover.specs.Faults.{Counts}
 use Rattle.store.specs.Cache.{AreKept}
 use Rattle.store.specs.Shows.{Shows, IsAt, graph_below}
 use Rattle.store.proofs.directories.Directories.find.Given as goal
@@ -8,10 +8,7 @@ use Rattle.store.proofs.directories.Directories.find.Given as goal
 -- the node so far is what the names so far lead to
 abbrev pub invariant-loop-name : goal.invariant-loop-name
 invariant-loop-name g l = record {
-  journal : g.D.Drive.journal l.drive ≡ g.D.Drive.journal l.fn.drive;
-  capacity : g.D.Drive.capacity l.drive ≡ g.D.Drive.capacity l.fn.drive;
-  honest : IsTrue (g.D.Drive.honest l.drive) → IsTrue (g.D.Drive.honest l.fn.drive);
-  failures : Counts 0 (g.D.Drive.failures l.fn.drive) (g.D.Drive.failures l.drive);
+  reads : Reads g.D.Drive 0 l.fn.drive l.drive;
   kept : IsTrue (g.D.Drive.honest l.drive) → AreKept (g.D.Drive.journal l.fn.drive) l.fn.self → AreKept (g.D.Drive.journal l.fn.drive) l.self;
   found : (tree : Tree) → Shows (g.D.Drive.honest l.drive) (g.D.Drive.journal l.fn.drive) l.fn.self l.fn.nodes.at l.fn.nodes.entries.now tree
       → IsAt (graph_below l.fn.nodes.at l.fn.nodes.entries.now (g.D.Drive.journal l.fn.drive)) (take l.name-index l.names) l.node;

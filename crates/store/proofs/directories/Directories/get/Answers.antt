@@ -23,9 +23,9 @@ returns-clause-told g c tree s =
     let J = g.D.Drive.journal c.args.drive.now in
     let at = c.args.nodes.now.at in
     let entries = c.args.nodes.now.entries.now in
-    let s1 = shows_before (g.D.Drive.honest c.file_data.new.drive) (g.D.Drive.honest c.node.new.drive) J c.args.self.now at entries tree c.file_data.ensures.honest s in
+    let s1 = shows_before (g.D.Drive.honest c.file_data.new.drive) (g.D.Drive.honest c.node.new.drive) J c.args.self.now at entries tree c.file_data.ensures.reads.honest s in
     let here = c.in_ok-node.ensures.found tree s1 in
-    let there = there_too at entries J tree s.tree s.makes c.args.nodes.now.at c.args.nodes.now.entries.now (g.D.Drive.journal c.node.new.drive) refl refl c.in_ok-node.ensures.journal c.args.path.now c.in_ok-node.node here in
+    let there = there_too at entries J tree s.tree s.makes c.args.nodes.now.at c.args.nodes.now.entries.now (g.D.Drive.journal c.node.new.drive) refl refl c.in_ok-node.ensures.reads.journal c.args.path.now c.in_ok-node.node here in
     IfOk-weaker c.file_data.result _ _ (λ read f. told_file at entries J tree s.tree s.makes c.args.path.now c.in_ok-node.node here read (f s.honest here.found.stored there (sym here.kind ∙ (sym c.is_directory.ensures ∙ c.if-is_directory.false)))) c.file_data.ensures.bytes
 
 pub returns-clause-refused : goal.returns-clause-refused
@@ -33,10 +33,10 @@ returns-clause-refused g c tree s =
     let J = g.D.Drive.journal c.args.drive.now in
     let at = c.args.nodes.now.at in
     let entries = c.args.nodes.now.entries.now in
-    let s1 = shows_before (g.D.Drive.honest c.file_data.new.drive) (g.D.Drive.honest c.node.new.drive) J c.args.self.now at entries tree c.file_data.ensures.honest s in
+    let s1 = shows_before (g.D.Drive.honest c.file_data.new.drive) (g.D.Drive.honest c.node.new.drive) J c.args.self.now at entries tree c.file_data.ensures.reads.honest s in
     let here = c.in_ok-node.ensures.found tree s1 in
-    let there = there_too at entries J tree s.tree s.makes c.args.nodes.now.at c.args.nodes.now.entries.now (g.D.Drive.journal c.node.new.drive) refl refl c.in_ok-node.ensures.journal c.args.path.now c.in_ok-node.node here in
+    let there = there_too at entries J tree s.tree s.makes c.args.nodes.now.at c.args.nodes.now.entries.now (g.D.Drive.journal c.node.new.drive) refl refl c.in_ok-node.ensures.reads.journal c.args.path.now c.in_ok-node.node here in
     IfErr-weaker c.file_data.result _ _ (λ fault f. inr (inr (inr (f s.honest here.found.stored there (sym here.kind ∙ (sym c.is_directory.ensures ∙ c.if-is_directory.false)))))) c.file_data.ensures.short
 
 pub returns-clause-kept : goal.returns-clause-kept
-returns-clause-kept g c honest kept = c.in_ok-node.ensures.kept (c.file_data.ensures.honest honest) kept
+returns-clause-kept g c honest kept = c.in_ok-node.ensures.kept (c.file_data.ensures.reads.honest honest) kept

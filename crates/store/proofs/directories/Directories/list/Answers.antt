@@ -16,8 +16,8 @@ returns-then-not-is_directory-clause-refused g c tree s =
 
 pub returns-in_err-placed-clause-kept : goal.returns-in_err-placed-clause-kept
 returns-in_err-placed-clause-kept g c honest kept =
-    let same = c.in_ok-node.ensures.journal in
-    let kept1 = subst (λ (K : List Event). AreKept K c.node.new.self) (sym same) (c.in_ok-node.ensures.kept (c.in_err-placed.ensures.honest honest) kept) in
+    let same = c.in_ok-node.ensures.reads.journal in
+    let kept1 = subst (λ (K : List Event). AreKept K c.node.new.self) (sym same) (c.in_ok-node.ensures.kept (c.in_err-placed.ensures.reads.honest honest) kept) in
     subst (λ (K : List Event). AreKept K c.open.new.self) same (c.in_err-placed.ensures.kept honest kept1)
 
 pub returns-in_err-listing-clause-refused : goal.returns-in_err-listing-clause-refused
@@ -27,8 +27,8 @@ returns-in_err-listing-clause-refused g c tree s =
 
 pub returns-in_err-listing-clause-kept : goal.returns-in_err-listing-clause-kept
 returns-in_err-listing-clause-kept g c honest kept =
-    let same = c.in_ok-node.ensures.journal in
-    let kept1 = subst (λ (K : List Event). AreKept K c.node.new.self) (sym same) (c.in_ok-node.ensures.kept (c.in_ok-placed.ensures.honest honest) kept) in
+    let same = c.in_ok-node.ensures.reads.journal in
+    let kept1 = subst (λ (K : List Event). AreKept K c.node.new.self) (sym same) (c.in_ok-node.ensures.kept (c.in_ok-placed.ensures.reads.honest honest) kept) in
     subst (λ (K : List Event). AreKept K c.open.new.self) same (c.in_ok-placed.ensures.kept honest kept1)
 
 pub returns-clause-told : goal.returns-clause-told
@@ -36,10 +36,10 @@ returns-clause-told g c tree s =
     let J = g.D.Drive.journal c.args.drive.now in
     let at = c.args.nodes.now.at in
     let entries = c.args.nodes.now.entries.now in
-    let s1 = shows_before (g.D.Drive.honest c.open.new.drive) (g.D.Drive.honest c.node.new.drive) J c.args.self.now at entries tree c.in_ok-placed.ensures.honest s in
+    let s1 = shows_before (g.D.Drive.honest c.open.new.drive) (g.D.Drive.honest c.node.new.drive) J c.args.self.now at entries tree c.in_ok-placed.ensures.reads.honest s in
     let here = c.in_ok-node.ensures.found tree s1 in
-    let there = there_too at entries J tree s.tree s.makes c.args.nodes.now.at c.args.nodes.now.entries.now (g.D.Drive.journal c.node.new.drive) refl refl c.in_ok-node.ensures.journal c.args.path.now c.in_ok-node.node here in
-    let kept1 = subst (λ (K : List Event). AreKept K c.node.new.self) (sym c.in_ok-node.ensures.journal) (c.in_ok-node.ensures.kept s1.honest s.kept) in
+    let there = there_too at entries J tree s.tree s.makes c.args.nodes.now.at c.args.nodes.now.entries.now (g.D.Drive.journal c.node.new.drive) refl refl c.in_ok-node.ensures.reads.journal c.args.path.now c.in_ok-node.node here in
+    let kept1 = subst (λ (K : List Event). AreKept K c.node.new.self) (sym c.in_ok-node.ensures.reads.journal) (c.in_ok-node.ensures.kept s1.honest s.kept) in
     let dir = sym here.kind ∙ (sym c.is_directory.ensures ∙ c.if-not-is_directory.false) in
     let body = (c.in_ok-placed.ensures.opened s.honest kept1 here.found.stored there dir).body in
     listed_directory at entries J tree s.tree s.makes c.args.path.now c.in_ok-node.node here c.in_ok-placed.content.dir.parent c.in_ok-placed.content.dir.entries.entries body
@@ -47,8 +47,8 @@ returns-clause-told g c tree s =
 
 pub returns-clause-kept : goal.returns-clause-kept
 returns-clause-kept g c honest kept =
-    let same = c.in_ok-node.ensures.journal in
-    let kept1 = subst (λ (K : List Event). AreKept K c.node.new.self) (sym same) (c.in_ok-node.ensures.kept (c.in_ok-placed.ensures.honest honest) kept) in
+    let same = c.in_ok-node.ensures.reads.journal in
+    let kept1 = subst (λ (K : List Event). AreKept K c.node.new.self) (sym same) (c.in_ok-node.ensures.kept (c.in_ok-placed.ensures.reads.honest honest) kept) in
     let lies = subst (λ (K : List Event). LiesThere K c.in_ok-placed.placed.extent c.in_ok-placed.content) same (c.in_ok-placed.ensures.lies honest kept1) in
     let kept2 = subst (λ (K : List Event). AreKept K c.open.new.self) same (c.in_ok-placed.ensures.kept honest kept1) in
     c.keep.ensures (g.D.Drive.journal c.args.drive.now) lies kept2

@@ -1,7 +1,8 @@
 use Rattle.std.proofs.Common.{◌≡◌, ◌∙◌, ◌++◌, [], ◌∷◌, sym, ap, subst, refl, List, inr, None, arith}
 use Rattle.std.specs.FinMap.{get}
 use Rattle.std.proofs.lemmas.Result.{err_from_is_err_and}
-use Rattle.recover.specs.Faults.{IsShortage, devices, failures_of}
+use Rattle.drive.proofs.Reading.{reads_then}
+use Rattle.recover.specs.Faults.{IsShortage}
 use Rattle.recover.specs.declared.fault.StoreFault.{StoreFault}
 use Rattle.model.specs.Addresses.{free_address}
 use Rattle.model.specs.Operation.Operation.{Rename}
@@ -16,31 +17,6 @@ use Rattle.store.proofs.Heights.{one_on, stored_on, there_at}
 use Rattle.store.proofs.Moving.{is_listed, not_listed, entries_gained, gained_full, gained_room, moves_between}
 use Rattle.store.proofs.Replacing.{refuses}
 use Rattle.store.proofs.directories.Directories.move_to.Goals as goal
-
-pub returns-in_err-push-clause-failures : goal.returns-in_err-push-clause-failures
-returns-in_err-push-clause-failures g c below =
-    let p = err_from_is_err_and c.from_residual-in_err-push.result c.from_residual-in_err-push.ensures.1 in
-    let none : devices c.from_residual-in_err-push.result ≡ 0 = ap devices p.1 ∙ ap failures_of p.2 in
-    let third = c.in_ok-losing.ensures.failures below in
-    let second = c.in_ok-set_parent.ensures.failures (omega (arith, below, third)) in
-    let first = c.in_ok-target.ensures.failures (omega (arith, below, third, second)) in
-    omega (arith, none, third, second, first)
-
-pub returns-in_err-push-2-clause-failures : goal.returns-in_err-push-2-clause-failures
-returns-in_err-push-2-clause-failures g c below =
-    let p = err_from_is_err_and c.from_residual-in_err-push-2.result c.from_residual-in_err-push-2.ensures.1 in
-    let none : devices c.from_residual-in_err-push-2.result ≡ 0 = ap devices p.1 ∙ ap failures_of p.2 in
-    let third = c.in_ok-losing.ensures.failures below in
-    let second = c.in_ok-set_parent.ensures.failures (omega (arith, below, third)) in
-    let first = c.in_ok-target.ensures.failures (omega (arith, below, third, second)) in
-    omega (arith, none, third, second, first)
-
-pub returns-clause-failures : goal.returns-clause-failures
-returns-clause-failures g c below =
-    let third = c.in_ok-losing.ensures.failures below in
-    let second = c.in_ok-set_parent.ensures.failures (omega (arith, below, third)) in
-    let first = c.in_ok-target.ensures.failures (omega (arith, below, third, second)) in
-    omega (arith, third, second, first)
 
 pub returns-then-len-ge-DIRECTORY_NAMES-clause-does : goal.returns-then-len-ge-DIRECTORY_NAMES-clause-does
 returns-then-len-ge-DIRECTORY_NAMES-clause-does g c tree from to identity s b =
@@ -72,7 +48,7 @@ returns-in_err-set_parent-clause-short g c tree from to s b =
     let entries = c.args.before.now.nodes.entries.now in
     let J = g.D.Drive.journal c.args.drive.now in
     let J1 = g.D.Drive.journal c.open.new.drive in
-    let b1 : IsBehind J c.args.self.now (g.D.Drive.honest c.args.drive.now) J1 c.open.new.self (g.D.Drive.honest c.open.new.drive) = record { journal = c.in_ok-target.ensures.journal; honest = c.in_ok-target.ensures.honest; kept = c.in_ok-target.ensures.kept } in
+    let b1 : IsBehind J c.args.self.now (g.D.Drive.honest c.args.drive.now) J1 c.open.new.self (g.D.Drive.honest c.open.new.drive) = record { journal = c.in_ok-target.ensures.reads.journal; honest = c.in_ok-target.ensures.reads.honest; kept = c.in_ok-target.ensures.kept } in
     let p = err_from_is_err_and c.from_residual-in_err-set_parent.result c.from_residual-in_err-set_parent.ensures.1 in
     let short = c.in_err-set_parent.ensures.short s.honest b.node_at.found.stored (stored_on at entries J tree s.tree s.makes J1 b1.journal c.args.node.address from c.args.node b.node_at refl) b.node_at.kind in
     rw p.1 (subst (λ (f : StoreFault). IsShortage f) (sym p.2) short)
@@ -81,9 +57,9 @@ pub returns-in_err-set_parent-clause-kept : goal.returns-in_err-set_parent-claus
 returns-in_err-set_parent-clause-kept g c honest kept =
     let J = g.D.Drive.journal c.args.drive.now in
     let J1 = g.D.Drive.journal c.open.new.drive in
-    let b1 : IsBehind J c.args.self.now (g.D.Drive.honest c.args.drive.now) J1 c.open.new.self (g.D.Drive.honest c.open.new.drive) = record { journal = c.in_ok-target.ensures.journal; honest = c.in_ok-target.ensures.honest; kept = c.in_ok-target.ensures.kept } in
+    let b1 : IsBehind J c.args.self.now (g.D.Drive.honest c.args.drive.now) J1 c.open.new.self (g.D.Drive.honest c.open.new.drive) = record { journal = c.in_ok-target.ensures.reads.journal; honest = c.in_ok-target.ensures.reads.honest; kept = c.in_ok-target.ensures.kept } in
     let J2 = g.D.Drive.journal c.set_parent.new.drive in
-    let b2 = behind_more J J1 J2 c.args.self.now c.open.new.self c.set_parent.new.self (g.D.Drive.honest c.args.drive.now) (g.D.Drive.honest c.open.new.drive) (g.D.Drive.honest c.set_parent.new.drive) b1 c.in_err-set_parent.ensures.journal c.in_err-set_parent.ensures.honest c.in_err-set_parent.ensures.kept in
+    let b2 = behind_more J J1 J2 c.args.self.now c.open.new.self c.set_parent.new.self (g.D.Drive.honest c.args.drive.now) (g.D.Drive.honest c.open.new.drive) (g.D.Drive.honest c.set_parent.new.drive) b1 c.in_err-set_parent.ensures.reads.journal c.in_err-set_parent.ensures.reads.honest c.in_err-set_parent.ensures.kept in
     b2.kept honest kept
 
 pub returns-in_err-losing-clause-short : goal.returns-in_err-losing-clause-short
@@ -92,9 +68,9 @@ returns-in_err-losing-clause-short g c tree from to s b =
     let entries = c.args.before.now.nodes.entries.now in
     let J = g.D.Drive.journal c.args.drive.now in
     let J1 = g.D.Drive.journal c.open.new.drive in
-    let b1 : IsBehind J c.args.self.now (g.D.Drive.honest c.args.drive.now) J1 c.open.new.self (g.D.Drive.honest c.open.new.drive) = record { journal = c.in_ok-target.ensures.journal; honest = c.in_ok-target.ensures.honest; kept = c.in_ok-target.ensures.kept } in
+    let b1 : IsBehind J c.args.self.now (g.D.Drive.honest c.args.drive.now) J1 c.open.new.self (g.D.Drive.honest c.open.new.drive) = record { journal = c.in_ok-target.ensures.reads.journal; honest = c.in_ok-target.ensures.reads.honest; kept = c.in_ok-target.ensures.kept } in
     let J2 = g.D.Drive.journal c.set_parent.new.drive in
-    let b2 = behind_more J J1 J2 c.args.self.now c.open.new.self c.set_parent.new.self (g.D.Drive.honest c.args.drive.now) (g.D.Drive.honest c.open.new.drive) (g.D.Drive.honest c.set_parent.new.drive) b1 c.in_ok-set_parent.ensures.journal c.in_ok-set_parent.ensures.honest c.in_ok-set_parent.ensures.kept in
+    let b2 = behind_more J J1 J2 c.args.self.now c.open.new.self c.set_parent.new.self (g.D.Drive.honest c.args.drive.now) (g.D.Drive.honest c.open.new.drive) (g.D.Drive.honest c.set_parent.new.drive) b1 c.in_ok-set_parent.ensures.reads.journal c.in_ok-set_parent.ensures.reads.honest c.in_ok-set_parent.ensures.kept in
     let p = err_from_is_err_and c.from_residual-in_err-losing.result c.from_residual-in_err-losing.ensures.1 in
     let lost_there = stored_on at entries J tree s.tree s.makes J2 b2.journal c.args.loses.0.address b.above c.args.loses.0 b.loses_at refl in
     let short = c.in_err-losing.ensures.refused s.honest b.loses_at.found.stored lost_there (sym b.loses_at.kind ∙ b.loses_directory) in
@@ -104,11 +80,11 @@ pub returns-in_err-losing-clause-kept : goal.returns-in_err-losing-clause-kept
 returns-in_err-losing-clause-kept g c honest kept =
     let J = g.D.Drive.journal c.args.drive.now in
     let J1 = g.D.Drive.journal c.open.new.drive in
-    let b1 : IsBehind J c.args.self.now (g.D.Drive.honest c.args.drive.now) J1 c.open.new.self (g.D.Drive.honest c.open.new.drive) = record { journal = c.in_ok-target.ensures.journal; honest = c.in_ok-target.ensures.honest; kept = c.in_ok-target.ensures.kept } in
+    let b1 : IsBehind J c.args.self.now (g.D.Drive.honest c.args.drive.now) J1 c.open.new.self (g.D.Drive.honest c.open.new.drive) = record { journal = c.in_ok-target.ensures.reads.journal; honest = c.in_ok-target.ensures.reads.honest; kept = c.in_ok-target.ensures.kept } in
     let J2 = g.D.Drive.journal c.set_parent.new.drive in
-    let b2 = behind_more J J1 J2 c.args.self.now c.open.new.self c.set_parent.new.self (g.D.Drive.honest c.args.drive.now) (g.D.Drive.honest c.open.new.drive) (g.D.Drive.honest c.set_parent.new.drive) b1 c.in_ok-set_parent.ensures.journal c.in_ok-set_parent.ensures.honest c.in_ok-set_parent.ensures.kept in
+    let b2 = behind_more J J1 J2 c.args.self.now c.open.new.self c.set_parent.new.self (g.D.Drive.honest c.args.drive.now) (g.D.Drive.honest c.open.new.drive) (g.D.Drive.honest c.set_parent.new.drive) b1 c.in_ok-set_parent.ensures.reads.journal c.in_ok-set_parent.ensures.reads.honest c.in_ok-set_parent.ensures.kept in
     let J3 = g.D.Drive.journal c.open-2.new.drive in
-    let b3 = behind_more J J2 J3 c.args.self.now c.set_parent.new.self c.open-2.new.self (g.D.Drive.honest c.args.drive.now) (g.D.Drive.honest c.set_parent.new.drive) (g.D.Drive.honest c.open-2.new.drive) b2 c.in_err-losing.ensures.journal c.in_err-losing.ensures.honest c.in_err-losing.ensures.kept in
+    let b3 = behind_more J J2 J3 c.args.self.now c.set_parent.new.self c.open-2.new.self (g.D.Drive.honest c.args.drive.now) (g.D.Drive.honest c.set_parent.new.drive) (g.D.Drive.honest c.open-2.new.drive) b2 c.in_err-losing.ensures.reads.journal c.in_err-losing.ensures.reads.honest c.in_err-losing.ensures.kept in
     b3.kept honest kept
 
 pub returns-in_default-clause-short : goal.returns-in_default-clause-short
@@ -117,11 +93,11 @@ returns-in_default-clause-short g c tree from to s b =
     let entries = c.args.before.now.nodes.entries.now in
     let J = g.D.Drive.journal c.args.drive.now in
     let J1 = g.D.Drive.journal c.open.new.drive in
-    let b1 : IsBehind J c.args.self.now (g.D.Drive.honest c.args.drive.now) J1 c.open.new.self (g.D.Drive.honest c.open.new.drive) = record { journal = c.in_ok-target.ensures.journal; honest = c.in_ok-target.ensures.honest; kept = c.in_ok-target.ensures.kept } in
+    let b1 : IsBehind J c.args.self.now (g.D.Drive.honest c.args.drive.now) J1 c.open.new.self (g.D.Drive.honest c.open.new.drive) = record { journal = c.in_ok-target.ensures.reads.journal; honest = c.in_ok-target.ensures.reads.honest; kept = c.in_ok-target.ensures.kept } in
     let J2 = g.D.Drive.journal c.set_parent.new.drive in
-    let b2 = behind_more J J1 J2 c.args.self.now c.open.new.self c.set_parent.new.self (g.D.Drive.honest c.args.drive.now) (g.D.Drive.honest c.open.new.drive) (g.D.Drive.honest c.set_parent.new.drive) b1 c.in_ok-set_parent.ensures.journal c.in_ok-set_parent.ensures.honest c.in_ok-set_parent.ensures.kept in
+    let b2 = behind_more J J1 J2 c.args.self.now c.open.new.self c.set_parent.new.self (g.D.Drive.honest c.args.drive.now) (g.D.Drive.honest c.open.new.drive) (g.D.Drive.honest c.set_parent.new.drive) b1 c.in_ok-set_parent.ensures.reads.journal c.in_ok-set_parent.ensures.reads.honest c.in_ok-set_parent.ensures.kept in
     let lost_there = stored_on at entries J tree s.tree s.makes J2 b2.journal c.args.loses.0.address b.above c.args.loses.0 b.loses_at refl in
-    let shown_lost = c.in_ok-losing.ensures.opened s.honest (kept_behind J J2 c.args.self.now c.set_parent.new.self (g.D.Drive.honest c.args.drive.now) (g.D.Drive.honest c.set_parent.new.drive) b2 (c.in_ok-losing.ensures.honest s.honest) s.kept) b.loses_at.found.stored lost_there (sym b.loses_at.kind ∙ b.loses_directory) in
+    let shown_lost = c.in_ok-losing.ensures.opened s.honest (kept_behind J J2 c.args.self.now c.set_parent.new.self (g.D.Drive.honest c.args.drive.now) (g.D.Drive.honest c.set_parent.new.drive) b2 (c.in_ok-losing.ensures.reads.honest s.honest) s.kept) b.loses_at.found.stored lost_there (sym b.loses_at.kind ∙ b.loses_directory) in
     let has = subst (λ (p : Path). Has tree p) b.from_is (there_at at entries J tree s.tree s.makes from c.args.node b.node_at) in
     absurd (is_listed (graph_below at entries J) tree (one_on at entries J) s.tree s.makes b.above c.args.loses.0 b.loses_at c.in_ok-losing.field-0-0 c.in_ok-losing.losing shown_lost c.args.loses.1.now has (sym c.remove.ensures.said ∙ c.in_default.is))
 
@@ -129,11 +105,11 @@ pub returns-in_default-clause-kept : goal.returns-in_default-clause-kept
 returns-in_default-clause-kept g c honest kept =
     let J = g.D.Drive.journal c.args.drive.now in
     let J1 = g.D.Drive.journal c.open.new.drive in
-    let b1 : IsBehind J c.args.self.now (g.D.Drive.honest c.args.drive.now) J1 c.open.new.self (g.D.Drive.honest c.open.new.drive) = record { journal = c.in_ok-target.ensures.journal; honest = c.in_ok-target.ensures.honest; kept = c.in_ok-target.ensures.kept } in
+    let b1 : IsBehind J c.args.self.now (g.D.Drive.honest c.args.drive.now) J1 c.open.new.self (g.D.Drive.honest c.open.new.drive) = record { journal = c.in_ok-target.ensures.reads.journal; honest = c.in_ok-target.ensures.reads.honest; kept = c.in_ok-target.ensures.kept } in
     let J2 = g.D.Drive.journal c.set_parent.new.drive in
-    let b2 = behind_more J J1 J2 c.args.self.now c.open.new.self c.set_parent.new.self (g.D.Drive.honest c.args.drive.now) (g.D.Drive.honest c.open.new.drive) (g.D.Drive.honest c.set_parent.new.drive) b1 c.in_ok-set_parent.ensures.journal c.in_ok-set_parent.ensures.honest c.in_ok-set_parent.ensures.kept in
+    let b2 = behind_more J J1 J2 c.args.self.now c.open.new.self c.set_parent.new.self (g.D.Drive.honest c.args.drive.now) (g.D.Drive.honest c.open.new.drive) (g.D.Drive.honest c.set_parent.new.drive) b1 c.in_ok-set_parent.ensures.reads.journal c.in_ok-set_parent.ensures.reads.honest c.in_ok-set_parent.ensures.kept in
     let J3 = g.D.Drive.journal c.open-2.new.drive in
-    let b3 = behind_more J J2 J3 c.args.self.now c.set_parent.new.self c.open-2.new.self (g.D.Drive.honest c.args.drive.now) (g.D.Drive.honest c.set_parent.new.drive) (g.D.Drive.honest c.open-2.new.drive) b2 c.in_ok-losing.ensures.journal c.in_ok-losing.ensures.honest c.in_ok-losing.ensures.kept in
+    let b3 = behind_more J J2 J3 c.args.self.now c.set_parent.new.self c.open-2.new.self (g.D.Drive.honest c.args.drive.now) (g.D.Drive.honest c.set_parent.new.drive) (g.D.Drive.honest c.open-2.new.drive) b2 c.in_ok-losing.ensures.reads.journal c.in_ok-losing.ensures.reads.honest c.in_ok-losing.ensures.kept in
     b3.kept honest kept
 
 pub returns-in_err-clone-clause-short : goal.returns-in_err-clone-clause-short
@@ -145,11 +121,11 @@ pub returns-in_err-clone-clause-kept : goal.returns-in_err-clone-clause-kept
 returns-in_err-clone-clause-kept g c honest kept =
     let J = g.D.Drive.journal c.args.drive.now in
     let J1 = g.D.Drive.journal c.open.new.drive in
-    let b1 : IsBehind J c.args.self.now (g.D.Drive.honest c.args.drive.now) J1 c.open.new.self (g.D.Drive.honest c.open.new.drive) = record { journal = c.in_ok-target.ensures.journal; honest = c.in_ok-target.ensures.honest; kept = c.in_ok-target.ensures.kept } in
+    let b1 : IsBehind J c.args.self.now (g.D.Drive.honest c.args.drive.now) J1 c.open.new.self (g.D.Drive.honest c.open.new.drive) = record { journal = c.in_ok-target.ensures.reads.journal; honest = c.in_ok-target.ensures.reads.honest; kept = c.in_ok-target.ensures.kept } in
     let J2 = g.D.Drive.journal c.set_parent.new.drive in
-    let b2 = behind_more J J1 J2 c.args.self.now c.open.new.self c.set_parent.new.self (g.D.Drive.honest c.args.drive.now) (g.D.Drive.honest c.open.new.drive) (g.D.Drive.honest c.set_parent.new.drive) b1 c.in_ok-set_parent.ensures.journal c.in_ok-set_parent.ensures.honest c.in_ok-set_parent.ensures.kept in
+    let b2 = behind_more J J1 J2 c.args.self.now c.open.new.self c.set_parent.new.self (g.D.Drive.honest c.args.drive.now) (g.D.Drive.honest c.open.new.drive) (g.D.Drive.honest c.set_parent.new.drive) b1 c.in_ok-set_parent.ensures.reads.journal c.in_ok-set_parent.ensures.reads.honest c.in_ok-set_parent.ensures.kept in
     let J3 = g.D.Drive.journal c.open-2.new.drive in
-    let b3 = behind_more J J2 J3 c.args.self.now c.set_parent.new.self c.open-2.new.self (g.D.Drive.honest c.args.drive.now) (g.D.Drive.honest c.set_parent.new.drive) (g.D.Drive.honest c.open-2.new.drive) b2 c.in_ok-losing.ensures.journal c.in_ok-losing.ensures.honest c.in_ok-losing.ensures.kept in
+    let b3 = behind_more J J2 J3 c.args.self.now c.set_parent.new.self c.open-2.new.self (g.D.Drive.honest c.args.drive.now) (g.D.Drive.honest c.set_parent.new.drive) (g.D.Drive.honest c.open-2.new.drive) b2 c.in_ok-losing.ensures.reads.journal c.in_ok-losing.ensures.reads.honest c.in_ok-losing.ensures.kept in
     b3.kept honest kept
 
 pub returns-in_err-add-clause-short : goal.returns-in_err-add-clause-short
@@ -161,11 +137,11 @@ pub returns-in_err-add-clause-kept : goal.returns-in_err-add-clause-kept
 returns-in_err-add-clause-kept g c honest kept =
     let J = g.D.Drive.journal c.args.drive.now in
     let J1 = g.D.Drive.journal c.open.new.drive in
-    let b1 : IsBehind J c.args.self.now (g.D.Drive.honest c.args.drive.now) J1 c.open.new.self (g.D.Drive.honest c.open.new.drive) = record { journal = c.in_ok-target.ensures.journal; honest = c.in_ok-target.ensures.honest; kept = c.in_ok-target.ensures.kept } in
+    let b1 : IsBehind J c.args.self.now (g.D.Drive.honest c.args.drive.now) J1 c.open.new.self (g.D.Drive.honest c.open.new.drive) = record { journal = c.in_ok-target.ensures.reads.journal; honest = c.in_ok-target.ensures.reads.honest; kept = c.in_ok-target.ensures.kept } in
     let J2 = g.D.Drive.journal c.set_parent.new.drive in
-    let b2 = behind_more J J1 J2 c.args.self.now c.open.new.self c.set_parent.new.self (g.D.Drive.honest c.args.drive.now) (g.D.Drive.honest c.open.new.drive) (g.D.Drive.honest c.set_parent.new.drive) b1 c.in_ok-set_parent.ensures.journal c.in_ok-set_parent.ensures.honest c.in_ok-set_parent.ensures.kept in
+    let b2 = behind_more J J1 J2 c.args.self.now c.open.new.self c.set_parent.new.self (g.D.Drive.honest c.args.drive.now) (g.D.Drive.honest c.open.new.drive) (g.D.Drive.honest c.set_parent.new.drive) b1 c.in_ok-set_parent.ensures.reads.journal c.in_ok-set_parent.ensures.reads.honest c.in_ok-set_parent.ensures.kept in
     let J3 = g.D.Drive.journal c.open-2.new.drive in
-    let b3 = behind_more J J2 J3 c.args.self.now c.set_parent.new.self c.open-2.new.self (g.D.Drive.honest c.args.drive.now) (g.D.Drive.honest c.set_parent.new.drive) (g.D.Drive.honest c.open-2.new.drive) b2 c.in_ok-losing.ensures.journal c.in_ok-losing.ensures.honest c.in_ok-losing.ensures.kept in
+    let b3 = behind_more J J2 J3 c.args.self.now c.set_parent.new.self c.open-2.new.self (g.D.Drive.honest c.args.drive.now) (g.D.Drive.honest c.set_parent.new.drive) (g.D.Drive.honest c.open-2.new.drive) b2 c.in_ok-losing.ensures.reads.journal c.in_ok-losing.ensures.reads.honest c.in_ok-losing.ensures.kept in
     b3.kept honest kept
 
 pub returns-in_err-push-clause-short : goal.returns-in_err-push-clause-short
@@ -177,11 +153,11 @@ pub returns-in_err-push-clause-kept : goal.returns-in_err-push-clause-kept
 returns-in_err-push-clause-kept g c honest kept =
     let J = g.D.Drive.journal c.args.drive.now in
     let J1 = g.D.Drive.journal c.open.new.drive in
-    let b1 : IsBehind J c.args.self.now (g.D.Drive.honest c.args.drive.now) J1 c.open.new.self (g.D.Drive.honest c.open.new.drive) = record { journal = c.in_ok-target.ensures.journal; honest = c.in_ok-target.ensures.honest; kept = c.in_ok-target.ensures.kept } in
+    let b1 : IsBehind J c.args.self.now (g.D.Drive.honest c.args.drive.now) J1 c.open.new.self (g.D.Drive.honest c.open.new.drive) = record { journal = c.in_ok-target.ensures.reads.journal; honest = c.in_ok-target.ensures.reads.honest; kept = c.in_ok-target.ensures.kept } in
     let J2 = g.D.Drive.journal c.set_parent.new.drive in
-    let b2 = behind_more J J1 J2 c.args.self.now c.open.new.self c.set_parent.new.self (g.D.Drive.honest c.args.drive.now) (g.D.Drive.honest c.open.new.drive) (g.D.Drive.honest c.set_parent.new.drive) b1 c.in_ok-set_parent.ensures.journal c.in_ok-set_parent.ensures.honest c.in_ok-set_parent.ensures.kept in
+    let b2 = behind_more J J1 J2 c.args.self.now c.open.new.self c.set_parent.new.self (g.D.Drive.honest c.args.drive.now) (g.D.Drive.honest c.open.new.drive) (g.D.Drive.honest c.set_parent.new.drive) b1 c.in_ok-set_parent.ensures.reads.journal c.in_ok-set_parent.ensures.reads.honest c.in_ok-set_parent.ensures.kept in
     let J3 = g.D.Drive.journal c.open-2.new.drive in
-    let b3 = behind_more J J2 J3 c.args.self.now c.set_parent.new.self c.open-2.new.self (g.D.Drive.honest c.args.drive.now) (g.D.Drive.honest c.set_parent.new.drive) (g.D.Drive.honest c.open-2.new.drive) b2 c.in_ok-losing.ensures.journal c.in_ok-losing.ensures.honest c.in_ok-losing.ensures.kept in
+    let b3 = behind_more J J2 J3 c.args.self.now c.set_parent.new.self c.open-2.new.self (g.D.Drive.honest c.args.drive.now) (g.D.Drive.honest c.set_parent.new.drive) (g.D.Drive.honest c.open-2.new.drive) b2 c.in_ok-losing.ensures.reads.journal c.in_ok-losing.ensures.reads.honest c.in_ok-losing.ensures.kept in
     b3.kept honest kept
 
 pub returns-in_err-push-2-clause-short : goal.returns-in_err-push-2-clause-short
@@ -193,11 +169,11 @@ pub returns-in_err-push-2-clause-kept : goal.returns-in_err-push-2-clause-kept
 returns-in_err-push-2-clause-kept g c honest kept =
     let J = g.D.Drive.journal c.args.drive.now in
     let J1 = g.D.Drive.journal c.open.new.drive in
-    let b1 : IsBehind J c.args.self.now (g.D.Drive.honest c.args.drive.now) J1 c.open.new.self (g.D.Drive.honest c.open.new.drive) = record { journal = c.in_ok-target.ensures.journal; honest = c.in_ok-target.ensures.honest; kept = c.in_ok-target.ensures.kept } in
+    let b1 : IsBehind J c.args.self.now (g.D.Drive.honest c.args.drive.now) J1 c.open.new.self (g.D.Drive.honest c.open.new.drive) = record { journal = c.in_ok-target.ensures.reads.journal; honest = c.in_ok-target.ensures.reads.honest; kept = c.in_ok-target.ensures.kept } in
     let J2 = g.D.Drive.journal c.set_parent.new.drive in
-    let b2 = behind_more J J1 J2 c.args.self.now c.open.new.self c.set_parent.new.self (g.D.Drive.honest c.args.drive.now) (g.D.Drive.honest c.open.new.drive) (g.D.Drive.honest c.set_parent.new.drive) b1 c.in_ok-set_parent.ensures.journal c.in_ok-set_parent.ensures.honest c.in_ok-set_parent.ensures.kept in
+    let b2 = behind_more J J1 J2 c.args.self.now c.open.new.self c.set_parent.new.self (g.D.Drive.honest c.args.drive.now) (g.D.Drive.honest c.open.new.drive) (g.D.Drive.honest c.set_parent.new.drive) b1 c.in_ok-set_parent.ensures.reads.journal c.in_ok-set_parent.ensures.reads.honest c.in_ok-set_parent.ensures.kept in
     let J3 = g.D.Drive.journal c.open-2.new.drive in
-    let b3 = behind_more J J2 J3 c.args.self.now c.set_parent.new.self c.open-2.new.self (g.D.Drive.honest c.args.drive.now) (g.D.Drive.honest c.set_parent.new.drive) (g.D.Drive.honest c.open-2.new.drive) b2 c.in_ok-losing.ensures.journal c.in_ok-losing.ensures.honest c.in_ok-losing.ensures.kept in
+    let b3 = behind_more J J2 J3 c.args.self.now c.set_parent.new.self c.open-2.new.self (g.D.Drive.honest c.args.drive.now) (g.D.Drive.honest c.set_parent.new.drive) (g.D.Drive.honest c.open-2.new.drive) b2 c.in_ok-losing.ensures.reads.journal c.in_ok-losing.ensures.reads.honest c.in_ok-losing.ensures.kept in
     b3.kept honest kept
 
 pub returns-clause-does : goal.returns-clause-does
@@ -206,17 +182,17 @@ returns-clause-does g c tree from to identity s b =
     let entries = c.args.before.now.nodes.entries.now in
     let J = g.D.Drive.journal c.args.drive.now in
     let J1 = g.D.Drive.journal c.open.new.drive in
-    let b1 : IsBehind J c.args.self.now (g.D.Drive.honest c.args.drive.now) J1 c.open.new.self (g.D.Drive.honest c.open.new.drive) = record { journal = c.in_ok-target.ensures.journal; honest = c.in_ok-target.ensures.honest; kept = c.in_ok-target.ensures.kept } in
+    let b1 : IsBehind J c.args.self.now (g.D.Drive.honest c.args.drive.now) J1 c.open.new.self (g.D.Drive.honest c.open.new.drive) = record { journal = c.in_ok-target.ensures.reads.journal; honest = c.in_ok-target.ensures.reads.honest; kept = c.in_ok-target.ensures.kept } in
     let J2 = g.D.Drive.journal c.set_parent.new.drive in
-    let b2 = behind_more J J1 J2 c.args.self.now c.open.new.self c.set_parent.new.self (g.D.Drive.honest c.args.drive.now) (g.D.Drive.honest c.open.new.drive) (g.D.Drive.honest c.set_parent.new.drive) b1 c.in_ok-set_parent.ensures.journal c.in_ok-set_parent.ensures.honest c.in_ok-set_parent.ensures.kept in
+    let b2 = behind_more J J1 J2 c.args.self.now c.open.new.self c.set_parent.new.self (g.D.Drive.honest c.args.drive.now) (g.D.Drive.honest c.open.new.drive) (g.D.Drive.honest c.set_parent.new.drive) b1 c.in_ok-set_parent.ensures.reads.journal c.in_ok-set_parent.ensures.reads.honest c.in_ok-set_parent.ensures.kept in
     let gained_there = stored_on at entries J tree s.tree s.makes J refl c.args.gains.0.address b.beyond c.args.gains.0 b.gains_at refl in
-    let shown_gained = c.in_ok-target.ensures.opened (c.in_ok-set_parent.ensures.honest (c.in_ok-losing.ensures.honest s.honest)) s.kept b.gains_at.found.stored gained_there (sym b.gains_at.kind ∙ b.gains_directory) in
+    let shown_gained = c.in_ok-target.ensures.opened (c.in_ok-set_parent.ensures.reads.honest (c.in_ok-losing.ensures.reads.honest s.honest)) s.kept b.gains_at.found.stored gained_there (sym b.gains_at.kind ∙ b.gains_directory) in
     let lost_there = stored_on at entries J tree s.tree s.makes J2 b2.journal c.args.loses.0.address b.above c.args.loses.0 b.loses_at refl in
-    let shown_lost = c.in_ok-losing.ensures.opened s.honest (kept_behind J J2 c.args.self.now c.set_parent.new.self (g.D.Drive.honest c.args.drive.now) (g.D.Drive.honest c.set_parent.new.drive) b2 (c.in_ok-losing.ensures.honest s.honest) s.kept) b.loses_at.found.stored lost_there (sym b.loses_at.kind ∙ b.loses_directory) in
+    let shown_lost = c.in_ok-losing.ensures.opened s.honest (kept_behind J J2 c.args.self.now c.set_parent.new.self (g.D.Drive.honest c.args.drive.now) (g.D.Drive.honest c.set_parent.new.drive) b2 (c.in_ok-losing.ensures.reads.honest s.honest) s.kept) b.loses_at.found.stored lost_there (sym b.loses_at.kind ∙ b.loses_directory) in
     let zero_code = gained_room (graph_below at entries J) tree (one_on at entries J) s.tree s.makes from to c.args.node c.args.loses.0 c.args.gains.0 c.args.loses.1.now c.args.gains.1.now b c.in_ok-target.target c.in_ok-target.gaining shown_gained (omega (arith, c.if-len-ge-DIRECTORY_NAMES.false, c.len.ensures.len)) in
     let none = not_listed (graph_below at entries J) tree (one_on at entries J) s.tree s.makes b.beyond c.args.gains.0 b.gains_at c.in_ok-target.target c.in_ok-target.gaining shown_gained c.args.gains.1.now (subst (λ (p : Path). get tree p ≡ None) b.to_is b.new_there) in
-    let turned = c.in_ok-set_parent.ensures.set c.refused-change.ensures.directories (c.in_ok-losing.ensures.honest s.honest)
-    (kept_behind J J1 c.args.self.now c.open.new.self (g.D.Drive.honest c.args.drive.now) (g.D.Drive.honest c.open.new.drive) b1 (c.in_ok-set_parent.ensures.honest (c.in_ok-losing.ensures.honest s.honest)) s.kept)
+    let turned = c.in_ok-set_parent.ensures.set c.refused-change.ensures.directories (c.in_ok-losing.ensures.reads.honest s.honest)
+    (kept_behind J J1 c.args.self.now c.open.new.self (g.D.Drive.honest c.args.drive.now) (g.D.Drive.honest c.open.new.drive) b1 (c.in_ok-set_parent.ensures.reads.honest (c.in_ok-losing.ensures.reads.honest s.honest)) s.kept)
     b.node_at.found.stored (stored_on at entries J tree s.tree s.makes J1 b1.journal c.args.node.address from c.args.node b.node_at refl) b.node_at.kind b.node_at.identity in
     let done = c.set_parent.new.change in
     let change : Change = record { code = done.code; file = done.file; directories = c.push-2.new.self; made = done.made; removed = done.removed } in
@@ -238,9 +214,22 @@ pub returns-clause-kept : goal.returns-clause-kept
 returns-clause-kept g c honest kept =
     let J = g.D.Drive.journal c.args.drive.now in
     let J1 = g.D.Drive.journal c.open.new.drive in
-    let b1 : IsBehind J c.args.self.now (g.D.Drive.honest c.args.drive.now) J1 c.open.new.self (g.D.Drive.honest c.open.new.drive) = record { journal = c.in_ok-target.ensures.journal; honest = c.in_ok-target.ensures.honest; kept = c.in_ok-target.ensures.kept } in
+    let b1 : IsBehind J c.args.self.now (g.D.Drive.honest c.args.drive.now) J1 c.open.new.self (g.D.Drive.honest c.open.new.drive) = record { journal = c.in_ok-target.ensures.reads.journal; honest = c.in_ok-target.ensures.reads.honest; kept = c.in_ok-target.ensures.kept } in
     let J2 = g.D.Drive.journal c.set_parent.new.drive in
-    let b2 = behind_more J J1 J2 c.args.self.now c.open.new.self c.set_parent.new.self (g.D.Drive.honest c.args.drive.now) (g.D.Drive.honest c.open.new.drive) (g.D.Drive.honest c.set_parent.new.drive) b1 c.in_ok-set_parent.ensures.journal c.in_ok-set_parent.ensures.honest c.in_ok-set_parent.ensures.kept in
+    let b2 = behind_more J J1 J2 c.args.self.now c.open.new.self c.set_parent.new.self (g.D.Drive.honest c.args.drive.now) (g.D.Drive.honest c.open.new.drive) (g.D.Drive.honest c.set_parent.new.drive) b1 c.in_ok-set_parent.ensures.reads.journal c.in_ok-set_parent.ensures.reads.honest c.in_ok-set_parent.ensures.kept in
     let J3 = g.D.Drive.journal c.open-2.new.drive in
-    let b3 = behind_more J J2 J3 c.args.self.now c.set_parent.new.self c.open-2.new.self (g.D.Drive.honest c.args.drive.now) (g.D.Drive.honest c.set_parent.new.drive) (g.D.Drive.honest c.open-2.new.drive) b2 c.in_ok-losing.ensures.journal c.in_ok-losing.ensures.honest c.in_ok-losing.ensures.kept in
+    let b3 = behind_more J J2 J3 c.args.self.now c.set_parent.new.self c.open-2.new.self (g.D.Drive.honest c.args.drive.now) (g.D.Drive.honest c.set_parent.new.drive) (g.D.Drive.honest c.open-2.new.drive) b2 c.in_ok-losing.ensures.reads.journal c.in_ok-losing.ensures.reads.honest c.in_ok-losing.ensures.kept in
     b3.kept honest kept
+
+pub returns-in_err-push-clause-reads : goal.returns-in_err-push-clause-reads
+returns-in_err-push-clause-reads g c =
+    let p = err_from_is_err_and c.from_residual-in_err-push.result c.from_residual-in_err-push.ensures.1 in
+    rw (p.1, p.2) (reads_then c.in_ok-target.ensures.reads (reads_then c.in_ok-set_parent.ensures.reads c.in_ok-losing.ensures.reads))
+
+pub returns-in_err-push-2-clause-reads : goal.returns-in_err-push-2-clause-reads
+returns-in_err-push-2-clause-reads g c =
+    let p = err_from_is_err_and c.from_residual-in_err-push-2.result c.from_residual-in_err-push-2.ensures.1 in
+    rw (p.1, p.2) (reads_then c.in_ok-target.ensures.reads (reads_then c.in_ok-set_parent.ensures.reads c.in_ok-losing.ensures.reads))
+
+pub returns-clause-reads : goal.returns-clause-reads
+returns-clause-reads g c = reads_then c.in_ok-target.ensures.reads (reads_then c.in_ok-set_parent.ensures.reads c.in_ok-losing.ensures.reads)

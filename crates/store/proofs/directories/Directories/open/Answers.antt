@@ -10,22 +10,22 @@ use Rattle.store.proofs.directories.Directories.open.Goals as goal
 
 pub returns-clause-lies : goal.returns-clause-lies
 returns-clause-lies g c honest kept =
-    let kept1 = subst (λ (J : List Event). AreKept J c.args.self.now) (sym c.in_ok-placed.ensures.journal) kept in
-    subst (λ (J : List Event). LiesThere J c.in_ok-placed.placed.extent c.in_ok-content.content) c.in_ok-placed.ensures.journal (c.in_ok-content.ensures.lies honest kept1)
+    let kept1 = subst (λ (J : List Event). AreKept J c.args.self.now) (sym c.in_ok-placed.ensures.reads.journal) kept in
+    subst (λ (J : List Event). LiesThere J c.in_ok-placed.placed.extent c.in_ok-content.content) c.in_ok-placed.ensures.reads.journal (c.in_ok-content.ensures.lies honest kept1)
 
 pub returns-clause-opened : goal.returns-clause-opened
 returns-clause-opened g c honest kept s there d =
-    let lies = c.in_ok-placed.ensures.placed (c.in_ok-content.ensures.honest honest) s there d in
-    let kept1 = subst (λ (J : List Event). AreKept J c.args.self.now) (sym c.in_ok-placed.ensures.journal) kept in
-    let read = subst (λ (J : List Event). LiesThere J c.in_ok-placed.placed.extent c.in_ok-content.content) c.in_ok-placed.ensures.journal (c.in_ok-content.ensures.lies honest kept1) in
+    let lies = c.in_ok-placed.ensures.placed (c.in_ok-content.ensures.reads.honest honest) s there d in
+    let kept1 = subst (λ (J : List Event). AreKept J c.args.self.now) (sym c.in_ok-placed.ensures.reads.journal) kept in
+    let read = subst (λ (J : List Event). LiesThere J c.in_ok-placed.placed.extent c.in_ok-content.content) c.in_ok-placed.ensures.reads.journal (c.in_ok-content.ensures.lies honest kept1) in
     opened (g.D.Drive.journal c.args.drive.now) c.in_ok-placed.placed s c.in_ok-content.content lies read
 
 pub returns-in_err-content-clause-refused : goal.returns-in_err-content-clause-refused
 returns-in_err-content-clause-refused g c =
     let p = err_from_is_err_and c.from_residual-in_err-content.result c.from_residual-in_err-content.ensures.1 in
     rw p.1 (λ honest s there d.
-    let lies = c.in_ok-placed.ensures.placed (c.in_err-content.ensures.honest honest) s there d in
-    let refused = subst (λ (J : List Event). IsDirectoryRefused c.in_ok-placed.placed.extent (data_of (held J) c.in_ok-placed.placed.extent) c.in_err-content.field-0.0) c.in_ok-placed.ensures.journal (c.in_err-content.ensures.refused honest) in
+    let lies = c.in_ok-placed.ensures.placed (c.in_err-content.ensures.reads.honest honest) s there d in
+    let refused = subst (λ (J : List Event). IsDirectoryRefused c.in_ok-placed.placed.extent (data_of (held J) c.in_ok-placed.placed.extent) c.in_err-content.field-0.0) c.in_ok-placed.ensures.reads.journal (c.in_err-content.ensures.refused honest) in
     subst (λ (f : StoreFault). IsShortage f) (sym p.2) (not_refused (g.D.Drive.journal c.args.drive.now) c.in_ok-placed.placed s c.in_err-content.field-0.0 lies refused))
 
 pub returns-in_err-placed-clause-refused : goal.returns-in_err-placed-clause-refused

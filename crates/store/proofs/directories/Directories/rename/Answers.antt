@@ -38,33 +38,33 @@ some_node (Some node) e = (node, refl)
 
 behind_node : (g : Over) (c : In_ok-node g) → IsBehind (g.D.Drive.journal c.args.drive.now) c.args.self.now (g.D.Drive.honest c.args.drive.now) (g.D.Drive.journal c.find.new.drive) c.find.new.self (g.D.Drive.honest c.find.new.drive)
 behind_node g c =
-    record { journal = c.in_ok-node.ensures.journal; honest = c.in_ok-node.ensures.honest; kept = c.in_ok-node.ensures.kept }
+    record { journal = c.in_ok-node.ensures.reads.journal; honest = c.in_ok-node.ensures.reads.honest; kept = c.in_ok-node.ensures.kept }
 
 behind_gains : (g : Over) (c : In_ok-gains g) → IsBehind (g.D.Drive.journal c.args.drive.now) c.args.self.now (g.D.Drive.honest c.args.drive.now) (g.D.Drive.journal c.find_directory.new.drive) c.find_directory.new.self (g.D.Drive.honest c.find_directory.new.drive)
 behind_gains g c =
-    let b1 : IsBehind (g.D.Drive.journal c.args.drive.now) c.args.self.now (g.D.Drive.honest c.args.drive.now) (g.D.Drive.journal c.find.new.drive) c.find.new.self (g.D.Drive.honest c.find.new.drive) = record { journal = c.in_ok-node.ensures.journal; honest = c.in_ok-node.ensures.honest; kept = c.in_ok-node.ensures.kept } in
-    behind_more (g.D.Drive.journal c.args.drive.now) (g.D.Drive.journal c.find.new.drive) (g.D.Drive.journal c.find_directory.new.drive) c.args.self.now c.find.new.self c.find_directory.new.self (g.D.Drive.honest c.args.drive.now) (g.D.Drive.honest c.find.new.drive) (g.D.Drive.honest c.find_directory.new.drive) b1 c.in_ok-gains.ensures.journal c.in_ok-gains.ensures.honest c.in_ok-gains.ensures.kept
+    let b1 : IsBehind (g.D.Drive.journal c.args.drive.now) c.args.self.now (g.D.Drive.honest c.args.drive.now) (g.D.Drive.journal c.find.new.drive) c.find.new.self (g.D.Drive.honest c.find.new.drive) = record { journal = c.in_ok-node.ensures.reads.journal; honest = c.in_ok-node.ensures.reads.honest; kept = c.in_ok-node.ensures.kept } in
+    behind_more (g.D.Drive.journal c.args.drive.now) (g.D.Drive.journal c.find.new.drive) (g.D.Drive.journal c.find_directory.new.drive) c.args.self.now c.find.new.self c.find_directory.new.self (g.D.Drive.honest c.args.drive.now) (g.D.Drive.honest c.find.new.drive) (g.D.Drive.honest c.find_directory.new.drive) b1 c.in_ok-gains.ensures.reads.journal c.in_ok-gains.ensures.reads.honest c.in_ok-gains.ensures.kept
 
 behind_there : (g : Over) (c : In_ok-there g) → IsBehind (g.D.Drive.journal c.args.drive.now) c.args.self.now (g.D.Drive.honest c.args.drive.now) (g.D.Drive.journal c.find-2.new.drive) c.find-2.new.self (g.D.Drive.honest c.find-2.new.drive)
 behind_there g c =
-    let b1 : IsBehind (g.D.Drive.journal c.args.drive.now) c.args.self.now (g.D.Drive.honest c.args.drive.now) (g.D.Drive.journal c.find.new.drive) c.find.new.self (g.D.Drive.honest c.find.new.drive) = record { journal = c.in_ok-node.ensures.journal; honest = c.in_ok-node.ensures.honest; kept = c.in_ok-node.ensures.kept } in
-    let b2 : IsBehind (g.D.Drive.journal c.args.drive.now) c.args.self.now (g.D.Drive.honest c.args.drive.now) (g.D.Drive.journal c.find_directory.new.drive) c.find_directory.new.self (g.D.Drive.honest c.find_directory.new.drive) = behind_more (g.D.Drive.journal c.args.drive.now) (g.D.Drive.journal c.find.new.drive) (g.D.Drive.journal c.find_directory.new.drive) c.args.self.now c.find.new.self c.find_directory.new.self (g.D.Drive.honest c.args.drive.now) (g.D.Drive.honest c.find.new.drive) (g.D.Drive.honest c.find_directory.new.drive) b1 c.in_ok-gains.ensures.journal c.in_ok-gains.ensures.honest c.in_ok-gains.ensures.kept in
-    behind_more (g.D.Drive.journal c.args.drive.now) (g.D.Drive.journal c.find_directory.new.drive) (g.D.Drive.journal c.find-2.new.drive) c.args.self.now c.find_directory.new.self c.find-2.new.self (g.D.Drive.honest c.args.drive.now) (g.D.Drive.honest c.find_directory.new.drive) (g.D.Drive.honest c.find-2.new.drive) b2 c.in_ok-there.ensures.journal c.in_ok-there.ensures.honest c.in_ok-there.ensures.kept
+    let b1 : IsBehind (g.D.Drive.journal c.args.drive.now) c.args.self.now (g.D.Drive.honest c.args.drive.now) (g.D.Drive.journal c.find.new.drive) c.find.new.self (g.D.Drive.honest c.find.new.drive) = record { journal = c.in_ok-node.ensures.reads.journal; honest = c.in_ok-node.ensures.reads.honest; kept = c.in_ok-node.ensures.kept } in
+    let b2 : IsBehind (g.D.Drive.journal c.args.drive.now) c.args.self.now (g.D.Drive.honest c.args.drive.now) (g.D.Drive.journal c.find_directory.new.drive) c.find_directory.new.self (g.D.Drive.honest c.find_directory.new.drive) = behind_more (g.D.Drive.journal c.args.drive.now) (g.D.Drive.journal c.find.new.drive) (g.D.Drive.journal c.find_directory.new.drive) c.args.self.now c.find.new.self c.find_directory.new.self (g.D.Drive.honest c.args.drive.now) (g.D.Drive.honest c.find.new.drive) (g.D.Drive.honest c.find_directory.new.drive) b1 c.in_ok-gains.ensures.reads.journal c.in_ok-gains.ensures.reads.honest c.in_ok-gains.ensures.kept in
+    behind_more (g.D.Drive.journal c.args.drive.now) (g.D.Drive.journal c.find_directory.new.drive) (g.D.Drive.journal c.find-2.new.drive) c.args.self.now c.find_directory.new.self c.find-2.new.self (g.D.Drive.honest c.args.drive.now) (g.D.Drive.honest c.find_directory.new.drive) (g.D.Drive.honest c.find-2.new.drive) b2 c.in_ok-there.ensures.reads.journal c.in_ok-there.ensures.reads.honest c.in_ok-there.ensures.kept
 
 behind_deep : (g : Over) (c : In_ok-deep g) → IsBehind (g.D.Drive.journal c.args.drive.now) c.args.self.now (g.D.Drive.honest c.args.drive.now) (g.D.Drive.journal c.is_too_deep.new.drive) c.is_too_deep.new.self (g.D.Drive.honest c.is_too_deep.new.drive)
 behind_deep g c =
-    let b1 : IsBehind (g.D.Drive.journal c.args.drive.now) c.args.self.now (g.D.Drive.honest c.args.drive.now) (g.D.Drive.journal c.find.new.drive) c.find.new.self (g.D.Drive.honest c.find.new.drive) = record { journal = c.in_ok-node.ensures.journal; honest = c.in_ok-node.ensures.honest; kept = c.in_ok-node.ensures.kept } in
-    let b2 : IsBehind (g.D.Drive.journal c.args.drive.now) c.args.self.now (g.D.Drive.honest c.args.drive.now) (g.D.Drive.journal c.find_directory.new.drive) c.find_directory.new.self (g.D.Drive.honest c.find_directory.new.drive) = behind_more (g.D.Drive.journal c.args.drive.now) (g.D.Drive.journal c.find.new.drive) (g.D.Drive.journal c.find_directory.new.drive) c.args.self.now c.find.new.self c.find_directory.new.self (g.D.Drive.honest c.args.drive.now) (g.D.Drive.honest c.find.new.drive) (g.D.Drive.honest c.find_directory.new.drive) b1 c.in_ok-gains.ensures.journal c.in_ok-gains.ensures.honest c.in_ok-gains.ensures.kept in
-    let b3 : IsBehind (g.D.Drive.journal c.args.drive.now) c.args.self.now (g.D.Drive.honest c.args.drive.now) (g.D.Drive.journal c.find-2.new.drive) c.find-2.new.self (g.D.Drive.honest c.find-2.new.drive) = behind_more (g.D.Drive.journal c.args.drive.now) (g.D.Drive.journal c.find_directory.new.drive) (g.D.Drive.journal c.find-2.new.drive) c.args.self.now c.find_directory.new.self c.find-2.new.self (g.D.Drive.honest c.args.drive.now) (g.D.Drive.honest c.find_directory.new.drive) (g.D.Drive.honest c.find-2.new.drive) b2 c.in_ok-there.ensures.journal c.in_ok-there.ensures.honest c.in_ok-there.ensures.kept in
-    behind_more (g.D.Drive.journal c.args.drive.now) (g.D.Drive.journal c.find-2.new.drive) (g.D.Drive.journal c.is_too_deep.new.drive) c.args.self.now c.find-2.new.self c.is_too_deep.new.self (g.D.Drive.honest c.args.drive.now) (g.D.Drive.honest c.find-2.new.drive) (g.D.Drive.honest c.is_too_deep.new.drive) b3 c.in_ok-deep.ensures.journal c.in_ok-deep.ensures.honest c.in_ok-deep.ensures.kept
+    let b1 : IsBehind (g.D.Drive.journal c.args.drive.now) c.args.self.now (g.D.Drive.honest c.args.drive.now) (g.D.Drive.journal c.find.new.drive) c.find.new.self (g.D.Drive.honest c.find.new.drive) = record { journal = c.in_ok-node.ensures.reads.journal; honest = c.in_ok-node.ensures.reads.honest; kept = c.in_ok-node.ensures.kept } in
+    let b2 : IsBehind (g.D.Drive.journal c.args.drive.now) c.args.self.now (g.D.Drive.honest c.args.drive.now) (g.D.Drive.journal c.find_directory.new.drive) c.find_directory.new.self (g.D.Drive.honest c.find_directory.new.drive) = behind_more (g.D.Drive.journal c.args.drive.now) (g.D.Drive.journal c.find.new.drive) (g.D.Drive.journal c.find_directory.new.drive) c.args.self.now c.find.new.self c.find_directory.new.self (g.D.Drive.honest c.args.drive.now) (g.D.Drive.honest c.find.new.drive) (g.D.Drive.honest c.find_directory.new.drive) b1 c.in_ok-gains.ensures.reads.journal c.in_ok-gains.ensures.reads.honest c.in_ok-gains.ensures.kept in
+    let b3 : IsBehind (g.D.Drive.journal c.args.drive.now) c.args.self.now (g.D.Drive.honest c.args.drive.now) (g.D.Drive.journal c.find-2.new.drive) c.find-2.new.self (g.D.Drive.honest c.find-2.new.drive) = behind_more (g.D.Drive.journal c.args.drive.now) (g.D.Drive.journal c.find_directory.new.drive) (g.D.Drive.journal c.find-2.new.drive) c.args.self.now c.find_directory.new.self c.find-2.new.self (g.D.Drive.honest c.args.drive.now) (g.D.Drive.honest c.find_directory.new.drive) (g.D.Drive.honest c.find-2.new.drive) b2 c.in_ok-there.ensures.reads.journal c.in_ok-there.ensures.reads.honest c.in_ok-there.ensures.kept in
+    behind_more (g.D.Drive.journal c.args.drive.now) (g.D.Drive.journal c.find-2.new.drive) (g.D.Drive.journal c.is_too_deep.new.drive) c.args.self.now c.find-2.new.self c.is_too_deep.new.self (g.D.Drive.honest c.args.drive.now) (g.D.Drive.honest c.find-2.new.drive) (g.D.Drive.honest c.is_too_deep.new.drive) b3 c.in_ok-deep.ensures.reads.journal c.in_ok-deep.ensures.reads.honest c.in_ok-deep.ensures.kept
 
 behind_loses : (g : Over) (c : In_ok-loses g) → IsBehind (g.D.Drive.journal c.args.drive.now) c.args.self.now (g.D.Drive.honest c.args.drive.now) (g.D.Drive.journal c.find_directory-2.new.drive) c.find_directory-2.new.self (g.D.Drive.honest c.find_directory-2.new.drive)
 behind_loses g c =
-    let b1 : IsBehind (g.D.Drive.journal c.args.drive.now) c.args.self.now (g.D.Drive.honest c.args.drive.now) (g.D.Drive.journal c.find.new.drive) c.find.new.self (g.D.Drive.honest c.find.new.drive) = record { journal = c.in_ok-node.ensures.journal; honest = c.in_ok-node.ensures.honest; kept = c.in_ok-node.ensures.kept } in
-    let b2 : IsBehind (g.D.Drive.journal c.args.drive.now) c.args.self.now (g.D.Drive.honest c.args.drive.now) (g.D.Drive.journal c.find_directory.new.drive) c.find_directory.new.self (g.D.Drive.honest c.find_directory.new.drive) = behind_more (g.D.Drive.journal c.args.drive.now) (g.D.Drive.journal c.find.new.drive) (g.D.Drive.journal c.find_directory.new.drive) c.args.self.now c.find.new.self c.find_directory.new.self (g.D.Drive.honest c.args.drive.now) (g.D.Drive.honest c.find.new.drive) (g.D.Drive.honest c.find_directory.new.drive) b1 c.in_ok-gains.ensures.journal c.in_ok-gains.ensures.honest c.in_ok-gains.ensures.kept in
-    let b3 : IsBehind (g.D.Drive.journal c.args.drive.now) c.args.self.now (g.D.Drive.honest c.args.drive.now) (g.D.Drive.journal c.find-2.new.drive) c.find-2.new.self (g.D.Drive.honest c.find-2.new.drive) = behind_more (g.D.Drive.journal c.args.drive.now) (g.D.Drive.journal c.find_directory.new.drive) (g.D.Drive.journal c.find-2.new.drive) c.args.self.now c.find_directory.new.self c.find-2.new.self (g.D.Drive.honest c.args.drive.now) (g.D.Drive.honest c.find_directory.new.drive) (g.D.Drive.honest c.find-2.new.drive) b2 c.in_ok-there.ensures.journal c.in_ok-there.ensures.honest c.in_ok-there.ensures.kept in
-    let b4 : IsBehind (g.D.Drive.journal c.args.drive.now) c.args.self.now (g.D.Drive.honest c.args.drive.now) (g.D.Drive.journal c.is_too_deep.new.drive) c.is_too_deep.new.self (g.D.Drive.honest c.is_too_deep.new.drive) = behind_more (g.D.Drive.journal c.args.drive.now) (g.D.Drive.journal c.find-2.new.drive) (g.D.Drive.journal c.is_too_deep.new.drive) c.args.self.now c.find-2.new.self c.is_too_deep.new.self (g.D.Drive.honest c.args.drive.now) (g.D.Drive.honest c.find-2.new.drive) (g.D.Drive.honest c.is_too_deep.new.drive) b3 c.in_ok-deep.ensures.journal c.in_ok-deep.ensures.honest c.in_ok-deep.ensures.kept in
-    behind_more (g.D.Drive.journal c.args.drive.now) (g.D.Drive.journal c.is_too_deep.new.drive) (g.D.Drive.journal c.find_directory-2.new.drive) c.args.self.now c.is_too_deep.new.self c.find_directory-2.new.self (g.D.Drive.honest c.args.drive.now) (g.D.Drive.honest c.is_too_deep.new.drive) (g.D.Drive.honest c.find_directory-2.new.drive) b4 c.in_ok-loses.ensures.journal c.in_ok-loses.ensures.honest c.in_ok-loses.ensures.kept
+    let b1 : IsBehind (g.D.Drive.journal c.args.drive.now) c.args.self.now (g.D.Drive.honest c.args.drive.now) (g.D.Drive.journal c.find.new.drive) c.find.new.self (g.D.Drive.honest c.find.new.drive) = record { journal = c.in_ok-node.ensures.reads.journal; honest = c.in_ok-node.ensures.reads.honest; kept = c.in_ok-node.ensures.kept } in
+    let b2 : IsBehind (g.D.Drive.journal c.args.drive.now) c.args.self.now (g.D.Drive.honest c.args.drive.now) (g.D.Drive.journal c.find_directory.new.drive) c.find_directory.new.self (g.D.Drive.honest c.find_directory.new.drive) = behind_more (g.D.Drive.journal c.args.drive.now) (g.D.Drive.journal c.find.new.drive) (g.D.Drive.journal c.find_directory.new.drive) c.args.self.now c.find.new.self c.find_directory.new.self (g.D.Drive.honest c.args.drive.now) (g.D.Drive.honest c.find.new.drive) (g.D.Drive.honest c.find_directory.new.drive) b1 c.in_ok-gains.ensures.reads.journal c.in_ok-gains.ensures.reads.honest c.in_ok-gains.ensures.kept in
+    let b3 : IsBehind (g.D.Drive.journal c.args.drive.now) c.args.self.now (g.D.Drive.honest c.args.drive.now) (g.D.Drive.journal c.find-2.new.drive) c.find-2.new.self (g.D.Drive.honest c.find-2.new.drive) = behind_more (g.D.Drive.journal c.args.drive.now) (g.D.Drive.journal c.find_directory.new.drive) (g.D.Drive.journal c.find-2.new.drive) c.args.self.now c.find_directory.new.self c.find-2.new.self (g.D.Drive.honest c.args.drive.now) (g.D.Drive.honest c.find_directory.new.drive) (g.D.Drive.honest c.find-2.new.drive) b2 c.in_ok-there.ensures.reads.journal c.in_ok-there.ensures.reads.honest c.in_ok-there.ensures.kept in
+    let b4 : IsBehind (g.D.Drive.journal c.args.drive.now) c.args.self.now (g.D.Drive.honest c.args.drive.now) (g.D.Drive.journal c.is_too_deep.new.drive) c.is_too_deep.new.self (g.D.Drive.honest c.is_too_deep.new.drive) = behind_more (g.D.Drive.journal c.args.drive.now) (g.D.Drive.journal c.find-2.new.drive) (g.D.Drive.journal c.is_too_deep.new.drive) c.args.self.now c.find-2.new.self c.is_too_deep.new.self (g.D.Drive.honest c.args.drive.now) (g.D.Drive.honest c.find-2.new.drive) (g.D.Drive.honest c.is_too_deep.new.drive) b3 c.in_ok-deep.ensures.reads.journal c.in_ok-deep.ensures.reads.honest c.in_ok-deep.ensures.kept in
+    behind_more (g.D.Drive.journal c.args.drive.now) (g.D.Drive.journal c.is_too_deep.new.drive) (g.D.Drive.journal c.find_directory-2.new.drive) c.args.self.now c.is_too_deep.new.self c.find_directory-2.new.self (g.D.Drive.honest c.args.drive.now) (g.D.Drive.honest c.is_too_deep.new.drive) (g.D.Drive.honest c.find_directory-2.new.drive) b4 c.in_ok-loses.ensures.reads.journal c.in_ok-loses.ensures.reads.honest c.in_ok-loses.ensures.kept
 
 -- ---- what was found
 
@@ -72,19 +72,19 @@ node_there : (g : Over) (c : In-Some-2 g) (tree : Tree) → Shows (g.D.Drive.hon
 node_there g c tree s = found_on c.args.before.now.nodes.at c.args.before.now.nodes.entries.now (g.D.Drive.journal c.args.drive.now) (g.D.Drive.journal c.args.drive.now) tree c.args.from.now c.in_ok-node.field-0 (Some c.in-Some-2.node) refl c.in-Some-2.is (c.in_ok-node.ensures.found tree s)
 
 gains_there : (g : Over) (c : In-Some-3 g) → IsBehind (g.D.Drive.journal c.args.drive.now) c.args.self.now (g.D.Drive.honest c.args.drive.now) (g.D.Drive.journal c.find.new.drive) c.find.new.self (g.D.Drive.honest c.find.new.drive) → (tree : Tree) → Shows (g.D.Drive.honest c.find_directory.new.drive) (g.D.Drive.journal c.args.drive.now) c.args.self.now c.args.before.now.nodes.at c.args.before.now.nodes.entries.now tree → IsAt (graph_below c.args.before.now.nodes.at c.args.before.now.nodes.entries.now (g.D.Drive.journal c.args.drive.now)) c.in-Some-split_last.beyond.now c.in-Some-3.gains × (names_directory c.in-Some-3.gains.kind ≡ true)
-gains_there g c b tree s = directory_on c.args.before.now.nodes.at c.args.before.now.nodes.entries.now (g.D.Drive.journal c.args.drive.now) (g.D.Drive.journal c.find.new.drive) tree c.in-Some-split_last.beyond.now c.in_ok-gains.field-0 (Some c.in-Some-3.gains) b.journal c.in-Some-3.is (c.in_ok-gains.ensures.found tree (shows_behind (g.D.Drive.journal c.args.drive.now) (g.D.Drive.journal c.find.new.drive) c.args.self.now c.find.new.self (g.D.Drive.honest c.args.drive.now) (g.D.Drive.honest c.find.new.drive) (g.D.Drive.honest c.find_directory.new.drive) (g.D.Drive.honest c.find_directory.new.drive) c.args.before.now.nodes.at c.args.before.now.nodes.entries.now tree b c.in_ok-gains.ensures.honest (λ h. h) s))
+gains_there g c b tree s = directory_on c.args.before.now.nodes.at c.args.before.now.nodes.entries.now (g.D.Drive.journal c.args.drive.now) (g.D.Drive.journal c.find.new.drive) tree c.in-Some-split_last.beyond.now c.in_ok-gains.field-0 (Some c.in-Some-3.gains) b.journal c.in-Some-3.is (c.in_ok-gains.ensures.found tree (shows_behind (g.D.Drive.journal c.args.drive.now) (g.D.Drive.journal c.find.new.drive) c.args.self.now c.find.new.self (g.D.Drive.honest c.args.drive.now) (g.D.Drive.honest c.find.new.drive) (g.D.Drive.honest c.find_directory.new.drive) (g.D.Drive.honest c.find_directory.new.drive) c.args.before.now.nodes.at c.args.before.now.nodes.entries.now tree b c.in_ok-gains.ensures.reads.honest (λ h. h) s))
 
 nothing_there : (g : Over) (c : In_ok-deep g) → IsBehind (g.D.Drive.journal c.args.drive.now) c.args.self.now (g.D.Drive.honest c.args.drive.now) (g.D.Drive.journal c.find_directory.new.drive) c.find_directory.new.self (g.D.Drive.honest c.find_directory.new.drive) → (tree : Tree) → Shows (g.D.Drive.honest c.find-2.new.drive) (g.D.Drive.journal c.args.drive.now) c.args.self.now c.args.before.now.nodes.at c.args.before.now.nodes.entries.now tree → get tree c.args.to.now ≡ None
 nothing_there g c b tree s =
-    found_on c.args.before.now.nodes.at c.args.before.now.nodes.entries.now (g.D.Drive.journal c.args.drive.now) (g.D.Drive.journal c.find_directory.new.drive) tree c.args.to.now c.in_ok-there.there None b.journal (no_node c.in_ok-there.there (sym c.is_some.ensures ∙ c.if-is_some.false)) (c.in_ok-there.ensures.found tree (shows_behind (g.D.Drive.journal c.args.drive.now) (g.D.Drive.journal c.find_directory.new.drive) c.args.self.now c.find_directory.new.self (g.D.Drive.honest c.args.drive.now) (g.D.Drive.honest c.find_directory.new.drive) (g.D.Drive.honest c.find-2.new.drive) (g.D.Drive.honest c.find-2.new.drive) c.args.before.now.nodes.at c.args.before.now.nodes.entries.now tree b c.in_ok-there.ensures.honest (λ h. h) s))
+    found_on c.args.before.now.nodes.at c.args.before.now.nodes.entries.now (g.D.Drive.journal c.args.drive.now) (g.D.Drive.journal c.find_directory.new.drive) tree c.args.to.now c.in_ok-there.there None b.journal (no_node c.in_ok-there.there (sym c.is_some.ensures ∙ c.if-is_some.false)) (c.in_ok-there.ensures.found tree (shows_behind (g.D.Drive.journal c.args.drive.now) (g.D.Drive.journal c.find_directory.new.drive) c.args.self.now c.find_directory.new.self (g.D.Drive.honest c.args.drive.now) (g.D.Drive.honest c.find_directory.new.drive) (g.D.Drive.honest c.find-2.new.drive) (g.D.Drive.honest c.find-2.new.drive) c.args.before.now.nodes.at c.args.before.now.nodes.entries.now tree b c.in_ok-there.ensures.reads.honest (λ h. h) s))
 
 deep_there : (g : Over) (c : In_ok-deep g) → IsBehind (g.D.Drive.journal c.args.drive.now) c.args.self.now (g.D.Drive.honest c.args.drive.now) (g.D.Drive.journal c.find-2.new.drive) c.find-2.new.self (g.D.Drive.honest c.find-2.new.drive) → (tree : Tree) → Shows (g.D.Drive.honest c.is_too_deep.new.drive) (g.D.Drive.journal c.args.drive.now) c.args.self.now c.args.before.now.nodes.at c.args.before.now.nodes.entries.now tree → IsAt (graph_below c.args.before.now.nodes.at c.args.before.now.nodes.entries.now (g.D.Drive.journal c.args.drive.now)) c.args.from.now c.in-Some-2.node → moves_too_deep c.args.from.now c.args.to.now tree ≡ c.in_ok-deep.deep
 deep_there g c b tree s here =
     let here3 = subst (λ (K : List Event). IsAt (graph_below c.args.before.now.nodes.at c.args.before.now.nodes.entries.now K) c.args.from.now c.in-Some-2.node) (sym b.journal) here in
-    sym (c.in_ok-deep.ensures.deep tree c.args.from.now c.args.to.now (shows_behind (g.D.Drive.journal c.args.drive.now) (g.D.Drive.journal c.find-2.new.drive) c.args.self.now c.find-2.new.self (g.D.Drive.honest c.args.drive.now) (g.D.Drive.honest c.find-2.new.drive) (g.D.Drive.honest c.is_too_deep.new.drive) (g.D.Drive.honest c.is_too_deep.new.drive) c.args.before.now.nodes.at c.args.before.now.nodes.entries.now tree b c.in_ok-deep.ensures.honest (λ h. h) s) here3 refl refl)
+    sym (c.in_ok-deep.ensures.deep tree c.args.from.now c.args.to.now (shows_behind (g.D.Drive.journal c.args.drive.now) (g.D.Drive.journal c.find-2.new.drive) c.args.self.now c.find-2.new.self (g.D.Drive.honest c.args.drive.now) (g.D.Drive.honest c.find-2.new.drive) (g.D.Drive.honest c.is_too_deep.new.drive) (g.D.Drive.honest c.is_too_deep.new.drive) c.args.before.now.nodes.at c.args.before.now.nodes.entries.now tree b c.in_ok-deep.ensures.reads.honest (λ h. h) s) here3 refl refl)
 
 loses_there : (g : Over) (c : In-Some-4 g) → IsBehind (g.D.Drive.journal c.args.drive.now) c.args.self.now (g.D.Drive.honest c.args.drive.now) (g.D.Drive.journal c.is_too_deep.new.drive) c.is_too_deep.new.self (g.D.Drive.honest c.is_too_deep.new.drive) → (tree : Tree) → Shows (g.D.Drive.honest c.find_directory-2.new.drive) (g.D.Drive.journal c.args.drive.now) c.args.self.now c.args.before.now.nodes.at c.args.before.now.nodes.entries.now tree → IsAt (graph_below c.args.before.now.nodes.at c.args.before.now.nodes.entries.now (g.D.Drive.journal c.args.drive.now)) c.in-Some.above.now c.in-Some-4.loses × (names_directory c.in-Some-4.loses.kind ≡ true)
-loses_there g c b tree s = directory_on c.args.before.now.nodes.at c.args.before.now.nodes.entries.now (g.D.Drive.journal c.args.drive.now) (g.D.Drive.journal c.is_too_deep.new.drive) tree c.in-Some.above.now c.in_ok-loses.field-0 (Some c.in-Some-4.loses) b.journal c.in-Some-4.is (c.in_ok-loses.ensures.found tree (shows_behind (g.D.Drive.journal c.args.drive.now) (g.D.Drive.journal c.is_too_deep.new.drive) c.args.self.now c.is_too_deep.new.self (g.D.Drive.honest c.args.drive.now) (g.D.Drive.honest c.is_too_deep.new.drive) (g.D.Drive.honest c.find_directory-2.new.drive) (g.D.Drive.honest c.find_directory-2.new.drive) c.args.before.now.nodes.at c.args.before.now.nodes.entries.now tree b c.in_ok-loses.ensures.honest (λ h. h) s))
+loses_there g c b tree s = directory_on c.args.before.now.nodes.at c.args.before.now.nodes.entries.now (g.D.Drive.journal c.args.drive.now) (g.D.Drive.journal c.is_too_deep.new.drive) tree c.in-Some.above.now c.in_ok-loses.field-0 (Some c.in-Some-4.loses) b.journal c.in-Some-4.is (c.in_ok-loses.ensures.found tree (shows_behind (g.D.Drive.journal c.args.drive.now) (g.D.Drive.journal c.is_too_deep.new.drive) c.args.self.now c.is_too_deep.new.self (g.D.Drive.honest c.args.drive.now) (g.D.Drive.honest c.is_too_deep.new.drive) (g.D.Drive.honest c.find_directory-2.new.drive) (g.D.Drive.honest c.find_directory-2.new.drive) c.args.before.now.nodes.at c.args.before.now.nodes.entries.now tree b c.in_ok-loses.ensures.reads.honest (λ h. h) s))
 
 -- ---- each way out
 
@@ -99,21 +99,21 @@ returns-then-is_below-clause-does g c tree identity s =
 
 pub returns-in_err-gains-clause-short : goal.returns-in_err-gains-clause-short
 returns-in_err-gains-clause-short g c tree s =
-    let s2_ = shows_behind (g.D.Drive.journal c.args.drive.now) (g.D.Drive.journal c.find.new.drive) c.args.self.now c.find.new.self (g.D.Drive.honest c.args.drive.now) (g.D.Drive.honest c.find.new.drive) (g.D.Drive.honest c.find_directory.new.drive) (g.D.Drive.honest c.find_directory.new.drive) c.args.before.now.nodes.at c.args.before.now.nodes.entries.now tree (behind_node g (goal.at.returns-in_err-gains-clause-short g c).In_ok-node) c.in_err-gains.ensures.honest (λ h. h) s in
+    let s2_ = shows_behind (g.D.Drive.journal c.args.drive.now) (g.D.Drive.journal c.find.new.drive) c.args.self.now c.find.new.self (g.D.Drive.honest c.args.drive.now) (g.D.Drive.honest c.find.new.drive) (g.D.Drive.honest c.find_directory.new.drive) (g.D.Drive.honest c.find_directory.new.drive) c.args.before.now.nodes.at c.args.before.now.nodes.entries.now tree (behind_node g (goal.at.returns-in_err-gains-clause-short g c).In_ok-node) c.in_err-gains.ensures.reads.honest (λ h. h) s in
     let p = err_from_is_err_and c.from_residual-in_err-gains.result c.from_residual-in_err-gains.ensures.1 in
     rw p.1 (subst (λ (f : StoreFault). IsShortage f) (sym p.2) (c.in_err-gains.ensures.refused tree s2_))
 
 pub returns-in_err-gains-clause-kept : goal.returns-in_err-gains-clause-kept
 returns-in_err-gains-clause-kept g c honest kept =
     let b = behind_node g (goal.at.returns-in_err-gains-clause-kept g c).In_ok-node in
-    kept_on (g.D.Drive.journal c.args.drive.now) (g.D.Drive.journal c.find.new.drive) c.find.new.self c.find_directory.new.self b.journal (c.in_err-gains.ensures.kept honest) (b.kept (c.in_err-gains.ensures.honest honest) kept)
+    kept_on (g.D.Drive.journal c.args.drive.now) (g.D.Drive.journal c.find.new.drive) c.find.new.self c.find_directory.new.self b.journal (c.in_err-gains.ensures.kept honest) (b.kept (c.in_err-gains.ensures.reads.honest honest) kept)
 
 pub returns-in_default-3-clause-does : goal.returns-in_default-3-clause-does
 returns-in_default-3-clause-does g c tree identity s =
     let from_is = c.in-Some.ensures.cases.0 in
     let to_is = c.in-Some-split_last.ensures.cases.0 in
-    let s1 = shows_before (g.D.Drive.honest c.find_directory.new.drive) (g.D.Drive.honest c.find.new.drive) (g.D.Drive.journal c.args.drive.now) c.args.self.now c.args.before.now.nodes.at c.args.before.now.nodes.entries.now tree c.in_ok-gains.ensures.honest s in
-    let s2_ = shows_behind (g.D.Drive.journal c.args.drive.now) (g.D.Drive.journal c.find.new.drive) c.args.self.now c.find.new.self (g.D.Drive.honest c.args.drive.now) (g.D.Drive.honest c.find.new.drive) (g.D.Drive.honest c.find_directory.new.drive) (g.D.Drive.honest c.find_directory.new.drive) c.args.before.now.nodes.at c.args.before.now.nodes.entries.now tree (behind_node g (goal.at.returns-in_default-3-clause-does g c).In_ok-node) c.in_ok-gains.ensures.honest (λ h. h) s in
+    let s1 = shows_before (g.D.Drive.honest c.find_directory.new.drive) (g.D.Drive.honest c.find.new.drive) (g.D.Drive.journal c.args.drive.now) c.args.self.now c.args.before.now.nodes.at c.args.before.now.nodes.entries.now tree c.in_ok-gains.ensures.reads.honest s in
+    let s2_ = shows_behind (g.D.Drive.journal c.args.drive.now) (g.D.Drive.journal c.find.new.drive) c.args.self.now c.find.new.self (g.D.Drive.honest c.args.drive.now) (g.D.Drive.honest c.find.new.drive) (g.D.Drive.honest c.find_directory.new.drive) (g.D.Drive.honest c.find_directory.new.drive) c.args.before.now.nodes.at c.args.before.now.nodes.entries.now tree (behind_node g (goal.at.returns-in_default-3-clause-does g c).In_ok-node) c.in_ok-gains.ensures.reads.honest (λ h. h) s in
     let here = node_there g (goal.at.returns-in_default-3-clause-does g c).In-Some-2 tree s1 in
     let has = there_at c.args.before.now.nodes.at c.args.before.now.nodes.entries.now (g.D.Drive.journal c.args.drive.now) tree s.tree s.makes c.args.from.now c.in-Some-2.node here in
     let apart : goes_into c.args.from.now c.args.to.now ≡ false = sym c.is_below.ensures ∙ c.if-is_below.false in
@@ -128,22 +128,22 @@ returns-in_default-3-clause-kept g c honest kept =
 
 pub returns-in_err-there-clause-short : goal.returns-in_err-there-clause-short
 returns-in_err-there-clause-short g c tree s =
-    let s3_ = shows_behind (g.D.Drive.journal c.args.drive.now) (g.D.Drive.journal c.find_directory.new.drive) c.args.self.now c.find_directory.new.self (g.D.Drive.honest c.args.drive.now) (g.D.Drive.honest c.find_directory.new.drive) (g.D.Drive.honest c.find-2.new.drive) (g.D.Drive.honest c.find-2.new.drive) c.args.before.now.nodes.at c.args.before.now.nodes.entries.now tree (behind_gains g (goal.at.returns-in_err-there-clause-short g c).In_ok-gains) c.in_err-there.ensures.honest (λ h. h) s in
+    let s3_ = shows_behind (g.D.Drive.journal c.args.drive.now) (g.D.Drive.journal c.find_directory.new.drive) c.args.self.now c.find_directory.new.self (g.D.Drive.honest c.args.drive.now) (g.D.Drive.honest c.find_directory.new.drive) (g.D.Drive.honest c.find-2.new.drive) (g.D.Drive.honest c.find-2.new.drive) c.args.before.now.nodes.at c.args.before.now.nodes.entries.now tree (behind_gains g (goal.at.returns-in_err-there-clause-short g c).In_ok-gains) c.in_err-there.ensures.reads.honest (λ h. h) s in
     let p = err_from_is_err_and c.from_residual-in_err-there.result c.from_residual-in_err-there.ensures.1 in
     rw p.1 (subst (λ (f : StoreFault). IsShortage f) (sym p.2) (c.in_err-there.ensures.refused tree s3_))
 
 pub returns-in_err-there-clause-kept : goal.returns-in_err-there-clause-kept
 returns-in_err-there-clause-kept g c honest kept =
     let b = behind_gains g (goal.at.returns-in_err-there-clause-kept g c).In_ok-gains in
-    kept_on (g.D.Drive.journal c.args.drive.now) (g.D.Drive.journal c.find_directory.new.drive) c.find_directory.new.self c.find-2.new.self b.journal (c.in_err-there.ensures.kept honest) (b.kept (c.in_err-there.ensures.honest honest) kept)
+    kept_on (g.D.Drive.journal c.args.drive.now) (g.D.Drive.journal c.find_directory.new.drive) c.find_directory.new.self c.find-2.new.self b.journal (c.in_err-there.ensures.kept honest) (b.kept (c.in_err-there.ensures.reads.honest honest) kept)
 
 pub returns-then-is_some-clause-does : goal.returns-then-is_some-clause-does
 returns-then-is_some-clause-does g c tree identity s =
     let from_is = c.in-Some.ensures.cases.0 in
     let to_is = c.in-Some-split_last.ensures.cases.0 in
-    let s2 = shows_before (g.D.Drive.honest c.find-2.new.drive) (g.D.Drive.honest c.find_directory.new.drive) (g.D.Drive.journal c.args.drive.now) c.args.self.now c.args.before.now.nodes.at c.args.before.now.nodes.entries.now tree c.in_ok-there.ensures.honest s in
-    let s1 = shows_before (g.D.Drive.honest c.find_directory.new.drive) (g.D.Drive.honest c.find.new.drive) (g.D.Drive.journal c.args.drive.now) c.args.self.now c.args.before.now.nodes.at c.args.before.now.nodes.entries.now tree c.in_ok-gains.ensures.honest s2 in
-    let s3_ = shows_behind (g.D.Drive.journal c.args.drive.now) (g.D.Drive.journal c.find_directory.new.drive) c.args.self.now c.find_directory.new.self (g.D.Drive.honest c.args.drive.now) (g.D.Drive.honest c.find_directory.new.drive) (g.D.Drive.honest c.find-2.new.drive) (g.D.Drive.honest c.find-2.new.drive) c.args.before.now.nodes.at c.args.before.now.nodes.entries.now tree (behind_gains g (goal.at.returns-then-is_some-clause-does g c).In_ok-gains) c.in_ok-there.ensures.honest (λ h. h) s in
+    let s2 = shows_before (g.D.Drive.honest c.find-2.new.drive) (g.D.Drive.honest c.find_directory.new.drive) (g.D.Drive.journal c.args.drive.now) c.args.self.now c.args.before.now.nodes.at c.args.before.now.nodes.entries.now tree c.in_ok-there.ensures.reads.honest s in
+    let s1 = shows_before (g.D.Drive.honest c.find_directory.new.drive) (g.D.Drive.honest c.find.new.drive) (g.D.Drive.journal c.args.drive.now) c.args.self.now c.args.before.now.nodes.at c.args.before.now.nodes.entries.now tree c.in_ok-gains.ensures.reads.honest s2 in
+    let s3_ = shows_behind (g.D.Drive.journal c.args.drive.now) (g.D.Drive.journal c.find_directory.new.drive) c.args.self.now c.find_directory.new.self (g.D.Drive.honest c.args.drive.now) (g.D.Drive.honest c.find_directory.new.drive) (g.D.Drive.honest c.find-2.new.drive) (g.D.Drive.honest c.find-2.new.drive) c.args.before.now.nodes.at c.args.before.now.nodes.entries.now tree (behind_gains g (goal.at.returns-then-is_some-clause-does g c).In_ok-gains) c.in_ok-there.ensures.reads.honest (λ h. h) s in
     let here = node_there g (goal.at.returns-then-is_some-clause-does g c).In-Some-2 tree s1 in
     let has = there_at c.args.before.now.nodes.at c.args.before.now.nodes.entries.now (g.D.Drive.journal c.args.drive.now) tree s.tree s.makes c.args.from.now c.in-Some-2.node here in
     let apart : goes_into c.args.from.now c.args.to.now ≡ false = sym c.is_below.ensures ∙ c.if-is_below.false in
@@ -161,10 +161,10 @@ returns-then-is_some-clause-kept g c honest kept =
 
 pub returns-in_err-deep-clause-short : goal.returns-in_err-deep-clause-short
 returns-in_err-deep-clause-short g c tree s =
-    let s3 = shows_before (g.D.Drive.honest c.is_too_deep.new.drive) (g.D.Drive.honest c.find-2.new.drive) (g.D.Drive.journal c.args.drive.now) c.args.self.now c.args.before.now.nodes.at c.args.before.now.nodes.entries.now tree c.in_err-deep.ensures.honest s in
-    let s2 = shows_before (g.D.Drive.honest c.find-2.new.drive) (g.D.Drive.honest c.find_directory.new.drive) (g.D.Drive.journal c.args.drive.now) c.args.self.now c.args.before.now.nodes.at c.args.before.now.nodes.entries.now tree c.in_ok-there.ensures.honest s3 in
-    let s1 = shows_before (g.D.Drive.honest c.find_directory.new.drive) (g.D.Drive.honest c.find.new.drive) (g.D.Drive.journal c.args.drive.now) c.args.self.now c.args.before.now.nodes.at c.args.before.now.nodes.entries.now tree c.in_ok-gains.ensures.honest s2 in
-    let s4_ = shows_behind (g.D.Drive.journal c.args.drive.now) (g.D.Drive.journal c.find-2.new.drive) c.args.self.now c.find-2.new.self (g.D.Drive.honest c.args.drive.now) (g.D.Drive.honest c.find-2.new.drive) (g.D.Drive.honest c.is_too_deep.new.drive) (g.D.Drive.honest c.is_too_deep.new.drive) c.args.before.now.nodes.at c.args.before.now.nodes.entries.now tree (behind_there g (goal.at.returns-in_err-deep-clause-short g c).In_ok-there) c.in_err-deep.ensures.honest (λ h. h) s in
+    let s3 = shows_before (g.D.Drive.honest c.is_too_deep.new.drive) (g.D.Drive.honest c.find-2.new.drive) (g.D.Drive.journal c.args.drive.now) c.args.self.now c.args.before.now.nodes.at c.args.before.now.nodes.entries.now tree c.in_err-deep.ensures.reads.honest s in
+    let s2 = shows_before (g.D.Drive.honest c.find-2.new.drive) (g.D.Drive.honest c.find_directory.new.drive) (g.D.Drive.journal c.args.drive.now) c.args.self.now c.args.before.now.nodes.at c.args.before.now.nodes.entries.now tree c.in_ok-there.ensures.reads.honest s3 in
+    let s1 = shows_before (g.D.Drive.honest c.find_directory.new.drive) (g.D.Drive.honest c.find.new.drive) (g.D.Drive.journal c.args.drive.now) c.args.self.now c.args.before.now.nodes.at c.args.before.now.nodes.entries.now tree c.in_ok-gains.ensures.reads.honest s2 in
+    let s4_ = shows_behind (g.D.Drive.journal c.args.drive.now) (g.D.Drive.journal c.find-2.new.drive) c.args.self.now c.find-2.new.self (g.D.Drive.honest c.args.drive.now) (g.D.Drive.honest c.find-2.new.drive) (g.D.Drive.honest c.is_too_deep.new.drive) (g.D.Drive.honest c.is_too_deep.new.drive) c.args.before.now.nodes.at c.args.before.now.nodes.entries.now tree (behind_there g (goal.at.returns-in_err-deep-clause-short g c).In_ok-there) c.in_err-deep.ensures.reads.honest (λ h. h) s in
     let here = node_there g (goal.at.returns-in_err-deep-clause-short g c).In-Some-2 tree s1 in
     let b = behind_there g (goal.at.returns-in_err-deep-clause-short g c).In_ok-there in
     let here3 = subst (λ (K : List Event). IsAt (graph_below c.args.before.now.nodes.at c.args.before.now.nodes.entries.now K) c.args.from.now c.in-Some-2.node) (sym b.journal) here in
@@ -174,15 +174,15 @@ returns-in_err-deep-clause-short g c tree s =
 pub returns-in_err-deep-clause-kept : goal.returns-in_err-deep-clause-kept
 returns-in_err-deep-clause-kept g c honest kept =
     let b = behind_there g (goal.at.returns-in_err-deep-clause-kept g c).In_ok-there in
-    kept_on (g.D.Drive.journal c.args.drive.now) (g.D.Drive.journal c.find-2.new.drive) c.find-2.new.self c.is_too_deep.new.self b.journal (c.in_err-deep.ensures.kept honest) (b.kept (c.in_err-deep.ensures.honest honest) kept)
+    kept_on (g.D.Drive.journal c.args.drive.now) (g.D.Drive.journal c.find-2.new.drive) c.find-2.new.self c.is_too_deep.new.self b.journal (c.in_err-deep.ensures.kept honest) (b.kept (c.in_err-deep.ensures.reads.honest honest) kept)
 
 pub returns-then-deep-clause-does : goal.returns-then-deep-clause-does
 returns-then-deep-clause-does g c tree identity s =
     let from_is = c.in-Some.ensures.cases.0 in
     let to_is = c.in-Some-split_last.ensures.cases.0 in
-    let s3 = shows_before (g.D.Drive.honest c.is_too_deep.new.drive) (g.D.Drive.honest c.find-2.new.drive) (g.D.Drive.journal c.args.drive.now) c.args.self.now c.args.before.now.nodes.at c.args.before.now.nodes.entries.now tree c.in_ok-deep.ensures.honest s in
-    let s2 = shows_before (g.D.Drive.honest c.find-2.new.drive) (g.D.Drive.honest c.find_directory.new.drive) (g.D.Drive.journal c.args.drive.now) c.args.self.now c.args.before.now.nodes.at c.args.before.now.nodes.entries.now tree c.in_ok-there.ensures.honest s3 in
-    let s1 = shows_before (g.D.Drive.honest c.find_directory.new.drive) (g.D.Drive.honest c.find.new.drive) (g.D.Drive.journal c.args.drive.now) c.args.self.now c.args.before.now.nodes.at c.args.before.now.nodes.entries.now tree c.in_ok-gains.ensures.honest s2 in
+    let s3 = shows_before (g.D.Drive.honest c.is_too_deep.new.drive) (g.D.Drive.honest c.find-2.new.drive) (g.D.Drive.journal c.args.drive.now) c.args.self.now c.args.before.now.nodes.at c.args.before.now.nodes.entries.now tree c.in_ok-deep.ensures.reads.honest s in
+    let s2 = shows_before (g.D.Drive.honest c.find-2.new.drive) (g.D.Drive.honest c.find_directory.new.drive) (g.D.Drive.journal c.args.drive.now) c.args.self.now c.args.before.now.nodes.at c.args.before.now.nodes.entries.now tree c.in_ok-there.ensures.reads.honest s3 in
+    let s1 = shows_before (g.D.Drive.honest c.find_directory.new.drive) (g.D.Drive.honest c.find.new.drive) (g.D.Drive.journal c.args.drive.now) c.args.self.now c.args.before.now.nodes.at c.args.before.now.nodes.entries.now tree c.in_ok-gains.ensures.reads.honest s2 in
     let here = node_there g (goal.at.returns-then-deep-clause-does g c).In-Some-2 tree s1 in
     let has = there_at c.args.before.now.nodes.at c.args.before.now.nodes.entries.now (g.D.Drive.journal c.args.drive.now) tree s.tree s.makes c.args.from.now c.in-Some-2.node here in
     let apart : goes_into c.args.from.now c.args.to.now ≡ false = sym c.is_below.ensures ∙ c.if-is_below.false in
@@ -199,24 +199,24 @@ returns-then-deep-clause-kept g c honest kept =
 
 pub returns-in_err-loses-clause-short : goal.returns-in_err-loses-clause-short
 returns-in_err-loses-clause-short g c tree s =
-    let s5_ = shows_behind (g.D.Drive.journal c.args.drive.now) (g.D.Drive.journal c.is_too_deep.new.drive) c.args.self.now c.is_too_deep.new.self (g.D.Drive.honest c.args.drive.now) (g.D.Drive.honest c.is_too_deep.new.drive) (g.D.Drive.honest c.find_directory-2.new.drive) (g.D.Drive.honest c.find_directory-2.new.drive) c.args.before.now.nodes.at c.args.before.now.nodes.entries.now tree (behind_deep g (goal.at.returns-in_err-loses-clause-short g c).In_ok-deep) c.in_err-loses.ensures.honest (λ h. h) s in
+    let s5_ = shows_behind (g.D.Drive.journal c.args.drive.now) (g.D.Drive.journal c.is_too_deep.new.drive) c.args.self.now c.is_too_deep.new.self (g.D.Drive.honest c.args.drive.now) (g.D.Drive.honest c.is_too_deep.new.drive) (g.D.Drive.honest c.find_directory-2.new.drive) (g.D.Drive.honest c.find_directory-2.new.drive) c.args.before.now.nodes.at c.args.before.now.nodes.entries.now tree (behind_deep g (goal.at.returns-in_err-loses-clause-short g c).In_ok-deep) c.in_err-loses.ensures.reads.honest (λ h. h) s in
     let p = err_from_is_err_and c.from_residual-in_err-loses.result c.from_residual-in_err-loses.ensures.1 in
     rw p.1 (subst (λ (f : StoreFault). IsShortage f) (sym p.2) (c.in_err-loses.ensures.refused tree s5_))
 
 pub returns-in_err-loses-clause-kept : goal.returns-in_err-loses-clause-kept
 returns-in_err-loses-clause-kept g c honest kept =
     let b = behind_deep g (goal.at.returns-in_err-loses-clause-kept g c).In_ok-deep in
-    kept_on (g.D.Drive.journal c.args.drive.now) (g.D.Drive.journal c.is_too_deep.new.drive) c.is_too_deep.new.self c.find_directory-2.new.self b.journal (c.in_err-loses.ensures.kept honest) (b.kept (c.in_err-loses.ensures.honest honest) kept)
+    kept_on (g.D.Drive.journal c.args.drive.now) (g.D.Drive.journal c.is_too_deep.new.drive) c.is_too_deep.new.self c.find_directory-2.new.self b.journal (c.in_err-loses.ensures.kept honest) (b.kept (c.in_err-loses.ensures.reads.honest honest) kept)
 
 pub returns-in_default-4-clause-does : goal.returns-in_default-4-clause-does
 returns-in_default-4-clause-does g c tree identity s =
     let from_is = c.in-Some.ensures.cases.0 in
     let to_is = c.in-Some-split_last.ensures.cases.0 in
-    let s4 = shows_before (g.D.Drive.honest c.find_directory-2.new.drive) (g.D.Drive.honest c.is_too_deep.new.drive) (g.D.Drive.journal c.args.drive.now) c.args.self.now c.args.before.now.nodes.at c.args.before.now.nodes.entries.now tree c.in_ok-loses.ensures.honest s in
-    let s3 = shows_before (g.D.Drive.honest c.is_too_deep.new.drive) (g.D.Drive.honest c.find-2.new.drive) (g.D.Drive.journal c.args.drive.now) c.args.self.now c.args.before.now.nodes.at c.args.before.now.nodes.entries.now tree c.in_ok-deep.ensures.honest s4 in
-    let s2 = shows_before (g.D.Drive.honest c.find-2.new.drive) (g.D.Drive.honest c.find_directory.new.drive) (g.D.Drive.journal c.args.drive.now) c.args.self.now c.args.before.now.nodes.at c.args.before.now.nodes.entries.now tree c.in_ok-there.ensures.honest s3 in
-    let s1 = shows_before (g.D.Drive.honest c.find_directory.new.drive) (g.D.Drive.honest c.find.new.drive) (g.D.Drive.journal c.args.drive.now) c.args.self.now c.args.before.now.nodes.at c.args.before.now.nodes.entries.now tree c.in_ok-gains.ensures.honest s2 in
-    let s5_ = shows_behind (g.D.Drive.journal c.args.drive.now) (g.D.Drive.journal c.is_too_deep.new.drive) c.args.self.now c.is_too_deep.new.self (g.D.Drive.honest c.args.drive.now) (g.D.Drive.honest c.is_too_deep.new.drive) (g.D.Drive.honest c.find_directory-2.new.drive) (g.D.Drive.honest c.find_directory-2.new.drive) c.args.before.now.nodes.at c.args.before.now.nodes.entries.now tree (behind_deep g (goal.at.returns-in_default-4-clause-does g c).In_ok-deep) c.in_ok-loses.ensures.honest (λ h. h) s in
+    let s4 = shows_before (g.D.Drive.honest c.find_directory-2.new.drive) (g.D.Drive.honest c.is_too_deep.new.drive) (g.D.Drive.journal c.args.drive.now) c.args.self.now c.args.before.now.nodes.at c.args.before.now.nodes.entries.now tree c.in_ok-loses.ensures.reads.honest s in
+    let s3 = shows_before (g.D.Drive.honest c.is_too_deep.new.drive) (g.D.Drive.honest c.find-2.new.drive) (g.D.Drive.journal c.args.drive.now) c.args.self.now c.args.before.now.nodes.at c.args.before.now.nodes.entries.now tree c.in_ok-deep.ensures.reads.honest s4 in
+    let s2 = shows_before (g.D.Drive.honest c.find-2.new.drive) (g.D.Drive.honest c.find_directory.new.drive) (g.D.Drive.journal c.args.drive.now) c.args.self.now c.args.before.now.nodes.at c.args.before.now.nodes.entries.now tree c.in_ok-there.ensures.reads.honest s3 in
+    let s1 = shows_before (g.D.Drive.honest c.find_directory.new.drive) (g.D.Drive.honest c.find.new.drive) (g.D.Drive.journal c.args.drive.now) c.args.self.now c.args.before.now.nodes.at c.args.before.now.nodes.entries.now tree c.in_ok-gains.ensures.reads.honest s2 in
+    let s5_ = shows_behind (g.D.Drive.journal c.args.drive.now) (g.D.Drive.journal c.is_too_deep.new.drive) c.args.self.now c.is_too_deep.new.self (g.D.Drive.honest c.args.drive.now) (g.D.Drive.honest c.is_too_deep.new.drive) (g.D.Drive.honest c.find_directory-2.new.drive) (g.D.Drive.honest c.find_directory-2.new.drive) c.args.before.now.nodes.at c.args.before.now.nodes.entries.now tree (behind_deep g (goal.at.returns-in_default-4-clause-does g c).In_ok-deep) c.in_ok-loses.ensures.reads.honest (λ h. h) s in
     let here = node_there g (goal.at.returns-in_default-4-clause-does g c).In-Some-2 tree s1 in
     let has = there_at c.args.before.now.nodes.at c.args.before.now.nodes.entries.now (g.D.Drive.journal c.args.drive.now) tree s.tree s.makes c.args.from.now c.in-Some-2.node here in
     let b = behind_deep g (goal.at.returns-in_default-4-clause-does g c).In_ok-deep in
@@ -231,11 +231,11 @@ pub returns-then-loses-gains-clause-does : goal.returns-then-loses-gains-clause-
 returns-then-loses-gains-clause-does g c tree identity s =
     let from_is = c.in-Some.ensures.cases.0 in
     let to_is = c.in-Some-split_last.ensures.cases.0 in
-    let s5 = shows_before (g.D.Drive.honest c.rename_within.new.drive) (g.D.Drive.honest c.find_directory-2.new.drive) (g.D.Drive.journal c.args.drive.now) c.args.self.now c.args.before.now.nodes.at c.args.before.now.nodes.entries.now tree c.rename_within.ensures.honest s in
-    let s4 = shows_before (g.D.Drive.honest c.find_directory-2.new.drive) (g.D.Drive.honest c.is_too_deep.new.drive) (g.D.Drive.journal c.args.drive.now) c.args.self.now c.args.before.now.nodes.at c.args.before.now.nodes.entries.now tree c.in_ok-loses.ensures.honest s5 in
-    let s3 = shows_before (g.D.Drive.honest c.is_too_deep.new.drive) (g.D.Drive.honest c.find-2.new.drive) (g.D.Drive.journal c.args.drive.now) c.args.self.now c.args.before.now.nodes.at c.args.before.now.nodes.entries.now tree c.in_ok-deep.ensures.honest s4 in
-    let s2 = shows_before (g.D.Drive.honest c.find-2.new.drive) (g.D.Drive.honest c.find_directory.new.drive) (g.D.Drive.journal c.args.drive.now) c.args.self.now c.args.before.now.nodes.at c.args.before.now.nodes.entries.now tree c.in_ok-there.ensures.honest s3 in
-    let s1 = shows_before (g.D.Drive.honest c.find_directory.new.drive) (g.D.Drive.honest c.find.new.drive) (g.D.Drive.journal c.args.drive.now) c.args.self.now c.args.before.now.nodes.at c.args.before.now.nodes.entries.now tree c.in_ok-gains.ensures.honest s2 in
+    let s5 = shows_before (g.D.Drive.honest c.rename_within.new.drive) (g.D.Drive.honest c.find_directory-2.new.drive) (g.D.Drive.journal c.args.drive.now) c.args.self.now c.args.before.now.nodes.at c.args.before.now.nodes.entries.now tree c.rename_within.ensures.reads.honest s in
+    let s4 = shows_before (g.D.Drive.honest c.find_directory-2.new.drive) (g.D.Drive.honest c.is_too_deep.new.drive) (g.D.Drive.journal c.args.drive.now) c.args.self.now c.args.before.now.nodes.at c.args.before.now.nodes.entries.now tree c.in_ok-loses.ensures.reads.honest s5 in
+    let s3 = shows_before (g.D.Drive.honest c.is_too_deep.new.drive) (g.D.Drive.honest c.find-2.new.drive) (g.D.Drive.journal c.args.drive.now) c.args.self.now c.args.before.now.nodes.at c.args.before.now.nodes.entries.now tree c.in_ok-deep.ensures.reads.honest s4 in
+    let s2 = shows_before (g.D.Drive.honest c.find-2.new.drive) (g.D.Drive.honest c.find_directory.new.drive) (g.D.Drive.journal c.args.drive.now) c.args.self.now c.args.before.now.nodes.at c.args.before.now.nodes.entries.now tree c.in_ok-there.ensures.reads.honest s3 in
+    let s1 = shows_before (g.D.Drive.honest c.find_directory.new.drive) (g.D.Drive.honest c.find.new.drive) (g.D.Drive.journal c.args.drive.now) c.args.self.now c.args.before.now.nodes.at c.args.before.now.nodes.entries.now tree c.in_ok-gains.ensures.reads.honest s2 in
     let here = node_there g (goal.at.returns-then-loses-gains-clause-does g c).In-Some-2 tree s1 in
     let has = there_at c.args.before.now.nodes.at c.args.before.now.nodes.entries.now (g.D.Drive.journal c.args.drive.now) tree s.tree s.makes c.args.from.now c.in-Some-2.node here in
     let apart : goes_into c.args.from.now c.args.to.now ≡ false = sym c.is_below.ensures ∙ c.if-is_below.false in
@@ -245,7 +245,7 @@ returns-then-loses-gains-clause-does g c tree identity s =
     let deep = deep_there g (goal.at.returns-then-loses-gains-clause-does g c).In_ok-deep (behind_there g (goal.at.returns-then-loses-gains-clause-does g c).In_ok-there) tree s4 here ∙ c.if-deep.false in
     let lose = loses_there g (goal.at.returns-then-loses-gains-clause-does g c).In-Some-4 (behind_deep g (goal.at.returns-then-loses-gains-clause-does g c).In_ok-deep) tree s5 in
     let b = behind_loses g (goal.at.returns-then-loses-gains-clause-does g c).In_ok-loses in
-    let s6 = shows_behind (g.D.Drive.journal c.args.drive.now) (g.D.Drive.journal c.find_directory-2.new.drive) c.args.self.now c.find_directory-2.new.self (g.D.Drive.honest c.args.drive.now) (g.D.Drive.honest c.find_directory-2.new.drive) (g.D.Drive.honest c.rename_within.new.drive) (g.D.Drive.honest c.rename_within.new.drive) c.args.before.now.nodes.at c.args.before.now.nodes.entries.now tree b c.rename_within.ensures.honest (λ h. h) s in
+    let s6 = shows_behind (g.D.Drive.journal c.args.drive.now) (g.D.Drive.journal c.find_directory-2.new.drive) c.args.self.now c.find_directory-2.new.self (g.D.Drive.honest c.args.drive.now) (g.D.Drive.honest c.find_directory-2.new.drive) (g.D.Drive.honest c.rename_within.new.drive) (g.D.Drive.honest c.rename_within.new.drive) c.args.before.now.nodes.at c.args.before.now.nodes.entries.now tree b c.rename_within.ensures.reads.honest (λ h. h) s in
     let same = same_path (graph_below c.args.before.now.nodes.at c.args.before.now.nodes.entries.now (g.D.Drive.journal c.args.drive.now)) tree (one_on c.args.before.now.nodes.at c.args.before.now.nodes.entries.now (g.D.Drive.journal c.args.drive.now)) s.tree s.makes c.in-Some.above.now c.in-Some-split_last.beyond.now c.in-Some-4.loses c.in-Some-3.gains lose.0 gain.0 c.if-loses-gains.true in
     let w : IsWithin (graph_below c.args.before.now.nodes.at c.args.before.now.nodes.entries.now (g.D.Drive.journal c.args.drive.now)) tree c.args.from.now c.args.to.now c.in-Some-4.loses c.in-Some.old_name.now c.in-Some-split_last.new_name.now = record {
       above = c.in-Some.above.now;
@@ -264,11 +264,11 @@ pub returns-then-loses-gains-clause-short : goal.returns-then-loses-gains-clause
 returns-then-loses-gains-clause-short g c tree s =
     let from_is = c.in-Some.ensures.cases.0 in
     let to_is = c.in-Some-split_last.ensures.cases.0 in
-    let s5 = shows_before (g.D.Drive.honest c.rename_within.new.drive) (g.D.Drive.honest c.find_directory-2.new.drive) (g.D.Drive.journal c.args.drive.now) c.args.self.now c.args.before.now.nodes.at c.args.before.now.nodes.entries.now tree c.rename_within.ensures.honest s in
-    let s4 = shows_before (g.D.Drive.honest c.find_directory-2.new.drive) (g.D.Drive.honest c.is_too_deep.new.drive) (g.D.Drive.journal c.args.drive.now) c.args.self.now c.args.before.now.nodes.at c.args.before.now.nodes.entries.now tree c.in_ok-loses.ensures.honest s5 in
-    let s3 = shows_before (g.D.Drive.honest c.is_too_deep.new.drive) (g.D.Drive.honest c.find-2.new.drive) (g.D.Drive.journal c.args.drive.now) c.args.self.now c.args.before.now.nodes.at c.args.before.now.nodes.entries.now tree c.in_ok-deep.ensures.honest s4 in
-    let s2 = shows_before (g.D.Drive.honest c.find-2.new.drive) (g.D.Drive.honest c.find_directory.new.drive) (g.D.Drive.journal c.args.drive.now) c.args.self.now c.args.before.now.nodes.at c.args.before.now.nodes.entries.now tree c.in_ok-there.ensures.honest s3 in
-    let s1 = shows_before (g.D.Drive.honest c.find_directory.new.drive) (g.D.Drive.honest c.find.new.drive) (g.D.Drive.journal c.args.drive.now) c.args.self.now c.args.before.now.nodes.at c.args.before.now.nodes.entries.now tree c.in_ok-gains.ensures.honest s2 in
+    let s5 = shows_before (g.D.Drive.honest c.rename_within.new.drive) (g.D.Drive.honest c.find_directory-2.new.drive) (g.D.Drive.journal c.args.drive.now) c.args.self.now c.args.before.now.nodes.at c.args.before.now.nodes.entries.now tree c.rename_within.ensures.reads.honest s in
+    let s4 = shows_before (g.D.Drive.honest c.find_directory-2.new.drive) (g.D.Drive.honest c.is_too_deep.new.drive) (g.D.Drive.journal c.args.drive.now) c.args.self.now c.args.before.now.nodes.at c.args.before.now.nodes.entries.now tree c.in_ok-loses.ensures.reads.honest s5 in
+    let s3 = shows_before (g.D.Drive.honest c.is_too_deep.new.drive) (g.D.Drive.honest c.find-2.new.drive) (g.D.Drive.journal c.args.drive.now) c.args.self.now c.args.before.now.nodes.at c.args.before.now.nodes.entries.now tree c.in_ok-deep.ensures.reads.honest s4 in
+    let s2 = shows_before (g.D.Drive.honest c.find-2.new.drive) (g.D.Drive.honest c.find_directory.new.drive) (g.D.Drive.journal c.args.drive.now) c.args.self.now c.args.before.now.nodes.at c.args.before.now.nodes.entries.now tree c.in_ok-there.ensures.reads.honest s3 in
+    let s1 = shows_before (g.D.Drive.honest c.find_directory.new.drive) (g.D.Drive.honest c.find.new.drive) (g.D.Drive.journal c.args.drive.now) c.args.self.now c.args.before.now.nodes.at c.args.before.now.nodes.entries.now tree c.in_ok-gains.ensures.reads.honest s2 in
     let here = node_there g (goal.at.returns-then-loses-gains-clause-short g c).In-Some-2 tree s1 in
     let has = there_at c.args.before.now.nodes.at c.args.before.now.nodes.entries.now (g.D.Drive.journal c.args.drive.now) tree s.tree s.makes c.args.from.now c.in-Some-2.node here in
     let apart : goes_into c.args.from.now c.args.to.now ≡ false = sym c.is_below.ensures ∙ c.if-is_below.false in
@@ -278,7 +278,7 @@ returns-then-loses-gains-clause-short g c tree s =
     let deep = deep_there g (goal.at.returns-then-loses-gains-clause-short g c).In_ok-deep (behind_there g (goal.at.returns-then-loses-gains-clause-short g c).In_ok-there) tree s4 here ∙ c.if-deep.false in
     let lose = loses_there g (goal.at.returns-then-loses-gains-clause-short g c).In-Some-4 (behind_deep g (goal.at.returns-then-loses-gains-clause-short g c).In_ok-deep) tree s5 in
     let b = behind_loses g (goal.at.returns-then-loses-gains-clause-short g c).In_ok-loses in
-    let s6 = shows_behind (g.D.Drive.journal c.args.drive.now) (g.D.Drive.journal c.find_directory-2.new.drive) c.args.self.now c.find_directory-2.new.self (g.D.Drive.honest c.args.drive.now) (g.D.Drive.honest c.find_directory-2.new.drive) (g.D.Drive.honest c.rename_within.new.drive) (g.D.Drive.honest c.rename_within.new.drive) c.args.before.now.nodes.at c.args.before.now.nodes.entries.now tree b c.rename_within.ensures.honest (λ h. h) s in
+    let s6 = shows_behind (g.D.Drive.journal c.args.drive.now) (g.D.Drive.journal c.find_directory-2.new.drive) c.args.self.now c.find_directory-2.new.self (g.D.Drive.honest c.args.drive.now) (g.D.Drive.honest c.find_directory-2.new.drive) (g.D.Drive.honest c.rename_within.new.drive) (g.D.Drive.honest c.rename_within.new.drive) c.args.before.now.nodes.at c.args.before.now.nodes.entries.now tree b c.rename_within.ensures.reads.honest (λ h. h) s in
     let same = same_path (graph_below c.args.before.now.nodes.at c.args.before.now.nodes.entries.now (g.D.Drive.journal c.args.drive.now)) tree (one_on c.args.before.now.nodes.at c.args.before.now.nodes.entries.now (g.D.Drive.journal c.args.drive.now)) s.tree s.makes c.in-Some.above.now c.in-Some-split_last.beyond.now c.in-Some-4.loses c.in-Some-3.gains lose.0 gain.0 c.if-loses-gains.true in
     let w : IsWithin (graph_below c.args.before.now.nodes.at c.args.before.now.nodes.entries.now (g.D.Drive.journal c.args.drive.now)) tree c.args.from.now c.args.to.now c.in-Some-4.loses c.in-Some.old_name.now c.in-Some-split_last.new_name.now = record {
       above = c.in-Some.above.now;
@@ -296,17 +296,17 @@ returns-then-loses-gains-clause-short g c tree s =
 pub returns-then-loses-gains-clause-kept : goal.returns-then-loses-gains-clause-kept
 returns-then-loses-gains-clause-kept g c honest kept =
     let b = behind_loses g (goal.at.returns-then-loses-gains-clause-kept g c).In_ok-loses in
-    kept_on (g.D.Drive.journal c.args.drive.now) (g.D.Drive.journal c.find_directory-2.new.drive) c.find_directory-2.new.self c.rename_within.new.self b.journal (c.rename_within.ensures.kept honest) (b.kept (c.rename_within.ensures.honest honest) kept)
+    kept_on (g.D.Drive.journal c.args.drive.now) (g.D.Drive.journal c.find_directory-2.new.drive) c.find_directory-2.new.self c.rename_within.new.self b.journal (c.rename_within.ensures.kept honest) (b.kept (c.rename_within.ensures.reads.honest honest) kept)
 
 pub returns-clause-does : goal.returns-clause-does
 returns-clause-does g c tree identity s =
     let from_is = c.in-Some.ensures.cases.0 in
     let to_is = c.in-Some-split_last.ensures.cases.0 in
-    let s5 = shows_before (g.D.Drive.honest c.move_to.new.drive) (g.D.Drive.honest c.find_directory-2.new.drive) (g.D.Drive.journal c.args.drive.now) c.args.self.now c.args.before.now.nodes.at c.args.before.now.nodes.entries.now tree c.move_to.ensures.honest s in
-    let s4 = shows_before (g.D.Drive.honest c.find_directory-2.new.drive) (g.D.Drive.honest c.is_too_deep.new.drive) (g.D.Drive.journal c.args.drive.now) c.args.self.now c.args.before.now.nodes.at c.args.before.now.nodes.entries.now tree c.in_ok-loses.ensures.honest s5 in
-    let s3 = shows_before (g.D.Drive.honest c.is_too_deep.new.drive) (g.D.Drive.honest c.find-2.new.drive) (g.D.Drive.journal c.args.drive.now) c.args.self.now c.args.before.now.nodes.at c.args.before.now.nodes.entries.now tree c.in_ok-deep.ensures.honest s4 in
-    let s2 = shows_before (g.D.Drive.honest c.find-2.new.drive) (g.D.Drive.honest c.find_directory.new.drive) (g.D.Drive.journal c.args.drive.now) c.args.self.now c.args.before.now.nodes.at c.args.before.now.nodes.entries.now tree c.in_ok-there.ensures.honest s3 in
-    let s1 = shows_before (g.D.Drive.honest c.find_directory.new.drive) (g.D.Drive.honest c.find.new.drive) (g.D.Drive.journal c.args.drive.now) c.args.self.now c.args.before.now.nodes.at c.args.before.now.nodes.entries.now tree c.in_ok-gains.ensures.honest s2 in
+    let s5 = shows_before (g.D.Drive.honest c.move_to.new.drive) (g.D.Drive.honest c.find_directory-2.new.drive) (g.D.Drive.journal c.args.drive.now) c.args.self.now c.args.before.now.nodes.at c.args.before.now.nodes.entries.now tree c.move_to.ensures.reads.honest s in
+    let s4 = shows_before (g.D.Drive.honest c.find_directory-2.new.drive) (g.D.Drive.honest c.is_too_deep.new.drive) (g.D.Drive.journal c.args.drive.now) c.args.self.now c.args.before.now.nodes.at c.args.before.now.nodes.entries.now tree c.in_ok-loses.ensures.reads.honest s5 in
+    let s3 = shows_before (g.D.Drive.honest c.is_too_deep.new.drive) (g.D.Drive.honest c.find-2.new.drive) (g.D.Drive.journal c.args.drive.now) c.args.self.now c.args.before.now.nodes.at c.args.before.now.nodes.entries.now tree c.in_ok-deep.ensures.reads.honest s4 in
+    let s2 = shows_before (g.D.Drive.honest c.find-2.new.drive) (g.D.Drive.honest c.find_directory.new.drive) (g.D.Drive.journal c.args.drive.now) c.args.self.now c.args.before.now.nodes.at c.args.before.now.nodes.entries.now tree c.in_ok-there.ensures.reads.honest s3 in
+    let s1 = shows_before (g.D.Drive.honest c.find_directory.new.drive) (g.D.Drive.honest c.find.new.drive) (g.D.Drive.journal c.args.drive.now) c.args.self.now c.args.before.now.nodes.at c.args.before.now.nodes.entries.now tree c.in_ok-gains.ensures.reads.honest s2 in
     let here = node_there g (goal.at.returns-clause-does g c).In-Some-2 tree s1 in
     let has = there_at c.args.before.now.nodes.at c.args.before.now.nodes.entries.now (g.D.Drive.journal c.args.drive.now) tree s.tree s.makes c.args.from.now c.in-Some-2.node here in
     let apart : goes_into c.args.from.now c.args.to.now ≡ false = sym c.is_below.ensures ∙ c.if-is_below.false in
@@ -316,7 +316,7 @@ returns-clause-does g c tree identity s =
     let deep = deep_there g (goal.at.returns-clause-does g c).In_ok-deep (behind_there g (goal.at.returns-clause-does g c).In_ok-there) tree s4 here ∙ c.if-deep.false in
     let lose = loses_there g (goal.at.returns-clause-does g c).In-Some-4 (behind_deep g (goal.at.returns-clause-does g c).In_ok-deep) tree s5 in
     let b = behind_loses g (goal.at.returns-clause-does g c).In_ok-loses in
-    let s6 = shows_behind (g.D.Drive.journal c.args.drive.now) (g.D.Drive.journal c.find_directory-2.new.drive) c.args.self.now c.find_directory-2.new.self (g.D.Drive.honest c.args.drive.now) (g.D.Drive.honest c.find_directory-2.new.drive) (g.D.Drive.honest c.move_to.new.drive) (g.D.Drive.honest c.move_to.new.drive) c.args.before.now.nodes.at c.args.before.now.nodes.entries.now tree b c.move_to.ensures.honest (λ h. h) s in
+    let s6 = shows_behind (g.D.Drive.journal c.args.drive.now) (g.D.Drive.journal c.find_directory-2.new.drive) c.args.self.now c.find_directory-2.new.self (g.D.Drive.honest c.args.drive.now) (g.D.Drive.honest c.find_directory-2.new.drive) (g.D.Drive.honest c.move_to.new.drive) (g.D.Drive.honest c.move_to.new.drive) c.args.before.now.nodes.at c.args.before.now.nodes.entries.now tree b c.move_to.ensures.reads.honest (λ h. h) s in
     let other = λ (same : c.in-Some.above.now ≡ c.in-Some-split_last.beyond.now). c.if-loses-gains.false (same_address (graph_below c.args.before.now.nodes.at c.args.before.now.nodes.entries.now (g.D.Drive.journal c.args.drive.now)) tree (one_on c.args.before.now.nodes.at c.args.before.now.nodes.entries.now (g.D.Drive.journal c.args.drive.now)) s.tree s.makes c.in-Some.above.now c.in-Some-split_last.beyond.now c.in-Some-4.loses c.in-Some-3.gains lose.0 gain.0 same) in
     let t : IsBetween (graph_below c.args.before.now.nodes.at c.args.before.now.nodes.entries.now (g.D.Drive.journal c.args.drive.now)) tree c.args.from.now c.args.to.now c.in-Some-2.node c.in-Some-4.loses c.in-Some-3.gains c.in-Some.old_name.now c.in-Some-split_last.new_name.now = record {
       above = c.in-Some.above.now;
@@ -339,11 +339,11 @@ pub returns-clause-short : goal.returns-clause-short
 returns-clause-short g c tree s =
     let from_is = c.in-Some.ensures.cases.0 in
     let to_is = c.in-Some-split_last.ensures.cases.0 in
-    let s5 = shows_before (g.D.Drive.honest c.move_to.new.drive) (g.D.Drive.honest c.find_directory-2.new.drive) (g.D.Drive.journal c.args.drive.now) c.args.self.now c.args.before.now.nodes.at c.args.before.now.nodes.entries.now tree c.move_to.ensures.honest s in
-    let s4 = shows_before (g.D.Drive.honest c.find_directory-2.new.drive) (g.D.Drive.honest c.is_too_deep.new.drive) (g.D.Drive.journal c.args.drive.now) c.args.self.now c.args.before.now.nodes.at c.args.before.now.nodes.entries.now tree c.in_ok-loses.ensures.honest s5 in
-    let s3 = shows_before (g.D.Drive.honest c.is_too_deep.new.drive) (g.D.Drive.honest c.find-2.new.drive) (g.D.Drive.journal c.args.drive.now) c.args.self.now c.args.before.now.nodes.at c.args.before.now.nodes.entries.now tree c.in_ok-deep.ensures.honest s4 in
-    let s2 = shows_before (g.D.Drive.honest c.find-2.new.drive) (g.D.Drive.honest c.find_directory.new.drive) (g.D.Drive.journal c.args.drive.now) c.args.self.now c.args.before.now.nodes.at c.args.before.now.nodes.entries.now tree c.in_ok-there.ensures.honest s3 in
-    let s1 = shows_before (g.D.Drive.honest c.find_directory.new.drive) (g.D.Drive.honest c.find.new.drive) (g.D.Drive.journal c.args.drive.now) c.args.self.now c.args.before.now.nodes.at c.args.before.now.nodes.entries.now tree c.in_ok-gains.ensures.honest s2 in
+    let s5 = shows_before (g.D.Drive.honest c.move_to.new.drive) (g.D.Drive.honest c.find_directory-2.new.drive) (g.D.Drive.journal c.args.drive.now) c.args.self.now c.args.before.now.nodes.at c.args.before.now.nodes.entries.now tree c.move_to.ensures.reads.honest s in
+    let s4 = shows_before (g.D.Drive.honest c.find_directory-2.new.drive) (g.D.Drive.honest c.is_too_deep.new.drive) (g.D.Drive.journal c.args.drive.now) c.args.self.now c.args.before.now.nodes.at c.args.before.now.nodes.entries.now tree c.in_ok-loses.ensures.reads.honest s5 in
+    let s3 = shows_before (g.D.Drive.honest c.is_too_deep.new.drive) (g.D.Drive.honest c.find-2.new.drive) (g.D.Drive.journal c.args.drive.now) c.args.self.now c.args.before.now.nodes.at c.args.before.now.nodes.entries.now tree c.in_ok-deep.ensures.reads.honest s4 in
+    let s2 = shows_before (g.D.Drive.honest c.find-2.new.drive) (g.D.Drive.honest c.find_directory.new.drive) (g.D.Drive.journal c.args.drive.now) c.args.self.now c.args.before.now.nodes.at c.args.before.now.nodes.entries.now tree c.in_ok-there.ensures.reads.honest s3 in
+    let s1 = shows_before (g.D.Drive.honest c.find_directory.new.drive) (g.D.Drive.honest c.find.new.drive) (g.D.Drive.journal c.args.drive.now) c.args.self.now c.args.before.now.nodes.at c.args.before.now.nodes.entries.now tree c.in_ok-gains.ensures.reads.honest s2 in
     let here = node_there g (goal.at.returns-clause-short g c).In-Some-2 tree s1 in
     let has = there_at c.args.before.now.nodes.at c.args.before.now.nodes.entries.now (g.D.Drive.journal c.args.drive.now) tree s.tree s.makes c.args.from.now c.in-Some-2.node here in
     let apart : goes_into c.args.from.now c.args.to.now ≡ false = sym c.is_below.ensures ∙ c.if-is_below.false in
@@ -353,7 +353,7 @@ returns-clause-short g c tree s =
     let deep = deep_there g (goal.at.returns-clause-short g c).In_ok-deep (behind_there g (goal.at.returns-clause-short g c).In_ok-there) tree s4 here ∙ c.if-deep.false in
     let lose = loses_there g (goal.at.returns-clause-short g c).In-Some-4 (behind_deep g (goal.at.returns-clause-short g c).In_ok-deep) tree s5 in
     let b = behind_loses g (goal.at.returns-clause-short g c).In_ok-loses in
-    let s6 = shows_behind (g.D.Drive.journal c.args.drive.now) (g.D.Drive.journal c.find_directory-2.new.drive) c.args.self.now c.find_directory-2.new.self (g.D.Drive.honest c.args.drive.now) (g.D.Drive.honest c.find_directory-2.new.drive) (g.D.Drive.honest c.move_to.new.drive) (g.D.Drive.honest c.move_to.new.drive) c.args.before.now.nodes.at c.args.before.now.nodes.entries.now tree b c.move_to.ensures.honest (λ h. h) s in
+    let s6 = shows_behind (g.D.Drive.journal c.args.drive.now) (g.D.Drive.journal c.find_directory-2.new.drive) c.args.self.now c.find_directory-2.new.self (g.D.Drive.honest c.args.drive.now) (g.D.Drive.honest c.find_directory-2.new.drive) (g.D.Drive.honest c.move_to.new.drive) (g.D.Drive.honest c.move_to.new.drive) c.args.before.now.nodes.at c.args.before.now.nodes.entries.now tree b c.move_to.ensures.reads.honest (λ h. h) s in
     let other = λ (same : c.in-Some.above.now ≡ c.in-Some-split_last.beyond.now). c.if-loses-gains.false (same_address (graph_below c.args.before.now.nodes.at c.args.before.now.nodes.entries.now (g.D.Drive.journal c.args.drive.now)) tree (one_on c.args.before.now.nodes.at c.args.before.now.nodes.entries.now (g.D.Drive.journal c.args.drive.now)) s.tree s.makes c.in-Some.above.now c.in-Some-split_last.beyond.now c.in-Some-4.loses c.in-Some-3.gains lose.0 gain.0 same) in
     let t : IsBetween (graph_below c.args.before.now.nodes.at c.args.before.now.nodes.entries.now (g.D.Drive.journal c.args.drive.now)) tree c.args.from.now c.args.to.now c.in-Some-2.node c.in-Some-4.loses c.in-Some-3.gains c.in-Some.old_name.now c.in-Some-split_last.new_name.now = record {
       above = c.in-Some.above.now;
@@ -375,4 +375,4 @@ returns-clause-short g c tree s =
 pub returns-clause-kept : goal.returns-clause-kept
 returns-clause-kept g c honest kept =
     let b = behind_loses g (goal.at.returns-clause-kept g c).In_ok-loses in
-    kept_on (g.D.Drive.journal c.args.drive.now) (g.D.Drive.journal c.find_directory-2.new.drive) c.find_directory-2.new.self c.move_to.new.self b.journal (c.move_to.ensures.kept honest) (b.kept (c.move_to.ensures.honest honest) kept)
+    kept_on (g.D.Drive.journal c.args.drive.now) (g.D.Drive.journal c.find_directory-2.new.drive) c.find_directory-2.new.self c.move_to.new.self b.journal (c.move_to.ensures.kept honest) (b.kept (c.move_to.ensures.reads.honest honest) kept)

@@ -31,10 +31,7 @@ returns-in_default g c = record {
       absurd (c.in_default.not-Extent place.0 place.1);
   used = tt;
   «data» = tt;
-  journal = c.in_ok-block.ensures.journal;
-  capacity = c.in_ok-block.ensures.capacity;
-  honest = c.in_ok-block.ensures.honest;
-  failures = search rules;
+  reads = rw c.damaged-in_default.ensures c.in_ok-block.ensures.reads;
 }
 
 pub returns-then-not-lies_below-clause-refused : goal.returns-then-not-lies_below-clause-refused

@@ -41,7 +41,7 @@ write_directories-requires-clause-fits g c =
       length-append (node_list p) table,
       length-append (file_list p.file) (directories_list p.directories.items),
       c.in_ok-write_file.ensures.ok.ends,
-      c.write_file.ensures.capacity,
+      c.write_file.ensures.writes.capacity,
       ap (λ (ds : List PlacedDirectory). length (directories_list ds)) c.deref.ensures.value,
     )
 
@@ -62,10 +62,10 @@ write_table-requires-clause-fits g c =
       length-append (node_list p) table,
       length-append (file_list p.file) (directories_list p.directories.items),
       c.in_ok-write_file.ensures.ok.ends,
-      c.write_file.ensures.capacity,
+      c.write_file.ensures.writes.capacity,
       ap (λ (ds : List PlacedDirectory). length (directories_list ds)) c.deref.ensures.value,
       c.in_ok-write_directories.ensures.ok.ends,
-      c.write_directories.ensures.capacity,
+      c.write_directories.ensures.writes.capacity,
     )
 
 pub finish-requires-clause-begins : goal.finish-requires-clause-begins
@@ -85,12 +85,12 @@ finish-requires-clause-fits g c =
       length-append (node_list p) table,
       length-append (file_list p.file) (directories_list p.directories.items),
       c.in_ok-write_file.ensures.ok.ends,
-      c.write_file.ensures.capacity,
+      c.write_file.ensures.writes.capacity,
       ap (λ (ds : List PlacedDirectory). length (directories_list ds)) c.deref.ensures.value,
       c.in_ok-write_directories.ensures.ok.ends,
-      c.write_directories.ensures.capacity,
+      c.write_directories.ensures.writes.capacity,
       c.in_ok-write_table.ensures.ok.ends,
-      c.write_table.ensures.capacity,
+      c.write_table.ensures.writes.capacity,
     )
 
 pub returns-in_err-write_file-clause-err : goal.returns-in_err-write_file-clause-err

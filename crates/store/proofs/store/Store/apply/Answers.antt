@@ -3,6 +3,7 @@ use Rattle.std.specs.Prelude.{Err}
 use Rattle.std.specs.FinMap.{len}
 use Rattle.std.proofs.lemmas.Bool.{false≢true}
 use Rattle.std.proofs.lemmas.Result.{err_from_is_err_and}
+use Rattle.drive.proofs.Reading.{reads_follows}
 use Rattle.drive.specs.Journal.{Event, Once, next_of}
 use Rattle.recover.specs.Faults.{IsShortage}
 use Rattle.recover.specs.declared.fault.StoreFault.{StoreFault}
@@ -25,13 +26,13 @@ use Rattle.store.proofs.store.Store.apply.Goals as goal
 
 pub commit-requires-clause-agrees : goal.commit-requires-clause-agrees
 commit-requires-clause-agrees g c =
-    let same = c.plan.ensures.journal ∙ c.change.ensures.journal in
+    let same = c.plan.ensures.reads.journal ∙ c.change.ensures.reads.journal in
     record {
       keeps = c.requires.agrees.keeps;
       on = omega (arith, ap next_of same, c.requires.agrees.on);
       least = c.requires.agrees.least;
       most = c.requires.agrees.most;
-      fits = omega (arith, c.requires.agrees.fits, c.plan.ensures.capacity, c.change.ensures.capacity);
+      fits = omega (arith, c.requires.agrees.fits, c.plan.ensures.reads.capacity, c.change.ensures.reads.capacity);
     }
 
 pub returns-clause-commit : goal.returns-clause-commit
@@ -46,11 +47,11 @@ returns-clause-written g c =
     let K = g.D.Drive.journal c.plan.new.drive in
     let capacity = g.D.Drive.capacity c.args.drive.now in
     let plan = c.in_ok-plan.plan in
-    let is : IsPlan (next_of J) capacity plan = plan_is J (g.D.Drive.journal c.change.new.drive) capacity (g.D.Drive.capacity c.change.new.drive) plan c.change.ensures.journal c.change.ensures.capacity c.in_ok-plan.ensures.plan in
+    let is : IsPlan (next_of J) capacity plan = plan_is J (g.D.Drive.journal c.change.new.drive) capacity (g.D.Drive.capacity c.change.new.drive) plan c.change.ensures.reads.journal c.change.ensures.reads.capacity c.in_ok-plan.ensures.plan in
     let change = c.in_ok-change.change in
     let of_moment : c.unwrap-moment.result ≡ c.args.request.now.moment = some_is c.of.result c.unwrap-moment.result c.args.request.now.moment _ (search rules) c.of.ensures in
     let makes : Makes c.args.self.now c.args.request.now change plan = makes_plan c.args.self.now c.args.request.now change plan c.unwrap-moment.result of_moment c.in_ok-plan.ensures.moment c.in_ok-plan.ensures.code c.in_ok-plan.ensures.commit c.in_ok-plan.ensures.writings c.in_ok-plan.ensures.table in
-    writes_plan c.commit.result K J (g.D.Drive.journal c.commit.new.drive) c.args.self.now c.args.request.now capacity change plan c.commit.new.self (c.plan.ensures.journal ∙ c.change.ensures.journal) makes is c.commit.ensures.reply c.commit.ensures.at c.commit.ensures.vat c.commit.ensures.written
+    writes_plan c.commit.result K J (g.D.Drive.journal c.commit.new.drive) c.args.self.now c.args.request.now capacity change plan c.commit.new.self (c.plan.ensures.reads.journal ∙ c.change.ensures.reads.journal) makes is c.commit.ensures.reply c.commit.ensures.at c.commit.ensures.vat c.commit.ensures.written
 
 pub returns-then-self-clause-stopped : goal.returns-then-self-clause-stopped
 returns-then-self-clause-stopped g c h = (refl, refl, refl)
@@ -61,12 +62,12 @@ returns-then-self-clause-refused g c = inl (record { journal = refl; store_is = 
 pub returns-in_err-change-clause-refused : goal.returns-in_err-change-clause-refused
 returns-in_err-change-clause-refused g c =
     let p = err_from_is_err_and c.from_residual.result c.from_residual.ensures.1 in
-    rw p.1 (inl (record { journal = c.change.ensures.journal; store_is = refl }))
+    rw p.1 (inl (record { journal = c.change.ensures.reads.journal; store_is = refl }))
 
 pub returns-in_err-plan-clause-refused : goal.returns-in_err-plan-clause-refused
 returns-in_err-plan-clause-refused g c =
     let p = err_from_is_err_and c.from_residual-in_err-plan.result c.from_residual-in_err-plan.ensures.1 in
-    rw p.1 (inl (record { journal = c.plan.ensures.journal ∙ c.change.ensures.journal; store_is = refl }))
+    rw p.1 (inl (record { journal = c.plan.ensures.reads.journal ∙ c.change.ensures.reads.journal; store_is = refl }))
 
 pub returns-clause-refused : goal.returns-clause-refused
 returns-clause-refused g c =
@@ -74,11 +75,11 @@ returns-clause-refused g c =
     let K = g.D.Drive.journal c.plan.new.drive in
     let capacity = g.D.Drive.capacity c.args.drive.now in
     let plan = c.in_ok-plan.plan in
-    let is : IsPlan (next_of J) capacity plan = plan_is J (g.D.Drive.journal c.change.new.drive) capacity (g.D.Drive.capacity c.change.new.drive) plan c.change.ensures.journal c.change.ensures.capacity c.in_ok-plan.ensures.plan in
+    let is : IsPlan (next_of J) capacity plan = plan_is J (g.D.Drive.journal c.change.new.drive) capacity (g.D.Drive.capacity c.change.new.drive) plan c.change.ensures.reads.journal c.change.ensures.reads.capacity c.in_ok-plan.ensures.plan in
     let change = c.in_ok-change.change in
     let of_moment : c.unwrap-moment.result ≡ c.args.request.now.moment = some_is c.of.result c.unwrap-moment.result c.args.request.now.moment _ (search rules) c.of.ensures in
     let makes : Makes c.args.self.now c.args.request.now change plan = makes_plan c.args.self.now c.args.request.now change plan c.unwrap-moment.result of_moment c.in_ok-plan.ensures.moment c.in_ok-plan.ensures.code c.in_ok-plan.ensures.commit c.in_ok-plan.ensures.writings c.in_ok-plan.ensures.table in
-    has_failed c.commit.result K J (g.D.Drive.journal c.commit.new.drive) c.args.self.now c.args.request.now capacity change plan c.commit.new.self (c.plan.ensures.journal ∙ c.change.ensures.journal) makes is c.commit.ensures.front c.commit.ensures.device c.commit.ensures.stopped
+    has_failed c.commit.result K J (g.D.Drive.journal c.commit.new.drive) c.args.self.now c.args.request.now capacity change plan c.commit.new.self (c.plan.ensures.reads.journal ∙ c.change.ensures.reads.journal) makes is c.commit.ensures.front c.commit.ensures.device c.commit.ensures.stopped
 
 pub returns-clause-stopped : goal.returns-clause-stopped
 returns-clause-stopped g c h = absurd (false≢true (sym c.if-self.false ∙ h))
@@ -86,15 +87,8 @@ returns-clause-stopped g c h = absurd (false≢true (sym c.if-self.false ∙ h))
 pub returns-clause-goes_on : goal.returns-clause-goes_on
 returns-clause-goes_on g c = goes_on c.commit.result c.commit.new.self.is_stopped c.commit.ensures.stopped
 
-pub returns-clause-honest : goal.returns-clause-honest
-returns-clause-honest g c h = c.change.ensures.honest (c.plan.ensures.honest (c.commit.ensures.honest h))
-
-pub returns-clause-failures : goal.returns-clause-failures
-returns-clause-failures g c most =
-    let last = c.commit.ensures.failures most in
-    let second = c.in_ok-plan.ensures.failures (omega (arith, most, last)) in
-    let first = c.in_ok-change.ensures.failures (omega (arith, most, last, second)) in
-    omega (arith, last, second, first)
+pub returns-clause-follows : goal.returns-clause-follows
+returns-clause-follows g c = reads_follows c.in_ok-change.ensures.reads (reads_follows c.in_ok-plan.ensures.reads c.commit.ensures.follows)
 
 pub returns-then-self-clause-applies : goal.returns-then-self-clause-applies
 returns-then-self-clause-applies g c volume S honest knows going = absurd (false≢true (sym going ∙ c.if-self.true))
@@ -109,8 +103,8 @@ returns-in_err-change-clause-applies g c volume S honest knows going =
     let p = err_from_is_err_and c.from_residual.result c.from_residual.ensures.1 in
     let going_on = shows_lent capacity volume J S store knows (g.D.Drive.honest c.change.new.drive) honest c.deref.result.now c.deref.ensures.value in
     let shortage : IsShortage p.0 = subst (λ (f : StoreFault). IsShortage f) (sym p.2) (c.in_err-change.ensures.short S.tree going_on) in
-    let again = knows_again capacity volume J S store knows (g.D.Drive.journal c.change.new.drive) now c.change.ensures.journal refl refl refl (c.change.ensures.kept honest knows.kept) in
-    rw p.1 (short capacity volume J S store knows r p.0 (g.D.Drive.journal c.change.new.drive) now shortage c.change.ensures.journal again)
+    let again = knows_again capacity volume J S store knows (g.D.Drive.journal c.change.new.drive) now c.change.ensures.reads.journal refl refl refl (c.change.ensures.kept honest knows.kept) in
+    rw p.1 (short capacity volume J S store knows r p.0 (g.D.Drive.journal c.change.new.drive) now shortage c.change.ensures.reads.journal again)
 
 pub returns-in_err-plan-clause-applies : goal.returns-in_err-plan-clause-applies
 returns-in_err-plan-clause-applies g c volume S honest knows going =
@@ -121,16 +115,16 @@ returns-in_err-plan-clause-applies g c volume S honest knows going =
     let change = c.in_ok-change.change in
     let now : Store = record { at = c.args.self.now.at; capacity = c.args.self.now.capacity; vat = c.args.self.now.vat; directories = c.change.new.self; is_stopped = c.args.self.now.is_stopped; most_held = c.args.self.now.most_held } in
     let p = err_from_is_err_and c.from_residual-in_err-plan.result c.from_residual-in_err-plan.ensures.1 in
-    let after_change = c.plan.ensures.honest honest in
+    let after_change = c.plan.ensures.reads.honest honest in
     let of_moment : c.unwrap-moment.result ≡ c.args.request.now.moment = some_is c.of.result c.unwrap-moment.result c.args.request.now.moment _ (search rules) c.of.ensures in
     let counted : c.saturating_add.result ≡ len S.tree = omega (arith, c.saturating_add.ensures, nodes capacity volume J S store knows, few capacity volume J S store knows) in
     let going_on = shows_lent capacity volume J S store knows (g.D.Drive.honest c.change.new.drive) after_change c.deref.result.now c.deref.ensures.value in
     let does = does_lent capacity volume J S store knows r change c.deref.result.now c.unwrap-moment.result c.deref.ensures.value of_moment (c.in_ok-change.ensures.does S.tree going_on counted) in
     let taken = subst (λ (m : ℕ). IsTakenBy m c.in_ok-change.change (committed c.args.self.now.at c.args.request.now.client c.args.request.now.number (code_number c.in_ok-change.change.code) (view c.args.self.now.vat))) (sym of_moment) (takes capacity volume J S store knows r change does) in
     let refused : IsShortage p.0 ⊎ (p.0 ≡ Full) = subst (λ (f : StoreFault). IsShortage f ⊎ (f ≡ Full)) (sym p.2) (c.in_err-plan.ensures.refused taken) in
-    let same = c.plan.ensures.journal ∙ c.change.ensures.journal in
+    let same = c.plan.ensures.reads.journal ∙ c.change.ensures.reads.journal in
     let again = knows_again capacity volume J S store knows (g.D.Drive.journal c.plan.new.drive) now same refl refl refl (c.change.ensures.kept after_change knows.kept) in
-    let over = λ (e : p.0 ≡ Full). subst (λ (L : List Event). c.args.self.now.capacity < next_of L + change_need c.in_ok-change.change (begun c.args.self.now.at c.args.request.now.client c.args.request.now.number (code_number c.in_ok-change.change.code) c.in_ok-change.change.made (view c.args.self.now.vat))) c.change.ensures.journal
+    let over = λ (e : p.0 ≡ Full). subst (λ (L : List Event). c.args.self.now.capacity < next_of L + change_need c.in_ok-change.change (begun c.args.self.now.at c.args.request.now.client c.args.request.now.number (code_number c.in_ok-change.change.code) c.in_ok-change.change.made (view c.args.self.now.vat))) c.change.ensures.reads.journal
     (c.in_err-plan.ensures.full (ap (λ (f : StoreFault). Err f) (sym p.2 ∙ e))) in
     rw p.1 (full capacity volume J S store knows r change does p.0 (g.D.Drive.journal c.plan.new.drive) now refused over same again)
 
@@ -143,16 +137,16 @@ returns-clause-applies g c volume S honest knows going =
     let capacity = g.D.Drive.capacity c.args.drive.now in
     let plan = c.in_ok-plan.plan in
     let change = c.in_ok-change.change in
-    let after_plan = c.commit.ensures.honest honest in
-    let after_change = c.plan.ensures.honest after_plan in
+    let after_plan = c.commit.ensures.follows.honest honest in
+    let after_change = c.plan.ensures.reads.honest after_plan in
     let of_moment : c.unwrap-moment.result ≡ c.args.request.now.moment = some_is c.of.result c.unwrap-moment.result c.args.request.now.moment _ (search rules) c.of.ensures in
     let counted : c.saturating_add.result ≡ len S.tree = omega (arith, c.saturating_add.ensures, nodes capacity volume J S store knows, few capacity volume J S store knows) in
     let going_on = shows_lent capacity volume J S store knows (g.D.Drive.honest c.change.new.drive) after_change c.deref.result.now c.deref.ensures.value in
     let does = does_lent capacity volume J S store knows r change c.deref.result.now c.unwrap-moment.result c.deref.ensures.value of_moment (c.in_ok-change.ensures.does S.tree going_on counted) in
-    let is : IsPlan (next_of J) capacity plan = plan_is J (g.D.Drive.journal c.change.new.drive) capacity (g.D.Drive.capacity c.change.new.drive) plan c.change.ensures.journal c.change.ensures.capacity c.in_ok-plan.ensures.plan in
+    let is : IsPlan (next_of J) capacity plan = plan_is J (g.D.Drive.journal c.change.new.drive) capacity (g.D.Drive.capacity c.change.new.drive) plan c.change.ensures.reads.journal c.change.ensures.reads.capacity c.in_ok-plan.ensures.plan in
     let makes : Makes c.args.self.now c.args.request.now change plan = makes_plan c.args.self.now c.args.request.now change plan c.unwrap-moment.result of_moment c.in_ok-plan.ensures.moment c.in_ok-plan.ensures.code c.in_ok-plan.ensures.commit c.in_ok-plan.ensures.writings c.in_ok-plan.ensures.table in
-    let room = subst (λ (L : List Event). next_of L + change_need c.in_ok-change.change (begun c.args.self.now.at c.args.request.now.client c.args.request.now.number (code_number c.in_ok-change.change.code) c.in_ok-change.change.made (view c.args.self.now.vat)) ≤ c.args.self.now.capacity) c.change.ensures.journal c.in_ok-plan.ensures.room in
-    let same : K ≡ J = c.plan.ensures.journal ∙ c.change.ensures.journal in
+    let room = subst (λ (L : List Event). next_of L + change_need c.in_ok-change.change (begun c.args.self.now.at c.args.request.now.client c.args.request.now.number (code_number c.in_ok-change.change.code) c.in_ok-change.change.made (view c.args.self.now.vat)) ≤ c.args.self.now.capacity) c.change.ensures.reads.journal c.in_ok-plan.ensures.room in
+    let same : K ≡ J = c.plan.ensures.reads.journal ∙ c.change.ensures.reads.journal in
     let once = subst (λ (L : List Event). Once L) (sym same) knows.once in
     let kept = subst (λ (L : List Event). AreKept L c.change.new.self) (sym same) (c.change.ensures.kept after_change knows.kept) in
     applies capacity volume J S store knows r change does plan makes is room c.commit.result K (g.D.Drive.journal c.commit.new.drive) c.commit.new.self same c.commit.ensures.reply c.commit.ensures.at c.commit.ensures.vat

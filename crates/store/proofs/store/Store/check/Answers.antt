@@ -14,8 +14,8 @@ returns-clause-history g c = λ h.
     let shown : AreShown (g.D.Drive.capacity c.history.new.drive) (held (g.D.Drive.journal c.history.new.drive)) c.deref.result.now = c.in_ok-check_states.ensures.shown h in
     record {
       commits = c.in_ok-commits.commits.items;
-      history = c.in_ok-commits.ensures.history (c.check_states.ensures.honest h);
-      shown = rw c.deref.ensures.value at (rw c.history.ensures.capacity at (rw c.history.ensures.journal at shown));
+      history = c.in_ok-commits.ensures.history (c.check_states.ensures.reads.honest h);
+      shown = rw c.deref.ensures.value at (rw c.history.ensures.reads.capacity at (rw c.history.ensures.reads.journal at shown));
     }
 
 pub returns-clause-whole : goal.returns-clause-whole
@@ -24,8 +24,8 @@ returns-clause-whole g c volume T h knows =
     let capacity = g.D.Drive.capacity c.args.drive.now in
     let shown : AreShown (g.D.Drive.capacity c.history.new.drive) (held (g.D.Drive.journal c.history.new.drive)) c.deref.result.now = c.in_ok-check_states.ensures.shown h in
     let count = commits capacity volume J T c.args.self.now knows in
-    let all = whole capacity volume J T c.args.self.now knows c.in_ok-commits.commits.items (low_here capacity volume J T c.args.self.now knows) (c.in_ok-commits.ensures.history (c.check_states.ensures.honest h))
-    (rw c.deref.ensures.value at (rw c.history.ensures.capacity at (rw c.history.ensures.journal at shown))) in
+    let all = whole capacity volume J T c.args.self.now knows c.in_ok-commits.commits.items (low_here capacity volume J T c.args.self.now knows) (c.in_ok-commits.ensures.history (c.check_states.ensures.reads.honest h))
+    (rw c.deref.ensures.value at (rw c.history.ensures.reads.capacity at (rw c.history.ensures.reads.journal at shown))) in
     (count, subst (λ (n : ℕ). AllStood capacity volume (held J) n) (sym count) all)
 
 pub returns-in_err-commits-clause-refused : goal.returns-in_err-commits-clause-refused
@@ -43,6 +43,6 @@ returns-in_err-check_states-clause-refused g c volume T h knows going =
     let capacity = g.D.Drive.capacity c.args.drive.now in
     let none : AreUnshown (g.D.Drive.capacity c.history.new.drive) (held (g.D.Drive.journal c.history.new.drive)) c.deref.result.now c.in_err-check_states.field-0.0 = c.in_err-check_states.ensures.refused h in
     let refused = subst (λ (f : StoreFault). IsCheckRefused capacity volume (held J) T.commits f) (sym q.2)
-    (unshown capacity volume J T c.args.self.now knows c.in_ok-commits.commits.items (c.in_ok-commits.ensures.history (c.check_states.ensures.honest h)) _
-    (rw c.deref.ensures.value at (rw c.history.ensures.capacity at (rw c.history.ensures.journal at none)))) in
+    (unshown capacity volume J T c.args.self.now knows c.in_ok-commits.commits.items (c.in_ok-commits.ensures.history (c.check_states.ensures.reads.honest h)) _
+    (rw c.deref.ensures.value at (rw c.history.ensures.reads.capacity at (rw c.history.ensures.reads.journal at none)))) in
     rw q.1 refused

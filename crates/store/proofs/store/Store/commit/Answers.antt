@@ -1,6 +1,8 @@
-use Rattle.std.proofs.Common.{◌≡◌, ◌++◌, ◌≤◌, ◌∙◌, List, true, false, refl, sym, subst, ap, arith}
+use Rattle.std.proofs.Common.{◌≡◌, Bool, ◌++◌, ◌≤◌, ◌∙◌, List, true, false, refl, sym, subst, ap, arith}
 use Rattle.std.specs.Prelude.{is_err, All}
 use Rattle.std.specs.Vec.Iter.{into_iter_items}
+use Rattle.drive.specs.Reads.{Follows, one_if}
+use Rattle.drive.proofs.Reading.{writes_follow}
 use Rattle.drive.specs.Journal.{next_of, written, AddsFront}
 use Rattle.store.specs.Plan.{plan_blocks}
 use Rattle.vat.specs.declared.table.Vat.{Vat}
@@ -14,6 +16,16 @@ use Rattle.store.proofs.Plans.{plan_ends}
 use Rattle.store.proofs.Puttings.{on_err, on_ok, front_ends, writes_ends}
 use Rattle.store.proofs.store.Store.commit.Goals as goal
 
+pub returns-then-is_err-clause-follows : goal.returns-then-is_err-clause-follows
+returns-then-is_err-clause-follows g c =
+    let failed : is_err c.write-written.result ≡ true = sym c.is_err.ensures.value ∙ c.if-is_err.true in
+    subst (λ (b : Bool). Follows g.D.Drive (one_if b) c.args.drive.now c.write-written.new.drive) failed (writes_follow c.write-written.ensures.writes)
+
+pub returns-clause-follows : goal.returns-clause-follows
+returns-clause-follows g c =
+    let done : is_err c.write-written.result ≡ false = sym c.is_err.ensures.value ∙ c.if-is_err.false in
+    subst (λ (b : Bool). Follows g.D.Drive (one_if b) c.args.drive.now c.write-written.new.drive) done (writes_follow c.write-written.ensures.writes)
+
 pub returns-then-is_err-clause-agrees : goal.returns-then-is_err-clause-agrees
 returns-then-is_err-clause-agrees g c =
     let J = g.D.Drive.journal c.args.drive.now in
@@ -26,7 +38,7 @@ returns-then-is_err-clause-agrees g c =
       on = omega (arith, more, c.requires.agrees.on);
       least = c.requires.agrees.least;
       most = c.requires.agrees.most;
-      fits = omega (arith, c.requires.agrees.fits, c.write-written.ensures.capacity);
+      fits = omega (arith, c.requires.agrees.fits, c.write-written.ensures.writes.capacity);
     }
 
 pub returns-then-is_err-clause-front : goal.returns-then-is_err-clause-front
@@ -50,7 +62,7 @@ returns-clause-agrees g c =
       on = omega (arith, at, ends, plan_ends (next_of J) (g.D.Drive.capacity c.args.drive.now) c.args.plan c.requires.plan);
       least = omega (arith, c.loop-placed.invariant.capacity, c.requires.agrees.least);
       most = omega (arith, c.loop-placed.invariant.capacity, c.requires.agrees.most);
-      fits = omega (arith, c.loop-placed.invariant.capacity, c.requires.agrees.fits, c.write-written.ensures.capacity);
+      fits = omega (arith, c.loop-placed.invariant.capacity, c.requires.agrees.fits, c.write-written.ensures.writes.capacity);
     }
 
 pub returns-clause-at : goal.returns-clause-at

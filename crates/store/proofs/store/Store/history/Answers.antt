@@ -1,8 +1,8 @@
-use Rattle.std.proofs.Common.{◌+◌, ◌<◌, ◌^◌, ◌∙◌, List, subst, arith}
+use Rattle.std.proofs.Common.{◌+◌, ◌<◌, ◌^◌, List, subst, arith}
 use Rattle.std.proofs.lemmas.Result.{err_from_is_err_and}
+use Rattle.drive.proofs.Reading.{reads_then}
 use Rattle.drive.specs.Journal.{Event, held, next_of}
 use Rattle.vat.specs.Table.{view}
-use Rattle.recover.specs.Faults.{Counts}
 use Rattle.store.proofs.Histories.{begins, ends, first_within, goes_on, link_below, more_within, next_below, no_link}
 use Rattle.recover.specs.Tables.{IsLinkRefused}
 use Rattle.store.proofs.Wholes.{history_first, history_known, history_link, left_first, left_next}
@@ -18,10 +18,7 @@ loop-vat-init g c = record {
   fits = (let fits : c.args.self.now.at < 2 ^ 32 = omega arith in fits);
   link = c.in_ok-vat.ensures.previous;
   first = c.in_ok-vat.ensures.first;
-  journal = c.table_at.ensures.journal;
-  capacity = c.table_at.ensures.capacity;
-  honest = c.table_at.ensures.honest;
-  failures = (let failures : Counts 0 (g.D.Drive.failures c.args.drive.now) (g.D.Drive.failures c.table_at.new.drive) = λ few. omega (arith, c.in_ok-vat.ensures.failures) in failures);
+  reads = c.in_ok-vat.ensures.reads;
 }
 
 pub linked-requires-clause-fits : goal.linked-requires-clause-fits
@@ -36,23 +33,17 @@ pub loop-vat-preserved : goal.loop-vat-preserved
 loop-vat-preserved g c =
     let below = link_below _ _ _ c.in-Some.is c.loop-vat.invariant.link in record {
       found = λ h. goes_on (held (g.D.Drive.journal c.args.drive.now)) c.args.self.now.at c.in-Some.number (view c.loop-vat.vat) (view c.in_ok-vat-2.vat) _ _ _
-          (c.loop-vat.invariant.found (c.linked.ensures.honest h)) c.in-Some.is (rw c.loop-vat.invariant.journal at (c.in_ok-vat-2.ensures.table h))
+          (c.loop-vat.invariant.found (c.linked.ensures.reads.honest h)) c.in-Some.is (rw c.loop-vat.invariant.reads.journal at (c.in_ok-vat-2.ensures.table h))
           c.in_ok-vat-2.ensures.commits c.of-in-Some.ensures c.in_ok-push-2.ensures.items;
       goes = λ h all is. left_next (held (g.D.Drive.journal c.args.drive.now)) c.in-Some.number (view c.loop-vat.vat) (view c.in_ok-vat-2.vat) c.in-Some.is
-          (rw c.loop-vat.invariant.journal at (c.in_ok-vat-2.ensures.table h)) (c.loop-vat.invariant.goes (c.linked.ensures.honest h) all is);
+          (rw c.loop-vat.invariant.reads.journal at (c.in_ok-vat-2.ensures.table h)) (c.loop-vat.invariant.goes (c.linked.ensures.reads.honest h) all is);
       within = more_within (next_of (g.D.Drive.journal c.args.drive.now)) (c.in-Some.number + 257) (view c.in_ok-vat-2.vat) _ _ _ c.loop-vat.invariant.within
           (omega arith) (omega (arith, below, c.requires.agrees.on)) c.of-in-Some.ensures c.in_ok-push-2.ensures.items;
       fits = c.loop-vat.invariant.fits;
       link = next_below _ c.in-Some.number _ c.in_ok-vat-2.ensures.previous below;
       first = c.in_ok-vat-2.ensures.first;
-      journal = c.linked.ensures.journal ∙ c.loop-vat.invariant.journal;
-      capacity = c.linked.ensures.capacity ∙ c.loop-vat.invariant.capacity;
-      honest = λ h. c.loop-vat.invariant.honest (c.linked.ensures.honest h);
-      failures = (let failures : Counts 0 (g.D.Drive.failures c.args.drive.now) (g.D.Drive.failures c.linked.new.drive) = λ few. omega (arith, c.in_ok-vat-2.ensures.failures, c.loop-vat.invariant.failures) in failures);
+      reads = reads_then c.loop-vat.invariant.reads c.in_ok-vat-2.ensures.reads;
     }
-
-pub returns-in_err-push-2-clause-honest : goal.returns-in_err-push-2-clause-honest
-returns-in_err-push-2-clause-honest g c = λ h. c.loop-vat.invariant.honest (c.linked.ensures.honest h)
 
 pub returns-clause-history : goal.returns-clause-history
 returns-clause-history g c = λ h.
@@ -74,5 +65,5 @@ pub returns-in_err-vat-2-clause-refused : goal.returns-in_err-vat-2-clause-refus
 returns-in_err-vat-2-clause-refused g c going =
     let q = err_from_is_err_and c.from_residual-in_err-vat-2.result c.from_residual-in_err-vat-2.ensures.1 in
     rw (q.1, q.2) (λ h.
-    let refused = subst (λ (K : List Event). IsLinkRefused (held K) (c.in-Some.number + 257) c.loop-vat.vat.sessions.commits c.in_err-vat-2.field-0.0) c.loop-vat.invariant.journal (c.in_err-vat-2.ensures.refused h) in
-    history_link (held (g.D.Drive.journal c.args.drive.now)) c.args.self.now.at c.in-Some.number (view c.loop-vat.vat) c.in-Some.is (c.loop-vat.invariant.goes (c.linked.ensures.honest h)) _ refused)
+    let refused = subst (λ (K : List Event). IsLinkRefused (held K) (c.in-Some.number + 257) c.loop-vat.vat.sessions.commits c.in_err-vat-2.field-0.0) c.loop-vat.invariant.reads.journal (c.in_err-vat-2.ensures.refused h) in
+    history_link (held (g.D.Drive.journal c.args.drive.now)) c.args.self.now.at c.in-Some.number (view c.loop-vat.vat) c.in-Some.is (c.loop-vat.invariant.goes (c.linked.ensures.reads.honest h)) _ refused)

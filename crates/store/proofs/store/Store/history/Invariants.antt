@@ -1,7 +1,7 @@
 use Rattle.std.proofs.Common.{◌≡◌, ◌+◌, ◌<◌, ◌≤◌, ◌^◌, ◌↔◌, List, All, IsTrue, IsNone, IfSome}
 use Rattle.drive.specs.Journal.{held, next_of}
+use Rattle.drive.specs.Reads.{Reads}
 use Rattle.vat.specs.Table.{view}
-use Rattle.recover.specs.Faults.{Counts}
 use Rattle.store.specs.declared.history.Commit.{Commit}
 use Rattle.store.specs.History.{IsHistory}
 use Rattle.store.proofs.Histories.{GoesOn}
@@ -16,10 +16,7 @@ invariant-loop-vat g l = record {
   fits : l.fn.self.at < 2 ^ 32;
   link : IfSome l.vat.previous (λ number. number + 257 < l.fn.self.at);
   first : IsNone l.vat.previous ↔ (l.vat.sessions.commits ≡ 0);
-  journal : g.D.Drive.journal l.drive ≡ g.D.Drive.journal l.fn.drive;
-  capacity : g.D.Drive.capacity l.drive ≡ g.D.Drive.capacity l.fn.drive;
-  honest : IsTrue (g.D.Drive.honest l.drive) → IsTrue (g.D.Drive.honest l.fn.drive);
-  failures : Counts 0 (g.D.Drive.failures l.fn.drive) (g.D.Drive.failures l.drive);
+  reads : Reads g.D.Drive 0 l.fn.drive l.drive;
 }
 
 abbrev pub decreases-loop-vat : goal.decreases-loop-vat

@@ -27,14 +27,11 @@ returns-clause-agrees g c =
       on = within.1;
       least = sound.low;
       most = sound.high;
-      fits = omega (arith, sound.fits, c.last.ensures.capacity);
+      fits = omega (arith, sound.fits, c.last.ensures.reads.capacity);
     }
 
 pub returns-clause-kept : goal.returns-clause-kept
 returns-clause-kept g c = c.in_ok-new.ensures.kept (g.D.Drive.journal c.state_at.new.drive)
-
-pub returns-clause-honest : goal.returns-clause-honest
-returns-clause-honest g c = λ h. c.last.ensures.honest (c.state_at.ensures.honest h)
 
 pub returns-in_err-at-clause-refused : goal.returns-in_err-at-clause-refused
 returns-in_err-at-clause-refused g c =
@@ -49,11 +46,11 @@ returns-in_err-capacity-clause-refused g c =
     let p = err_from_is_err_and c.from_residual-in_err-capacity.result c.from_residual-in_err-capacity.ensures.1 in
     let capacity = g.D.Drive.capacity c.args.drive.now in
     let J = g.D.Drive.journal c.args.drive.now in
-    let last = λ (h : IsTrue (g.D.Drive.honest c.state_at.new.drive)). subst (λ (o : Option ℕ). IsLast (held (g.D.Drive.journal c.args.drive.now)) o) c.in-Some.is (c.in_ok-at.ensures.last (c.state_at.ensures.honest h)) in
+    let last = λ (h : IsTrue (g.D.Drive.honest c.state_at.new.drive)). subst (λ (o : Option ℕ). IsLast (held (g.D.Drive.journal c.args.drive.now)) o) c.in-Some.is (c.in_ok-at.ensures.last (c.state_at.ensures.reads.honest h)) in
     let refused = λ (h : IsTrue (g.D.Drive.honest c.state_at.new.drive)).
     subst (λ (f : StoreFault). IsStateRefused (g.D.Drive.capacity c.args.drive.now) (held (g.D.Drive.journal c.args.drive.now)) c.in-Some.at f) (sym p.2)
-    (subst (λ (n : ℕ). IsStateRefused n (held (g.D.Drive.journal c.args.drive.now)) c.in-Some.at c.in_err-capacity.field-0.0) c.last.ensures.capacity
-    (subst (λ (K : List Event). IsStateRefused (g.D.Drive.capacity c.last.new.drive) (held K) c.in-Some.at c.in_err-capacity.field-0.0) c.last.ensures.journal (c.in_err-capacity.ensures.refused h))) in
+    (subst (λ (n : ℕ). IsStateRefused n (held (g.D.Drive.journal c.args.drive.now)) c.in-Some.at c.in_err-capacity.field-0.0) c.last.ensures.reads.capacity
+    (subst (λ (K : List Event). IsStateRefused (g.D.Drive.capacity c.last.new.drive) (held K) c.in-Some.at c.in_err-capacity.field-0.0) c.last.ensures.reads.journal (c.in_err-capacity.ensures.refused h))) in
     rw p.1 (λ h. not_read capacity (held J) c.in-Some.at p.0 (last h) (refused h))
 
 pub returns-in_err-new-clause-refused : goal.returns-in_err-new-clause-refused
@@ -82,10 +79,10 @@ returns-clause-opens g c volume S honest once stands =
     let capacity = g.D.Drive.capacity c.args.drive.now in
     let J = g.D.Drive.journal c.args.drive.now in
     let state = c.in_ok-capacity.field-0 in
-    let last = subst (λ (o : Option ℕ). IsLast (held (g.D.Drive.journal c.args.drive.now)) o) c.in-Some.is (c.in_ok-at.ensures.last (c.state_at.ensures.honest honest)) in
+    let last = subst (λ (o : Option ℕ). IsLast (held (g.D.Drive.journal c.args.drive.now)) o) c.in-Some.is (c.in_ok-at.ensures.last (c.state_at.ensures.reads.honest honest)) in
     let shown =
-    subst (λ (n : ℕ). IsShown n (held (g.D.Drive.journal c.args.drive.now)) c.in-Some.at c.in_ok-capacity.field-0) c.last.ensures.capacity
-    (subst (λ (K : List Event). IsShown (g.D.Drive.capacity c.last.new.drive) (held K) c.in-Some.at c.in_ok-capacity.field-0) c.last.ensures.journal (c.in_ok-capacity.ensures.shown honest)) in
+    subst (λ (n : ℕ). IsShown n (held (g.D.Drive.journal c.args.drive.now)) c.in-Some.at c.in_ok-capacity.field-0) c.last.ensures.reads.capacity
+    (subst (λ (K : List Event). IsShown (g.D.Drive.capacity c.last.new.drive) (held K) c.in-Some.at c.in_ok-capacity.field-0) c.last.ensures.reads.journal (c.in_ok-capacity.ensures.shown honest)) in
     (knows_opened capacity volume J S once stands c.in-Some.at state last shown _ refl refl refl (c.in_ok-new.ensures.kept J), refl)
 
 pub returns-clause-stands : goal.returns-clause-stands
@@ -93,8 +90,8 @@ returns-clause-stands g c honest once =
     let capacity = g.D.Drive.capacity c.args.drive.now in
     let J = g.D.Drive.journal c.args.drive.now in
     let state = c.in_ok-capacity.field-0 in
-    let last = subst (λ (o : Option ℕ). IsLast (held (g.D.Drive.journal c.args.drive.now)) o) c.in-Some.is (c.in_ok-at.ensures.last (c.state_at.ensures.honest honest)) in
+    let last = subst (λ (o : Option ℕ). IsLast (held (g.D.Drive.journal c.args.drive.now)) o) c.in-Some.is (c.in_ok-at.ensures.last (c.state_at.ensures.reads.honest honest)) in
     let shown =
-    subst (λ (n : ℕ). IsShown n (held (g.D.Drive.journal c.args.drive.now)) c.in-Some.at c.in_ok-capacity.field-0) c.last.ensures.capacity
-    (subst (λ (K : List Event). IsShown (g.D.Drive.capacity c.last.new.drive) (held K) c.in-Some.at c.in_ok-capacity.field-0) c.last.ensures.journal (c.in_ok-capacity.ensures.shown honest)) in
+    subst (λ (n : ℕ). IsShown n (held (g.D.Drive.journal c.args.drive.now)) c.in-Some.at c.in_ok-capacity.field-0) c.last.ensures.reads.capacity
+    (subst (λ (K : List Event). IsShown (g.D.Drive.capacity c.last.new.drive) (held K) c.in-Some.at c.in_ok-capacity.field-0) c.last.ensures.reads.journal (c.in_ok-capacity.ensures.shown honest)) in
     (shown.said, knows_opened capacity state.capacity J shown.said once (last_stands capacity (held J) c.in-Some.at state shown last) c.in-Some.at state last shown _ refl refl refl (c.in_ok-new.ensures.kept J))

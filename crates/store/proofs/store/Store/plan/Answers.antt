@@ -1,8 +1,9 @@
-use Rattle.std.proofs.Common.{◌≡◌, ◌+◌, ◌-◌, ◌<◌, ◌≤◌, ◌++◌, ◌∙◌, ℕ, List, [], Some, inl, inr, length, refl, sym, subst, ap, arith, length-append}
+use Rattle.std.proofs.Common.{◌≡◌, ◌+◌, ◌-◌, ◌<◌, IsTrue, ◌≤◌, ◌++◌, ◌∙◌, ℕ, List, [], Some, inl, inr, length, refl, sym, subst, ap, arith, length-append}
 use Rattle.std.specs.Prelude.{All, Option, IfSome}
 use Rattle.std.proofs.lemmas.Bool.{false≢true}
 use Rattle.std.proofs.lemmas.Result.{err_from_is_err_and}
 use Rattle.drive.specs.Journal.{next_of}
+use Rattle.drive.specs.Reads.{Reads}
 use Rattle.medium.specs.Plan.{Writing, WritesNodes}
 use Rattle.request.specs.Numbers.{code_number}
 use Rattle.udf.specs.Udf.{udf}
@@ -139,3 +140,28 @@ pub returns-in_err-new-clause-refused : goal.returns-in_err-new-clause-refused
 returns-in_err-new-clause-refused g c takes =
     let p = err_from_is_err_and c.from_residual-in_err-new.result c.from_residual-in_err-new.ensures.1 in
     rw p.1 (inl (inr p.2))
+
+pub returns-in_err-new-clause-reads : goal.returns-in_err-new-clause-reads
+returns-in_err-new-clause-reads g c =
+    let p = err_from_is_err_and c.from_residual-in_err-new.result c.from_residual-in_err-new.ensures.1 in
+    let reads : Reads g.D.Drive 0 c.args.drive.now c.next.new.self = record {
+          journal = c.next.ensures.journal;
+          capacity = c.next.ensures.capacity;
+          failures = λ few. omega (arith, c.in-Ok.ensures.failures);
+          misreads = omega (arith, c.next.ensures.misreads);
+          honest = subst IsTrue c.next.ensures.honest;
+          stays = λ same. subst IsTrue (sym c.next.ensures.honest);
+        } in
+    rw (p.1, p.2) reads
+
+pub returns-clause-reads : goal.returns-clause-reads
+returns-clause-reads g c =
+    let reads : Reads g.D.Drive 0 c.args.drive.now c.next.new.self = record {
+          journal = c.next.ensures.journal;
+          capacity = c.next.ensures.capacity;
+          failures = λ few. omega (arith, c.in-Ok.ensures.failures);
+          misreads = omega (arith, c.next.ensures.misreads);
+          honest = subst IsTrue c.next.ensures.honest;
+          stays = λ same. subst IsTrue (sym c.next.ensures.honest);
+        } in
+    reads

@@ -1,8 +1,8 @@
-use Rattle.std.proofs.Common.{◌+◌, ◌<◌, ◌≤◌, ◌^◌, ◌∙◌, List, refl, subst, suc, arith}
+use Rattle.std.proofs.Common.{◌+◌, ◌<◌, ◌≤◌, ◌^◌, List, refl, subst, suc, arith}
 use Rattle.std.proofs.lemmas.Result.{err_from_is_err_and}
+use Rattle.drive.proofs.Reading.{reads_then}
 use Rattle.drive.specs.Journal.{Event, held, next_of}
 use Rattle.vat.specs.Table.{view}
-use Rattle.recover.specs.Faults.{Counts}
 use Rattle.medium.specs.Formats.{Table_}
 use Rattle.recover.proofs.Told.{one_read}
 use Rattle.recover.specs.Tables.{IsLinkRefused}
@@ -20,10 +20,7 @@ loop-vat-init g c = record {
   high = c.requires.agrees.on;
   fits = (let fits : c.args.self.now.at < 2 ^ 32 = omega arith in fits);
   link = c.in_ok-vat.ensures.previous;
-  journal = c.table_at.ensures.journal;
-  capacity = c.table_at.ensures.capacity;
-  honest = c.table_at.ensures.honest;
-  failures = (let failures : Counts 0 (g.D.Drive.failures c.args.drive.now) (g.D.Drive.failures c.table_at.new.drive) = λ few. omega (arith, c.in_ok-vat.ensures.failures) in failures);
+  reads = c.in_ok-vat.ensures.reads;
 }
 
 pub linked-requires-clause-fits : goal.linked-requires-clause-fits
@@ -38,28 +35,25 @@ pub loop-vat-preserved : goal.loop-vat-preserved
 loop-vat-preserved g c =
     let below = link_below _ _ _ c.in-Some.is c.loop-vat.invariant.link in record {
       leads = λ h.
-          let before = c.loop-vat.invariant.leads (c.linked.ensures.honest h) in (
+          let before = c.loop-vat.invariant.leads (c.linked.ensures.reads.honest h) in (
             suc before.0,
             (
               c.loop-vat.at,
               before.1,
               one_before (held (g.D.Drive.journal c.args.drive.now)) c.loop-vat.at c.in-Some.number (view c.loop-vat.vat) (view c.in_ok-vat-2.vat)
-                  (c.loop-vat.invariant.table (c.linked.ensures.honest h)) c.in-Some.is (rw c.loop-vat.invariant.journal at (c.in_ok-vat-2.ensures.table h)) c.in_ok-vat-2.ensures.commits,
+                  (c.loop-vat.invariant.table (c.linked.ensures.reads.honest h)) c.in-Some.is (rw c.loop-vat.invariant.reads.journal at (c.in_ok-vat-2.ensures.table h)) c.in_ok-vat-2.ensures.commits,
             ),
           );
-      table = λ h. rw c.loop-vat.invariant.journal at (c.in_ok-vat-2.ensures.table h);
+      table = λ h. rw c.loop-vat.invariant.reads.journal at (c.in_ok-vat-2.ensures.table h);
       more = λ h first there le.
-          let less = more_than c.args.commit c.loop-vat.vat.sessions.commits (c.loop-vat.invariant.more (c.linked.ensures.honest h) first there le) c.loop-vat-test.true in
+          let less = more_than c.args.commit c.loop-vat.vat.sessions.commits (c.loop-vat.invariant.more (c.linked.ensures.reads.honest h) first there le) c.loop-vat-test.true in
           omega (arith, less, c.in_ok-vat-2.ensures.commits);
       first = c.in_ok-vat-2.ensures.first;
       low = (let low : 257 ≤ c.in-Some.number + 257 = omega arith in low);
       high = (let high : c.in-Some.number + 257 < next_of (g.D.Drive.journal c.args.drive.now) = omega (arith, below, c.loop-vat.invariant.high) in high);
       fits = (let fits : c.in-Some.number + 257 < 2 ^ 32 = omega (arith, below, c.loop-vat.invariant.fits) in fits);
       link = next_behind _ c.in-Some.number c.in_ok-vat-2.ensures.previous;
-      journal = c.linked.ensures.journal ∙ c.loop-vat.invariant.journal;
-      capacity = c.linked.ensures.capacity ∙ c.loop-vat.invariant.capacity;
-      honest = λ h. c.loop-vat.invariant.honest (c.linked.ensures.honest h);
-      failures = (let failures : Counts 0 (g.D.Drive.failures c.args.drive.now) (g.D.Drive.failures c.linked.new.drive) = λ few. omega (arith, c.in_ok-vat-2.ensures.failures, c.loop-vat.invariant.failures) in failures);
+      reads = reads_then c.loop-vat.invariant.reads c.in_ok-vat-2.ensures.reads;
     }
 
 pub returns-clause-table : goal.returns-clause-table
@@ -81,8 +75,8 @@ pub returns-in_err-vat-2-clause-refused : goal.returns-in_err-vat-2-clause-refus
 returns-in_err-vat-2-clause-refused g c =
     let q = err_from_is_err_and c.from_residual-in_err-vat-2.result c.from_residual-in_err-vat-2.ensures.1 in
     rw (q.1, q.2) (λ h.
-    let now = c.linked.ensures.honest h in
+    let now = c.linked.ensures.reads.honest h in
     let leads = c.loop-vat.invariant.leads now in
-    let refused = subst (λ (K : List Event). IsLinkRefused (held K) (c.in-Some.number + 257) c.loop-vat.vat.sessions.commits c.in_err-vat-2.field-0.0) c.loop-vat.invariant.journal (c.in_err-vat-2.ensures.refused h) in
+    let refused = subst (λ (K : List Event). IsLinkRefused (held K) (c.in-Some.number + 257) c.loop-vat.vat.sessions.commits c.in_err-vat-2.field-0.0) c.loop-vat.invariant.reads.journal (c.in_err-vat-2.ensures.refused h) in
     way_link (held (g.D.Drive.journal c.args.drive.now)) c.args.self.now.at c.args.commit leads.0 c.loop-vat.at c.in-Some.number (view c.loop-vat.vat) leads.1 (c.loop-vat.invariant.table now) c.in-Some.is
     (λ first there le. more_than c.args.commit c.loop-vat.vat.sessions.commits (c.loop-vat.invariant.more now first there le) c.loop-vat-test.true) _ refused)

@@ -1,7 +1,7 @@
 use Rattle.std.proofs.Common.{◌≡◌, ◌+◌, ◌<◌, ◌≤◌, ◌^◌, ◌↔◌, ℕ, IsTrue, IsNone, IfSome}
 use Rattle.drive.specs.Journal.{held, next_of}
+use Rattle.drive.specs.Reads.{Reads}
 use Rattle.vat.specs.Table.{Table, view}
-use Rattle.recover.specs.Faults.{Counts}
 use Rattle.recover.specs.Tables.{HasTable}
 use Rattle.store.specs.History.{Leads}
 use Rattle.store.proofs.store.Store.table_of.Given as goal
@@ -16,10 +16,7 @@ invariant-loop-vat g l = record {
   high : l.at < next_of (g.D.Drive.journal l.fn.drive);
   fits : l.at < 2 ^ 32;
   link : IfSome l.vat.previous (λ number. number + 257 < l.at);
-  journal : g.D.Drive.journal l.drive ≡ g.D.Drive.journal l.fn.drive;
-  capacity : g.D.Drive.capacity l.drive ≡ g.D.Drive.capacity l.fn.drive;
-  honest : IsTrue (g.D.Drive.honest l.drive) → IsTrue (g.D.Drive.honest l.fn.drive);
-  failures : Counts 0 (g.D.Drive.failures l.fn.drive) (g.D.Drive.failures l.drive);
+  reads : Reads g.D.Drive 0 l.fn.drive l.drive;
 }
 
 abbrev pub decreases-loop-vat : goal.decreases-loop-vat

@@ -1,17 +1,16 @@
-use Rattle.std.proofs.Common.{◌≡◌, ◌+◌, ◌∙◌, ◌++◌, [], ◌∷◌, ℕ, List, length, refl, sym, ap, arith, append_assoc, append-nil, length-append}
+use Rattle.std.proofs.Common.{◌≡◌, ◌+◌, ◌∙◌, ◌++◌, [], ◌∷◌, ℕ, List, length, sym, ap, arith, append_assoc, append-nil, length-append}
 use Rattle.std.proofs.lemmas.Result.{err_from_is_err_and}
 use Rattle.drive.proofs.Packing.{takes-nil, takes-append, stops_after, stops_longer}
 use Rattle.dir.specs.Directory.{directory_blocks}
 use Rattle.dir.specs.Laying.{blocks_left}
+use Rattle.drive.proofs.Reading.{writes_none, writes_then}
 use Rattle.store.proofs.Puttings.{takes_same, stops_same}
 use Rattle.store.proofs.write.Writer.put_directory.Goals as goal
 
 pub loop-block-init : goal.loop-block-init
 loop-block-init g c = record {
   takes = ([], sym c.new-lay.ensures, takes-nil (g.D.Drive.journal c.args.drive.now) c.args.self.now.packets);
-  capacity = refl;
-  failures = refl;
-  honest = λ h. h;
+  writes = writes_none _ _;
 }
 
 pub put-requires-clause-begins : goal.put-requires-clause-begins
@@ -22,7 +21,7 @@ put-requires-clause-fits g c =
     let done = c.loop-block.invariant.takes.0 in
     let all : length (directory_blocks c.args.directory.now c.args.first) ≡ length done + length (blocks_left c.loop-block.lay) = ap length c.loop-block.invariant.takes.1 ∙ length-append done (blocks_left c.loop-block.lay) in
     let one : length (blocks_left c.loop-block.lay) ≡ length (blocks_left c.next_block.new.self) + 1 = omega (arith, ap length c.in-Some.ensures.next) in
-    omega (arith, all, one, c.loop-block.invariant.takes.2.ends, c.requires.fits, c.loop-block.invariant.capacity)
+    omega (arith, all, one, c.loop-block.invariant.takes.2.ends, c.requires.fits, c.loop-block.invariant.writes.capacity)
 
 pub loop-block-preserved : goal.loop-block-preserved
 loop-block-preserved g c =
@@ -35,9 +34,7 @@ loop-block-preserved g c =
         c.loop-block.invariant.takes.1 ∙ ap (λ (bs : List (List ℕ)). done ++ bs) c.in-Some.ensures.next ∙ sym (append_assoc done (block ∷ []) left),
         takes-append (g.D.Drive.journal c.args.drive.now) (g.D.Drive.journal c.loop-block.drive) (g.D.Drive.journal c.put.new.drive) c.args.self.now.packets c.loop-block.self.packets c.put.new.self.packets done (block ∷ []) c.loop-block.invariant.takes.2 c.in_ok-put.ensures.ok,
       );
-      capacity = c.put.ensures.capacity ∙ c.loop-block.invariant.capacity;
-      failures = c.in_ok-put.ensures.failures ∙ c.loop-block.invariant.failures;
-      honest = λ h. c.loop-block.invariant.honest (c.put.ensures.honest h);
+      writes = writes_then c.loop-block.invariant.writes c.in_ok-put.ensures.writes;
     }
 
 pub returns-in_err-put-clause-err : goal.returns-in_err-put-clause-err

@@ -1,6 +1,7 @@
-use Rattle.std.proofs.Common.{◌≡◌, ◌<◌, ◌∙◌, List, [], ℕ, length, get_or, replicate, arith}
+use Rattle.std.proofs.Common.{◌≡◌, ◌<◌, List, [], ℕ, length, get_or, replicate, arith}
 use Rattle.std.proofs.lemmas.List.{length-replicate, get_or-replicate, length-take-le}
 use Rattle.std.proofs.lemmas.Result.{err_from_is_err_and}
+use Rattle.drive.proofs.Reading.{writes_then}
 use Rattle.medium.specs.Plan.{zeros}
 use Rattle.store.proofs.Puttings.{takes_item, stops_item, takes_whole}
 use Rattle.store.proofs.write.Writer.put_zeros.Goals as goal
@@ -9,7 +10,7 @@ pub put-requires-clause-fits : goal.put-requires-clause-fits
 put-requires-clause-fits g c =
     let all = replicate c.args.count zeros in
     let size : length all ≡ c.args.count = length-replicate {A = List ℕ} c.args.count zeros in
-    omega (arith, c.loop-i.invariant.takes.ends, length-take-le c.loop-i.i all (omega (arith, size, c.loop-i-test.true)), c.loop-i-test.true, c.requires.fits, c.loop-i.invariant.capacity)
+    omega (arith, c.loop-i.invariant.takes.ends, length-take-le c.loop-i.i all (omega (arith, size, c.loop-i-test.true)), c.loop-i-test.true, c.requires.fits, c.loop-i.invariant.writes.capacity)
 
 pub returns-in_err-put-clause-err : goal.returns-in_err-put-clause-err
 returns-in_err-put-clause-err g c =
@@ -26,9 +27,7 @@ loop-i-preserved g c =
     let is : get_or all c.loop-i.i [] ≡ zeros = get_or-replicate c.args.count c.loop-i.i zeros [] c.loop-i-test.true in
     record {
       takes = takes_item (g.D.Drive.journal c.args.drive.now) (g.D.Drive.journal c.loop-i.drive) (g.D.Drive.journal c.put.new.drive) c.args.self.now.packets c.loop-i.self.packets c.loop-i.i all zeros below is c.loop-i.invariant.takes c.put.new.self.packets c.in_ok-put.ensures.ok;
-      capacity = c.put.ensures.capacity ∙ c.loop-i.invariant.capacity;
-      failures = c.in_ok-put.ensures.failures ∙ c.loop-i.invariant.failures;
-      honest = λ h. c.loop-i.invariant.honest (c.put.ensures.honest h);
+      writes = writes_then c.loop-i.invariant.writes c.in_ok-put.ensures.writes;
     }
 
 pub returns-clause-ok : goal.returns-clause-ok
