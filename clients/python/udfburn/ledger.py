@@ -14,7 +14,7 @@ import sqlite3
 import time
 from contextlib import contextmanager
 from dataclasses import dataclass
-from typing import Iterable, Iterator, List, Optional, Sequence, Tuple
+from typing import Iterable, Iterator, List, NamedTuple, Optional, Sequence, Tuple
 
 from .errors import LedgerBusy, LedgerError
 from .protocol import limits
@@ -53,7 +53,7 @@ WHERE volume = ?1 AND number > (SELECT max(number) FROM request WHERE volume = ?
 KEPT_FRAME = "INSERT INTO frame VALUES (?, ?) ON CONFLICT (id) DO UPDATE SET payload = excluded.payload"
 """Writes a payload over an older one, in the pages of that where both have one size."""
 
-LOG_PAGES = 64
+LOG_PAGES = 128
 """Pages that the base's log has before they are taken over into the base, and it is written from its front again. While the
 log grows, each synchronisation waits for the journal of the file system, and so for what others have written there."""
 
@@ -67,8 +67,7 @@ class Volume:
     latest: int
 
 
-@dataclass(frozen=True)
-class Pending:
+class Pending(NamedTuple):
     """A request without a reply: its number, its payload, and the path it speaks of."""
 
     number: int
@@ -76,8 +75,7 @@ class Pending:
     path: str
 
 
-@dataclass(frozen=True)
-class Reply:
+class Reply(NamedTuple):
     """A reply that came."""
 
     number: int

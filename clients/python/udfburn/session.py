@@ -22,10 +22,6 @@ from .protocol import (
     decode_message, encode_message, frame, limits, show,
 )
 
-BATCH = limits.REPLIES // 2
-"""Requests that are kept and sent at once: half of those under way, so that the program has work meanwhile."""
-
-
 class Flight:
     """A request under way, and its answers so far: the reply, and what Stat says of its paths."""
 
@@ -45,7 +41,7 @@ class Flight:
 
 
 class Supply:
-    """Operations as they come, of which some are taken ahead, read and made requests, while the program is at work."""
+    """Operations as they come, of which four are taken ahead, read and made requests, while the program is at work."""
 
     def __init__(self, operations: Iterator[Operation], client: int):
         self.operations = operations
@@ -54,7 +50,7 @@ class Supply:
 
     def look_ahead(self, last: int) -> None:
         """Makes ready what is sent next, behind the request of this number."""
-        while len(self.ahead) < BATCH and self._take(last + len(self.ahead) + 1):
+        while len(self.ahead) < limits.REPLIES and self._take(last + len(self.ahead) + 1):
             pass
 
     def next(self, number: int, count: int) -> List[Flight]:
@@ -297,12 +293,15 @@ class Session:
         return self.line.get()
 
     def _next(self, supply: Supply, window: Deque[Flight], finished: List[Flight]) -> List[Flight]:
-        """Requests that there is room for, under the next numbers. None where others are to get their turn."""
+        """Requests that there is room for, under the next numbers. None where others are to get their turn.
+
+        All of them are kept by one synchronisation, which costs more than what the program could do meanwhile.
+        """
         if window and self.line.over():
             return []
         last = window[-1] if window else finished[-1] if finished else None
         number = last.request.number if last else self.ledger.latest(self.volume())
-        return supply.next(number + 1, min(BATCH, limits.REPLIES - len(window)))
+        return supply.next(number + 1, limits.REPLIES - len(window))
 
     def _keep(self, finished: List[Flight], fresh: List[Flight]) -> None:
         """Makes replies and new requests durable, in one."""

@@ -5,15 +5,14 @@ from __future__ import annotations
 import os
 import stat
 from dataclasses import dataclass, field
-from typing import BinaryIO, Iterator, List, Optional, Tuple
+from typing import BinaryIO, Iterator, List, NamedTuple, Optional, Tuple
 
 from .errors import SourceChanged, SourceError
 from .operations import clamped
 from .protocol import NameFault, Path, limits, name_fault
 
 
-@dataclass(frozen=True)
-class Identity:
+class Identity(NamedTuple):
     """What tells whether a file is the one that was seen, as it was then."""
 
     device: int

@@ -178,6 +178,10 @@ def encode_name(name: Name) -> bytes:
 
 # ---- read
 
+CODES = tuple(Code)
+NODE = struct.Struct("<BQQ")
+
+
 def decode_data(fields: Fields) -> Data:
     """The bytes of a file."""
     size = fields.number(4)
@@ -188,7 +192,7 @@ def decode_data(fields: Fields) -> Data:
 
 def decode_name(fields: Fields) -> Name:
     """A name: one that may stand in a directory, so that it is safe as a local name too."""
-    kind = node_kind(fields)
+    kind = node_kind(fields.number(1))
     try:
         name = fields.take(fields.number(2)).decode()
     except UnicodeDecodeError:
@@ -211,16 +215,16 @@ def decode_names(fields: Fields) -> Names:
 
 def decode_node(fields: Fields) -> Node:
     """What is known of a path."""
-    node = Node(node_kind(fields), fields.number(8), fields.number(8))
+    kind, moment, size = fields.unpack(NODE)
+    node = Node(node_kind(kind), moment, size)
     most = limits.NAMES if node.kind is NodeKind.DIRECTORY else limits.FILE
     if node.moment >= limits.MOMENT or node.size > most:
         raise BadAnswer("a node is past the limits of a volume")
     return node
 
 
-def node_kind(fields: Fields) -> NodeKind:
+def node_kind(kind: int) -> NodeKind:
     """The kind of a node."""
-    kind = fields.number(1)
     if kind > 1:
         raise BadAnswer(f"there is no kind {kind} of nodes")
     return NodeKind(kind)
@@ -252,7 +256,7 @@ def decode_answer(payload: bytes) -> Answer:
         code = fields.number(2)
         answer: Answer
         if code <= Code.TOO_MANY:
-            answer = Committed(Code(code), fields.number(4))
+            answer = Committed(CODES[code], fields.number(4))
         elif code in BARE:
             answer = BARE[code]
         elif code in READERS:

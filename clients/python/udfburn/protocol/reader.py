@@ -2,6 +2,9 @@
 
 from __future__ import annotations
 
+import struct
+from typing import Tuple
+
 
 class Short(Exception):
     """The payload ends inside a field or before one."""
@@ -25,7 +28,16 @@ class Fields:
 
     def number(self, size: int) -> int:
         """The next number of so many bytes."""
-        return int.from_bytes(self.take(size), "little")
+        end = self.at + size
+        if end > len(self.payload):
+            raise Short
+        number = int.from_bytes(self.payload[self.at:end], "little")
+        self.at = end
+        return number
+
+    def unpack(self, numbers: struct.Struct) -> Tuple[int, ...]:
+        """The next numbers."""
+        return numbers.unpack(self.take(numbers.size))
 
     def left(self) -> int:
         """How many bytes are left."""
