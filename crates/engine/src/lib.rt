@@ -9,8 +9,6 @@ mod laws;
 mod runs;
 mod serving;
 mod streams;
-#[cfg(test)]
-mod tests;
 
 pub use engine::Engine;
 pub use laws::{calls_are_steps, runs_hold, steps_hold};

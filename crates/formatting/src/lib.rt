@@ -7,7 +7,5 @@
 
 mod formatting;
 mod parts;
-#[cfg(test)]
-mod tests;
 
 pub use formatting::{format, one_format};

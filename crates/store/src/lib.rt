@@ -19,8 +19,6 @@ mod plan;
 mod query;
 mod questions;
 mod store;
-#[cfg(test)]
-mod tests;
 mod write;
 
 pub use due::Due;

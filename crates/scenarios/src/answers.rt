@@ -1,0 +1,129 @@
+//! Answers as words, read from the bytes of their frames.
+
+use crate::bytes::show_bytes;
+use crate::trouble::Trouble;
+use std::alloc::Global;
+use std::fmt::Write;
+
+/// The answers in the bytes of a stream, parted by a semicolon, and what is left behind the last whole one as bytes.
+pub fn told(alloc: Global, stream: &[u8]) -> Result<String, Trouble> {
+    let mut text = String::new(alloc);
+    let mut rest = stream;
+    for turn in 0..stream.len() {
+        if rest.is_empty() {
+            break;
+        }
+        if turn > 0 {
+            text.push_str("; ")?;
+        }
+        let Some((payload, later)) = first_frame(rest) else {
+            break;
+        };
+        tell_payload(payload, &mut text)?;
+        rest = later;
+    }
+    if !rest.is_empty() {
+        text.push_str("bytes ")?;
+        show_bytes(rest, &mut text)?;
+    }
+    Ok(text)
+}
+
+/// The payload of the first frame, and what is behind it.
+fn first_frame(bytes: &[u8]) -> Option<(&[u8], &[u8])> {
+    let (head, rest) = bytes.split_first_chunk::<4>()?;
+    rest.split_at_checked(u32::from_le_bytes(*head) as usize)
+}
+
+/// A number of at most eight bytes.
+fn little(bytes: &[u8]) -> u64 {
+    let mut value = 0u64;
+    for byte in bytes.iter().rev() {
+        value = value.wrapping_mul(256) | u64::from(*byte);
+    }
+    value
+}
+
+/// The answer in a payload. One that is none is shown by its bytes.
+fn tell_payload(payload: &[u8], out: &mut String) -> Result<(), Trouble> {
+    let (code, body) = match payload {
+        [low, high, body @ ..] => (u16::from_le_bytes([*low, *high]), body),
+        _ => (u16::MAX, payload),
+    };
+    match (code, body.len()) {
+        (0..=10, 4) => write!(out, "code {code} commit {}", little(body))?,
+        (32, 8) => write!(out, "stale {}", little(body))?,
+        (33, 8) => write!(out, "gap {}", little(body))?,
+        (38, 2) => write!(out, "malformed {}", little(body))?,
+        (34, 0) => out.push_str("clients full")?,
+        (35, 0) => out.push_str("full")?,
+        (36, 0) => out.push_str("failed")?,
+        (37, 0) => out.push_str("no memory")?,
+        (39, 0) => out.push_str("damaged")?,
+        (96, 0) => out.push_str("not found")?,
+        (97, 0) => out.push_str("is directory")?,
+        (98, 0) => out.push_str("not directory")?,
+        (64, 4..) => return tell_data(body, out),
+        (65, 2..) => return tell_names(body, out),
+        (66, 17) => return tell_node(body, out),
+        _ => {
+            out.push_str("no answer ")?;
+            show_bytes(payload, out)?;
+        }
+    }
+    Ok(())
+}
+
+/// A file's bytes.
+fn tell_data(body: &[u8], out: &mut String) -> Result<(), Trouble> {
+    let (length, bytes) = body.split_at(body.len().min(4));
+    if little(length) != bytes.len() as u64 {
+        out.push_str("of another length ")?;
+    }
+    show_bytes(bytes, out)
+}
+
+/// The names in a directory, each behind a letter for its kind.
+fn tell_names(body: &[u8], out: &mut String) -> Result<(), Trouble> {
+    let (count, names) = body.split_at(body.len().min(2));
+    write!(out, "names {}", little(count))?;
+    let mut rest = names;
+    for _ in 0..little(count) {
+        let Some((head, later)) = rest.split_first_chunk::<3>() else {
+            break;
+        };
+        let [kind, low, high] = *head;
+        let length = usize::from(u16::from_le_bytes([low, high]));
+        let (name, behind) = later.split_at(later.len().min(length));
+        let letter = if kind == 0 { 'f' } else { 'd' };
+        write!(out, " {letter} ")?;
+        for byte in name {
+            out.push(char::from(*byte))?;
+        }
+        rest = behind;
+    }
+    if !rest.is_empty() {
+        out.push_str(" and bytes ")?;
+        show_bytes(rest, out)?;
+    }
+    Ok(())
+}
+
+/// The kind of a node, its bytes or names, and its moment.
+fn tell_node(body: &[u8], out: &mut String) -> Result<(), Trouble> {
+    let (kind, rest) = body.split_at(body.len().min(1));
+    let (moment, size) = rest.split_at(rest.len().min(8));
+    node_text(little(kind) == 1, little(size), little(moment), out)
+}
+
+/// What is told of a node.
+pub fn node_text(
+    is_directory: bool,
+    size: u64,
+    moment: u64,
+    out: &mut String,
+) -> Result<(), Trouble> {
+    let kind = if is_directory { "directory" } else { "file" };
+    write!(out, "{kind} {size} at {moment}")?;
+    Ok(())
+}

@@ -1,0 +1,428 @@
+//! Requests as a die falls, on a machine and beside it on the plain program of `model`.
+
+ghost use Rattle.std.specs.Prelude.{ℕ};
+ghost use Rattle.model.specs.PlainState.{IsWhole};
+
+use crate::answers::{node_text, told};
+use crate::bytes::show_bytes;
+use crate::changes::{Asked, Change, query};
+use crate::die::Die;
+use crate::machine::Machine;
+use crate::trouble::Trouble;
+use drive::Fault;
+use model::plain::{Content, Due, Entry, Node, Reply, State};
+use std::alloc::Global;
+use std::fmt::Write;
+use std::marker::Model;
+use store::Snapshot;
+
+/// What is told where machine and plain program agree.
+const SAME: &str = "same";
+
+/// The plain program.
+#[derive(Drop)]
+struct Plain {
+    state: State,
+}
+
+impl Model for Plain {
+    ghost Value = { ℕ };
+
+    ghost view = { λ p. p.state.commits };
+
+    ghost invariant = { λ p. IsWhole p.state };
+}
+
+impl Plain {
+    fn formatted(alloc: Global) -> Result<Plain, Trouble> {
+        Ok(Plain {
+            state: State::formatted(alloc, 0)?,
+        })
+    }
+
+    /// The answer to a request that is not new.
+    fn refusal(&self, alloc: Global, client: u64, number: u64) -> Result<Option<String>, Trouble> {
+        Ok(Some(match self.state.due(client, number) {
+            Due::New => return Ok(None),
+            Due::Repeat(reply) => replied(alloc, reply)?,
+            Due::Stale(latest) => format!(in alloc; "stale {latest}")?,
+            Due::Gap(latest) => format!(in alloc; "gap {latest}")?,
+            Due::ClientsFull => String::from_str(alloc, "clients full")?,
+        }))
+    }
+
+    /// The program behind a request that is new, and the answer.
+    fn apply(self, alloc: Global, change: Change) -> Result<(Plain, String), Trouble> {
+        match self.state.apply(alloc, change.plain()) {
+            Ok((state, reply)) => Ok((Plain { state }, replied(alloc, reply)?)),
+            Err(_) => Err(Trouble::Memory),
+        }
+    }
+
+    /// What is told of each node: its content, and what is known of it.
+    fn tree(&self, alloc: Global) -> Result<Vec<Expected>, Trouble> {
+        let mut all = Vec::new(alloc);
+        for entry in &self.state.nodes {
+            let mut text = String::new(alloc);
+            let (asked, size) = match &entry.node.content {
+                Content::File(bytes) => {
+                    show_bytes(bytes, &mut text)?;
+                    (Asked::Data, bytes.len())
+                }
+                Content::Directory(below) => {
+                    names_text(alloc, &self.state, entry, below, &mut text)?;
+                    (Asked::Names, below.len())
+                }
+            };
+            let payload = query(alloc, asked, &entry.path)?;
+            all.push(Expected { payload, text })?;
+            let mut text = String::new(alloc);
+            let is_directory = entry.node.is_directory();
+            node_text(is_directory, size as u64, entry.node.moment, &mut text)?;
+            let payload = query(alloc, Asked::Node, &entry.path)?;
+            all.push(Expected { payload, text })?;
+        }
+        Ok(all)
+    }
+
+    /// The sessions, as `sessions_text` tells those of a snapshot.
+    fn sessions(&self, alloc: Global) -> Result<String, Trouble> {
+        let state = &self.state;
+        let mut text = format!(in alloc; "{} {}", state.next_identity, state.commits)?;
+        for record in &state.records {
+            write!(text, ", {} {}", record.client, record.latest)?;
+            for reply in &record.replies {
+                write!(text, " {} {}", reply.code as u8, reply.commit)?;
+            }
+        }
+        Ok(text)
+    }
+
+    /// How many commits, files and directories there are.
+    fn counts(&self) -> (u64, u32, u32) {
+        let mut files = 0u32;
+        let mut directories = 0u32;
+        for entry in &self.state.nodes {
+            if entry.node.is_directory() {
+                directories = directories.saturating_add(1);
+            } else {
+                files = files.saturating_add(1);
+            }
+        }
+        (self.state.commits, files, directories)
+    }
+}
+
+/// The answer to a request that was committed.
+fn replied(alloc: Global, reply: Reply) -> Result<String, Trouble> {
+    Ok(format!(in alloc; "code {} commit {}", reply.code as u8, reply.commit)?)
+}
+
+/// What is told of the names in a directory.
+fn names_text(
+    alloc: Global,
+    state: &State,
+    entry: &Entry,
+    below: &[String],
+    text: &mut String,
+) -> Result<(), Trouble> {
+    write!(text, "names {}", below.len())?;
+    for name in below {
+        let mut path = Vec::new(alloc);
+        for above in &entry.path {
+            path.push(above.clone()?)?;
+        }
+        path.push(name.clone()?)?;
+        let is_directory = state.node(&path).is_some_and(Node::is_directory);
+        let letter = if is_directory { 'd' } else { 'f' };
+        write!(text, " {letter} {name}")?;
+    }
+    Ok(())
+}
+
+/// The sessions of a state: the next unique ID, the count of commits, and for each client itself, its latest number, and of
+/// each reply that is kept its code and its commit.
+pub fn sessions_text(alloc: Global, snapshot: &Snapshot) -> Result<String, Trouble> {
+    let sessions = snapshot.sessions();
+    let mut text = format!(in alloc; "{} {}", sessions.next_unique, sessions.commits)?;
+    for record in &sessions.records {
+        write!(text, ", {} {}", record.client, record.latest)?;
+        for reply in record.replies.as_slice() {
+            write!(text, " {} {}", reply.code, reply.commit)?;
+        }
+    }
+    Ok(text)
+}
+
+/// A query, and what is told.
+#[derive(Drop)]
+struct Expected {
+    payload: Vec<u8>,
+    text: String,
+}
+
+/// What the plain program has behind a commit.
+#[derive(Drop)]
+struct Mark {
+    commit: u32,
+    sessions: String,
+    tree: Vec<Expected>,
+}
+
+/// A request that was committed, the answer, and how many blocks there were before it.
+#[derive(Drop)]
+struct Sent {
+    client: u64,
+    number: u64,
+    payload: Vec<u8>,
+    text: String,
+    before: usize,
+}
+
+/// A die, the plain program, and what was sent.
+#[derive(Drop)]
+pub struct Beside {
+    alloc: Global,
+    die: Die,
+    plain: Option<Plain>,
+    latest: [u64; 3],
+    sent: Vec<Sent>,
+    /// The tree at the front of so many blocks, from which on fronts were not looked at.
+    tree: Vec<Expected>,
+    blocks: usize,
+    marks: Vec<Mark>,
+    counts: Vec<(u64, u32, u32)>,
+}
+
+/// The first word, or both where they differ.
+fn compare(alloc: Global, got: &str, wanted: &str) -> Result<String, Trouble> {
+    if got == wanted {
+        return Ok(String::from_str(alloc, SAME)?);
+    }
+    Ok(format!(in alloc; "{got} and not {wanted}")?)
+}
+
+/// The answer to a payload, which is put again where the drive failed.
+fn ask(alloc: Global, machine: &mut Machine, payload: &[u8]) -> Result<String, Trouble> {
+    let text = told(alloc, &machine.ask(payload)?)?;
+    if text.as_str() != "failed" {
+        return Ok(text);
+    }
+    told(alloc, &machine.ask(payload)?)
+}
+
+/// What the machine tells of its tree, or of a snapshot's, beside what is expected.
+fn compare_tree(
+    alloc: Global,
+    machine: &mut Machine,
+    snapshot: Option<&Snapshot>,
+    tree: &[Expected],
+) -> Result<String, Trouble> {
+    for one in tree {
+        let frame = match snapshot {
+            Some(snapshot) => machine.ask_then(snapshot, &one.payload)?,
+            None => machine.ask(&one.payload)?,
+        };
+        let got = told(alloc, &frame)?;
+        if got.as_str() != one.text.as_str() {
+            return compare(alloc, &got, &one.text);
+        }
+    }
+    Ok(String::from_str(alloc, SAME)?)
+}
+
+impl Beside {
+    /// A die, beside a machine with a new volume.
+    pub fn new(alloc: Global, seed: u64, machine: &Machine) -> Result<Beside, Trouble> {
+        let plain = Plain::formatted(alloc)?;
+        let tree = plain.tree(alloc)?;
+        let mut counts = Vec::new(alloc);
+        counts.push(plain.counts())?;
+        Ok(Beside {
+            alloc,
+            die: Die(seed),
+            plain: Some(plain),
+            latest: [0; 3],
+            sent: Vec::new(alloc),
+            tree,
+            blocks: machine.blocks(),
+            marks: Vec::new(alloc),
+            counts,
+        })
+    }
+
+    fn plain(&self) -> Result<&Plain, Trouble> {
+        self.plain.as_ref().ok_or(Trouble::Line("no die"))
+    }
+
+    /// A fault of the drive, a restart, both, or neither.
+    pub fn upset(&mut self, machine: &mut Machine) {
+        machine.arm(match self.die.roll(12) {
+            0 | 1 => Fault::AfterBlocks(u64::from(self.die.roll(9))),
+            2 => Fault::Read(u64::from(self.die.roll(6))),
+            _ => Fault::AfterBlocks(1_000),
+        });
+        if self.die.roll(6) == 0 {
+            machine.restart();
+        }
+    }
+
+    /// The next request of one of three clients.
+    pub fn fall(&mut self, machine: &mut Machine) -> Result<String, Trouble> {
+        let alloc = self.alloc;
+        let client = self.die.roll(3) as usize % 3;
+        let number = self.latest[client].saturating_add(1);
+        self.latest[client] = number;
+        let client = client as u64 + 1;
+        let change = self.die.choose(alloc, client, number)?;
+        let payload = change.payload(alloc)?;
+        let before = machine.blocks();
+        let got = ask(alloc, machine, &payload)?;
+        let plain = self.plain.take().ok_or(Trouble::Line("no die"))?;
+        let (plain, text) = plain.apply(alloc, change)?;
+        self.counts.push(plain.counts())?;
+        self.plain = Some(plain);
+        let outcome = compare(alloc, &got, &text)?;
+        self.sent.push(Sent {
+            client,
+            number,
+            payload,
+            text,
+            before,
+        })?;
+        Ok(outcome)
+    }
+
+    /// A request that was sent before, or one whose number is too far on.
+    pub fn stray(&mut self, machine: &mut Machine) -> Result<String, Trouble> {
+        let alloc = self.alloc;
+        let index = self.die.roll(40) as usize;
+        let gap = self.latest[0].saturating_add(2);
+        let made = self.die.choose(alloc, 1, gap)?;
+        let (client, number, payload) = match self.sent.get(index) {
+            Some(sent) => (sent.client, sent.number, sent.payload.clone()?),
+            None => (1, gap, made.payload(alloc)?),
+        };
+        let got = ask(alloc, machine, &payload)?;
+        match self.plain()?.refusal(alloc, client, number)? {
+            Some(wanted) => compare(alloc, &got, &wanted),
+            None => Err(Trouble::Line("a new request")),
+        }
+    }
+
+    /// At each front of what was written since the last look, the tree of then; with the last block, the tree of now.
+    pub fn fronts(&mut self, machine: &Machine) -> Result<String, Trouble> {
+        let alloc = self.alloc;
+        let until = machine.blocks();
+        for blocks in self.blocks..until {
+            let mut front = machine.front(blocks)?;
+            let outcome = compare_tree(alloc, &mut front, None, &self.tree)?;
+            if outcome.as_str() != SAME {
+                return Ok(outcome);
+            }
+        }
+        self.tree = self.plain()?.tree(alloc)?;
+        self.blocks = until;
+        compare_tree(alloc, &mut machine.front(until)?, None, &self.tree)
+    }
+
+    /// The tree of the newest state.
+    pub fn tree(&self, machine: &mut Machine) -> Result<String, Trouble> {
+        let tree = self.plain()?.tree(self.alloc)?;
+        compare_tree(self.alloc, machine, None, &tree)
+    }
+
+    /// In one of four falls of the die, cuts the medium behind some of the blocks of the last commit, from none to all, up to
+    /// three times. Where a block is lost so is the commit, and its request is put again.
+    pub fn lose(&mut self, machine: &mut Machine) -> Result<String, Trouble> {
+        let alloc = self.alloc;
+        let sent = self.sent.last().ok_or(Trouble::Line("nothing was sent"))?;
+        let mut from = sent.before;
+        let cuts = if self.die.roll(4) == 0 {
+            self.die.roll(4)
+        } else {
+            0
+        };
+        for _ in 0..cuts {
+            let until = machine.blocks();
+            let kept = from.saturating_add(self.die.roll(10) as usize).min(until);
+            *machine = machine.front(kept)?;
+            let got = told(alloc, &machine.ask(&sent.payload)?)?;
+            let lost = if kept < until {
+                until.saturating_sub(from)
+            } else {
+                0
+            };
+            if got.as_str() != sent.text.as_str() {
+                return compare(alloc, &got, &sent.text);
+            }
+            if machine.blocks() != kept.saturating_add(lost) {
+                return Ok(String::from_str(alloc, "other blocks")?);
+            }
+            if kept < until {
+                from = kept;
+            }
+        }
+        Ok(String::from_str(alloc, SAME)?)
+    }
+
+    /// Keeps what the plain program has now.
+    pub fn mark(&mut self) -> Result<(), Trouble> {
+        let plain = self.plain()?;
+        let (commits, _, _) = plain.counts();
+        let mark = Mark {
+            commit: (commits % 0x1_0000_0000) as u32,
+            sessions: plain.sessions(self.alloc)?,
+            tree: plain.tree(self.alloc)?,
+        };
+        self.marks.push(mark)?;
+        Ok(())
+    }
+
+    /// The snapshot is the state that was kept as the mark of this index.
+    pub fn at_mark(
+        &self,
+        machine: &mut Machine,
+        snapshot: &Snapshot,
+        index: usize,
+    ) -> Result<String, Trouble> {
+        let mark = self.marks.get(index).ok_or(Trouble::Line("no mark"))?;
+        if snapshot.commit().commit != mark.commit {
+            return Ok(String::from_str(self.alloc, "another commit")?);
+        }
+        let got = sessions_text(self.alloc, snapshot)?;
+        if got.as_str() != mark.sessions.as_str() {
+            return compare(self.alloc, &got, &mark.sessions);
+        }
+        compare_tree(self.alloc, machine, Some(snapshot), &mark.tree)
+    }
+
+    /// The states behind the marked commits.
+    pub fn marks(&self, machine: &mut Machine) -> Result<String, Trouble> {
+        for index in 0..self.marks.len() {
+            let snapshot = machine.as_of(self.marks[index].commit)?;
+            let outcome = self.at_mark(machine, &snapshot, index)?;
+            if outcome.as_str() != SAME {
+                return Ok(outcome);
+            }
+        }
+        Ok(String::from_str(self.alloc, SAME)?)
+    }
+
+    /// The list of the commits: each once, the newest first, at addresses that fall, with the counts of the plain program.
+    pub fn listed(&self, machine: &mut Machine) -> Result<String, Trouble> {
+        let commits = machine.history()?;
+        if commits.len() != self.counts.len() {
+            return Ok(String::from_str(self.alloc, "another count")?);
+        }
+        let mut above = u32::MAX;
+        for (commit, counts) in commits.iter().zip(self.counts.iter().rev()) {
+            let got = (u64::from(commit.commit), commit.files, commit.directories);
+            if got != *counts || commit.at >= above {
+                return Ok(format!(in self.alloc; "{commit:?}")?);
+            }
+            above = commit.at;
+        }
+        Ok(String::from_str(self.alloc, SAME)?)
+    }
+}

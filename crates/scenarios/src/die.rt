@@ -1,0 +1,60 @@
+//! A die, and requests as it falls.
+
+use crate::changes::{Action, Change};
+use crate::trouble::Trouble;
+use std::alloc::Global;
+
+/// The names of which paths are made.
+const NAMES: [&str; 3] = ["a", "b", "c"];
+
+/// A die that falls the same way each time a scenario is played.
+#[derive(Drop)]
+pub struct Die(pub u64);
+
+impl Die {
+    /// A number below the count of its sides.
+    pub fn roll(&mut self, sides: u8) -> u8 {
+        self.0 = self
+            .0
+            .wrapping_mul(6_364_136_223_846_793_005)
+            .wrapping_add(1_442_695_040_888_963_407);
+        if sides == 0 {
+            return 0;
+        }
+        ((self.0 >> 33) % u64::from(sides)) as u8
+    }
+
+    /// A path of one to three names.
+    fn path(&mut self, alloc: Global) -> Result<Vec<String>, Trouble> {
+        let mut path = Vec::new(alloc);
+        for _ in 0..self.roll(3).min(2) + 1 {
+            let name = NAMES[self.roll(3) as usize % 3];
+            path.push(String::from_str(alloc, name)?)?;
+        }
+        Ok(path)
+    }
+
+    /// A request of a client, with this number.
+    pub fn choose(&mut self, alloc: Global, client: u64, number: u64) -> Result<Change, Trouble> {
+        let path = self.path(alloc)?;
+        let to = self.path(alloc)?;
+        let byte = self.roll(200);
+        let size = if self.roll(4) == 0 { 2_500 } else { 5 };
+        let action = match self.roll(6) {
+            0 | 1 => Action::Create,
+            2 => Action::Replace,
+            3 => Action::Make,
+            4 => Action::Rename,
+            _ => Action::Remove,
+        };
+        Ok(Change {
+            action,
+            client,
+            number,
+            moment: u64::from(self.roll(250)),
+            path,
+            to,
+            bytes: vec![in alloc; byte; size]?,
+        })
+    }
+}

@@ -1,0 +1,332 @@
+//! An engine, or a store by itself, beside the drive in memory that it is lent.
+
+ghost use Rattle.std.specs.Prelude.{◌≡◌, ◌≤◌, ℕ, true, length, IfSome};
+ghost use Rattle.drive.specs.MemDrive.{journal_of, capacity_of};
+ghost use Rattle.store.specs.Agrees.{Agrees};
+ghost use Rattle.engine.specs.Situation.{IsReady, seen};
+
+use crate::streams::{Pieces, Room};
+use crate::trouble::Trouble;
+use drive::{Block, Drive, Fault, MemDrive};
+use engine::{Delivery, Engine, ServeFault, run, serve};
+use request::{Answer, Message, Query, Request, encode_answer, read_payload};
+use std::alloc::Global;
+use std::marker::Model;
+use store::{Commit, Due, Snapshot, Store, StoreFault, format};
+
+/// Above the last moment that has a timestamp.
+const MOMENT_LIMIT: u64 = 4_102_444_800_000_000;
+
+/// A store where one is open, or else an engine, and the drive that either is lent.
+#[derive(Drop)]
+pub struct Machine {
+    alloc: Global,
+    drive: MemDrive,
+    engine: Engine,
+    store: Option<Store>,
+}
+
+impl Model for Machine {
+    ghost Value = { ℕ };
+
+    ghost view = { λ m. length (journal_of m.drive) };
+
+    ghost invariant = { λ m. IsReady (seen m.engine (journal_of m.drive) 0 (capacity_of m.drive) true) × IfSome m.store (Agrees (journal_of m.drive) (capacity_of m.drive)) };
+}
+
+impl Machine {
+    /// An engine that has seen no medium, on this drive.
+    pub fn on(alloc: Global, drive: MemDrive) -> Machine {
+        Machine {
+            alloc,
+            drive,
+            engine: Engine::new(),
+            store: None,
+        }
+    }
+
+    /// On a blank drive.
+    pub fn blank(alloc: Global, capacity: u32) -> Machine {
+        Machine::on(alloc, MemDrive::new(alloc, capacity, Vec::new(alloc)))
+    }
+
+    /// What was written, in order.
+    pub fn journal(&self) -> &[(u32, Block)] {
+        self.drive.journal()
+    }
+
+    /// How many blocks were written, or 0 where one of them has not its place in the journal for its address.
+    pub fn blocks(&self) -> usize {
+        let mut count = 0usize;
+        for event in self.drive.journal() {
+            if event.0 as usize != count {
+                return 0;
+            }
+            count = count.saturating_add(1);
+        }
+        count
+    }
+
+    /// An engine that has seen no medium, on the first blocks of this one's medium.
+    pub fn front(&self, blocks: usize) -> Result<Machine, Trouble> {
+        let blocks = blocks.min(self.drive.journal().len());
+        Ok(Machine::on(self.alloc, self.drive.front(blocks)?))
+    }
+
+    /// A drive of this capacity with the same medium, on which one bit of a byte of a block is changed.
+    pub fn changed(&self, capacity: u32, at: u32, byte: usize) -> Result<Machine, Trouble> {
+        let mut copy = Machine::blank(self.alloc, capacity);
+        for (address, block) in self.drive.journal() {
+            let mut block = *block;
+            if *address == at && byte < block.len() {
+                block[byte] ^= 1 << (byte % 8);
+            }
+            copy.burn(&block)?;
+        }
+        Ok(copy)
+    }
+
+    /// A drive of another capacity with the same medium.
+    pub fn resized(&self, capacity: u32) -> Result<Machine, Trouble> {
+        self.changed(capacity, u32::MAX, 0)
+    }
+
+    /// How many blocks the drive has room for.
+    pub fn capacity(&self) -> u32 {
+        self.drive.capacity()
+    }
+
+    /// Writes a block behind the others.
+    pub fn burn(&mut self, block: &Block) -> Result<(), Trouble> {
+        self.store = None;
+        self.engine = Engine::new();
+        let next = self.drive.next()?;
+        if next >= self.drive.capacity() {
+            return Err(Trouble::Line("a full drive"));
+        }
+        self.drive.write(next, &[*block])?;
+        Ok(())
+    }
+
+    /// Sets a fault of the drive.
+    pub fn arm(&mut self, fault: Fault) {
+        self.drive.arm(fault);
+    }
+
+    /// Forgets all that is not on the medium. An engine goes on.
+    pub fn restart(&mut self) {
+        self.store = None;
+        self.engine = Engine::new();
+    }
+
+    /// Formats the medium.
+    pub fn format(&mut self, label: &str, moment: u64) -> Result<(), Trouble> {
+        if moment >= MOMENT_LIMIT {
+            return Err(Trouble::Line("no moment"));
+        }
+        self.store = None;
+        self.engine = Engine::new();
+        Ok(format(self.alloc, &mut self.drive, label, moment)?)
+    }
+
+    /// Opens a store, which takes the place of the engine.
+    pub fn open(&mut self) -> Result<(), Trouble> {
+        self.store = None;
+        self.engine = Engine::new();
+        self.store = Some(Store::open(self.alloc, &mut self.drive)?);
+        Ok(())
+    }
+
+    /// The frame of the answer to a payload.
+    pub fn ask(&mut self, payload: &[u8]) -> Result<Vec<u8>, Trouble> {
+        let message = read_payload(self.alloc, payload);
+        let answer = match self.store.take() {
+            Some(mut store) => {
+                self.engine = Engine::new();
+                let answer = answer(self.alloc, &mut store, &mut self.drive, message);
+                self.store = Some(store);
+                answer
+            }
+            None => self.engine.answer(self.alloc, &mut self.drive, message),
+        };
+        frames_of(self.alloc, &[answer])
+    }
+
+    /// The frame of the answer to a query about an earlier state.
+    pub fn ask_then(&mut self, snapshot: &Snapshot, payload: &[u8]) -> Result<Vec<u8>, Trouble> {
+        let Message::Query(query) = read_payload(self.alloc, payload) else {
+            return Err(Trouble::Line("no query"));
+        };
+        let Some(mut store) = self.store.take() else {
+            return Err(Trouble::Line("no store is open"));
+        };
+        let answer = answer_then(self.alloc, &mut store, &mut self.drive, snapshot, &query);
+        self.store = Some(store);
+        frames_of(self.alloc, &[answer])
+    }
+
+    /// The answers to what comes to an engine that has seen no medium.
+    pub fn run(&mut self, deliveries: &[Delivery]) -> Result<Vec<u8>, Trouble> {
+        self.store = None;
+        self.engine = Engine::new();
+        let answers = run(self.alloc, &mut self.drive, deliveries)?;
+        frames_of(self.alloc, &answers)
+    }
+
+    /// Answers the messages of a stream.
+    pub fn serve(&mut self, reader: &mut Pieces<'_>, writer: &mut Room) -> Result<(), ServeFault> {
+        self.store = None;
+        serve(
+            self.alloc,
+            reader,
+            writer,
+            &mut self.engine,
+            &mut self.drive,
+        )
+    }
+
+    /// The state after so many commits.
+    pub fn as_of(&mut self, commit: u32) -> Result<Snapshot, Trouble> {
+        match &self.store {
+            Some(store) => Ok(store.as_of(self.alloc, &mut self.drive, commit)?),
+            None => Err(Trouble::Line("no store is open")),
+        }
+    }
+
+    /// All commits, the newest first.
+    pub fn history(&mut self) -> Result<Vec<Commit>, Trouble> {
+        match &self.store {
+            Some(store) => Ok(store.history(self.alloc, &mut self.drive)?),
+            None => Err(Trouble::Line("no store is open")),
+        }
+    }
+
+    /// How many commits there are, where the state after each stands.
+    pub fn check(&mut self) -> Result<u32, Trouble> {
+        match &self.store {
+            Some(store) => Ok(store.check(self.alloc, &mut self.drive)?),
+            None => Err(Trouble::Line("no store is open")),
+        }
+    }
+
+    /// The greatest number of encoded blocks that the store held at once.
+    pub fn most_held(&self) -> Result<usize, Trouble> {
+        match &self.store {
+            Some(store) => Ok(store.most_held()),
+            None => Err(Trouble::Line("no store is open")),
+        }
+    }
+}
+
+/// The frames of answers.
+fn frames_of(alloc: Global, answers: &[Answer]) -> Result<Vec<u8>, Trouble> {
+    let mut frames = Vec::new(alloc);
+    for answer in answers {
+        encode_answer(answer, &mut frames)?;
+    }
+    Ok(frames)
+}
+
+/// The answer of a store to a message.
+fn answer(alloc: Global, store: &mut Store, drive: &mut MemDrive, message: Message) -> Answer
+    requires { Agrees (journal_of drive.old) (capacity_of drive.old) store.old }
+    ensures { Agrees (journal_of drive.new) (capacity_of drive.new) store.new }
+{
+    match message {
+        Message::Malformed(cause) => Answer::Malformed(cause),
+        Message::NoMemory => Answer::Memory,
+        Message::Request(request) => answer_request(alloc, store, drive, &request),
+        Message::Query(query) => answer_now(alloc, store, drive, &query),
+    }
+}
+
+/// The answer of a store to a request.
+fn answer_request(
+    alloc: Global,
+    store: &mut Store,
+    drive: &mut MemDrive,
+    request: &Request,
+) -> Answer
+    requires { Agrees (journal_of drive.old) (capacity_of drive.old) store.old }
+    ensures { Agrees (journal_of drive.new) (capacity_of drive.new) store.new }
+{
+    match store.due(request.client, request.number) {
+        Due::Repeat(reply) => Answer::Reply(reply),
+        Due::Stale(latest) => Answer::Stale(latest),
+        Due::Gap(latest) => Answer::Gap(latest),
+        Due::ClientsFull => Answer::ClientsFull,
+        Due::New => match store.apply(alloc, drive, request) {
+            Ok(reply) => Answer::Reply(reply),
+            Err(fault) => refusal(fault),
+        },
+    }
+}
+
+/// The answer of a store to a query about the newest state.
+fn answer_now(alloc: Global, store: &mut Store, drive: &mut MemDrive, query: &Query) -> Answer
+    requires { Agrees (journal_of drive.old) (capacity_of drive.old) store.old }
+    ensures { Agrees (journal_of drive.new) (capacity_of drive.new) store.new }
+{
+    match query {
+        Query::Get(path) => match store.get(alloc, drive, path) {
+            Ok(data) => Answer::Data(data),
+            Err(fault) => refusal(fault),
+        },
+        Query::List(path) => match store.list(alloc, drive, path) {
+            Ok(listing) => Answer::Names(listing),
+            Err(fault) => refusal(fault),
+        },
+        Query::Stat(path) => match store.stat(alloc, drive, path) {
+            Ok(status) => Answer::Node(status),
+            Err(fault) => refusal(fault),
+        },
+    }
+}
+
+/// The answer to a query about the snapshot's state.
+fn answer_then(
+    alloc: Global,
+    store: &mut Store,
+    drive: &mut MemDrive,
+    snapshot: &Snapshot,
+    query: &Query,
+) -> Answer
+    requires { Agrees (journal_of drive.old) (capacity_of drive.old) store.old }
+    ensures agrees { Agrees (journal_of drive.new) (capacity_of drive.new) store.new }
+    ensures journal { journal_of drive.new ≡ journal_of drive.old }
+    ensures capacity { capacity_of drive.new ≡ capacity_of drive.old }
+{
+    let Ok(next) = drive.next() else {
+        return Answer::Fault;
+    };
+    if snapshot.commit().at > next {
+        return Answer::Fault;
+    }
+    match query {
+        Query::Get(path) => match snapshot.get(alloc, store, drive, path) {
+            Ok(data) => Answer::Data(data),
+            Err(fault) => refusal(fault),
+        },
+        Query::List(path) => match snapshot.list(alloc, store, drive, path) {
+            Ok(listing) => Answer::Names(listing),
+            Err(fault) => refusal(fault),
+        },
+        Query::Stat(path) => match snapshot.stat(alloc, store, drive, path) {
+            Ok(status) => Answer::Node(status),
+            Err(fault) => refusal(fault),
+        },
+    }
+}
+
+/// How what a store refuses is answered.
+fn refusal(fault: StoreFault) -> Answer {
+    match fault {
+        StoreFault::Full => Answer::Full,
+        StoreFault::NotFound => Answer::NotFound,
+        StoreFault::IsDirectory => Answer::IsDirectory,
+        StoreFault::NotDirectory => Answer::NotDirectory,
+        StoreFault::Device => Answer::Fault,
+        StoreFault::Memory => Answer::Memory,
+        _ => Answer::Damaged,
+    }
+}

@@ -1,0 +1,84 @@
+//! A player of scenarios: scripts of steps that are played on an engine over a drive in memory.
+//!
+//! Each file that is named by a word of the program is played, or the standard input where there is none. A scenario goes on
+//! up to its first step that does not tell what its line wants. Each scenario gets a line, and the last line has the counts;
+//! the status is 1 where one failed. data/README has the words of a script.
+#![tactic(auto)]
+
+mod answers;
+mod beside;
+mod bytes;
+mod changes;
+mod die;
+mod machine;
+mod player;
+mod script;
+mod stage;
+mod steps;
+mod streams;
+mod trouble;
+
+use script::Script;
+use stage::Stage;
+use std::process::ExitCode;
+use std::rt::{Env, Files};
+use std::{env, fs, io};
+
+/// How many scenarios went as their lines want, and how many did not.
+#[derive(Clone, Copy)]
+struct Counts {
+    passed: u64,
+    failed: u64,
+}
+
+/// Plays the scenarios of a script, each from nothing.
+fn play_script<R: Print + AllocGlobal>(
+    rt: &R,
+    name: &str,
+    text: &str,
+    counts: Counts,
+) -> io::Result<Counts> {
+    let script = Script::read(rt.alloc(), text)?;
+    let mut counts = counts;
+    for index in 0..script.lines().len() {
+        let Some(scenario) = script.scenario_at(index) else {
+            continue;
+        };
+        let mut stage = Stage::new(rt.alloc(), &script);
+        match stage.play(index) {
+            Ok(()) => {
+                println!(rt; "ok {scenario}")?;
+                counts.passed = counts.passed.saturating_add(1);
+            }
+            Err(failure) => {
+                println!(rt; "FAILED {scenario}: {name} line {failure}")?;
+                counts.failed = counts.failed.saturating_add(1);
+            }
+        }
+    }
+    Ok(counts)
+}
+
+/// Plays the files that the words name, or the standard input where there are none.
+fn play_all<R: Print + Files + Env + Input + AllocGlobal>(rt: &R) -> io::Result<Counts> {
+    let mut counts = Counts {
+        passed: 0,
+        failed: 0,
+    };
+    let words: Vec<String> = env::args(rt)?.collect(rt.alloc())?;
+    for name in words.iter().skip(1) {
+        let text = fs::read_to_string(rt, name.as_str())?;
+        counts = play_script(rt, name, &text, counts)?;
+    }
+    if words.len() < 2 {
+        let text = io::read_to_string(rt.alloc(), rt.reader())?;
+        counts = play_script(rt, "the input", &text, counts)?;
+    }
+    Ok(counts)
+}
+
+fn main(rt: HostRuntime) -> io::Result<ExitCode> {
+    let counts = play_all(&rt)?;
+    println!(rt; "{} passed, {} failed", counts.passed, counts.failed)?;
+    Ok(ExitCode::from(u8::from(counts.failed > 0)))
+}

@@ -1,0 +1,345 @@
+//! A scenario on its way: which line is next, and what names stand for.
+
+use crate::bytes::{number, read_bytes, show_bytes};
+use crate::player::Player;
+use crate::script::Script;
+use crate::steps::read_step;
+use crate::trouble::Trouble;
+use std::alloc::Global;
+use std::fmt;
+use std::fmt::Write;
+
+/// How many blocks may be open within one another.
+const DEPTH: usize = 64;
+
+/// A line that did not go as it wants.
+#[derive(Drop)]
+pub struct Failure {
+    line: usize,
+    /// What the names stood for.
+    names: String,
+    trouble: Trouble,
+}
+
+impl fmt::Display for Failure {
+    fn fmt<W: fmt::Write>(&self, f: &mut fmt::Formatter<W>) -> fmt::Result {
+        let line = self.line;
+        let names = self.names.as_str();
+        let trouble = &self.trouble;
+        write!(f, "{line}{names}: {trouble}")
+    }
+}
+
+/// What a name stands for.
+#[derive(Drop)]
+struct Bound {
+    name: String,
+    value: String,
+}
+
+/// Lines that are played, once for each value of a name, or once where there is none.
+#[derive(Drop)]
+struct Block {
+    first: usize,
+    next: usize,
+    end: usize,
+    bound: Vec<Bound>,
+    /// The values of the first name that are left, the last one first.
+    values: Vec<String>,
+}
+
+/// A scenario on its way.
+#[derive(Drop)]
+pub struct Stage<'s> {
+    alloc: Global,
+    script: &'s Script,
+    player: Player,
+    open: Vec<Block>,
+}
+
+impl<'s> Stage<'s> {
+    pub fn new(alloc: Global, script: &'s Script) -> Stage<'s> {
+        Stage {
+            alloc,
+            script,
+            player: Player::new(alloc),
+            open: Vec::new(alloc),
+        }
+    }
+
+    /// Plays the scenario that begins with a line, up to the first line that does not go as it wants.
+    pub fn play(&mut self, index: usize) -> Result<(), Failure> {
+        let first = index.saturating_add(1);
+        let end = self.script.end_of_scenario(index);
+        let mut at = index;
+        let mut played = self.enter(first, end, Vec::new(self.alloc), Vec::new(self.alloc));
+        for _ in 0..u64::MAX {
+            if let Err(trouble) = played {
+                return Err(self.failure(at, trouble));
+            }
+            let Some(next) = self.advance() else {
+                return Ok(());
+            };
+            at = next;
+            played = self.play_line(at);
+        }
+        Ok(())
+    }
+
+    fn failure(&self, at: usize, trouble: Trouble) -> Failure {
+        let line = self.script.lines().get(at).map_or(0, |line| line.number);
+        let mut names = String::new(self.alloc);
+        for block in &self.open {
+            for bound in &block.bound {
+                let name = bound.name.as_str();
+                let value = bound.value.as_str();
+                // Without memory for it the names are left out.
+                let _ = write!(names, ", {name} {value}");
+            }
+        }
+        Failure {
+            line,
+            names,
+            trouble,
+        }
+    }
+
+    /// Opens a block.
+    fn enter(
+        &mut self,
+        first: usize,
+        end: usize,
+        bound: Vec<Bound>,
+        values: Vec<String>,
+    ) -> Result<(), Trouble> {
+        if self.open.len() >= DEPTH {
+            return Err(Trouble::Line("too many blocks within one another"));
+        }
+        self.open.push(Block {
+            first,
+            next: first,
+            end,
+            bound,
+            values,
+        })?;
+        Ok(())
+    }
+
+    /// The line that is next. At the end of a block it is played again for the next value, or left.
+    fn advance(&mut self) -> Option<usize> {
+        for _ in 0..u64::MAX {
+            let block = self.open.last_mut()?;
+            if block.next < block.end {
+                let at = block.next;
+                block.next = at.saturating_add(1);
+                return Some(at);
+            }
+            match (block.values.pop(), block.bound.first_mut()) {
+                (Some(value), Some(bound)) => {
+                    bound.value = value;
+                    block.next = block.first;
+                }
+                _ => drop(self.open.pop()),
+            }
+        }
+        None
+    }
+
+    /// Plays a line.
+    fn play_line(&mut self, at: usize) -> Result<(), Trouble> {
+        let Some(line) = self.script.lines().get(at) else {
+            return Ok(());
+        };
+        let text = self.expand(&line.text)?;
+        let (step, wanted) = wanted_of(&text);
+        let words: Vec<&str> = step.split_whitespace().collect(self.alloc)?;
+        match words.as_slice() {
+            ["end"] => Ok(()),
+            ["define", ..] => self.leave_out(at),
+            ["each", name, values @ ..] => {
+                self.leave_out(at)?;
+                self.enter_each(at, name, values)
+            }
+            words => self.play_words(words, wanted),
+        }
+    }
+
+    /// Plays a definition, which tells nothing, or a step.
+    fn play_words(&mut self, words: &[&str], wanted: Wanted<'_>) -> Result<(), Trouble> {
+        if let Some((name, values)) = words.split_first() {
+            if let Some((at, names)) = self.script.definition(name) {
+                if !matches!(wanted, Wanted::Nothing) {
+                    return Err(Trouble::Line("a definition tells nothing"));
+                }
+                return self.enter_definition(at, names, values);
+            }
+        }
+        self.play_step(words, wanted)
+    }
+
+    /// Goes on behind the block that begins with a line.
+    fn leave_out(&mut self, at: usize) -> Result<(), Trouble> {
+        let end = self.script.end_of_block(at)?;
+        if let Some(block) = self.open.last_mut() {
+            block.next = end.saturating_add(1);
+        }
+        Ok(())
+    }
+
+    /// Plays the lines behind this one once for each value of a name, where `2..5` is 2, 3 and 4.
+    fn enter_each(&mut self, at: usize, name: &str, words: &[&str]) -> Result<(), Trouble> {
+        let alloc = self.alloc;
+        let end = self.script.end_of_block(at)?;
+        let mut values = Vec::new(alloc);
+        for word in words {
+            match word.split_once("..") {
+                Some((from, until)) => {
+                    for value in number::<u64>(from)?..number::<u64>(until)? {
+                        values.push(format!(in alloc; "{value}")?)?;
+                    }
+                }
+                None => values.push(String::from_str(alloc, word)?)?,
+            }
+        }
+        values.reverse();
+        let Some(value) = values.pop() else {
+            return Ok(());
+        };
+        let mut bound = Vec::new(alloc);
+        let name = String::from_str(alloc, name)?;
+        bound.push(Bound { name, value })?;
+        self.enter(at.saturating_add(1), end, bound, values)
+    }
+
+    /// Plays the lines of a definition, with its names for these words, the last name for all that are left.
+    fn enter_definition(&mut self, at: usize, names: &str, words: &[&str]) -> Result<(), Trouble> {
+        let alloc = self.alloc;
+        let end = self.script.end_of_block(at)?;
+        let mut bound: Vec<Bound> = Vec::new(alloc);
+        for (index, name) in names.split_whitespace().enumerate() {
+            let word = words.get(index).ok_or(Trouble::Line("too few words"))?;
+            bound.push(Bound {
+                name: String::from_str(alloc, name)?,
+                value: String::from_str(alloc, word)?,
+            })?;
+        }
+        for word in words.iter().skip(bound.len()) {
+            let last = bound.last_mut().ok_or(Trouble::Line("too many words"))?;
+            last.value.push(' ')?;
+            last.value.push_str(word)?;
+        }
+        self.enter(at.saturating_add(1), end, bound, Vec::new(alloc))
+    }
+
+    /// Plays a step, and holds what it tells beside what is wanted.
+    fn play_step(&mut self, words: &[&str], wanted: Wanted<'_>) -> Result<(), Trouble> {
+        let alloc = self.alloc;
+        let step = read_step(alloc, words)?;
+        let got = match (self.player.play(step), wanted) {
+            (Ok(_), Wanted::Nothing) => return Ok(()),
+            (Ok(text), _) => text,
+            (Err(Trouble::Refused(fault)), Wanted::Text(_)) => format!(in alloc; "{fault}")?,
+            (Err(trouble), _) => return Err(trouble),
+        };
+        let mut shown = String::new(alloc);
+        match wanted {
+            Wanted::Nothing => {}
+            Wanted::Text(text) => shown.push_str(text)?,
+            Wanted::Bytes(text) => {
+                let words: Vec<&str> = text.split_whitespace().collect(alloc)?;
+                let mut bytes = Vec::new(alloc);
+                read_bytes(&words, &mut bytes)?;
+                show_bytes(&bytes, &mut shown)?;
+            }
+        }
+        if is_one_of(&shown, &got) {
+            return Ok(());
+        }
+        Err(Trouble::Told { wanted: shown, got })
+    }
+
+    /// What a name stands for.
+    fn value_of(&self, name: &str) -> Option<&str> {
+        for block in self.open.iter().rev() {
+            for bound in &block.bound {
+                if bound.name.as_str() == name {
+                    return Some(&bound.value);
+                }
+            }
+        }
+        None
+    }
+
+    /// The text with the value of what stands in braces.
+    fn expand(&self, text: &str) -> Result<String, Trouble> {
+        let mut expanded = String::new(self.alloc);
+        let mut rest = text;
+        for _ in 0..text.len() {
+            let Some((before, behind)) = rest.split_once("{") else {
+                break;
+            };
+            let (inner, after) = behind
+                .split_once("}")
+                .ok_or(Trouble::Line("no end of a brace"))?;
+            expanded.push_str(before)?;
+            match self.value_of(inner) {
+                Some(value) => expanded.push_str(value)?,
+                None => write!(expanded, "{}", self.reckon(inner)?)?,
+            }
+            rest = after;
+        }
+        expanded.push_str(rest)?;
+        Ok(expanded)
+    }
+
+    /// Numbers and names with ` + `, ` - ` and ` * ` between them, from left to right.
+    fn reckon(&self, text: &str) -> Result<u64, Trouble> {
+        let mut total = 0u64;
+        let mut sign = '+';
+        for word in text.split_whitespace() {
+            if let "+" | "-" | "*" = word {
+                sign = word.chars().next().unwrap_or('+');
+                continue;
+            }
+            let value = number::<u64>(self.value_of(word).unwrap_or(word))?;
+            let sum = match sign {
+                '+' => total.checked_add(value),
+                '-' => total.checked_sub(value),
+                _ => total.checked_mul(value),
+            };
+            total = sum.ok_or(Trouble::Line("no such number"))?;
+        }
+        Ok(total)
+    }
+}
+
+/// What a line wants its step to tell.
+#[derive(Clone, Copy)]
+enum Wanted<'w> {
+    /// It is not looked at.
+    Nothing,
+    /// This text, or a number within `1..32`.
+    Text(&'w str),
+    /// These bytes.
+    Bytes(&'w str),
+}
+
+/// The step of a line, and what it is to tell.
+fn wanted_of(text: &str) -> (&str, Wanted<'_>) {
+    if let Some((step, wanted)) = text.split_once(" -> ") {
+        return (step, Wanted::Text(wanted.trim()));
+    }
+    match text.split_once(" = ") {
+        Some((step, wanted)) => (step, Wanted::Bytes(wanted)),
+        None => (text, Wanted::Nothing),
+    }
+}
+
+/// Whether what is told is one of the texts that are wanted, or a number of `1..32` where such are.
+fn is_one_of(wanted: &str, got: &str) -> bool {
+    if let (Some((from, until)), Ok(told)) = (wanted.split_once(".."), got.parse::<u64>()) {
+        return from.parse::<u64>().is_ok_and(|from| from <= told)
+            && until.parse::<u64>().is_ok_and(|until| told < until);
+    }
+    wanted.split(" or ").any(|text| text == got)
+}

@@ -1,0 +1,52 @@
+//! Streams that come in pieces, and that fail.
+
+use std::io;
+use std::io::{Error, ErrorKind, Read, Write};
+
+/// A reader that gives its first piece, then the rest in pieces of a size, and then fails.
+#[derive(Drop)]
+pub struct Pieces<'a> {
+    pub first: &'a [u8],
+    pub rest: &'a [u8],
+    pub size: usize,
+}
+
+impl Read for Pieces<'_> {
+    fn read(&mut self, buf: &mut [u8]) -> io::Result<usize> {
+        if self.first.is_empty() {
+            if self.rest.is_empty() {
+                return Err(Error::from(ErrorKind::Other));
+            }
+            let (piece, rest) = self.rest.split_at(self.rest.len().min(self.size));
+            self.first = piece;
+            self.rest = rest;
+        }
+        let count = self.first.len().min(buf.len());
+        let (now, later) = self.first.split_at(count);
+        buf[..count].copy_from_slice(now);
+        self.first = later;
+        Ok(count)
+    }
+}
+
+/// A writer that has room for so many bytes.
+#[derive(Drop)]
+pub struct Room {
+    pub bytes: Vec<u8>,
+    pub left: usize,
+}
+
+impl Write for Room {
+    fn write(&mut self, buf: &[u8]) -> io::Result<usize> {
+        let count = buf.len().min(self.left);
+        if count == 0 || self.bytes.extend_from_slice(&buf[..count]).is_err() {
+            return Err(Error::from(ErrorKind::Other));
+        }
+        self.left -= count;
+        Ok(count)
+    }
+
+    fn flush(&mut self) -> io::Result<()> {
+        Ok(())
+    }
+}

@@ -1,0 +1,60 @@
+//! Why a step did not go.
+
+use drive::DriveFault;
+use std::alloc::{AllocError, AllocFailed};
+use std::fmt;
+use store::StoreFault;
+
+/// Why a step did not go.
+#[derive(Debug, Drop)]
+pub enum Trouble {
+    /// The line is no step, for this reason.
+    Line(&'static str),
+    /// A call of the store or of the format was refused, which a line may want.
+    Refused(StoreFault),
+    /// The step told something else than its line wants.
+    Told { wanted: String, got: String },
+    /// Memory was refused to the player.
+    Memory,
+}
+
+impl fmt::Display for Trouble {
+    fn fmt<W: fmt::Write>(&self, f: &mut fmt::Formatter<W>) -> fmt::Result {
+        match self {
+            Trouble::Line(why) => write!(f, "{why}"),
+            Trouble::Refused(fault) => write!(f, "{fault}"),
+            Trouble::Told { wanted, got } => write!(f, "wanted {wanted}, got {got}"),
+            Trouble::Memory => write!(f, "no memory"),
+        }
+    }
+}
+
+impl From<AllocError> for Trouble {
+    fn from(_error: AllocError) -> Trouble {
+        Trouble::Memory
+    }
+}
+
+impl<T: Drop> From<AllocFailed<T>> for Trouble {
+    fn from(_error: AllocFailed<T>) -> Trouble {
+        Trouble::Memory
+    }
+}
+
+impl From<fmt::Error> for Trouble {
+    fn from(_error: fmt::Error) -> Trouble {
+        Trouble::Memory
+    }
+}
+
+impl From<StoreFault> for Trouble {
+    fn from(fault: StoreFault) -> Trouble {
+        Trouble::Refused(fault)
+    }
+}
+
+impl From<DriveFault> for Trouble {
+    fn from(_fault: DriveFault) -> Trouble {
+        Trouble::Refused(StoreFault::Device)
+    }
+}
