@@ -1,2 +1,10 @@
 pub mod Statuses
 pub mod Copying
+pub mod Opening
+pub mod Applying
+pub mod Making
+pub mod Texts
+pub mod Saying
+pub mod Printing
+pub mod Going
+pub mod Ending

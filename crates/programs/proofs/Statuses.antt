@@ -3,8 +3,9 @@ use Rattle.std.proofs.Common.{◌≡◌, ◌↔◌, ◌≤◌, ℕ, List, Result
 use Rattle.std.specs.Prelude.{IfErr}
 use Rattle.words.specs.declared.command.Command.{Command}
 use Rattle.words.specs.declared.command.Command.TheVariants.{Format, Apply, List as Listing, Get, Log, Check, Send}
+use Rattle.words.specs.declared.command.Medium.TheVariants.{Image, Memory}
 use Rattle.words.specs.Commands.{Asks}
-use Rattle.programs.specs.Asked.{HasMoment}
+use Rattle.programs.specs.Asked.{IsInRange}
 use Rattle.programs.specs.declared.fault.Fault.{Fault}
 use Rattle.programs.specs.Status.{status_of, IsRefusal}
 
@@ -18,12 +19,13 @@ asked outcome status Is command e h asks =
     let low : status_of outcome ≤ 1 = asked_status outcome h in
     (λ two. absurd (omega (arith, low, e, two)), λ none. absurd (none command asks))
 
--- a command that was read has a moment in range, if it has one
-pub has_moment : (words : List (List ℕ)) (command : Command) → Asks words command → HasMoment command
-has_moment words (Format image label moment capacity) h = h.2.4
-has_moment words (Apply medium) h = tt
-has_moment words (Listing image path) h = tt
-has_moment words (Get image path) h = tt
-has_moment words (Log image) h = tt
-has_moment words (Check image) h = tt
-has_moment words (Send socket) h = tt
+-- the numbers of a command that was read are within their limits
+pub in_range : (words : List (List ℕ)) (command : Command) → Asks words command → IsInRange command
+in_range words (Format image label moment capacity) h = h.2.4
+in_range words (Apply (Image path)) h = tt
+in_range words (Apply (Memory capacity)) h = h.2.2.3.1
+in_range words (Listing image path) h = tt
+in_range words (Get image path) h = tt
+in_range words (Log image) h = tt
+in_range words (Check image) h = tt
+in_range words (Send socket) h = tt

@@ -1,14 +1,16 @@
 -- What holds of each command that was read.
-use Rattle.std.specs.Prelude.{◌<◌, ⊤}
+use Rattle.std.specs.Prelude.{◌<◌, ◌≤◌, ⊤}
 use Rattle.words.specs.declared.command.Command.{Command}
 use Rattle.words.specs.declared.command.Command.TheVariants.{Format, Apply, List, Get, Log, Check, Send}
+use Rattle.words.specs.declared.command.Medium.TheVariants.{Image, Memory}
 
--- a format's moment has a timestamp
-abbrev pub HasMoment : Command → Type 0
-HasMoment (Format image label moment capacity) = moment < 4102444800000000
-HasMoment (Apply medium) = ⊤
-HasMoment (List image path) = ⊤
-HasMoment (Get image path) = ⊤
-HasMoment (Log image) = ⊤
-HasMoment (Check image) = ⊤
-HasMoment (Send socket) = ⊤
+-- a format's moment has a timestamp, and a volume in memory is no larger than one may be
+abbrev pub IsInRange : Command → Type 0
+IsInRange (Format image label moment capacity) = moment < 4102444800000000
+IsInRange (Apply (Image path)) = ⊤
+IsInRange (Apply (Memory capacity)) = capacity ≤ 450000
+IsInRange (List image path) = ⊤
+IsInRange (Get image path) = ⊤
+IsInRange (Log image) = ⊤
+IsInRange (Check image) = ⊤
+IsInRange (Send socket) = ⊤

@@ -1,6 +1,8 @@
 -- What a copy from one stream to another does, where their bytes are known.
-use Rattle.std.specs.Prelude.{ℕ, List, Option}
+use Rattle.std.specs.Prelude.{ℕ, List, Option, Result, Ok, Err}
 use Rattle.std.specs.Io.KnownBytes.{Appends, Consumes, IsAtEnd}
+use Rattle.engine.specs.Streams.{PutsFront}
+use Rattle.programs.specs.declared.fault.Fault.{Fault}
 
 -- all that was left to read was written
 pub record CopiesAll (input left output written : Option (List ℕ)) : Type 0 where
@@ -9,8 +11,28 @@ pub record CopiesAll (input left output written : Option (List ℕ)) : Type 0 wh
   pub copied : Appends output written bytes
   pub end : IsAtEnd left
 
--- nothing is left to read
-pub record ReadsAll (input left : Option (List ℕ)) : Type 0 where
+-- what was read was written, or a front of it
+pub record CopiesSome (input left output written : Option (List ℕ)) : Type 0 where
   pub bytes : List ℕ
   pub consumed : Consumes input left bytes
+  pub front : PutsFront output written bytes
+
+-- All that was left to read was sent, and all that came back was written.
+pub record SendsAll (input left output written : Option (List ℕ)) : Type 0 where
+  pub sent : List ℕ
+  pub consumed : Consumes input left sent
   pub end : IsAtEnd left
+  pub came : List ℕ
+  pub copied : Appends output written came
+
+-- Some of it was read, and of what came back a front was written.
+pub record SendsSome (input left output written : Option (List ℕ)) : Type 0 where
+  pub sent : List ℕ
+  pub consumed : Consumes input left sent
+  pub came : List ℕ
+  pub front : PutsFront output written came
+
+-- by the outcome
+abbrev pub Sends : {T : Type 0} → Result T Fault → Option (List ℕ) → Option (List ℕ) → Option (List ℕ) → Option (List ℕ) → Type 0
+Sends (Ok x) input left output written = SendsAll input left output written
+Sends (Err fault) input left output written = SendsSome input left output written

@@ -1,3 +1,11 @@
 pub mod Status
 pub mod Asked
 pub mod Copies
+pub mod Images
+pub mod Lines
+pub mod FaultLines
+pub mod Applied
+pub mod Connections
+pub mod NewVolumes
+pub mod Questions
+pub mod Tasks

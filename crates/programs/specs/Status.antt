@@ -1,5 +1,8 @@
 -- The statuses with which the programs end.
 use Rattle.std.specs.Prelude.{◌≡◌, ℕ, Result, Ok, Err}
+use Rattle.recover.specs.declared.fault.StoreFault.TheVariants as store
+use Rattle.request.specs.declared.path.PathFault.{PathFault}
+use Rattle.request.specs.declared.path.PathFault.TheVariants as paths
 use Rattle.words.specs.declared.daemon.WordsFault.{WordsFault}
 use Rattle.words.specs.declared.daemon.WordsFault.TheVariants as words
 use Rattle.programs.specs.declared.fault.Fault.{Fault}
@@ -24,3 +27,8 @@ IsRefusal fault = fault_status fault ≡ 1
 abbrev pub IsTold : WordsFault → Fault → Type 0
 IsTold words.Usage fault = fault ≡ Usage
 IsTold words.Memory fault = IsRefusal fault
+
+-- how a fault of a path is told
+abbrev pub IsPathTold : PathFault → Fault → Type 0
+IsPathTold paths.Path fault = fault ≡ Path
+IsPathTold paths.Memory fault = fault ≡ Store store.Memory

@@ -1,8 +1,10 @@
 //! The program `udfburnd`.
 
-ghost use Rattle.std.specs.Prelude.{◌≡◌, ◌≤◌, map, IfErr};
-ghost use Rattle.engine.specs.Situation.{IsReady, seen_on};
+ghost use Rattle.std.specs.Prelude.{◌≡◌, ◌≤◌, map, IfErr, OnOk};
+ghost use Rattle.engine.specs.Situation.{IsReady, seen_on, situation};
 ghost use Rattle.words.specs.Daemon.{AsksDaemon};
+ghost use Rattle.programs.specs.Connections.{GoesOn, AreOneRun};
+ghost use Rattle.programs.specs.Images.{OnImage};
 ghost use Rattle.programs.specs.Status.{IsRefusal};
 
 use crate::fault::{Fault, report};
@@ -38,6 +40,8 @@ where
     R: Files<File = File> + Net + Clock + AllocGlobal,
     E: Write,
     ensures status { result ≤ 2 }
+    // Where it ends by itself, all connections were one run.
+    ensures run { result ≡ 0 → OnImage 450_000 AreOneRun }
     // The status of other words is 2, or 1 where memory is short.
     ensures usage { result ≡ 2 → (asked : _) → AsksDaemon (map (λ w. w.now) words.now) asked → ⊥ }
     ensures refused { ((asked : _) → AsksDaemon (map (λ w. w.now) words.now) asked → ⊥) → 1 ≤ result }
@@ -49,41 +53,59 @@ where
     report(NAME, outcome, errors)
 }
 
-/// Serves connections until as many came as the words say.
+/// Serves connections on an image, until as many came as the words say.
 fn serve_all<R, E>(rt: &R, asked: &DaemonWords<'_>, errors: &mut E) -> Result<(), Fault>
 where
     R: Files<File = File> + Net + Clock + AllocGlobal,
     E: Write,
-    ensures { IfErr result IsRefusal }
+    ensures refusal { IfErr result IsRefusal }
+    // All of them together are one run.
+    ensures run { OnOk result (OnImage 450_000 AreOneRun) }
 {
     let mut drive = open_image(rt, asked.image)?;
     let listener = listen(rt, asked.socket)?;
+    let connections = asked.connections.unwrap_or(u64::MAX);
+    serve_each(rt, &listener, &mut drive, connections, errors);
+    Ok(())
+}
+
+/// Serves so many connections, each from where the one before it left the engine and the drive.
+fn serve_each<R, D, E>(
+    rt: &R,
+    listener: &UnixListener,
+    drive: &mut D,
+    connections: u64,
+    errors: &mut E,
+)
+where
+    R: Clock + AllocGlobal,
+    D: Drive,
+    E: Write,
+    ensures { AreOneRun (situation None (D.journal drive.old) (D.failures drive.old) (D.capacity drive.old) (D.honest drive.old))
+        (situation None (D.journal drive.new) (D.failures drive.new) (D.capacity drive.new) (D.honest drive.new)) }
+{
     let mut engine = Engine::new();
-    let mut left = asked.connections.unwrap_or(u64::MAX);
+    let mut left = connections;
     let mut is_told = false;
     for _ in 0..u64::MAX {
         if left == 0 {
-            return Ok(());
+            return;
         }
-        match listener.accept() {
-            Ok((stream, _)) => {
-                let served = serve_one(rt.alloc(), &stream, &mut engine, &mut drive);
-                // The daemon goes on: what was told already is all that there is to a connection's fault.
-                report(NAME, served, errors);
-                left -= 1;
-                is_told = false;
-            }
+        let Ok((stream, _)) = listener.accept() else {
             // It goes on failing while descriptors are short, so it is told once, and waited out.
-            Err(_) => {
-                if !is_told {
-                    report(NAME, Err(Fault::Socket), errors);
-                }
-                is_told = true;
-                thread::sleep(rt, Duration::from_millis(PAUSE));
+            if !is_told {
+                report(NAME, Err(Fault::Socket), errors);
             }
-        }
+            is_told = true;
+            thread::sleep(rt, Duration::from_millis(PAUSE));
+            continue;
+        };
+        let served = serve_one(rt.alloc(), &stream, &mut engine, drive);
+        // The daemon goes on: what was told already is all that there is to a connection's fault.
+        report(NAME, served, errors);
+        left -= 1;
+        is_told = false;
     }
-    Ok(())
 }
 
 /// A listener at this path, where nothing may be yet. No path is an address that no client could name.
@@ -111,6 +133,8 @@ pub fn serve_one<D: Drive>(
 ) -> Result<(), Fault>
     requires { IsReady (seen_on D.Drive engine.old drive.old) }
     ensures ready { IsReady (seen_on D.Drive engine.new drive.new) }
+    // Messages were answered, and nothing else was done.
+    ensures goes { GoesOn (seen_on D.Drive engine.old drive.old) (seen_on D.Drive engine.new drive.new) }
     ensures refusal { IfErr result IsRefusal }
 {
     let patience = Some(Duration::from_secs(PATIENCE));

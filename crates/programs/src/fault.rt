@@ -1,14 +1,20 @@
 //! Why a program ended without what it was asked for, and how it says so.
 
-ghost use Rattle.std.specs.Prelude.{◌≡◌};
-ghost use Rattle.programs.specs.Status.{status_of, IsRefusal, IsTold};
+ghost use Rattle.std.specs.Prelude.{◌≡◌, OnOk, OnErr};
+ghost use Rattle.std.specs.Io.KnownBytes.{Appends};
+ghost use Rattle.engine.specs.Streams.{PutsFront};
+ghost use Rattle.recover.specs.declared.fault.StoreFault.TheVariants.{Memory};
+ghost use Rattle.programs.specs.FaultLines.{Reports, damage_text, fault_line, place_text};
+ghost use Rattle.programs.specs.FaultLines as said;
+ghost use Rattle.programs.specs.Status.{status_of, IsTold, IsPathTold};
 ghost use Rattle.programs.specs.declared.fault.Fault.TheVariants.{Store, Stream};
 
-use engine::ServeFault;
+use engine::{ServeFault, put_all};
+use itoa::Buffer;
 use request::PathFault;
+use std::alloc::AllocError;
 use std::io::Write;
 use store::StoreFault;
-use thiserror::Error;
 use words::WordsFault;
 
 /// The status of a program that did what it was asked for.
@@ -21,27 +27,73 @@ const REFUSED: u8 = 1;
 const USAGE: u8 = 2;
 
 /// Why a program ended without what it was asked for. It is shown as its number and its name.
-#[derive(Clone, Copy, Debug, PartialEq, Eq, Error)]
+#[derive(Clone, Copy, Debug, PartialEq, Eq)]
 pub enum Fault {
     /// The words are not those of a command.
-    #[error("usage")]
     Usage,
     /// The text is no path.
-    #[error("55 Path")]
     Path,
     /// The socket cannot be had.
-    #[error("94 Socket")]
     Socket,
     /// The volume or its drive.
-    #[error("{0}")]
     Store(StoreFault),
     /// A stream was left before its end.
-    #[error("{0}")]
     Stream(ServeFault),
 }
 
+impl Fault {
+    ghost use Rattle.std.specs.Prelude.{◌≡◌};
+    ghost use Rattle.programs.specs.FaultLines.{fault_damage, fault_name};
+
+    /// The number and the name under which it is said.
+    fn name(self) -> &'static str
+        ensures { result.now ≡ fault_name self }
+    {
+        match self {
+            Fault::Usage => "usage",
+            Fault::Path => "55 Path",
+            Fault::Socket => "94 Socket",
+            Fault::Store(fault) => store_name(fault),
+            Fault::Stream(ServeFault::Read) => "91 Read",
+            Fault::Stream(ServeFault::Write) => "92 Write",
+            Fault::Stream(ServeFault::Memory) => "93 Memory",
+        }
+    }
+
+    /// The address of the block that is damaged, and the cause.
+    fn damage(self) -> Option<(u32, u8)>
+        ensures { result ≡ fault_damage self }
+    {
+        match self {
+            Fault::Store(StoreFault::Damaged { block, cause }) => Some((block, cause)),
+            _ => None,
+        }
+    }
+}
+
+/// The number and the name of a fault of a volume.
+fn store_name(fault: StoreFault) -> &'static str
+    ensures { result.now ≡ said.store_name fault }
+{
+    match fault {
+        StoreFault::NotBlank => "61 NotBlank",
+        StoreFault::Label => "62 Label",
+        StoreFault::Small => "63 Small",
+        StoreFault::Device => "64 Device",
+        StoreFault::Memory => "65 Memory",
+        StoreFault::NotFormatted => "66 NotFormatted",
+        StoreFault::Damaged { block: _, cause: _ } => "67 Damaged",
+        StoreFault::Full => "68 Full",
+        StoreFault::Stopped => "69 Stopped",
+        StoreFault::NoCommit => "70 NoCommit",
+        StoreFault::NotFound => "96 NotFound",
+        StoreFault::IsDirectory => "97 IsDirectory",
+        StoreFault::NotDirectory => "98 NotDirectory",
+    }
+}
+
 impl From<PathFault> for Fault {
-    ghost from_gives = { λ _ f. IsRefusal f };
+    ghost from_gives = { IsPathTold };
 
     fn from(fault: PathFault) -> Fault {
         match fault {
@@ -56,6 +108,14 @@ impl From<StoreFault> for Fault {
 
     fn from(fault: StoreFault) -> Fault {
         Fault::Store(fault)
+    }
+}
+
+impl From<AllocError> for Fault {
+    ghost from_gives = { λ _ f. f ≡ Store Memory };
+
+    fn from(_fault: AllocError) -> Fault {
+        Fault::Store(StoreFault::Memory)
     }
 }
 
@@ -81,16 +141,50 @@ impl From<WordsFault> for Fault {
 /// The status of a program with this name, which says on `errors` why it was refused. That `errors` takes no more is not
 /// told.
 pub(crate) fn report<E: Write>(name: &str, outcome: Result<(), Fault>, errors: &mut E) -> u8
-    ensures { result ≡ status_of outcome }
+    ensures status { result ≡ status_of outcome }
+    ensures says { Reports name.now outcome (E.contents errors.old) (E.contents errors.new) }
 {
     let fault = match outcome {
         Ok(()) => return DONE,
         Err(fault) => fault,
     };
-    let _ = writeln!(errors, "{name}: {fault}");
+    let _ = say(name, fault, errors);
     let _ = errors.flush();
     match fault {
         Fault::Usage => USAGE,
         _ => REFUSED,
     }
+}
+
+/// Says a fault in a line.
+fn say<E: Write>(name: &str, fault: Fault, errors: &mut E) -> Result<(), ServeFault>
+    ensures ok { OnOk result (Appends (E.contents errors.old) (E.contents errors.new) (fault_line name.now fault)) }
+    ensures err { OnErr result (PutsFront (E.contents errors.old) (E.contents errors.new) (fault_line name.now fault)) }
+{
+    put_all(errors, name.as_bytes())?;
+    put_all(errors, b": ")?;
+    put_all(errors, fault.name().as_bytes())?;
+    say_damage(fault.damage(), errors)?;
+    put_all(errors, b"\n")
+}
+
+/// Says what is damaged, and how.
+fn say_damage<E: Write>(damage: Option<(u32, u8)>, errors: &mut E) -> Result<(), ServeFault>
+    ensures ok { OnOk result (Appends (E.contents errors.old) (E.contents errors.new) (damage_text damage)) }
+    ensures err { OnErr result (PutsFront (E.contents errors.old) (E.contents errors.new) (damage_text damage)) }
+{
+    match damage {
+        Some((block, cause)) => say_place(block, cause, errors),
+        None => Ok(()),
+    }
+}
+
+fn say_place<E: Write>(block: u32, cause: u8, errors: &mut E) -> Result<(), ServeFault>
+    ensures ok { OnOk result (Appends (E.contents errors.old) (E.contents errors.new) (place_text block cause)) }
+    ensures err { OnErr result (PutsFront (E.contents errors.old) (E.contents errors.new) (place_text block cause)) }
+{
+    put_all(errors, b" block ")?;
+    put_all(errors, Buffer::new().format(block).as_bytes())?;
+    put_all(errors, b" cause ")?;
+    put_all(errors, Buffer::new().format(cause).as_bytes())
 }

@@ -1,6 +1,7 @@
 //! The image files on which volumes lie.
 
-ghost use Rattle.std.specs.Prelude.{IfErr};
+ghost use Rattle.std.specs.Prelude.{◌≡◌, List, ℕ, IfOk, IfErr};
+ghost use Rattle.drive.specs.FileDrive.{capacity_of, BeginsWith};
 ghost use Rattle.programs.specs.Status.{IsRefusal};
 
 use crate::fault::Fault;
@@ -13,7 +14,10 @@ const GREATEST_CAPACITY: u32 = 450_000;
 
 /// The image at this path, to write it.
 pub(crate) fn open_image<R: Files<File = File>>(rt: &R, path: &str) -> Result<FileDrive, Fault>
-    ensures { IfErr result IsRefusal }
+    ensures refusal { IfErr result IsRefusal }
+    ensures device { IfErr result (λ fault. fault ≡ Fault.Store StoreFault.Device) }
+    ensures image { IfOk result (λ drive. (image : List (List ℕ)) × BeginsWith image drive) }
+    ensures capacity { IfOk result (λ drive. capacity_of drive ≡ 450_000) }
 {
     match FileDrive::open(rt, path, GREATEST_CAPACITY) {
         Ok(drive) => Ok(drive),
@@ -23,7 +27,10 @@ pub(crate) fn open_image<R: Files<File = File>>(rt: &R, path: &str) -> Result<Fi
 
 /// The image at this path, to read it.
 pub(crate) fn read_image<R: Files<File = File>>(rt: &R, path: &str) -> Result<FileDrive, Fault>
-    ensures { IfErr result IsRefusal }
+    ensures refusal { IfErr result IsRefusal }
+    ensures device { IfErr result (λ fault. fault ≡ Fault.Store StoreFault.Device) }
+    ensures image { IfOk result (λ drive. (image : List (List ℕ)) × BeginsWith image drive) }
+    ensures capacity { IfOk result (λ drive. capacity_of drive ≡ 450_000) }
 {
     match FileDrive::open_to_read(rt, path, GREATEST_CAPACITY) {
         Ok(drive) => Ok(drive),
@@ -37,7 +44,10 @@ pub(crate) fn create_image<R: Files<File = File>>(
     path: &str,
     capacity: u32,
 ) -> Result<FileDrive, Fault>
-    ensures { IfErr result IsRefusal }
+    ensures refusal { IfErr result IsRefusal }
+    ensures device { IfErr result (λ fault. fault ≡ Fault.Store StoreFault.Device) }
+    ensures image { IfOk result (λ drive. (image : List (List ℕ)) × BeginsWith image drive) }
+    ensures capacity { IfOk result (λ drive. capacity_of drive ≡ capacity) }
 {
     match FileDrive::create(rt, path, capacity) {
         Ok(drive) => Ok(drive),

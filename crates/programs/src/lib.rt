@@ -10,10 +10,14 @@ mod counting;
 mod daemons;
 mod fault;
 mod images;
+mod lines;
 mod process;
+mod questions;
+mod requests;
 mod sending;
 #[cfg(test)]
 mod tests;
+mod volumes;
 
 pub use commands::command;
 pub use daemons::{daemon, serve_one};

@@ -1,8 +1,8 @@
 //! The client of the daemon: frames to its socket, and its answers back.
 
-ghost use Rattle.std.specs.Prelude.{IfErr, OnOk};
+ghost use Rattle.std.specs.Prelude.{IfErr, OnOk, OnErr};
 ghost use Rattle.programs.specs.Status.{IsRefusal};
-ghost use Rattle.programs.specs.Copies.{CopiesAll, ReadsAll};
+ghost use Rattle.programs.specs.Copies.{CopiesAll, CopiesSome, Sends};
 
 use crate::counting::FrameCount;
 use crate::fault::Fault;
@@ -24,7 +24,8 @@ pub(crate) fn send<R: Net + AllocGlobal, I: Read, O: Write>(
     input: &mut I,
     output: &mut O,
 ) -> Result<(), Fault>
-    ensures { IfErr result IsRefusal }
+    ensures refusal { IfErr result IsRefusal }
+    ensures sends { Sends result (I.remaining input.old) (I.remaining input.new) (O.contents output.old) (O.contents output.new) }
 {
     let mut stream = match UnixStream::connect(rt, socket) {
         Ok(stream) => stream,
@@ -47,7 +48,8 @@ pub fn send_frames<I: Read>(
     reader: &mut I,
 ) -> Result<u64, Fault>
     ensures refusal { IfErr result IsRefusal }
-    ensures all { OnOk result (ReadsAll (I.remaining reader.old) (I.remaining reader.new)) }
+    ensures all { OnOk result (CopiesAll (I.remaining reader.old) (I.remaining reader.new) (⟦<UnixStream as Write>⟧.contents stream.old) (⟦<UnixStream as Write>⟧.contents stream.new)) }
+    ensures some { OnErr result (CopiesSome (I.remaining reader.old) (I.remaining reader.new) (⟦<UnixStream as Write>⟧.contents stream.old) (⟦<UnixStream as Write>⟧.contents stream.new)) }
 {
     let copied = copy(alloc, reader, stream);
     let ended = stream.shutdown(Shutdown::Write);
@@ -66,6 +68,7 @@ pub fn copy_answers<O: Write>(
 ) -> Result<u64, Fault>
     ensures refusal { IfErr result IsRefusal }
     ensures all { OnOk result (CopiesAll (⟦<UnixStream as Read>⟧.remaining stream.old) (⟦<UnixStream as Read>⟧.remaining stream.new) (O.contents writer.old) (O.contents writer.new)) }
+    ensures some { OnErr result (CopiesSome (⟦<UnixStream as Read>⟧.remaining stream.old) (⟦<UnixStream as Read>⟧.remaining stream.new) (O.contents writer.old) (O.contents writer.new)) }
 {
     copy(alloc, stream, writer)
 }
@@ -74,6 +77,7 @@ pub fn copy_answers<O: Write>(
 fn copy<I: Read, O: Write>(alloc: Global, reader: &mut I, writer: &mut O) -> Result<u64, Fault>
     ensures refusal { IfErr result IsRefusal }
     ensures ok { OnOk result (CopiesAll (I.remaining reader.old) (I.remaining reader.new) (O.contents writer.old) (O.contents writer.new)) }
+    ensures err { OnErr result (CopiesSome (I.remaining reader.old) (I.remaining reader.new) (O.contents writer.old) (O.contents writer.new)) }
 {
     let mut piece = match vec![in alloc; 0u8; PIECE_BYTES] {
         Ok(piece) => piece,

@@ -3,5 +3,6 @@
 mod asking;
 mod commands;
 mod daemons;
+mod faults;
 mod history;
 mod streams;

@@ -1,6 +1,6 @@
-use Rattle.std.proofs.Common.{rules, ℕ, List, take, ap, ◌∙◌}
-use Rattle.engine.proofs.Messages.{filled}
-use Rattle.programs.proofs.Copying.{copied_none, copied_more, copied_all}
+use Rattle.std.proofs.Common.{rules, ◌≡◌, ℕ, List, take, ap, ◌∙◌}
+use Rattle.engine.proofs.Messages.{filled, on_err}
+use Rattle.programs.proofs.Copying.{copied_none, copied_more, copied_all, copied_read, copied_put, copied_some}
 use Rattle.programs.proofs.sending.copy.Goals as goal
 
 pub loop-init : goal.loop-init
@@ -10,6 +10,30 @@ pub returns-then-count-eq0-clause-ok : goal.returns-then-count-eq0-clause-ok
 returns-then-count-eq0-clause-ok g c =
     copied_all _ (g.I.Read.remaining c.loop.reader) _ _ _ _ c.loop.invariant.copied
     c.in_ok-count.ensures.ok (ap (λ (n : ℕ). take n c.read_piece.new.piece) c.if-count-eq0.true)
+
+pub returns-in_err-count-clause-err : goal.returns-in_err-count-clause-err
+returns-in_err-count-clause-err g c =
+    on_err c.from_residual.result _ (copied_read (g.I.Read.remaining c.args.reader.now) (g.I.Read.remaining c.loop.reader) _ (g.O.Write.contents c.args.writer.now) (g.O.Write.contents c.loop.writer) c.loop.invariant.copied c.in_err-count.ensures.err)
+
+pub returns-in_err-put_all-clause-err : goal.returns-in_err-put_all-clause-err
+returns-in_err-put_all-clause-err g c =
+    let piece = take c.in_ok-count.count c.read_piece.new.piece in
+    let bytes = c.split_at.ensures.front ∙ ap (λ (x : List ℕ). take c.in_ok-count.count x)
+    (c.deref.ensures.value ∙ filled c.loop.piece.len c.read_piece.new.piece _ (search rules)) in
+    on_err c.from_residual-in_err-put_all.result _ (copied_put (g.I.Read.remaining c.args.reader.now) (g.I.Read.remaining c.loop.reader) (g.I.Read.remaining c.read_piece.new.reader) (g.O.Write.contents c.args.writer.now) (g.O.Write.contents c.loop.writer) (g.O.Write.contents c.put_all.new.writer) piece _
+    c.loop.invariant.copied c.in_ok-count.ensures.ok bytes c.in_err-put_all.ensures.err)
+
+pub returns-then-is_err-clause-err : goal.returns-then-is_err-clause-err
+returns-then-is_err-clause-err g c =
+    let piece = take c.in_ok-count.count c.read_piece.new.piece in
+    let bytes = c.split_at.ensures.front ∙ ap (λ (x : List ℕ). take c.in_ok-count.count x)
+    (c.deref.ensures.value ∙ filled c.loop.piece.len c.read_piece.new.piece _ (search rules)) in
+    copied_some (g.I.Read.remaining c.args.reader.now) (g.I.Read.remaining c.read_piece.new.reader) (g.O.Write.contents c.args.writer.now) (g.O.Write.contents c.flush.new.self)
+    (copied_more (g.I.Read.remaining c.args.reader.now) (g.I.Read.remaining c.loop.reader) (g.I.Read.remaining c.read_piece.new.reader) (g.O.Write.contents c.args.writer.now) (g.O.Write.contents c.loop.writer) (g.O.Write.contents c.put_all.new.writer) (g.O.Write.contents c.flush.new.self) piece _
+    c.loop.invariant.copied c.in_ok-count.ensures.ok bytes c.in_ok-put_all.ensures.ok c.flush.ensures.bytes)
+
+pub returns-clause-err : goal.returns-clause-err
+returns-clause-err g c = copied_some (g.I.Read.remaining c.args.reader.now) (g.I.Read.remaining c.loop.reader) (g.O.Write.contents c.args.writer.now) (g.O.Write.contents c.loop.writer) c.loop.invariant.copied
 
 pub loop-preserved : goal.loop-preserved
 loop-preserved g c =

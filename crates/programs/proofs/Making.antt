@@ -1,0 +1,45 @@
+-- A volume was made, or it was refused.
+use Rattle.std.proofs.Common.{◌≡◌, ℕ, List, Bool, Option, Result, Ok, Err, refl, sym, subst, inl, inr}
+use Rattle.std.specs.Prelude.{IsErrAnd, IsErr}
+use Rattle.drive.specs.Journal.{Event}
+use Rattle.drive.specs.FileDrive.{journal_of, failures_of, capacity_of, honest_of, BeginsWith}
+use Rattle.drive.specs.declared.file.FileDrive.{FileDrive}
+use Rattle.formatting.specs.NewVolume.{words_on, IsFormatted, IsRefused}
+use Rattle.recover.specs.declared.fault.StoreFault.{StoreFault}
+use Rattle.engine.specs.Situation.{Situation, situation}
+use Rattle.programs.specs.declared.fault.Fault.{Fault}
+use Rattle.programs.specs.declared.fault.Fault.TheVariants.{Usage, Path, Socket, Store, Stream}
+use Rattle.programs.specs.Images.{OnImage, Unopened}
+use Rattle.programs.specs.Lines.{Puts, formatted_text}
+use Rattle.programs.specs.NewVolumes.{Makes, MakesOnImage, Unbegun}
+use Rattle.programs.proofs.Opening.{begins_on, keeps_self}
+
+pub makes_put : {T : Type 0} (label : List ℕ) (moment capacity : ℕ) (outcome : Result T Fault) (J K : List Event) (honest : Bool) (o w : Option (List ℕ)) → Puts outcome o w formatted_text
+    → IsFormatted capacity (words_on capacity label moment) J K honest → Makes label moment capacity outcome J K honest o w
+makes_put label moment capacity (Ok x) J K honest o w puts made = (made, puts)
+makes_put label moment capacity (Err Usage) J K honest o w puts made = puts
+makes_put label moment capacity (Err Path) J K honest o w puts made = puts
+makes_put label moment capacity (Err Socket) J K honest o w puts made = puts
+makes_put label moment capacity (Err (Store fault)) J K honest o w puts made = absurd puts
+makes_put label moment capacity (Err (Stream fault)) J K honest o w puts made = (made, puts)
+
+pub makes_refused : {T : Type 0} (label : List ℕ) (moment capacity : ℕ) (outcome : Result T Fault) (J K : List Event) (honest : Bool) (o : Option (List ℕ)) (fault : StoreFault) → IsErrAnd outcome (λ f. f ≡ Store fault)
+    → IsRefused capacity (words_on capacity label moment) J K honest fault → Makes label moment capacity outcome J K honest o o
+makes_refused {T} label moment capacity (Ok x) J K honest o fault is refused = absurd is
+makes_refused {T} label moment capacity (Err f) J K honest o fault is refused =
+    subst (λ (g : Fault). Makes {T = T} label moment capacity (Err g) J K honest o o) (sym is) (refused, keeps_self o)
+
+-- ---- on an image that was opened
+
+pub unbegun_image : {T : Type 0} (label : List ℕ) (moment capacity : ℕ) (outcome : Result T Fault) (d : FileDrive) (behind : Situation) (o : Option (List ℕ)) → (image : List (List ℕ)) × BeginsWith image d → capacity_of d ≡ capacity
+    → IsErr outcome → behind.journal ≡ journal_of d → MakesOnImage label moment capacity outcome o o
+unbegun_image label moment capacity outcome d behind o begins size is journal =
+    inr (inl (begins_on capacity (λ before after. Unbegun outcome before after o o) d behind begins size (record { refused = is; journal = journal; unwritten = keeps_self o })))
+
+pub makes_image : {T : Type 0} (label : List ℕ) (moment capacity room : ℕ) (outcome : Result T Fault) (d : FileDrive) (J : List Event) (behind : Situation) (o w : Option (List ℕ)) → (image : List (List ℕ)) × BeginsWith image d → capacity_of d ≡ capacity
+    → room ≡ capacity_of d → J ≡ journal_of d → Makes label moment room outcome J behind.journal behind.honest o w → MakesOnImage label moment capacity outcome o w
+makes_image label moment capacity room outcome d J behind o w begins size same journal h =
+    inr (inr (begins_on capacity (λ before after. Makes label moment capacity outcome before.journal after.journal after.honest o w) d behind begins size
+    (subst (λ (n : ℕ). Makes label moment n outcome (journal_of d) behind.journal behind.honest o w) size
+    (subst (λ (n : ℕ). Makes label moment n outcome (journal_of d) behind.journal behind.honest o w) same
+    (subst (λ (j : List Event). Makes label moment room outcome j behind.journal behind.honest o w) journal h)))))

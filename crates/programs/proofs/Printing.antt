@@ -1,0 +1,169 @@
+-- What was asked of a volume was printed, or it was refused.
+use Rattle.std.proofs.Common.{◌≡◌, ◌⊎◌, ℕ, ◌+◌, Bool, false, List, length, Option, Result, Ok, Err, refl, sym, ap, subst, ◌∙◌, inl, inr}
+use Rattle.std.specs.Prelude.{IsTrue, IsErrAnd, IfOk, IfErr}
+use Rattle.drive.specs.Journal.{Event, Once, held}
+use Rattle.drive.specs.FileDrive.{journal_of, failures_of, capacity_of, honest_of, BeginsWith}
+use Rattle.drive.specs.declared.file.FileDrive.{FileDrive}
+use Rattle.model.specs.Session.{State}
+use Rattle.model.specs.Tree.{Path, Tree}
+use Rattle.medium.specs.Runs.{told}
+use Rattle.medium.specs.Runs.Answer.{Data, Names}
+use Rattle.medium.specs.Runs.Query.{Get, List_}
+use Rattle.request.specs.Path.{IsPath, path_text}
+use Rattle.request.specs.declared.answer.Listed.{Listed}
+use Rattle.request.specs.declared.path.PathFault.{PathFault}
+use Rattle.request.specs.declared.path.PathFault.TheVariants as paths
+use Rattle.recover.specs.declared.fault.StoreFault.{StoreFault}
+use Rattle.recover.specs.declared.fault.StoreFault.TheVariants.{Memory}
+use Rattle.store.specs.declared.history.Commit.{Commit}
+use Rattle.store.specs.declared.store.Store.{Store}
+use Rattle.store.specs.Asked.{said_names}
+use Rattle.store.specs.Calls.{Knows}
+use Rattle.store.specs.History.{IsHistory, IsHistoryRefused}
+use Rattle.store.specs.Opened.{IsOpenRefused}
+use Rattle.store.specs.Past.{AllStood, IsCheckRefused}
+use Rattle.store.specs.Queries.{IsRefused as QueryRefused}
+use Rattle.store.specs.Shows.{Shows as TreeShows}
+use Rattle.store.proofs.Knowing.{shows}
+use Rattle.store.proofs.Queried.{gets, lists}
+use Rattle.engine.specs.Situation.{Situation, situation}
+use Rattle.programs.specs.declared.fault.Fault.{Fault}
+use Rattle.programs.specs.declared.fault.Fault.TheVariants as faults
+use Rattle.programs.specs.Images.{OnImage}
+use Rattle.programs.specs.Lines.{Puts, names_text, commits_text, sound_text}
+use Rattle.programs.specs.Questions.{Question, Says, Refuses, IsSaid, IsRefused, Prints, PrintsFront, PrintsNothing, Shows, ShowsImage, IsUnread, ShowsPath}
+use Rattle.programs.specs.Questions.Question.{Names_at, Bytes_at, Commits, Soundness}
+use Rattle.programs.specs.Status.{IsPathTold}
+use Rattle.programs.proofs.Opening.{begins_on, keeps_self}
+
+-- ---- by the outcome
+
+pub shows_put : {T : Type 0} (question : Question) (outcome : Result T Fault) (capacity : ℕ) (J : List Event) (honest : Bool) (o w : Option (List ℕ)) (bytes : List ℕ) → Puts outcome o w bytes
+    → (IsTrue honest → Once J → IsSaid question capacity J bytes) → Shows question outcome capacity J honest o w
+shows_put question (Ok x) capacity J honest o w bytes puts said = record { bytes = bytes; printed = puts; said = said }
+shows_put question (Err faults.Usage) capacity J honest o w bytes puts said = puts
+shows_put question (Err faults.Path) capacity J honest o w bytes puts said = puts
+shows_put question (Err faults.Socket) capacity J honest o w bytes puts said = puts
+shows_put question (Err (faults.Store fault)) capacity J honest o w bytes puts said = absurd puts
+shows_put question (Err (faults.Stream fault)) capacity J honest o w bytes puts said = record { bytes = bytes; front = puts; said = said }
+
+pub shows_refused : {T : Type 0} (question : Question) (outcome : Result T Fault) (capacity : ℕ) (J : List Event) (honest : Bool) (o : Option (List ℕ)) (fault : StoreFault) → IsErrAnd outcome (λ f. f ≡ faults.Store fault)
+    → (IsTrue honest → Once J → IsOpenRefused capacity (held J) fault ⊎ IsRefused question capacity J fault) → Shows question outcome capacity J honest o o
+shows_refused {T} question (Ok x) capacity J honest o fault is refused = absurd is
+shows_refused {T} question (Err f) capacity J honest o fault is refused =
+    subst (λ (g : Fault). Shows {T = T} question (Err g) capacity J honest o o) (sym is) (record { unwritten = keeps_self o; refused = refused })
+
+-- ---- by what a store says of the state that it knows
+
+module _ (capacity : ℕ) (J : List Event) (store : Store) where
+  abbrev Standing : Type 0
+  Standing = (S : State) × Knows capacity store.capacity J S store
+
+  said_of : (question : Question) (bytes : List ℕ) (known : Standing) → Says question capacity store.capacity (held J) known.0 known.1.stands.at bytes → IsSaid question capacity J bytes
+  said_of question bytes known says = record { volume = store.capacity; state = known.0; stands = known.1.stands; says = says }
+
+  refused_of : (question : Question) (fault : StoreFault) (known : Standing) → Refuses question capacity store.capacity (held J) known.0 known.1.stands.at fault → IsRefused question capacity J fault
+  refused_of question fault known refuses = record { volume = store.capacity; state = known.0; stands = known.1.stands; refuses = refuses }
+
+  module _ (K : List Event) (opened later : Bool) (journal : K ≡ J) (still : IsTrue later → IsTrue opened) (stands : IsTrue opened → Once J → (S : State) × Knows capacity store.capacity J S store) where
+    known_at : IsTrue later → Once J → Standing
+    known_at honest once = stands (still honest) once
+
+    -- what the blocks show, on the journal as the query finds it
+    shown_at : (honest : IsTrue later) (once : Once J) → TreeShows later K store.directories store.at store.vat.entries.items (known_at honest once).0.tree
+    shown_at honest once = let known = known_at honest once in
+        subst (λ (j : List Event). TreeShows later j store.directories store.at store.vat.entries.items known.0.tree) (sym journal) (shows capacity store.capacity J known.0 store known.1 later honest)
+
+    pub names_said : (path : Path) (names : List Listed) (bytes : List ℕ) → ((tree : Tree) → TreeShows later K store.directories store.at store.vat.entries.items tree → told tree (List_ path) ≡ Names (said_names names))
+        → bytes ≡ names_text (said_names names) → IsTrue later → Once J → IsSaid (Names_at path) capacity J bytes
+    names_said path names bytes is text honest once = let known = known_at honest once in
+        said_of (Names_at path) bytes known (said_names names, is known.0.tree (shown_at honest once), text)
+
+    pub names_refused : (path : Path) (fault : StoreFault) → store.is_stopped ≡ false
+        → ((tree : Tree) → TreeShows later K store.directories store.at store.vat.entries.items tree → store.is_stopped ≡ false → QueryRefused (told tree (List_ path)) fault)
+        → IsTrue later → Once J → IsOpenRefused capacity (held J) fault ⊎ IsRefused (Names_at path) capacity J fault
+    names_refused path fault going refused honest once = let known = known_at honest once in
+        inr (refused_of (Names_at path) fault known (lists known.0 path (Err fault) tt (refused known.0.tree (shown_at honest once) going)))
+
+    pub names_short : (path : Path) → IsTrue later → Once J → IsOpenRefused capacity (held J) Memory ⊎ IsRefused (Names_at path) capacity J Memory
+    names_short path honest once = inr (refused_of (Names_at path) Memory (known_at honest once) (inl (inr refl)))
+
+    pub bytes_said : (path : Path) (data_ bytes : List ℕ) → ((tree : Tree) → TreeShows later K store.directories store.at store.vat.entries.items tree → told tree (Get path) ≡ Data data_)
+        → bytes ≡ data_ → IsTrue later → Once J → IsSaid (Bytes_at path) capacity J bytes
+    bytes_said path data_ bytes is same honest once = let known = known_at honest once in
+        said_of (Bytes_at path) bytes known (is known.0.tree (shown_at honest once) ∙ ap (λ (x : List ℕ). Data x) (sym same))
+
+    pub bytes_refused : (path : Path) (fault : StoreFault) → store.is_stopped ≡ false
+        → ((tree : Tree) → TreeShows later K store.directories store.at store.vat.entries.items tree → store.is_stopped ≡ false → QueryRefused (told tree (Get path)) fault)
+        → IsTrue later → Once J → IsOpenRefused capacity (held J) fault ⊎ IsRefused (Bytes_at path) capacity J fault
+    bytes_refused path fault going refused honest once = let known = known_at honest once in
+        inr (refused_of (Bytes_at path) fault known (gets known.0 path (Err fault) tt (refused known.0.tree (shown_at honest once) going)))
+
+    -- the store's address is that of the table's entry with which the state stands
+    here : (honest : IsTrue later) (once : Once J) → store.at ≡ (known_at honest once).1.stands.at
+    here honest once = (known_at honest once).1.at
+
+    knows_here : (size : ℕ) → size ≡ capacity → (honest : IsTrue later) (once : Once J) → Knows size store.capacity K (known_at honest once).0 store
+    knows_here size same honest once = let known = known_at honest once in
+        subst (λ (n : ℕ). Knows n store.capacity K known.0 store) (sym same) (subst (λ (j : List Event). Knows capacity store.capacity j known.0 store) (sym journal) known.1)
+
+    pub commits_said : (size : ℕ) (commits : List Commit) (bytes : List ℕ) → size ≡ capacity → (IsTrue later → IsHistory (held K) store.at commits)
+        → ((volume : ℕ) (T : State) → IsTrue later → Knows size volume K T store → length commits ≡ T.commits + 1)
+        → bytes ≡ commits_text commits → IsTrue later → Once J → IsSaid Commits capacity J bytes
+    commits_said size commits bytes same history all text honest once = let known = known_at honest once in
+        said_of Commits bytes known (
+          commits,
+          subst (λ (a : ℕ). IsHistory (held J) a commits) (here honest once) (subst (λ (j : List Event). IsHistory (held j) store.at commits) journal (history honest)),
+          all store.capacity known.0 honest (knows_here size same honest once),
+          text,
+        )
+
+    pub commits_refused : (fault : StoreFault) → (IsTrue later → IsHistoryRefused (held K) store.at fault)
+        → IsTrue later → Once J → IsOpenRefused capacity (held J) fault ⊎ IsRefused Commits capacity J fault
+    commits_refused fault refused honest once =
+        inr (refused_of Commits fault (known_at honest once)
+        (subst (λ (a : ℕ). IsHistoryRefused (held J) a fault) (here honest once) (subst (λ (j : List Event). IsHistoryRefused (held j) store.at fault) journal (refused honest))))
+
+    pub commits_short : IsTrue later → Once J → IsOpenRefused capacity (held J) Memory ⊎ IsRefused Commits capacity J Memory
+    commits_short honest once = inr (refused_of Commits Memory (known_at honest once) tt)
+
+    pub sound_said : (size n : ℕ) (bytes : List ℕ) → size ≡ capacity
+        → ((volume : ℕ) (T : State) → IsTrue later → Knows size volume K T store → (n ≡ T.commits) × AllStood size volume (held K) n)
+        → bytes ≡ sound_text n → IsTrue later → Once J → IsSaid Soundness capacity J bytes
+    sound_said size n bytes same whole text honest once =
+        let known = known_at honest once in
+        let all = whole store.capacity known.0 honest (knows_here size same honest once) in
+        said_of Soundness bytes known (
+          subst (λ (m : ℕ). AllStood capacity store.capacity (held J) m) all.0
+              (subst (λ (c : ℕ). AllStood c store.capacity (held J) n) same (subst (λ (j : List Event). AllStood size store.capacity (held j) n) journal all.1)),
+          text ∙ ap sound_text all.0,
+        )
+
+    pub sound_refused : (size : ℕ) (fault : StoreFault) → size ≡ capacity → store.is_stopped ≡ false
+        → ((volume : ℕ) (T : State) → IsTrue later → Knows size volume K T store → store.is_stopped ≡ false → IsCheckRefused size volume (held K) T.commits fault)
+        → IsTrue later → Once J → IsOpenRefused capacity (held J) fault ⊎ IsRefused Soundness capacity J fault
+    sound_refused size fault same going refused honest once =
+        let known = known_at honest once in
+        inr (refused_of Soundness fault known
+        (subst (λ (c : ℕ). IsCheckRefused c store.capacity (held J) known.0.commits fault) same
+        (subst (λ (j : List Event). IsCheckRefused size store.capacity (held j) known.0.commits fault) journal (refused store.capacity known.0 honest (knows_here size same honest once) going))))
+
+    pub sound_short : IsTrue later → Once J → IsOpenRefused capacity (held J) Memory ⊎ IsRefused Soundness capacity J Memory
+    sound_short honest once = inr (refused_of Soundness Memory (known_at honest once) tt)
+
+-- ---- on an image
+
+pub shows_image : {T : Type 0} (question : Question) (outcome : Result T Fault) (d : FileDrive) (behind : Situation) (o w : Option (List ℕ)) → (image : List (List ℕ)) × BeginsWith image d → capacity_of d ≡ 450000
+    → behind.journal ≡ journal_of d → Shows question outcome (capacity_of d) (journal_of d) behind.honest o w → ShowsImage question outcome o w
+shows_image question outcome d behind o w begins size journal h =
+    inr (begins_on 450000 (λ before after. (after.journal ≡ before.journal) × Shows question outcome before.capacity before.journal after.honest o w) d behind begins size (journal, h))
+
+pub shows_path : {T : Type 0} (question : Path → Question) (text : List ℕ) (path : Path) (outcome : Result T Fault) (o w : Option (List ℕ)) → IsPath path × (text ≡ path_text path) → ShowsImage (question path) outcome o w → ShowsPath question text outcome o w
+shows_path question text path outcome o w is h = inr (path, is.0, is.1, h)
+
+pub path_unread : {T : Type 0} (question : Path → Question) (text : List ℕ) (fault : PathFault) (outcome : Result T Fault) (o : Option (List ℕ)) → IsErrAnd outcome (IsPathTold fault)
+    → (fault ≡ paths.Path → (path : Path) → IsPath path → text ≡ path_text path → ⊥) → ShowsPath question text outcome o o
+path_unread question text paths.Path (Ok x) o is only = absurd is
+path_unread question text paths.Memory (Ok x) o is only = absurd is
+path_unread question text paths.Path (Err f) o is only = inl (inl (ap (λ (g : Fault). Err g) is, only refl), keeps_self o)
+path_unread question text paths.Memory (Err f) o is only = inl (inr (ap (λ (g : Fault). Err g) is), keeps_self o)

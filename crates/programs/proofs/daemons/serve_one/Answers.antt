@@ -1,0 +1,8 @@
+use Rattle.programs.proofs.Going.{goes_none}
+use Rattle.programs.proofs.daemons.serve_one.Goals as goal
+
+pub returns-then-is_err-clause-goes : goal.returns-then-is_err-clause-goes
+returns-then-is_err-clause-goes g c = goes_none _
+
+pub returns-in-Err-clause-goes : goal.returns-in-Err-clause-goes
+returns-in-Err-clause-goes g c = goes_none _

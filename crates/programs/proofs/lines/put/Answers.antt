@@ -1,0 +1,6 @@
+use Rattle.engine.proofs.Pieces.{keeps_on}
+use Rattle.programs.proofs.Copying.{whole_front}
+use Rattle.programs.proofs.lines.put.Goals as goal
+
+pub returns-in-Err-clause-puts : goal.returns-in-Err-clause-puts
+returns-in-Err-clause-puts g c = whole_front _ _ c.args.bytes.now (keeps_on _ _ _ c.args.bytes.now c.in_ok-put_all.ensures.ok c.flush.ensures.bytes)

@@ -1,0 +1,27 @@
+use Rattle.std.proofs.Common.{List, inl, ap, ◌∙◌}
+use Rattle.request.specs.declared.answer.Listed.{Listed}
+use Rattle.store.specs.Asked.{said_names}
+use Rattle.programs.specs.Lines.{names_text}
+use Rattle.programs.specs.Questions.Question.{Names_at}
+use Rattle.programs.proofs.Printing.{shows_put, shows_refused, names_said, names_refused, names_short}
+use Rattle.programs.proofs.questions.list.Goals as goal
+
+pub returns-in_err-store-clause-shows : goal.returns-in_err-store-clause-shows
+returns-in_err-store-clause-shows g c =
+    shows_refused (Names_at c.args.path.now) c.from_residual.result _ _ _ _ _ c.from_residual.ensures.1 (λ honest once. inl (c.in_err-store.ensures.refused honest))
+
+pub returns-in_err-listing-clause-shows : goal.returns-in_err-listing-clause-shows
+returns-in_err-listing-clause-shows g c =
+    shows_refused (Names_at c.args.path.now) c.from_residual-in_err-listing.result _ _ _ _ _ c.from_residual-in_err-listing.ensures.1
+    (names_refused _ _ c.in_ok-store.store _ _ _ c.in_ok-store.ensures.journal c.in_err-listing.ensures.honest c.in_ok-store.ensures.stands c.args.path.now _ c.in_ok-store.ensures.stopped c.in_err-listing.ensures.refused)
+
+pub returns-in_err-lines-clause-shows : goal.returns-in_err-lines-clause-shows
+returns-in_err-lines-clause-shows g c =
+    shows_refused (Names_at c.args.path.now) c.from_residual-in_err-lines.result _ _ _ _ _ c.from_residual-in_err-lines.ensures.1
+    (names_short _ _ c.in_ok-store.store _ _ _ c.in_ok-store.ensures.journal c.in_ok-listing.ensures.honest c.in_ok-store.ensures.stands c.args.path.now)
+
+pub returns-clause-shows : goal.returns-clause-shows
+returns-clause-shows g c =
+    shows_put (Names_at c.args.path.now) c.put.result _ _ _ _ _ _ c.put.ensures.puts
+    (names_said _ _ c.in_ok-store.store _ _ _ c.in_ok-store.ensures.journal c.in_ok-listing.ensures.honest c.in_ok-store.ensures.stands c.args.path.now c.in_ok-listing.listing _ c.in_ok-listing.ensures.told
+    (c.as_bytes.ensures.value ∙ (c.in_ok-lines.ensures ∙ ap (λ (names : List Listed). names_text (said_names names)) c.names.ensures.names)))

@@ -1,0 +1,13 @@
+use Rattle.std.proofs.Common.{refl, None, true}
+use Rattle.engine.specs.Situation.{situation}
+use Rattle.programs.proofs.Applying.{refused_answers, memory_answers}
+use Rattle.programs.proofs.requests.apply_in_memory.Goals as goal
+
+pub returns-in_err-format-clause-answers : goal.returns-in_err-format-clause-answers
+returns-in_err-format-clause-answers g c = refused_answers c.from_residual.result c.args.capacity _ _ c.from_residual.ensures.0
+
+pub returns-clause-answers : goal.returns-clause-answers
+returns-clause-answers g c =
+    memory_answers c.apply.result c.args.capacity c.new-drive.result.capacity c.format.new.drive.capacity _ c.new-drive.result.events.list.items _ _
+    (situation None c.apply.new.drive.events.list.items c.apply.new.drive.failures c.apply.new.drive.capacity true) _ _ _ _
+    c.requires c.new-drive.ensures.capacity c.format.ensures.capacity c.new-drive.ensures.journal c.in_ok-format.ensures.ok refl c.apply.ensures.applies

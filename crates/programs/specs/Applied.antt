@@ -1,0 +1,79 @@
+-- What the messages of the input became, and what a user sees of it who gave them a volume in memory.
+use Rattle.std.specs.Prelude.{◌≡◌, ◌⊎◌, ℕ, List, Option, None, Result, Ok, Err}
+use Rattle.std.specs.Io.KnownBytes.{Appends, Consumes, IsAtEnd}
+use Rattle.request.specs.declared.answer.Answer.{Answer}
+use Rattle.request.specs.declared.message.Message.{Message}
+use Rattle.request.specs.Frames.{IsIdle, MessagesAre}
+use Rattle.model.specs.Session.{Request, formatted}
+use Rattle.model.specs.Runs.{AllNew, EachOnce}
+use Rattle.medium.specs.Commit.{need}
+use Rattle.medium.specs.Runs.{Fits}
+use Rattle.udf.specs.Udf.{spelled}
+use Rattle.store.specs.declared.store.Store.{Store}
+use Rattle.engine.specs.Situation.{Situation}
+use Rattle.engine.specs.Streams.{PutsFront}
+use Rattle.engine.specs.Delivered.{with_store}
+use Rattle.engine.specs.Headline.{said_answers}
+use Rattle.engine.specs.Served.{ServesAll, ServesSome, brought, frames_of}
+use Rattle.programs.specs.declared.fault.Fault.{Fault}
+use Rattle.programs.specs.Images.{OnImage, Unopened}
+
+-- All messages of the input were answered, or the first ones. Which store is open behind them is not told.
+abbrev pub AppliesAll : Situation → Situation → Option (List ℕ) → Option (List ℕ) → Option (List ℕ) → Option (List ℕ) → Type 0
+AppliesAll before behind input left output written = (kept : Option Store) × ServesAll before (with_store kept behind) input left output written
+
+abbrev pub AppliesSome : Situation → Situation → Option (List ℕ) → Option (List ℕ) → Option (List ℕ) → Option (List ℕ) → Type 0
+AppliesSome before behind input left output written = (kept : Option Store) × ServesSome before (with_store kept behind) input left output written
+
+-- by the outcome
+abbrev pub Applies : {T : Type 0} → Result T Fault → Situation → Situation → Option (List ℕ) → Option (List ℕ) → Option (List ℕ) → Option (List ℕ) → Type 0
+Applies (Ok x) before behind input left output written = AppliesAll before behind input left output written
+Applies (Err fault) before behind input left output written = AppliesSome before behind input left output written
+
+-- the same on an image
+abbrev pub AppliesToImage : {T : Type 0} → Result T Fault → Option (List ℕ) → Option (List ℕ) → Option (List ℕ) → Option (List ℕ) → Type 0
+AppliesToImage outcome input left output written =
+    (Unopened outcome output written × (left ≡ input)) ⊎ OnImage 450000 (λ before behind. Applies outcome before behind input left output written)
+
+-- ---- a volume in memory, whose drive is honest: no premise is left
+
+-- A run from a new volume of this capacity, formatted at moment 0, may give these messages these answers: each by a row, from
+-- the state after the requests that were committed before it. A new volume is its root alone, in 262 blocks.
+pub record IsRunOfNew (capacity : ℕ) (messages : List Message) (answers : List Answer) : Type 0 where
+  pub end : ℕ
+  pub marks : List ℕ
+  pub counts : List ℕ
+  pub committed : List Request
+  pub fits : Fits (need spelled) capacity end (formatted 0) 262 0 (brought messages) (said_answers answers) marks counts committed
+  pub new : AllNew (formatted 0) committed
+  pub once : EachOnce committed
+
+-- The messages of the bytes that were read, up to the input's end or a frame that is too long, were answered so, and what
+-- was written is the answers' frames, in order.
+pub record AnswersAll (capacity : ℕ) (input left output written : Option (List ℕ)) : Type 0 where
+  pub bytes : List ℕ
+  pub messages : List Message
+  pub answers : List Answer
+  pub reader : Option (List ℕ)
+  pub consumed : Consumes input left bytes
+  pub messages_are : MessagesAre bytes messages reader
+  pub run : IsRunOfNew capacity messages answers
+  pub told : Appends output written (frames_of answers)
+  pub idle : IsIdle reader
+  pub ends : IsAtEnd left ⊎ (reader ≡ None)
+
+-- The first messages of the bytes that were read were answered so, and a front of the answers' frames was written.
+pub record AnswersSome (capacity : ℕ) (input left output written : Option (List ℕ)) : Type 0 where
+  pub bytes : List ℕ
+  pub messages : List Message
+  pub answers : List Answer
+  pub reader : Option (List ℕ)
+  pub consumed : Consumes input left bytes
+  pub messages_are : MessagesAre bytes messages reader
+  pub run : IsRunOfNew capacity messages answers
+  pub front : PutsFront output written (frames_of answers)
+
+-- by the outcome
+abbrev pub AnswersInMemory : {T : Type 0} → Result T Fault → ℕ → Option (List ℕ) → Option (List ℕ) → Option (List ℕ) → Option (List ℕ) → Type 0
+AnswersInMemory (Ok x) capacity input left output written = AnswersAll capacity input left output written
+AnswersInMemory (Err fault) capacity input left output written = AnswersSome capacity input left output written

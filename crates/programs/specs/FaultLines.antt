@@ -1,0 +1,75 @@
+-- How a fault is said: as its number and its name.
+use Rattle.std.specs.Prelude.{◌≡◌, ℕ, List, [], ◌++◌, codes, decimal, Option, Some, None, Result, Ok, Err}
+use Rattle.engine.specs.declared.serving.ServeFault.{ServeFault}
+use Rattle.engine.specs.declared.serving.ServeFault.TheVariants as streams
+use Rattle.engine.specs.Streams.{PutsFront}
+use Rattle.recover.specs.declared.fault.StoreFault.{StoreFault}
+use Rattle.recover.specs.declared.fault.StoreFault.TheVariants as stores
+use Rattle.programs.specs.declared.fault.Fault.{Fault}
+use Rattle.programs.specs.declared.fault.Fault.TheVariants.{Usage, Path, Socket, Store, Stream}
+
+abbrev pub stream_name : ServeFault → List ℕ
+stream_name streams.Read = codes "91 Read"
+stream_name streams.Write = codes "92 Write"
+stream_name streams.Memory = codes "93 Memory"
+
+abbrev pub store_name : StoreFault → List ℕ
+store_name stores.NotBlank = codes "61 NotBlank"
+store_name stores.Label = codes "62 Label"
+store_name stores.Small = codes "63 Small"
+store_name stores.Device = codes "64 Device"
+store_name stores.Memory = codes "65 Memory"
+store_name stores.NotFormatted = codes "66 NotFormatted"
+store_name (stores.Damaged block cause) = codes "67 Damaged"
+store_name stores.Full = codes "68 Full"
+store_name stores.Stopped = codes "69 Stopped"
+store_name stores.NoCommit = codes "70 NoCommit"
+store_name stores.NotFound = codes "96 NotFound"
+store_name stores.IsDirectory = codes "97 IsDirectory"
+store_name stores.NotDirectory = codes "98 NotDirectory"
+
+abbrev pub fault_name : Fault → List ℕ
+fault_name Usage = codes "usage"
+fault_name Path = codes "55 Path"
+fault_name Socket = codes "94 Socket"
+fault_name (Store fault) = store_name fault
+fault_name (Stream fault) = stream_name fault
+
+-- what is damaged, and how
+abbrev pub store_damage : StoreFault → Option (ℕ × ℕ)
+store_damage stores.NotBlank = None
+store_damage stores.Label = None
+store_damage stores.Small = None
+store_damage stores.Device = None
+store_damage stores.Memory = None
+store_damage stores.NotFormatted = None
+store_damage (stores.Damaged block cause) = Some (block, cause)
+store_damage stores.Full = None
+store_damage stores.Stopped = None
+store_damage stores.NoCommit = None
+store_damage stores.NotFound = None
+store_damage stores.IsDirectory = None
+store_damage stores.NotDirectory = None
+
+abbrev pub fault_damage : Fault → Option (ℕ × ℕ)
+fault_damage Usage = None
+fault_damage Path = None
+fault_damage Socket = None
+fault_damage (Store fault) = store_damage fault
+fault_damage (Stream fault) = None
+
+abbrev pub place_text : ℕ → ℕ → List ℕ
+place_text block cause = codes " block " ++ decimal block ++ codes " cause " ++ decimal cause
+
+abbrev pub damage_text : Option (ℕ × ℕ) → List ℕ
+damage_text None = []
+damage_text (Some damage) = place_text damage.0 damage.1
+
+-- a fault in a line of the program with this name
+abbrev pub fault_line : List ℕ → Fault → List ℕ
+fault_line name fault = name ++ codes ": " ++ fault_name fault ++ damage_text (fault_damage fault) ++ codes "\n"
+
+-- Of an outcome that is a fault its line was said, or a front where the stream failed; of another nothing.
+abbrev pub Reports : {T : Type 0} → List ℕ → Result T Fault → Option (List ℕ) → Option (List ℕ) → Type 0
+Reports name (Ok x) errors told = told ≡ errors
+Reports name (Err fault) errors told = PutsFront errors told (fault_line name fault)

@@ -1,0 +1,100 @@
+-- What the commands that read print of the state that stands, and why they do not.
+use Rattle.std.specs.Prelude.{◌≡◌, ◌⊎◌, ℕ, ◌+◌, Bool, IsTrue, List, [], length, Option, Result, Ok, Err}
+use Rattle.std.specs.Io.KnownBytes.{Appends, Keeps}
+use Rattle.drive.specs.Journal.{Event, Once, held}
+use Rattle.model.specs.Session.{State}
+use Rattle.model.specs.Tree.{Name, Path}
+use Rattle.medium.specs.Volume.{Stands}
+use Rattle.medium.specs.Runs.{told}
+use Rattle.medium.specs.Runs.Answer.{Data, Names}
+use Rattle.medium.specs.Runs.Query.{Get, List_}
+use Rattle.udf.specs.Udf.{udf}
+use Rattle.request.specs.Path.{IsPath, path_text}
+use Rattle.recover.specs.declared.fault.StoreFault.{StoreFault}
+use Rattle.recover.specs.declared.fault.StoreFault.TheVariants.{Memory}
+use Rattle.store.specs.declared.history.Commit.{Commit}
+use Rattle.store.specs.Calls.{GetRefuses, ListRefuses}
+use Rattle.store.specs.History.{IsHistory, IsHistoryRefused}
+use Rattle.store.specs.Opened.{IsOpenRefused}
+use Rattle.store.specs.Past.{AllStood, IsCheckRefused}
+use Rattle.engine.specs.Streams.{PutsFront}
+use Rattle.programs.specs.declared.fault.Fault.{Fault}
+use Rattle.programs.specs.declared.fault.Fault.TheVariants as faults
+use Rattle.programs.specs.Images.{OnImage, Unopened}
+use Rattle.programs.specs.Lines.{names_text, commits_text, sound_text}
+
+-- what is asked of a volume
+pub data Question : Type 0 where
+  Names_at : (path : Path) → Question
+  Bytes_at : (path : Path) → Question
+  Commits : Question
+  Soundness : Question
+
+-- The bytes say what holds of a state that stands on the medium, with its table's entry at an address.
+abbrev pub Says : Question → ℕ → ℕ → List (List ℕ) → State → ℕ → List ℕ → Type 0
+Says (Names_at path) capacity volume medium S at bytes = (names : List (Bool × Name)) × (told S.tree (List_ path) ≡ Names names) × (bytes ≡ names_text names)
+Says (Bytes_at path) capacity volume medium S at bytes = told S.tree (Get path) ≡ Data bytes
+Says Commits capacity volume medium S at bytes = (commits : List Commit) × IsHistory medium at commits × (length commits ≡ S.commits + 1) × (bytes ≡ commits_text commits)
+Says Soundness capacity volume medium S at bytes = AllStood capacity volume medium S.commits × (bytes ≡ sound_text S.commits)
+
+-- why a state that stands gives no answer
+abbrev pub Refuses : Question → ℕ → ℕ → List (List ℕ) → State → ℕ → StoreFault → Type 0
+Refuses (Names_at path) capacity volume medium S at fault = ListRefuses (told S.tree (List_ path)) fault
+Refuses (Bytes_at path) capacity volume medium S at fault = GetRefuses (told S.tree (Get path)) fault
+Refuses Commits capacity volume medium S at fault = IsHistoryRefused medium at fault
+Refuses Soundness capacity volume medium S at fault = IsCheckRefused capacity volume medium S.commits fault
+
+-- a state stands, and the bytes say it
+pub record IsSaid (question : Question) (capacity : ℕ) (journal : List Event) (bytes : List ℕ) : Type 0 where
+  pub volume : ℕ
+  pub state : State
+  pub stands : Stands udf capacity volume (held journal) state
+  pub says : Says question capacity volume (held journal) state stands.at bytes
+
+-- a state stands, and gives no answer
+pub record IsRefused (question : Question) (capacity : ℕ) (journal : List Event) (fault : StoreFault) : Type 0 where
+  pub volume : ℕ
+  pub state : State
+  pub stands : Stands udf capacity volume (held journal) state
+  pub refuses : Refuses question capacity volume (held journal) state stands.at fault
+
+-- The bytes were printed, all of them or a front. On an honest drive they say what holds of the state that stands.
+pub record Prints (question : Question) (capacity : ℕ) (journal : List Event) (honest : Bool) (output written : Option (List ℕ)) : Type 0 where
+  pub bytes : List ℕ
+  pub printed : Appends output written bytes
+  pub said : IsTrue honest → Once journal → IsSaid question capacity journal bytes
+
+pub record PrintsFront (question : Question) (capacity : ℕ) (journal : List Event) (honest : Bool) (output written : Option (List ℕ)) : Type 0 where
+  pub bytes : List ℕ
+  pub front : PutsFront output written bytes
+  pub said : IsTrue honest → Once journal → IsSaid question capacity journal bytes
+
+-- Nothing was printed. On an honest drive none stands, or the one that does gives no answer, or the drive failed or memory was short.
+pub record PrintsNothing (question : Question) (capacity : ℕ) (journal : List Event) (honest : Bool) (fault : StoreFault) (output written : Option (List ℕ)) : Type 0 where
+  pub unwritten : Keeps output written
+  pub refused : IsTrue honest → Once journal → IsOpenRefused capacity (held journal) fault ⊎ IsRefused question capacity journal fault
+
+-- by the outcome
+abbrev pub Shows : {T : Type 0} → Question → Result T Fault → ℕ → List Event → Bool → Option (List ℕ) → Option (List ℕ) → Type 0
+Shows question (Ok x) capacity journal honest output written = Prints question capacity journal honest output written
+Shows question (Err faults.Usage) capacity journal honest output written = ⊥
+Shows question (Err faults.Path) capacity journal honest output written = ⊥
+Shows question (Err faults.Socket) capacity journal honest output written = ⊥
+Shows question (Err (faults.Store fault)) capacity journal honest output written = PrintsNothing question capacity journal honest fault output written
+Shows question (Err (faults.Stream fault)) capacity journal honest output written = PrintsFront question capacity journal honest output written
+
+-- the same on an image, to which nothing is written
+abbrev pub ShowsImage : {T : Type 0} → Question → Result T Fault → Option (List ℕ) → Option (List ℕ) → Type 0
+ShowsImage question outcome output written =
+    Unopened outcome output written
+    ⊎ OnImage 450000 (λ before behind. (behind.journal ≡ before.journal) × Shows question outcome before.capacity before.journal behind.honest output written)
+
+-- The text is that of no path, or there was no memory for it.
+abbrev pub IsUnread : {T : Type 0} → List ℕ → Result T Fault → Type 0
+IsUnread text outcome = ((outcome ≡ Err faults.Path) × ((path : Path) → IsPath path → text ≡ path_text path → ⊥)) ⊎ (outcome ≡ Err (faults.Store Memory))
+
+-- the same of a path by its text
+abbrev pub ShowsPath : {T : Type 0} → (Path → Question) → List ℕ → Result T Fault → Option (List ℕ) → Option (List ℕ) → Type 0
+ShowsPath question text outcome output written =
+    (IsUnread text outcome × Keeps output written)
+    ⊎ ((path : Path) × IsPath path × (text ≡ path_text path) × ShowsImage (question path) outcome output written)

@@ -1,0 +1,52 @@
+-- What the words of `udfburn` ask for, by their bytes, and what is done of it.
+use Rattle.std.specs.Prelude.{◌≡◌, ℕ, List, codes, Option, Result}
+use Rattle.words.specs.declared.command.Command.{Command}
+use Rattle.words.specs.declared.command.Command.TheVariants as commands
+use Rattle.words.specs.declared.command.Medium.TheVariants.{Image, Memory}
+use Rattle.programs.specs.declared.fault.Fault.{Fault}
+use Rattle.programs.specs.Applied.{AppliesToImage, AnswersInMemory}
+use Rattle.programs.specs.Copies.{Sends}
+use Rattle.programs.specs.FaultLines.{Reports}
+use Rattle.programs.specs.NewVolumes.{MakesOnImage}
+use Rattle.programs.specs.Questions.{ShowsImage, ShowsPath}
+use Rattle.programs.specs.Questions.Question.{Names_at, Bytes_at, Commits, Soundness}
+use Rattle.programs.specs.Status.{status_of}
+
+pub data Task : Type 0 where
+  Format : (label : List ℕ) (moment capacity : ℕ) → Task
+  Apply_to_image : Task
+  Apply_in_memory : (capacity : ℕ) → Task
+  List_names : (path : List ℕ) → Task
+  Get_bytes : (path : List ℕ) → Task
+  Log : Task
+  Check : Task
+  Send : Task
+
+-- which file or socket is meant makes no difference that a clause could name
+abbrev pub task_of : Command → Task
+task_of (commands.Format image label moment capacity) = Format label.now moment capacity
+task_of (commands.Apply (Image path)) = Apply_to_image
+task_of (commands.Apply (Memory capacity)) = Apply_in_memory capacity
+task_of (commands.List image path) = List_names path.now
+task_of (commands.Get image path) = Get_bytes path.now
+task_of (commands.Log image) = Log
+task_of (commands.Check image) = Check
+task_of (commands.Send socket) = Send
+
+-- what was done, by the outcome
+abbrev pub Does : {T : Type 0} → Task → Result T Fault → Option (List ℕ) → Option (List ℕ) → Option (List ℕ) → Option (List ℕ) → Type 0
+Does (Format label moment capacity) outcome input left output written = (left ≡ input) × MakesOnImage label moment capacity outcome output written
+Does Apply_to_image outcome input left output written = AppliesToImage outcome input left output written
+Does (Apply_in_memory capacity) outcome input left output written = AnswersInMemory outcome capacity input left output written
+Does (List_names path) outcome input left output written = (left ≡ input) × ShowsPath Names_at path outcome output written
+Does (Get_bytes path) outcome input left output written = (left ≡ input) × ShowsPath Bytes_at path outcome output written
+Does Log outcome input left output written = (left ≡ input) × ShowsImage Commits outcome output written
+Does Check outcome input left output written = (left ≡ input) × ShowsImage Soundness outcome output written
+Does Send outcome input left output written = Sends outcome input left output written
+
+-- There is an outcome by which that was done. It has this status, and a fault's line was said.
+pub record Ends (task : Task) (status : ℕ) (input left output written errors told : Option (List ℕ)) : Type 0 where
+  pub outcome : Result (Unit {0}) Fault
+  pub does : Does task outcome input left output written
+  pub status_is : status ≡ status_of outcome
+  pub reports : Reports (codes "udfburn") outcome errors told

@@ -1,0 +1,78 @@
+//! What is printed, as docs/OPERATIONS.md has it. A text is made whole before any of it is written.
+
+ghost use Rattle.std.specs.Prelude.{◌≡◌, ◌++◌, IfOk, IfErr, OnOk, string_bytes};
+ghost use Rattle.store.specs.Asked.{said_listed, said_names};
+ghost use Rattle.programs.specs.Lines.{Puts, name_line, names_text, commit_line, commits_text, sound_text};
+ghost use Rattle.programs.specs.Status.{IsRefusal};
+
+use crate::fault::Fault;
+use engine::{ServeFault, put_all};
+use request::{Listed, NodeKind};
+use std::alloc::{AllocError, Global};
+use std::io::Write;
+use store::Commit;
+
+/// Names, each in a line behind a letter that tells its kind.
+pub(crate) fn name_lines(alloc: Global, names: &[Listed]) -> Result<String, AllocError>
+    ensures { IfOk result (λ text. string_bytes text ≡ names_text (said_names names.now)) }
+{
+    let mut text = String::new(alloc);
+    for listed in names {
+        push_name(&mut text, listed)?;
+    }
+    Ok(text)
+}
+
+fn push_name(text: &mut String, listed: &Listed) -> Result<(), AllocError>
+    ensures { OnOk result (string_bytes text.new ≡ string_bytes text.old ++ name_line (said_listed listed.now)) }
+{
+    let letter = match listed.kind {
+        NodeKind::File => "f",
+        NodeKind::Directory => "d",
+    };
+    let name = listed.name.as_str();
+    writeln!(text, "{letter} {name}")
+}
+
+/// Commits, each in a line: its number, the address of its table's entry, and how many files and directories the tree had
+/// behind it.
+pub(crate) fn commit_lines(alloc: Global, commits: &[Commit]) -> Result<String, AllocError>
+    ensures { IfOk result (λ text. string_bytes text ≡ commits_text commits.now) }
+{
+    let mut text = String::new(alloc);
+    for commit in commits {
+        push_commit(&mut text, *commit)?;
+    }
+    Ok(text)
+}
+
+fn push_commit(text: &mut String, told: Commit) -> Result<(), AllocError>
+    ensures { OnOk result (string_bytes text.new ≡ string_bytes text.old ++ commit_line told) }
+{
+    let Commit {
+        commit,
+        at,
+        files,
+        directories,
+    } = told;
+    writeln!(text, "{commit} {at} {files} {directories}")
+}
+
+/// How many commits there are, where all is sound.
+pub(crate) fn sound_line(alloc: Global, commits: u32) -> Result<String, AllocError>
+    ensures { IfOk result (λ text. string_bytes text ≡ sound_text commits) }
+{
+    format!(in alloc; "sound {commits}\n")
+}
+
+/// Writes the bytes, and all that waits in a buffer.
+pub(crate) fn put<O: Write>(output: &mut O, bytes: &[u8]) -> Result<(), Fault>
+    ensures refusal { IfErr result IsRefusal }
+    ensures puts { Puts result (O.contents output.old) (O.contents output.new) bytes.now }
+{
+    put_all(output, bytes)?;
+    match output.flush() {
+        Ok(()) => Ok(()),
+        Err(_) => Err(Fault::Stream(ServeFault::Write)),
+    }
+}

@@ -1,0 +1,134 @@
+//! What is printed of the volume on an image. Nothing is written to it.
+
+ghost use Rattle.std.specs.Prelude.{◌≡◌, IfErr, IsTrue};
+ghost use Rattle.programs.specs.Questions.{Shows, ShowsImage, ShowsPath};
+ghost use Rattle.programs.specs.Questions.Question.{Names_at, Bytes_at, Commits, Soundness};
+ghost use Rattle.programs.specs.Status.{IsRefusal};
+
+use crate::fault::Fault;
+use crate::images::read_image;
+use crate::lines::{commit_lines, name_lines, put, sound_line};
+use drive::Drive;
+use request::Path;
+use std::alloc::Global;
+use std::fs::{File, Files};
+use std::io::Write;
+use store::Store;
+
+/// The names in a directory of the volume on an image.
+pub(crate) fn list_image<R: Files<File = File> + AllocGlobal, O: Write>(
+    rt: &R,
+    image: &str,
+    path: &str,
+    output: &mut O,
+) -> Result<(), Fault>
+    ensures refusal { IfErr result IsRefusal }
+    ensures shows { ShowsPath Names_at path.now result (O.contents output.old) (O.contents output.new) }
+{
+    let path = Path::parse(rt.alloc(), path)?;
+    let mut drive = read_image(rt, image)?;
+    list(rt.alloc(), &mut drive, &path, output)
+}
+
+/// The bytes of a file of the volume on an image.
+pub(crate) fn get_image<R: Files<File = File> + AllocGlobal, O: Write>(
+    rt: &R,
+    image: &str,
+    path: &str,
+    output: &mut O,
+) -> Result<(), Fault>
+    ensures refusal { IfErr result IsRefusal }
+    ensures shows { ShowsPath Bytes_at path.now result (O.contents output.old) (O.contents output.new) }
+{
+    let path = Path::parse(rt.alloc(), path)?;
+    let mut drive = read_image(rt, image)?;
+    get(rt.alloc(), &mut drive, &path, output)
+}
+
+/// The commits of the volume on an image.
+pub(crate) fn log_image<R: Files<File = File> + AllocGlobal, O: Write>(
+    rt: &R,
+    image: &str,
+    output: &mut O,
+) -> Result<(), Fault>
+    ensures refusal { IfErr result IsRefusal }
+    ensures shows { ShowsImage Commits result (O.contents output.old) (O.contents output.new) }
+{
+    let mut drive = read_image(rt, image)?;
+    log(rt.alloc(), &mut drive, output)
+}
+
+/// Whether the state after each commit stands, on an image.
+pub(crate) fn check_image<R: Files<File = File> + AllocGlobal, O: Write>(
+    rt: &R,
+    image: &str,
+    output: &mut O,
+) -> Result<(), Fault>
+    ensures refusal { IfErr result IsRefusal }
+    ensures shows { ShowsImage Soundness result (O.contents output.old) (O.contents output.new) }
+{
+    let mut drive = read_image(rt, image)?;
+    check(rt.alloc(), &mut drive, output)
+}
+
+/// The names in a directory, each in a line behind a letter that tells its kind.
+fn list<D: Drive, O: Write>(
+    alloc: Global,
+    drive: &mut D,
+    path: &Path,
+    output: &mut O,
+) -> Result<(), Fault>
+    ensures refusal { IfErr result IsRefusal }
+    ensures shows { Shows (Names_at path.now) result (D.capacity drive.old) (D.journal drive.old) (D.honest drive.new) (O.contents output.old) (O.contents output.new) }
+    ensures journal { D.journal drive.new ≡ D.journal drive.old }
+    ensures honest { IsTrue (D.honest drive.new) → IsTrue (D.honest drive.old) }
+{
+    let mut store = Store::open(alloc, drive)?;
+    let listing = store.list(alloc, drive, path)?;
+    let lines = name_lines(alloc, listing.names())?;
+    put(output, lines.as_bytes())
+}
+
+/// The bytes of a file.
+fn get<D: Drive, O: Write>(
+    alloc: Global,
+    drive: &mut D,
+    path: &Path,
+    output: &mut O,
+) -> Result<(), Fault>
+    ensures refusal { IfErr result IsRefusal }
+    ensures shows { Shows (Bytes_at path.now) result (D.capacity drive.old) (D.journal drive.old) (D.honest drive.new) (O.contents output.old) (O.contents output.new) }
+    ensures journal { D.journal drive.new ≡ D.journal drive.old }
+    ensures honest { IsTrue (D.honest drive.new) → IsTrue (D.honest drive.old) }
+{
+    let mut store = Store::open(alloc, drive)?;
+    let data = store.get(alloc, drive, path)?;
+    put(output, data.as_slice())
+}
+
+/// The commits, the newest first, each in a line: its number, the address of its table's entry, and how many files and
+/// directories the tree had behind it.
+fn log<D: Drive, O: Write>(alloc: Global, drive: &mut D, output: &mut O) -> Result<(), Fault>
+    ensures refusal { IfErr result IsRefusal }
+    ensures shows { Shows Commits result (D.capacity drive.old) (D.journal drive.old) (D.honest drive.new) (O.contents output.old) (O.contents output.new) }
+    ensures journal { D.journal drive.new ≡ D.journal drive.old }
+    ensures honest { IsTrue (D.honest drive.new) → IsTrue (D.honest drive.old) }
+{
+    let store = Store::open(alloc, drive)?;
+    let commits = store.history(alloc, drive)?;
+    let lines = commit_lines(alloc, &commits)?;
+    put(output, lines.as_bytes())
+}
+
+/// How many commits there are, where the state after each of them stands.
+fn check<D: Drive, O: Write>(alloc: Global, drive: &mut D, output: &mut O) -> Result<(), Fault>
+    ensures refusal { IfErr result IsRefusal }
+    ensures shows { Shows Soundness result (D.capacity drive.old) (D.journal drive.old) (D.honest drive.new) (O.contents output.old) (O.contents output.new) }
+    ensures journal { D.journal drive.new ≡ D.journal drive.old }
+    ensures honest { IsTrue (D.honest drive.new) → IsTrue (D.honest drive.old) }
+{
+    let store = Store::open(alloc, drive)?;
+    let commits = store.check(alloc, drive)?;
+    let line = sound_line(alloc, commits)?;
+    put(output, line.as_bytes())
+}

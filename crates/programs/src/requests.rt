@@ -1,0 +1,69 @@
+//! The messages of the input, answered in turn on a volume.
+
+ghost use Rattle.std.specs.Prelude.{◌≤◌, IfErr};
+ghost use Rattle.engine.specs.Situation.{situation};
+ghost use Rattle.programs.specs.Applied.{Applies, AppliesToImage, AnswersInMemory};
+ghost use Rattle.programs.specs.Status.{IsRefusal};
+
+use crate::fault::Fault;
+use crate::images::open_image;
+use drive::{Drive, MemDrive};
+use engine::{Engine, serve};
+use std::alloc::Global;
+use std::fs::{File, Files};
+use std::io::{Read, Write};
+use store::format;
+
+/// The label of a volume in memory.
+const MEMORY_LABEL: &str = "MEM";
+
+/// Answers the messages of the input on the volume of an image.
+pub(crate) fn apply_to_image<R, I, O>(
+    rt: &R,
+    image: &str,
+    input: &mut I,
+    output: &mut O,
+) -> Result<(), Fault>
+where
+    R: Files<File = File> + AllocGlobal,
+    I: Read,
+    O: Write,
+    ensures refusal { IfErr result IsRefusal }
+    ensures applies { AppliesToImage result (I.remaining input.old) (I.remaining input.new) (O.contents output.old) (O.contents output.new) }
+{
+    let mut drive = open_image(rt, image)?;
+    apply(rt.alloc(), &mut drive, input, output)
+}
+
+/// Answers the messages of the input on a new volume in memory.
+pub(crate) fn apply_in_memory<I: Read, O: Write>(
+    alloc: Global,
+    capacity: u32,
+    input: &mut I,
+    output: &mut O,
+) -> Result<(), Fault>
+    requires { capacity ≤ 450_000 }
+    ensures refusal { IfErr result IsRefusal }
+    ensures answers { AnswersInMemory result capacity (I.remaining input.old) (I.remaining input.new) (O.contents output.old) (O.contents output.new) }
+{
+    let mut drive = MemDrive::new(alloc, capacity, Vec::new(alloc));
+    format(alloc, &mut drive, MEMORY_LABEL, 0)?;
+    apply(alloc, &mut drive, input, output)
+}
+
+/// Answers the messages of the input.
+fn apply<D: Drive, I: Read, O: Write>(
+    alloc: Global,
+    drive: &mut D,
+    input: &mut I,
+    output: &mut O,
+) -> Result<(), Fault>
+    ensures refusal { IfErr result IsRefusal }
+    ensures applies { Applies result (situation None (D.journal drive.old) (D.failures drive.old) (D.capacity drive.old) (D.honest drive.old))
+        (situation None (D.journal drive.new) (D.failures drive.new) (D.capacity drive.new) (D.honest drive.new))
+        (I.remaining input.old) (I.remaining input.new) (O.contents output.old) (O.contents output.new) }
+{
+    let mut engine = Engine::new();
+    serve(alloc, input, output, &mut engine, drive)?;
+    Ok(())
+}
