@@ -145,23 +145,23 @@ pub returns-in_err-new-clause-reads : goal.returns-in_err-new-clause-reads
 returns-in_err-new-clause-reads g c =
     let p = err_from_is_err_and c.from_residual-in_err-new.result c.from_residual-in_err-new.ensures.1 in
     let reads : Reads g.D.Drive 0 c.args.drive.now c.next.new.self = record {
-          journal = c.next.ensures.journal;
-          capacity = c.next.ensures.capacity;
-          failures = λ few. omega (arith, c.in-Ok.ensures.failures);
-          misreads = omega (arith, c.next.ensures.misreads);
-          honest = subst IsTrue c.next.ensures.honest;
-          stays = λ same. subst IsTrue (sym c.next.ensures.honest);
-        } in
+      journal = c.next.ensures.journal;
+      capacity = c.next.ensures.capacity;
+      failures = λ few. omega (arith, c.in-Ok.ensures.failures);
+      misreads = omega (arith, c.next.ensures.misreads);
+      honest = subst IsTrue c.next.ensures.honest;
+      stays = λ same. subst IsTrue (sym c.next.ensures.honest);
+    } in
     rw (p.1, p.2) reads
 
 pub returns-clause-reads : goal.returns-clause-reads
 returns-clause-reads g c =
     let reads : Reads g.D.Drive 0 c.args.drive.now c.next.new.self = record {
-          journal = c.next.ensures.journal;
-          capacity = c.next.ensures.capacity;
-          failures = λ few. omega (arith, c.in-Ok.ensures.failures);
-          misreads = omega (arith, c.next.ensures.misreads);
-          honest = subst IsTrue c.next.ensures.honest;
-          stays = λ same. subst IsTrue (sym c.next.ensures.honest);
-        } in
+      journal = c.next.ensures.journal;
+      capacity = c.next.ensures.capacity;
+      failures = λ few. omega (arith, c.in-Ok.ensures.failures);
+      misreads = omega (arith, c.next.ensures.misreads);
+      honest = subst IsTrue c.next.ensures.honest;
+      stays = λ same. subst IsTrue (sym c.next.ensures.honest);
+    } in
     reads
