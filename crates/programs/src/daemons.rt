@@ -1,6 +1,7 @@
 //! The program `udfburnd`.
 
 ghost use Rattle.std.specs.Prelude.{◌≡◌, ◌≤◌, map, IfErr, OnOk};
+ghost use Rattle.drive.specs.Reads.{Follows};
 ghost use Rattle.engine.specs.Situation.{IsReady, seen_on, situation};
 ghost use Rattle.words.specs.Daemon.{AsksDaemon};
 ghost use Rattle.programs.specs.Connections.{GoesOn, AreOneRun};
@@ -133,6 +134,7 @@ pub fn serve_one<D: Drive>(
 ) -> Result<(), Fault>
     requires { IsReady (seen_on D.Drive engine.old drive.old) }
     ensures ready { IsReady (seen_on D.Drive engine.new drive.new) }
+    ensures lent { Follows D.Drive 0 drive.old drive.new }
     // Messages were answered, and nothing else was done.
     ensures goes { GoesOn (seen_on D.Drive engine.old drive.old) (seen_on D.Drive engine.new drive.new) }
     ensures refusal { IfErr result IsRefusal }

@@ -88,7 +88,6 @@ pub fn state_sharing<D: Drive>(
 }
 
 /// What stands there but for the tree, beside the address of the first block of the table's data.
-#[tactic(auto, using(drive::proofs::Reading::reads_then))]
 fn described<D: Drive>(
     alloc: Global,
     drive: &mut D,

@@ -73,7 +73,6 @@ pub(crate) struct PlacedTable {
 
 impl Store {
     /// Plans a commit. All memory that it needs is taken here.
-    #[tactic(auto, using(drive::proofs::Reading::reads_then))]
     pub(crate) fn plan<'r, D: Drive>(
         &self,
         alloc: Global,
