@@ -1,19 +1,17 @@
 -- What `apply` makes of its input, and what a user sees of it where the volume is in memory.
-use Rattle.std.proofs.Common.{◌≡◌, ℕ, ◌+◌, ◌≤◌, min, List, [], ◌∷◌, ◌++◌, length, Bool, true, false, Option, Some, None, Result, Ok, Err, refl, sym, ap, ◌∙◌, subst, arith, drop, IsTrue, IsErr, rules, inr}
+use Rattle.std.proofs.Common.{◌≡◌, ℕ, ◌≤◌, min, List, [], length, Bool, true, false, Option, Some, None, Result, Ok, Err, refl, sym, ap, ◌∙◌, subst, arith, drop, IsTrue, IsErr, rules, inr}
 use Rattle.std.proofs.lemmas.Bool.{true≢false}
-use Rattle.drive.specs.Journal.{Event, held, Once, written}
+use Rattle.drive.specs.Journal.{Event, held, Once}
 use Rattle.drive.specs.FileDrive.{journal_of, failures_of, capacity_of, honest_of, BeginsWith}
 use Rattle.drive.specs.declared.file.FileDrive.{FileDrive}
 use Rattle.drive.proofs.Once.{once-written}
 use Rattle.request.specs.declared.answer.Answer.{Answer}
 use Rattle.request.specs.declared.message.Message.{Message}
-use Rattle.model.specs.Session.{State, formatted}
-use Rattle.medium.specs.Volume.{Stands}
+use Rattle.model.specs.Session.{formatted}
 use Rattle.medium.specs.Commit.{need}
 use Rattle.medium.specs.Runs.{Fits}
-use Rattle.medium.specs.Journal.{HoldsOnJournal}
-use Rattle.udf.specs.Udf.{udf, spelled}
-use Rattle.formatting.specs.NewVolume.{Words, words_on, IsFormatted}
+use Rattle.udf.specs.Udf.{spelled}
+use Rattle.formatting.specs.NewVolume.{words_on, IsFormatted}
 use Rattle.formatting.proofs.NewVolumes.{format_long}
 use Rattle.store.specs.declared.store.Store.{Store}
 use Rattle.engine.specs.Situation.{Situation, situation}

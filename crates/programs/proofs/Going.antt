@@ -4,11 +4,10 @@ use Rattle.std.specs.Prelude.{OnOk, OnErr}
 use Rattle.drive.specs.Journal.{Event}
 use Rattle.store.specs.declared.store.Store.{Store}
 use Rattle.engine.specs.Situation.{Situation, situation}
-use Rattle.engine.specs.Delivered.{with_store}
 use Rattle.engine.specs.Served.{AllAnswered, ServesAll, ServesSome}
 use Rattle.engine.proofs.Messages.{answered_append}
 use Rattle.engine.proofs.Served.{served_holds}
-use Rattle.programs.specs.Connections.{GoesOn, AreOneRun}
+use Rattle.programs.specs.Connections.{GoesOn}
 
 pub goes_none : (s : Situation) → GoesOn s s
 goes_none s = record { messages = []; answers = []; answered = refl; holds = served_holds [] s [] s refl }

@@ -8,3 +8,4 @@ pub mod Saying
 pub mod Printing
 pub mod Going
 pub mod Ending
+pub mod Gathering

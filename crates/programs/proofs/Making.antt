@@ -1,15 +1,14 @@
 -- A volume was made, or it was refused.
-use Rattle.std.proofs.Common.{◌≡◌, ℕ, List, Bool, Option, Result, Ok, Err, refl, sym, subst, inl, inr}
+use Rattle.std.proofs.Common.{◌≡◌, ℕ, List, Bool, Option, Result, Ok, Err, sym, subst, inl, inr}
 use Rattle.std.specs.Prelude.{IsErrAnd, IsErr}
 use Rattle.drive.specs.Journal.{Event}
-use Rattle.drive.specs.FileDrive.{journal_of, failures_of, capacity_of, honest_of, BeginsWith}
+use Rattle.drive.specs.FileDrive.{journal_of, capacity_of, BeginsWith}
 use Rattle.drive.specs.declared.file.FileDrive.{FileDrive}
 use Rattle.formatting.specs.NewVolume.{words_on, IsFormatted, IsRefused}
 use Rattle.recover.specs.declared.fault.StoreFault.{StoreFault}
-use Rattle.engine.specs.Situation.{Situation, situation}
+use Rattle.engine.specs.Situation.{Situation}
 use Rattle.programs.specs.declared.fault.Fault.{Fault}
 use Rattle.programs.specs.declared.fault.Fault.TheVariants.{Usage, Path, Socket, Store, Stream}
-use Rattle.programs.specs.Images.{OnImage, Unopened}
 use Rattle.programs.specs.Lines.{Puts, formatted_text}
 use Rattle.programs.specs.NewVolumes.{Makes, MakesOnImage, Unbegun}
 use Rattle.programs.proofs.Opening.{begins_on, keeps_self}

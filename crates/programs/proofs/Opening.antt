@@ -2,7 +2,6 @@
 use Rattle.std.proofs.Common.{◌≡◌, ℕ, ◌≤◌, List, Option, Some, None, Result, Ok, Err, refl, ◌∙◌, ap, subst}
 use Rattle.std.specs.Prelude.{IsErrAnd}
 use Rattle.std.specs.Io.KnownBytes.{Keeps}
-use Rattle.drive.specs.Journal.{written}
 use Rattle.drive.specs.Note.{fitted}
 use Rattle.drive.specs.FileDrive.{journal_of, failures_of, capacity_of, honest_of, BeginsWith}
 use Rattle.drive.specs.declared.file.FileDrive.{FileDrive}

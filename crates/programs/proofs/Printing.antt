@@ -1,8 +1,8 @@
 -- What was asked of a volume was printed, or it was refused.
 use Rattle.std.proofs.Common.{◌≡◌, ◌⊎◌, ℕ, ◌+◌, Bool, false, List, length, Option, Result, Ok, Err, refl, sym, ap, subst, ◌∙◌, inl, inr}
-use Rattle.std.specs.Prelude.{IsTrue, IsErrAnd, IfOk, IfErr}
+use Rattle.std.specs.Prelude.{IsTrue, IsErrAnd}
 use Rattle.drive.specs.Journal.{Event, Once, held}
-use Rattle.drive.specs.FileDrive.{journal_of, failures_of, capacity_of, honest_of, BeginsWith}
+use Rattle.drive.specs.FileDrive.{journal_of, capacity_of, BeginsWith}
 use Rattle.drive.specs.declared.file.FileDrive.{FileDrive}
 use Rattle.model.specs.Session.{State}
 use Rattle.model.specs.Tree.{Path, Tree}
@@ -26,12 +26,11 @@ use Rattle.store.specs.Queries.{IsRefused as QueryRefused}
 use Rattle.store.specs.Shows.{Shows as TreeShows}
 use Rattle.store.proofs.Knowing.{shows}
 use Rattle.store.proofs.Queried.{gets, lists}
-use Rattle.engine.specs.Situation.{Situation, situation}
+use Rattle.engine.specs.Situation.{Situation}
 use Rattle.programs.specs.declared.fault.Fault.{Fault}
 use Rattle.programs.specs.declared.fault.Fault.TheVariants as faults
-use Rattle.programs.specs.Images.{OnImage}
 use Rattle.programs.specs.Lines.{Puts, names_text, commits_text, sound_text}
-use Rattle.programs.specs.Questions.{Question, Says, Refuses, IsSaid, IsRefused, Prints, PrintsFront, PrintsNothing, Shows, ShowsImage, IsUnread, ShowsPath}
+use Rattle.programs.specs.Questions.{Question, Says, Refuses, IsSaid, IsRefused, Shows, ShowsImage, ShowsPath}
 use Rattle.programs.specs.Questions.Question.{Names_at, Bytes_at, Commits, Soundness}
 use Rattle.programs.specs.Status.{IsPathTold}
 use Rattle.programs.proofs.Opening.{begins_on, keeps_self}

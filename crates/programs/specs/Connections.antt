@@ -1,5 +1,5 @@
 -- What the connections of a daemon leave on its drive.
-use Rattle.std.specs.Prelude.{ℕ, List, Option}
+use Rattle.std.specs.Prelude.{List, Option}
 use Rattle.request.specs.declared.answer.Answer.{Answer}
 use Rattle.request.specs.declared.message.Message.{Message}
 use Rattle.store.specs.declared.store.Store.{Store}

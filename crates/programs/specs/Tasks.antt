@@ -1,5 +1,5 @@
 -- What the words of `udfburn` ask for, by their bytes, and what is done of it.
-use Rattle.std.specs.Prelude.{◌≡◌, ℕ, List, codes, Option, Result}
+use Rattle.std.specs.Prelude.{◌≡◌, ⊤, ℕ, List, take, codes, Option, Some, None, Result}
 use Rattle.words.specs.declared.command.Command.{Command}
 use Rattle.words.specs.declared.command.Command.TheVariants as commands
 use Rattle.words.specs.declared.command.Medium.TheVariants.{Image, Memory}
@@ -50,3 +50,16 @@ pub record Ends (task : Task) (status : ℕ) (input left output written errors t
   pub does : Does task outcome input left output written
   pub status_is : status ≡ status_of outcome
   pub reports : Reports (codes "udfburn") outcome errors told
+
+-- a beginning of the bytes, where those are known
+abbrev pub IsFrontOf : Option (List ℕ) → Option (List ℕ) → Type 0
+IsFrontOf None written = ⊤
+IsFrontOf (Some bytes) None = ⊥
+IsFrontOf (Some bytes) (Some written) = (count : ℕ) × (written ≡ take count bytes)
+
+-- Something was done by an outcome, and of what was written with it a front is there.
+pub record HasFront (task : Task) (input left output written : Option (List ℕ)) : Type 0 where
+  pub outcome : Result (Unit {0}) Fault
+  pub gathered : Option (List ℕ)
+  pub does : Does task outcome input left output gathered
+  pub front : IsFrontOf gathered written

@@ -1,8 +1,13 @@
 //! The process of a program: its words and its standard streams.
 
+ghost use Rattle.std.specs.Prelude.{◌≡◌, map, IfSome, IsSomeAnd};
+ghost use Rattle.words.specs.Commands.{Asks};
+ghost use Rattle.programs.specs.Tasks.{Ends, HasFront, task_of};
+
 use crate::commands::command;
 use crate::daemons::daemon;
 use crate::fault::{Fault, report};
+use engine::put_all;
 use std::alloc::Global;
 use std::env;
 use std::env::Env;
@@ -13,17 +18,20 @@ use std::os::fd::{AsRawFd, IntoRawFd};
 use std::time::Clock;
 use store::StoreFault;
 
+/// The name under which the lines of `udfburn` stand.
+const COMMAND_NAME: &str = "udfburn";
+
 /// `udfburn` on the words of the process and these streams. It answers the status.
-pub fn run_command<R, I, O, E>(rt: &R, input: &mut I, output: &mut O, errors: &mut E) -> u8
+pub fn run_command<R, I, O, E>(rt: &R, input: &mut I, output: O, errors: &mut E) -> u8
 where
     R: Files<File = File> + Net + Env + AllocGlobal,
     I: Read,
-    O: Write,
+    O: Write + Drop,
     E: Write,
 {
     match try_command(rt, input, output, errors) {
         Ok(status) => status,
-        Err(fault) => report("udfburn", Err(fault), errors),
+        Err(fault) => report(COMMAND_NAME, Err(fault), errors),
     }
 }
 
@@ -39,23 +47,56 @@ where
     }
 }
 
-fn try_command<R, I, O, E>(
-    rt: &R,
-    input: &mut I,
-    output: &mut O,
-    errors: &mut E,
-) -> Result<u8, Fault>
+fn try_command<R, I, O, E>(rt: &R, input: &mut I, output: O, errors: &mut E) -> Result<u8, Fault>
 where
     R: Files<File = File> + Net + Env + AllocGlobal,
     I: Read,
-    O: Write,
+    O: Write + Drop,
     E: Write,
 {
     hold_standard_streams(rt)?;
     let words = own_words(rt)?;
     let texts = texts(rt.alloc(), &words)?;
-    let mut writer = buffered(rt.alloc(), output)?;
-    Ok(command(rt, behind_name(&texts), input, &mut writer, errors))
+    let (status, _) = gathered(rt, behind_name(&texts), input, output, errors);
+    Ok(status)
+}
+
+/// `command` on an output that is written many bytes at a time. What waits in the end is written then. It answers the status
+/// and the output, but for one that was let go for want of memory.
+fn gathered<R, I, O, E>(
+    rt: &R,
+    words: &[&str],
+    input: &mut I,
+    output: O,
+    errors: &mut E,
+) -> (u8, Option<O>)
+where
+    R: Files<File = File> + Net + AllocGlobal,
+    I: Read,
+    O: Write + Drop,
+    E: Write,
+    // At status 0 all is written that was done, and else a front of it.
+    ensures all { (asked : _) → Asks (map (λ w. w.now) words.now) asked → result.0 ≡ 0 → IsSomeAnd result.1 (λ written. Ends (task_of asked) 0 (I.remaining input.old) (I.remaining input.new) (O.contents output) (O.contents written) (E.contents errors.old) (E.contents errors.new)) }
+    ensures front { (asked : _) → Asks (map (λ w. w.now) words.now) asked → IfSome result.1 (λ written. HasFront (task_of asked) (I.remaining input.old) (I.remaining input.new) (O.contents output) (O.contents written)) }
+{
+    let mut writer = match BufWriter::new(rt.alloc(), output) {
+        Ok(writer) => writer,
+        Err(_) => {
+            let refused = Err(Fault::Store(StoreFault::Memory));
+            return (report(COMMAND_NAME, refused, errors), None);
+        }
+    };
+    let status = command(rt, words, input, &mut writer, errors);
+    let (mut output, rest) = writer.into_parts();
+    match put_all(&mut output, &rest) {
+        Ok(()) => (status, Some(output)),
+        // Why is told already.
+        Err(_) if status > 0 => (status, Some(output)),
+        Err(fault) => {
+            let refused = Err(Fault::Stream(fault));
+            (report(COMMAND_NAME, refused, errors), Some(output))
+        }
+    }
 }
 
 fn try_daemon<R, E>(rt: &R, errors: &mut E) -> Result<u8, Fault>
@@ -111,12 +152,4 @@ fn texts(alloc: Global, words: &[String]) -> Result<Vec<&str>, Fault> {
 fn behind_name<'a, 'w>(words: &'a [&'w str]) -> &'a [&'w str] {
     let (_, rest) = words.split_at(words.len().min(1));
     rest
-}
-
-/// A writer that gathers what is written to a stream.
-fn buffered<O: Write>(alloc: Global, output: &mut O) -> Result<BufWriter<&mut O>, Fault> {
-    match BufWriter::new(alloc, output) {
-        Ok(writer) => Ok(writer),
-        Err(_) => Err(Fault::Store(StoreFault::Memory)),
-    }
 }

@@ -6,7 +6,7 @@ use std::process::ExitCode;
 
 fn main(rt: HostRuntime) -> ExitCode {
     let mut input = rt.stdin();
-    let mut output = rt.stdout();
+    let output = rt.stdout();
     let mut errors = rt.stderr();
-    ExitCode::from(run_command(&rt, &mut input, &mut output, &mut errors))
+    ExitCode::from(run_command(&rt, &mut input, output, &mut errors))
 }

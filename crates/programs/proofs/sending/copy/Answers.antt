@@ -1,4 +1,4 @@
-use Rattle.std.proofs.Common.{rules, ◌≡◌, ℕ, List, take, ap, ◌∙◌}
+use Rattle.std.proofs.Common.{rules, ℕ, List, take, ap, ◌∙◌}
 use Rattle.engine.proofs.Messages.{filled, on_err}
 use Rattle.programs.proofs.Copying.{copied_none, copied_more, copied_all, copied_read, copied_put, copied_some}
 use Rattle.programs.proofs.sending.copy.Goals as goal

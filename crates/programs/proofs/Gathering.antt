@@ -1,0 +1,198 @@
+-- What was done of a task is so where the output keeps what it has, or is that which was gathered and then written.
+use Rattle.std.proofs.Common.{◌≡◌, ℕ, ◌+◌, Bool, List, [], ◌++◌, length, Option, Some, None, Result, Ok, Err, refl, sym, ap, subst, ◌∙◌, inl, inr}
+use Rattle.std.specs.Io.KnownBytes.{Appends, Keeps, append_known}
+use Rattle.std.proofs.lemmas.List.{append-nil}
+use Rattle.std.proofs.Math.Seq.{take-append-add}
+use Rattle.drive.specs.Journal.{Event}
+use Rattle.engine.specs.Served.{frames_of}
+use Rattle.engine.specs.Situation.{Situation}
+use Rattle.engine.specs.Streams.{PutsFront}
+use Rattle.engine.proofs.Pieces.{keeps_on}
+use Rattle.programs.specs.declared.fault.Fault.{Fault}
+use Rattle.programs.specs.declared.fault.Fault.TheVariants.{Usage, Path, Socket, Store, Stream}
+use Rattle.programs.specs.Applied.{Applies, AppliesToImage, AnswersInMemory}
+use Rattle.programs.specs.Copies.{Sends}
+use Rattle.programs.specs.Images.{OnImage, Unopened}
+use Rattle.programs.specs.NewVolumes.{Makes, MakesOnImage, Unbegun}
+use Rattle.programs.specs.Lines.{formatted_text}
+use Rattle.programs.specs.Questions.{Question, Shows, ShowsImage, ShowsPath}
+use Rattle.programs.specs.Questions.Question.{Names_at, Bytes_at, Commits, Soundness}
+use Rattle.model.specs.Tree as tree
+use Rattle.programs.specs.Tasks.{Task, Does, Ends, HasFront, IsFrontOf}
+use Rattle.programs.specs.Tasks.Task.{Format, Apply_to_image, Apply_in_memory, List_names, Get_bytes, Log, Check, Send}
+use Rattle.programs.proofs.Copying.{whole_front}
+use Rattle.programs.proofs.Saying.{front_kept}
+
+keeps_trans : (a b c : Option (List ℕ)) → Keeps a b → Keeps b c → Keeps a c
+keeps_trans None b c h k = tt
+keeps_trans (Some xs) None c h k = absurd h
+keeps_trans (Some xs) (Some ys) None h k = absurd k
+keeps_trans (Some xs) (Some ys) (Some zs) h k = k ∙ h
+
+on_image : (capacity : ℕ) (P Q : Situation → Situation → Type 0) → ((before behind : Situation) → P before behind → Q before behind) → OnImage capacity P → OnImage capacity Q
+on_image capacity P Q f h = record { image = h.image; count = h.count; fits = h.fits; once = h.once; behind = h.behind; did = f _ h.behind h.did }
+
+module _ (i l o v w : Option (List ℕ)) (kept : Keeps v w) where
+  unopened_kept : {T : Type 0} (outcome : Result T Fault) → Unopened outcome o v → Unopened outcome o w
+  unopened_kept outcome h = record { fault = h.fault; unwritten = keeps_trans o v w h.unwritten kept }
+
+  makes_kept : {T : Type 0} (label : List ℕ) (moment capacity : ℕ) (outcome : Result T Fault) (J K : List Event) (honest : Bool) → Makes label moment capacity outcome J K honest o v → Makes label moment capacity outcome J K honest o w
+  makes_kept label moment capacity (Ok x) J K honest h = (h.0, keeps_on o v w formatted_text h.1 kept)
+  makes_kept label moment capacity (Err Usage) J K honest h = h
+  makes_kept label moment capacity (Err Path) J K honest h = h
+  makes_kept label moment capacity (Err Socket) J K honest h = h
+  makes_kept label moment capacity (Err (Store fault)) J K honest h = (h.0, keeps_trans o v w h.1 kept)
+  makes_kept label moment capacity (Err (Stream fault)) J K honest h = (h.0, front_kept o v w formatted_text h.1 kept)
+
+  made_kept : {T : Type 0} (label : List ℕ) (moment capacity : ℕ) (outcome : Result T Fault) → MakesOnImage label moment capacity outcome o v → MakesOnImage label moment capacity outcome o w
+  made_kept label moment capacity outcome (inl h) = inl (unopened_kept outcome h)
+  made_kept label moment capacity outcome (inr (inl h)) =
+      inr (inl (on_image capacity (λ before behind. Unbegun outcome before behind o v) (λ before behind. Unbegun outcome before behind o w)
+      (λ before behind k. record { refused = k.refused; journal = k.journal; unwritten = keeps_trans o v w k.unwritten kept }) h))
+  made_kept label moment capacity outcome (inr (inr h)) =
+      inr (inr (on_image capacity (λ before behind. Makes label moment capacity outcome before.journal behind.journal behind.honest o v) (λ before behind. Makes label moment capacity outcome before.journal behind.journal behind.honest o w)
+      (λ before behind k. makes_kept label moment capacity outcome before.journal behind.journal behind.honest k) h))
+
+  applies_kept : {T : Type 0} (outcome : Result T Fault) (before behind : Situation) → Applies outcome before behind i l o v → Applies outcome before behind i l o w
+  applies_kept (Ok x) before behind (store, h) = (
+    store,
+    record {
+      reader = h.reader;
+      serving = record {
+        bytes = h.serving.bytes;
+        messages = h.serving.messages;
+        answers = h.serving.answers;
+        consumed = h.serving.consumed;
+        messages_are = h.serving.messages_are;
+        answered = h.serving.answered;
+        told = keeps_on o v w (frames_of h.serving.answers) h.serving.told kept;
+      };
+      holds = h.holds;
+      idle = h.idle;
+      ends = h.ends;
+    },
+  )
+  applies_kept (Err fault) before behind (store, h) = (
+    store,
+    record {
+      bytes = h.bytes;
+      messages = h.messages;
+      answers = h.answers;
+      reader = h.reader;
+      consumed = h.consumed;
+      messages_are = h.messages_are;
+      answered = h.answered;
+      holds = h.holds;
+      front = front_kept o v w (frames_of h.answers) h.front kept;
+    },
+  )
+
+  applied_kept : {T : Type 0} (outcome : Result T Fault) → AppliesToImage outcome i l o v → AppliesToImage outcome i l o w
+  applied_kept outcome (inl (h, same)) = inl (unopened_kept outcome h, same)
+  applied_kept outcome (inr h) = inr (on_image 450000 (λ before behind. Applies outcome before behind i l o v) (λ before behind. Applies outcome before behind i l o w) (applies_kept outcome) h)
+
+  answers_kept : {T : Type 0} (outcome : Result T Fault) (capacity : ℕ) → AnswersInMemory outcome capacity i l o v → AnswersInMemory outcome capacity i l o w
+  answers_kept (Ok x) capacity h = record {
+    bytes = h.bytes;
+    messages = h.messages;
+    answers = h.answers;
+    reader = h.reader;
+    consumed = h.consumed;
+    messages_are = h.messages_are;
+    run = h.run;
+    told = keeps_on o v w (frames_of h.answers) h.told kept;
+    idle = h.idle;
+    ends = h.ends;
+  }
+  answers_kept (Err fault) capacity h = record {
+    bytes = h.bytes;
+    messages = h.messages;
+    answers = h.answers;
+    reader = h.reader;
+    consumed = h.consumed;
+    messages_are = h.messages_are;
+    run = h.run;
+    front = front_kept o v w (frames_of h.answers) h.front kept;
+  }
+
+  shows_kept : {T : Type 0} (question : Question) (outcome : Result T Fault) (capacity : ℕ) (J : List Event) (honest : Bool) → Shows question outcome capacity J honest o v → Shows question outcome capacity J honest o w
+  shows_kept question (Ok x) capacity J honest h = record { bytes = h.bytes; printed = keeps_on o v w h.bytes h.printed kept; said = h.said }
+  shows_kept question (Err Usage) capacity J honest h = h
+  shows_kept question (Err Path) capacity J honest h = h
+  shows_kept question (Err Socket) capacity J honest h = h
+  shows_kept question (Err (Store fault)) capacity J honest h = record { unwritten = keeps_trans o v w h.unwritten kept; refused = h.refused }
+  shows_kept question (Err (Stream fault)) capacity J honest h = record { bytes = h.bytes; front = front_kept o v w h.bytes h.front kept; said = h.said }
+
+  shown_kept : {T : Type 0} (question : Question) (outcome : Result T Fault) → ShowsImage question outcome o v → ShowsImage question outcome o w
+  shown_kept question outcome (inl h) = inl (unopened_kept outcome h)
+  shown_kept question outcome (inr h) =
+      inr (on_image 450000 (λ before behind. (behind.journal ≡ before.journal) × Shows question outcome before.capacity before.journal behind.honest o v)
+      (λ before behind. (behind.journal ≡ before.journal) × Shows question outcome before.capacity before.journal behind.honest o w)
+      (λ before behind k. (k.0, shows_kept question outcome before.capacity before.journal behind.honest k.1)) h)
+
+  path_kept : {T : Type 0} (question : tree.Path → Question) (text : List ℕ) (outcome : Result T Fault) → ShowsPath question text outcome o v → ShowsPath question text outcome o w
+  path_kept question text outcome (inl (h, k)) = inl (h, keeps_trans o v w k kept)
+  path_kept question text outcome (inr (path, is, reads, h)) = inr (path, is, reads, shown_kept (question path) outcome h)
+
+  sends_kept : {T : Type 0} (outcome : Result T Fault) → Sends outcome i l o v → Sends outcome i l o w
+  sends_kept (Ok x) h = record { sent = h.sent; consumed = h.consumed; end = h.end; came = h.came; copied = keeps_on o v w h.came h.copied kept }
+  sends_kept (Err fault) h = record { sent = h.sent; consumed = h.consumed; came = h.came; front = front_kept o v w h.came h.front kept }
+
+  does_kept : {T : Type 0} (task : Task) (outcome : Result T Fault) → Does task outcome i l o v → Does task outcome i l o w
+  does_kept (Format label moment capacity) outcome h = (h.0, made_kept label moment capacity outcome h.1)
+  does_kept Apply_to_image outcome h = applied_kept outcome h
+  does_kept (Apply_in_memory capacity) outcome h = answers_kept outcome capacity h
+  does_kept (List_names path) outcome h = (h.0, path_kept Names_at path outcome h.1)
+  does_kept (Get_bytes path) outcome h = (h.0, path_kept Bytes_at path outcome h.1)
+  does_kept Log outcome h = (h.0, shown_kept Commits outcome h.1)
+  does_kept Check outcome h = (h.0, shown_kept Soundness outcome h.1)
+  does_kept Send outcome h = sends_kept outcome h
+
+-- ---- a writer with a buffer
+
+pub nothing_waits : (known : Option (List ℕ)) (bytes : List ℕ) → bytes ≡ [] → append_known known bytes ≡ known
+nothing_waits None bytes e = refl
+nothing_waits (Some xs) bytes e = ap (λ (l : List ℕ). Some (xs ++ l)) e ∙ ap (λ (l : List ℕ). Some l) (append-nil xs)
+
+-- what waited was written
+written_out : (known now : Option (List ℕ)) (bytes : List ℕ) → Appends known now bytes → Keeps (append_known known bytes) now
+written_out None now bytes h = tt
+written_out (Some xs) None bytes h = absurd h
+written_out (Some xs) (Some ys) bytes h = h
+
+-- or a front of it
+written_part : (known now : Option (List ℕ)) (bytes : List ℕ) → PutsFront known now bytes → IsFrontOf (append_known known bytes) now
+written_part None now bytes h = tt
+written_part (Some xs) None bytes h = absurd h.1
+written_part (Some xs) (Some ys) bytes h = (length xs + h.0, h.1 ∙ sym (take-append-add xs bytes h.0))
+
+-- ---- what is there in the end
+
+-- the same by what the calls say that lead there
+module _ (task : Task) (status : ℕ) (i l e f : Option (List ℕ)) {O : Type 0} (contents : O → Option (List ℕ)) (output first last inner : O) (waiting waited rest bytes : List ℕ)
+    (begins : first ≡ output) (empty : waiting ≡ []) (taken : inner ≡ last) (left : rest ≡ waited) (same : bytes ≡ rest)
+    (h : Ends task status i l (append_known (contents first) waiting) (append_known (contents last) waited) e f) where
+  begun : Ends task status i l (contents output) (append_known (contents last) waited) e f
+  begun = subst (λ (o : Option (List ℕ)). Ends task status i l o (append_known (contents last) waited) e f)
+      (ap (λ (x : O). append_known (contents x) waiting) begins ∙ nothing_waits (contents output) waiting empty) h
+
+  there : Ends task status i l (contents output) (append_known (contents inner) bytes) e f
+  there = subst (λ (v : Option (List ℕ)). Ends task status i l (contents output) v e f)
+      (ap (λ (x : O). append_known (contents x) waited) (sym taken) ∙ ap (λ (b : List ℕ). append_known (contents inner) b) (sym (same ∙ left))) begun
+
+  gathered_all : (now : Option (List ℕ)) → Appends (contents inner) now bytes → Ends task status i l (contents output) now e f
+  gathered_all now put = record {
+    outcome = there.outcome;
+    does = does_kept i l (contents output) (append_known (contents inner) bytes) now (written_out (contents inner) now bytes put) task there.outcome there.does;
+    status_is = there.status_is;
+    reports = there.reports;
+  }
+
+  pub gathered_done : (now : Option (List ℕ)) → Appends (contents inner) now bytes → status ≡ 0 → Ends task 0 i l (contents output) now e f
+  gathered_done now put done = subst (λ (n : ℕ). Ends task n i l (contents output) now e f) done (gathered_all now put)
+
+  pub gathered_part : (now : Option (List ℕ)) → PutsFront (contents inner) now bytes → HasFront task i l (contents output) now
+  gathered_part now put = record { outcome = there.outcome; gathered = append_known (contents inner) bytes; does = there.does; front = written_part (contents inner) now bytes put }
+
+  pub gathered_whole : (now : Option (List ℕ)) → Appends (contents inner) now bytes → HasFront task i l (contents output) now
+  gathered_whole now put = gathered_part now (whole_front (contents inner) now bytes put)

@@ -1,0 +1,27 @@
+use Rattle.programs.specs.Tasks.{task_of}
+use Rattle.programs.proofs.Gathering.{gathered_done, gathered_part, gathered_whole}
+use Rattle.programs.proofs.process.gathered.Goals as goal
+
+pub returns-in-Ok-put_all-clause-all : goal.returns-in-Ok-put_all-clause-all
+returns-in-Ok-put_all-clause-all g c asked asks done =
+    gathered_done (task_of asked) c.command-status.result _ _ _ _ g.O.Write.contents c.args.output _ _ c.into_parts-output.result.0 _ _ c.into_parts-output.result.1.items c.deref.result.now
+    c.in-Ok.ensures.inner c.in-Ok.ensures.empty c.into_parts-output.ensures.inner c.into_parts-output.ensures.buffer c.deref.ensures.value (c.command-status.ensures.does asked asks)
+    _ c.in-Ok-put_all.ensures.ok done
+
+pub returns-in-Ok-put_all-clause-front : goal.returns-in-Ok-put_all-clause-front
+returns-in-Ok-put_all-clause-front g c asked asks =
+    gathered_whole (task_of asked) c.command-status.result _ _ _ _ g.O.Write.contents c.args.output _ _ c.into_parts-output.result.0 _ _ c.into_parts-output.result.1.items c.deref.result.now
+    c.in-Ok.ensures.inner c.in-Ok.ensures.empty c.into_parts-output.ensures.inner c.into_parts-output.ensures.buffer c.deref.ensures.value (c.command-status.ensures.does asked asks)
+    _ c.in-Ok-put_all.ensures.ok
+
+pub returns-in-Err-put_all-clause-front : goal.returns-in-Err-put_all-clause-front
+returns-in-Err-put_all-clause-front g c asked asks =
+    gathered_part (task_of asked) c.command-status.result _ _ _ _ g.O.Write.contents c.args.output _ _ c.into_parts-output.result.0 _ _ c.into_parts-output.result.1.items c.deref.result.now
+    c.in-Ok.ensures.inner c.in-Ok.ensures.empty c.into_parts-output.ensures.inner c.into_parts-output.ensures.buffer c.deref.ensures.value (c.command-status.ensures.does asked asks)
+    _ c.in-Err-put_all.ensures.err
+
+pub returns-clause-front : goal.returns-clause-front
+returns-clause-front g c asked asks =
+    gathered_part (task_of asked) c.command-status.result _ _ _ _ g.O.Write.contents c.args.output _ _ c.into_parts-output.result.0 _ _ c.into_parts-output.result.1.items c.deref.result.now
+    c.in-Ok.ensures.inner c.in-Ok.ensures.empty c.into_parts-output.ensures.inner c.into_parts-output.ensures.buffer c.deref.ensures.value (c.command-status.ensures.does asked asks)
+    _ c.in-Err-2.ensures.err
