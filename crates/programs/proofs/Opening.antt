@@ -1,5 +1,5 @@
 -- What is done on the drive over an image that was opened.
-use Rattle.std.proofs.Common.{◌≡◌, ℕ, ◌≤◌, List, Option, Some, None, Result, Ok, Err, refl, ◌∙◌, ap, subst}
+use Rattle.std.proofs.Common.{◌≡◌, ◌==◌, ℕ, ◌≤◌, true, List, Option, Some, None, Result, Ok, Err, refl, ◌∙◌, ap, subst}
 use Rattle.std.specs.Prelude.{IsErrAnd}
 use Rattle.std.specs.Io.KnownBytes.{Keeps}
 use Rattle.drive.specs.Note.{fitted}
@@ -20,8 +20,9 @@ pub begins_on : (capacity : ℕ) (Did : Situation → Situation → Type 0) (d :
     → Did (situation None (journal_of d) (failures_of d) (capacity_of d) (honest_of d)) behind → OnImage capacity Did
 begins_on capacity Did d behind (image, begins) size did =
     let count : ℕ = begins.journal.0 in
+    let honest : honest_of d ≡ true = ap (λ (n : ℕ). n == 0) begins.misreads in
     let same : situation None (journal_of d) (failures_of d) (capacity_of d) (honest_of d) ≡ opened capacity count image =
-    λ i. situation None (begins.journal.2 i) (begins.failures i) (size i) (begins.honest i) in
+    λ i. situation None (begins.journal.2 i) (begins.failures i) (size i) (honest i) in
     record {
       image = image;
       count = count;

@@ -10,9 +10,9 @@ returns-in_err-store-clause-shows g c =
 pub returns-in_err-data-clause-shows : goal.returns-in_err-data-clause-shows
 returns-in_err-data-clause-shows g c =
     shows_refused (Bytes_at c.args.path.now) c.from_residual-in_err-data.result _ _ _ _ _ c.from_residual-in_err-data.ensures.1
-    (bytes_refused _ _ c.in_ok-store.store _ _ _ c.in_ok-store.ensures.journal c.in_err-data.ensures.honest c.in_ok-store.ensures.stands c.args.path.now _ c.in_ok-store.ensures.stopped c.in_err-data.ensures.refused)
+    (bytes_refused _ _ c.in_ok-store.store _ _ _ c.in_ok-store.ensures.reads.journal c.in_err-data.ensures.reads.honest c.in_ok-store.ensures.stands c.args.path.now _ c.in_ok-store.ensures.stopped c.in_err-data.ensures.refused)
 
 pub returns-clause-shows : goal.returns-clause-shows
 returns-clause-shows g c =
     shows_put (Bytes_at c.args.path.now) c.put.result _ _ _ _ _ _ c.put.ensures.puts
-    (bytes_said _ _ c.in_ok-store.store _ _ _ c.in_ok-store.ensures.journal c.in_ok-data.ensures.honest c.in_ok-store.ensures.stands c.args.path.now c.in_ok-data.data _ c.in_ok-data.ensures.told c.as_slice.ensures.bytes)
+    (bytes_said _ _ c.in_ok-store.store _ _ _ c.in_ok-store.ensures.reads.journal c.in_ok-data.ensures.reads.honest c.in_ok-store.ensures.stands c.args.path.now c.in_ok-data.data _ c.in_ok-data.ensures.told c.as_slice.ensures.bytes)

@@ -11,15 +11,15 @@ returns-in_err-store-clause-shows g c =
 pub returns-in_err-commits-clause-shows : goal.returns-in_err-commits-clause-shows
 returns-in_err-commits-clause-shows g c =
     shows_refused Commits c.from_residual-in_err-commits.result _ _ _ _ _ c.from_residual-in_err-commits.ensures.1
-    (commits_refused _ _ c.in_ok-store.store _ _ _ c.in_ok-store.ensures.journal c.in_err-commits.ensures.honest c.in_ok-store.ensures.stands _ (c.in_err-commits.ensures.refused c.in_ok-store.ensures.stopped))
+    (commits_refused _ _ c.in_ok-store.store _ _ _ c.in_ok-store.ensures.reads.journal c.in_err-commits.ensures.reads.honest c.in_ok-store.ensures.stands _ (c.in_err-commits.ensures.refused c.in_ok-store.ensures.stopped))
 
 pub returns-in_err-lines-clause-shows : goal.returns-in_err-lines-clause-shows
 returns-in_err-lines-clause-shows g c =
     shows_refused Commits c.from_residual-in_err-lines.result _ _ _ _ _ c.from_residual-in_err-lines.ensures.1
-    (commits_short _ _ c.in_ok-store.store _ _ _ c.in_ok-store.ensures.journal c.in_ok-commits.ensures.honest c.in_ok-store.ensures.stands)
+    (commits_short _ _ c.in_ok-store.store _ _ _ c.in_ok-store.ensures.reads.journal c.in_ok-commits.ensures.reads.honest c.in_ok-store.ensures.stands)
 
 pub returns-clause-shows : goal.returns-clause-shows
 returns-clause-shows g c =
     shows_put Commits c.put.result _ _ _ _ _ _ c.put.ensures.puts
-    (commits_said _ _ c.in_ok-store.store _ _ _ c.in_ok-store.ensures.journal c.in_ok-commits.ensures.honest c.in_ok-store.ensures.stands _ _ _ c.in_ok-store.ensures.capacity c.in_ok-commits.ensures.history c.in_ok-commits.ensures.all
+    (commits_said _ _ c.in_ok-store.store _ _ _ c.in_ok-store.ensures.reads.journal c.in_ok-commits.ensures.reads.honest c.in_ok-store.ensures.stands _ _ _ c.in_ok-store.ensures.reads.capacity c.in_ok-commits.ensures.history c.in_ok-commits.ensures.all
     (c.as_bytes.ensures.value ∙ (c.in_ok-lines.ensures ∙ ap commits_text c.deref.ensures.value)))

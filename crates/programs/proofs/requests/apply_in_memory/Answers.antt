@@ -10,4 +10,4 @@ pub returns-clause-answers : goal.returns-clause-answers
 returns-clause-answers g c =
     memory_answers c.apply.result c.args.capacity c.new-drive.result.capacity c.format.new.drive.capacity _ c.new-drive.result.events.list.items _ _
     (situation None c.apply.new.drive.events.list.items c.apply.new.drive.failures c.apply.new.drive.capacity true) _ _ _ _
-    c.requires c.new-drive.ensures.capacity c.format.ensures.capacity c.new-drive.ensures.journal c.in_ok-format.ensures.ok refl c.apply.ensures.applies
+    c.requires c.new-drive.ensures.capacity c.format.ensures.follows.capacity c.new-drive.ensures.journal c.in_ok-format.ensures.ok refl c.apply.ensures.applies

@@ -1,4 +1,4 @@
-use Rattle.std.proofs.Common.{inl, None}
+use Rattle.std.proofs.Common.{◌==◌, inl, None}
 use Rattle.engine.specs.Situation.{situation}
 use Rattle.programs.proofs.Making.{makes_image, unbegun_image}
 use Rattle.programs.proofs.Opening.{unopened}
@@ -10,11 +10,11 @@ returns-in_err-drive-clause-makes g c = inl (unopened c.from_residual.result _ _
 pub returns-in_err-require_beginning-clause-makes : goal.returns-in_err-require_beginning-clause-makes
 returns-in_err-require_beginning-clause-makes g c =
     unbegun_image c.args.label.now c.args.moment c.args.capacity c.from_residual-in_err-require_beginning.result c.in_ok-drive.drive
-    (situation None c.require_beginning.new.drive.contents.journal c.require_beginning.new.drive.failures c.require_beginning.new.drive.capacity c.require_beginning.new.drive.contents.honest) _
+    (situation None c.require_beginning.new.drive.contents.journal c.require_beginning.new.drive.failures c.require_beginning.new.drive.capacity (c.require_beginning.new.drive.contents.misreads == 0)) _
     c.in_ok-drive.ensures.image c.in_ok-drive.ensures.capacity c.from_residual-in_err-require_beginning.ensures.0 c.require_beginning.ensures.journal
 
 pub returns-clause-makes : goal.returns-clause-makes
 returns-clause-makes g c =
     makes_image c.args.label.now c.args.moment c.args.capacity _ c.make.result c.in_ok-drive.drive _
-    (situation None c.make.new.drive.contents.journal c.make.new.drive.failures c.make.new.drive.capacity c.make.new.drive.contents.honest) _ _
+    (situation None c.make.new.drive.contents.journal c.make.new.drive.failures c.make.new.drive.capacity (c.make.new.drive.contents.misreads == 0)) _ _
     c.in_ok-drive.ensures.image c.in_ok-drive.ensures.capacity c.require_beginning.ensures.capacity c.require_beginning.ensures.journal c.make.ensures.makes
