@@ -150,7 +150,7 @@ fi
 if command -v dpkg-deb > "$room/which"; then
     holds 'a package is made' packaging/deb/build.sh "$room/deb"
     package=$(find "$room/deb" -name '*.deb')
-    version=$(sed -n 's/^## \([0-9.]*\).*/\1/p' CHANGELOG.md | head -n 1)
+    version=$(sed -n 's/^## \([0-9][0-9.]*\).*/\1/p' CHANGELOG.md | head -n 1)
     printf 'Package: udfburn\nVersion: %s\nArchitecture: %s\n' "$version" "$(dpkg --print-architecture)" > "$room/wanted"
     holds 'it says what it is' same "$room/wanted" dpkg-deb -f "$package" Package Version Architecture
     expected usr | sed -e '/doc\/udfburn\/installed$/d' -e 's|CHANGELOG.md$|changelog.gz|' -e 's|\(share/man/.*\)|\1.gz|' \
