@@ -21,20 +21,20 @@ use Rattle.request.specs.declared.message.Request as asking
 use Rattle.udf.specs.Said.{said_table}
 use Rattle.udf.specs.Udf.{udf, spelled}
 use Rattle.vat.specs.Table.{view}
-use Rattle.store.specs.declared.change.Change.{Change}
-use Rattle.store.specs.declared.plan.Plan.{Plan}
+use Rattle.planning.specs.declared.change.Change.{Change}
+use Rattle.planning.specs.declared.plan.Plan.{Plan}
 use Rattle.store.specs.declared.store.Store.{Store}
-use Rattle.store.specs.Asked.{said_operation, said_request}
-use Rattle.store.specs.Cache.{AreKept}
+use Rattle.directories.specs.Asked.{said_operation, said_request}
+use Rattle.directories.specs.Cache.{AreKept}
 use Rattle.store.specs.Calls.{Applies, IsDone, IsFailed, Knows, Refuses}
-use Rattle.store.specs.Changes.{Does}
+use Rattle.planning.specs.Changes.{Does}
 use Rattle.table.specs.Commits.{IsPart, IsWhole}
-use Rattle.store.specs.Needs.{change_need}
+use Rattle.planning.specs.Needs.{change_need}
 use Rattle.table.specs.NextTable.{begun}
-use Rattle.store.specs.Plan.{IsPlan, node_list, plan_blocks, table_data}
+use Rattle.planning.specs.Plan.{IsPlan, node_list, plan_blocks, table_data}
 use Rattle.store.specs.Putting.{Makes}
 use Rattle.store.specs.Sessions.{reply_said}
-use Rattle.store.specs.Shows.{graph_below}
+use Rattle.directories.specs.Shows.{graph_below}
 use Rattle.table.proofs.Committed.{commits_are_part, commits_are_whole, tables_stand}
 use Rattle.store.proofs.Knowing.{at_is, commits, need_is, next_is, planned, planned_blocks, planned_table}
 

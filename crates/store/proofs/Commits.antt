@@ -8,13 +8,13 @@ use Rattle.recover.specs.declared.fault.StoreFault.TheVariants.{Device}
 use Rattle.request.specs.Numbers.{code_number}
 use Rattle.request.specs.declared.answer.Reply.{Reply}
 use Rattle.request.specs.declared.message.Request.{Request}
-use Rattle.store.specs.declared.change.Change.{Change}
-use Rattle.store.specs.declared.plan.Plan.{Plan}
+use Rattle.planning.specs.declared.change.Change.{Change}
+use Rattle.planning.specs.declared.plan.Plan.{Plan}
 use Rattle.store.specs.declared.store.Store.{Store}
 use Rattle.vat.specs.Table.{view}
 use Rattle.table.specs.NextTable.{next_table}
-use Rattle.store.specs.Plan.{IsPlan, plan_blocks, plan_written, plan_writings}
-use Rattle.store.specs.Writings.{change_writings}
+use Rattle.planning.specs.Plan.{IsPlan, plan_blocks, plan_written, plan_writings}
+use Rattle.planning.specs.Writings.{change_writings}
 use Rattle.store.specs.Putting.{IsRefused, Makes, WritesPlan}
 
 pub if_ok : {T E : Type 0} (r : Result T E) (P Q : T → Type 0) → ((x : T) → P x → Q x) → IfOk r P → IfOk r Q

@@ -12,12 +12,12 @@ use Rattle.medium.proofs.Lists.{part-append}
 use Rattle.recover.specs.declared.directory.Extent.{Extent}
 use Rattle.recover.specs.Nodes.{data_of}
 use Rattle.recover.proofs.Held.{length-held}
-use Rattle.store.specs.Cache.{LiesThere, AreKept}
-use Rattle.store.specs.Plan.{directory_data, directory_list, directories_list, file_list, table_data, plan_blocks, AreLaid, IsPlan}
-use Rattle.store.specs.declared.content.Content.{Content}
-use Rattle.store.specs.declared.directories.Directories.{Directories}
-use Rattle.store.specs.declared.placed.PlacedDirectory.{PlacedDirectory}
-use Rattle.store.specs.declared.plan.Plan.{Plan}
+use Rattle.directories.specs.Cache.{LiesThere, AreKept}
+use Rattle.planning.specs.Plan.{directory_data, directory_list, directories_list, file_list, table_data, plan_blocks, AreLaid, IsPlan}
+use Rattle.directories.specs.declared.content.Content.{Content}
+use Rattle.directories.specs.declared.directories.Directories.{Directories}
+use Rattle.planning.specs.declared.placed.PlacedDirectory.{PlacedDirectory}
+use Rattle.planning.specs.declared.plan.Plan.{Plan}
 
 -- ---- a journal that grows
 

@@ -22,27 +22,27 @@ use Rattle.udf.proofs.Formats.{bounded}
 use Rattle.request.specs.Numbers.{code_number}
 use Rattle.request.specs.declared.message.Request as asking
 use Rattle.vat.specs.Table.{Table, IsTableAt, view}
-use Rattle.store.specs.declared.change.Change.{Change}
-use Rattle.store.specs.declared.plan.Plan.{Plan}
+use Rattle.planning.specs.declared.change.Change.{Change}
+use Rattle.planning.specs.declared.plan.Plan.{Plan}
 use Rattle.store.specs.declared.store.Store.{Store}
-use Rattle.store.specs.Asked.{said_operation, said_request}
-use Rattle.store.specs.Cache.{AreKept}
+use Rattle.directories.specs.Asked.{said_operation, said_request}
+use Rattle.directories.specs.Cache.{AreKept}
 use Rattle.store.specs.Calls.{Knows}
-use Rattle.store.specs.Changes.{Does, gone_of}
+use Rattle.planning.specs.Changes.{Does, gone_of}
 use Rattle.table.specs.Need.{reckoned}
-use Rattle.store.specs.Needs.{change_need}
+use Rattle.planning.specs.Needs.{change_need}
 use Rattle.table.specs.NextTable.{AreTaken, Changes, begun, next_table}
 use Rattle.table.specs.Pieces.{IsTableBehind}
-use Rattle.store.specs.Plan.{IsPlan, node_list, table_data, plan_written}
+use Rattle.planning.specs.Plan.{IsPlan, node_list, table_data, plan_written}
 use Rattle.store.specs.Putting.{Makes}
-use Rattle.store.specs.Shows.{Shows, graph_below}
+use Rattle.directories.specs.Shows.{Shows, graph_below}
 use Rattle.table.specs.TableChange.{committed}
-use Rattle.store.specs.Writings.{change_writings}
+use Rattle.planning.specs.Writings.{change_writings}
 use Rattle.table.proofs.ChangesTaken.{changes_are_taken}
 use Rattle.table.proofs.PlanPieces.{nodes_are_written, pieces_are_planned, pieces_table}
 use Rattle.table.proofs.Reckoning.{need_is_reckoned}
-use Rattle.store.proofs.Sizing.{all_names, bytes_of, change_is_of, change_reckoned}
-use Rattle.store.proofs.Taking.{IsTakenBy, bare, bare_addresses}
+use Rattle.planning.proofs.Sizing.{all_names, bytes_of, change_is_of, change_reckoned}
+use Rattle.planning.proofs.Taking.{IsTakenBy, bare, bare_addresses}
 
 module _ (capacity volume : ℕ) (J : List Event) (S : State) (store : Store) (knows : Knows capacity volume J S store) where
   pub entries_are : store.vat.entries.items ≡ knows.stands.tells.table.entries

@@ -26,7 +26,7 @@ use Rattle.volume.specs.declared.front.Front.{Front}
 use Rattle.volume.specs.Front.{IsFront}
 use Rattle.volume.proofs.ReadingLaws.{front_tells, one_told}
 use Rattle.store.specs.declared.store.Store.{Store}
-use Rattle.store.specs.Cache.{AreKept}
+use Rattle.directories.specs.Cache.{AreKept}
 use Rattle.store.specs.Calls.{Knows, Opens}
 use Rattle.store.specs.Opened.{IsOpenRefused}
 

@@ -21,7 +21,7 @@ use Rattle.store.specs.declared.store.Store.{Store}
 use Rattle.store.specs.Calls.{Knows}
 use Rattle.store.specs.History.{IsTableOf, IsWayRefused}
 use Rattle.store.specs.Past.{IsPast, IsPastRefused}
-use Rattle.store.specs.Shows.{graph_below}
+use Rattle.directories.specs.Shows.{graph_below}
 use Rattle.store.proofs.Chains.{EndsAt, count_along, goes_back, last_in, last_is, shown_stood, stands_behind, stood_along, stood_told}
 use Rattle.store.proofs.Knowing.{commits}
 use Rattle.store.proofs.Opening.{one_volume}

@@ -12,11 +12,12 @@ use Rattle.recover.specs.declared.fault.StoreFault.{StoreFault}
 use Rattle.request.specs.declared.answer.Listed.{Listed}
 use Rattle.request.specs.declared.answer.NodeStatus.{NodeStatus}
 use Rattle.store.specs.declared.store.Store.{Store}
-use Rattle.store.specs.Asked.{is_directory, said_names}
-use Rattle.store.specs.Cache.{AreKept}
+use Rattle.directories.specs.Asked.{is_directory, said_names}
+use Rattle.directories.specs.Cache.{AreKept}
 use Rattle.store.specs.Calls.{GetRefuses, Gets, Knows, ListRefuses, Lists, StatRefuses, Stats}
-use Rattle.store.specs.Queries.{IsRefused, SameVolume}
-use Rattle.store.specs.Shows.{Shows}
+use Rattle.directories.specs.Queries.{IsRefused}
+use Rattle.store.specs.Agrees.{SameVolume}
+use Rattle.directories.specs.Shows.{Shows}
 use Rattle.store.proofs.Knowing.{knows_again, shows}
 
 -- ---- the answers that each query has

@@ -19,8 +19,8 @@ use Rattle.udf.specs.Udf.{udf, spelled}
 use Rattle.udf.specs.Said.{said_table}
 use Rattle.vat.specs.Table.{view}
 use Rattle.store.specs.declared.store.Store.{Store}
-use Rattle.store.specs.Cache.{AreKept}
-use Rattle.store.specs.Asked.{is_directory, said_names}
+use Rattle.directories.specs.Cache.{AreKept}
+use Rattle.directories.specs.Asked.{is_directory, said_names}
 use Rattle.store.specs.Sessions.{reply_said}
 
 -- The state stands on the journal, in which each address is written once, and the store keeps what the last table says,

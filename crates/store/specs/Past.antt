@@ -11,9 +11,9 @@ use Rattle.vat.specs.declared.table.Vat.{Vat}
 use Rattle.vat.specs.Table.{view}
 use Rattle.recover.specs.declared.fault.StoreFault.{StoreFault}
 use Rattle.recover.specs.declared.fault.StoreFault.TheVariants.{Device, Memory, Damaged, NoCommit}
-use Rattle.store.specs.declared.directories.Directories.{Directories}
-use Rattle.store.specs.Cache.{AreKept}
-use Rattle.store.specs.Shows.{Shows, graph_below}
+use Rattle.directories.specs.declared.directories.Directories.{Directories}
+use Rattle.directories.specs.Cache.{AreKept}
+use Rattle.directories.specs.Shows.{Shows, graph_below}
 
 -- the state after so many commits stood, and this table, whose entry stands at an address, leads to its nodes
 pub record IsPast (capacity volume : ℕ) (journal : List Event) (commits : ℕ) (S : State) (at : ℕ) (vat : Vat) : Type 0 where

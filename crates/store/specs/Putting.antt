@@ -8,10 +8,10 @@ use Rattle.request.specs.declared.answer.Reply.{Reply}
 use Rattle.request.specs.declared.message.Request.{Request}
 use Rattle.vat.specs.Table.{view}
 use Rattle.table.specs.NextTable.{next_table}
-use Rattle.store.specs.Plan.{IsPlan, plan_blocks, plan_writings, plan_written}
-use Rattle.store.specs.Writings.{change_writings}
-use Rattle.store.specs.declared.change.Change.{Change}
-use Rattle.store.specs.declared.plan.Plan.{Plan}
+use Rattle.planning.specs.Plan.{IsPlan, plan_blocks, plan_writings, plan_written}
+use Rattle.planning.specs.Writings.{change_writings}
+use Rattle.planning.specs.declared.change.Change.{Change}
+use Rattle.planning.specs.declared.plan.Plan.{Plan}
 use Rattle.store.specs.declared.store.Store.{Store}
 
 -- A plan of a change that a request makes at a store: it writes what the change says, and its table is the next one.

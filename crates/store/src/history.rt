@@ -16,8 +16,8 @@ ghost use Rattle.store.specs.Calls.{Knows};
 ghost use Rattle.store.specs.History.{AreShown, AreUnshown, IsChecked, IsHistory, IsHistoryRefused, IsTableOf, IsWayRefused, told_of};
 ghost use Rattle.store.specs.Past.{AllStood, IsCheckRefused, IsPast, IsPastRefused};
 
-use crate::nodes::Nodes;
 use crate::store::Store;
+use directories::Nodes;
 use drive::Drive;
 use recover::{
     Known, PARTITION_START, State, StoreFault, cause, damaged, linked, state_at, state_sharing,
@@ -77,12 +77,13 @@ impl Snapshot {
     ghost use Rattle.recover.specs.Faults.{devices};
     ghost use Rattle.recover.specs.declared.fault.StoreFault.TheVariants.{Stopped};
     ghost use Rattle.store.specs.Agrees.{Agrees};
-    ghost use Rattle.store.specs.Cache.{AreKept};
+    ghost use Rattle.directories.specs.Cache.{AreKept};
     ghost use Rattle.store.specs.History.{told_of};
-    ghost use Rattle.store.specs.Asked.{said_names};
-    ghost use Rattle.store.specs.Asked as asked;
-    ghost use Rattle.store.specs.Queries.{IsRefused, SameVolume};
-    ghost use Rattle.store.specs.Shows.{Shows};
+    ghost use Rattle.directories.specs.Asked.{said_names};
+    ghost use Rattle.directories.specs.Asked as asked;
+    ghost use Rattle.directories.specs.Queries.{IsRefused};
+    ghost use Rattle.store.specs.Agrees.{SameVolume};
+    ghost use Rattle.directories.specs.Shows.{Shows};
 
     /// The sessions of the clients, as they were.
     pub fn sessions(&self) -> &Sessions
@@ -123,7 +124,7 @@ impl Snapshot {
             at: self.at,
             entries: &self.vat.entries,
         };
-        store.directories.get(alloc, drive, &nodes, path)
+        nodes.get(alloc, drive, &mut store.directories, path)
     }
 
     /// The names in a directory, as they were, in their stored order.
@@ -151,7 +152,7 @@ impl Snapshot {
             at: self.at,
             entries: &self.vat.entries,
         };
-        store.directories.list(alloc, drive, &nodes, path)
+        nodes.list(alloc, drive, &mut store.directories, path)
     }
 
     /// What was known of a file or a directory.
@@ -179,7 +180,7 @@ impl Snapshot {
             at: self.at,
             entries: &self.vat.entries,
         };
-        store.directories.stat(alloc, drive, &nodes, path)
+        nodes.stat(alloc, drive, &mut store.directories, path)
     }
 }
 

@@ -5,21 +5,12 @@
 //! that is opened first is `formatting`'s.
 #![tactic(auto)]
 
-mod change;
 mod commit;
-mod content;
-mod directories;
 mod due;
 mod history;
 mod laws;
-mod nodes;
-mod placed;
-mod places;
-mod plan;
 mod query;
-mod questions;
 mod store;
-mod write;
 
 pub use due::Due;
 pub use formatting::{format, one_format};

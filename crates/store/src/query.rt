@@ -8,14 +8,15 @@ ghost use Rattle.model.specs.Tree.{Tree};
 ghost use Rattle.recover.specs.Faults.{devices};
 ghost use Rattle.recover.specs.declared.fault.StoreFault.TheVariants.{Stopped};
 ghost use Rattle.store.specs.Agrees.{Agrees};
-ghost use Rattle.store.specs.Cache.{AreKept};
-ghost use Rattle.store.specs.Asked.{said_names};
-ghost use Rattle.store.specs.Asked as asked;
-ghost use Rattle.store.specs.Queries.{IsRefused, SameVolume};
-ghost use Rattle.store.specs.Shows.{Shows};
+ghost use Rattle.directories.specs.Cache.{AreKept};
+ghost use Rattle.directories.specs.Asked.{said_names};
+ghost use Rattle.directories.specs.Asked as asked;
+ghost use Rattle.directories.specs.Queries.{IsRefused};
+ghost use Rattle.store.specs.Agrees.{SameVolume};
+ghost use Rattle.directories.specs.Shows.{Shows};
 
-use crate::nodes::Nodes;
 use crate::store::Store;
+use directories::Nodes;
 use drive::Drive;
 use recover::StoreFault;
 use request::{FileData, Listing, NodeStatus, Path};
@@ -45,7 +46,7 @@ impl Store {
             at: self.at,
             entries: &self.vat.entries,
         };
-        self.directories.get(alloc, drive, &nodes, path)
+        nodes.get(alloc, drive, &mut self.directories, path)
     }
 
     /// The names in a directory, in their stored order.
@@ -71,7 +72,7 @@ impl Store {
             at: self.at,
             entries: &self.vat.entries,
         };
-        self.directories.list(alloc, drive, &nodes, path)
+        nodes.list(alloc, drive, &mut self.directories, path)
     }
 
     /// What is known of a file or a directory.
@@ -97,6 +98,6 @@ impl Store {
             at: self.at,
             entries: &self.vat.entries,
         };
-        self.directories.stat(alloc, drive, &nodes, path)
+        nodes.stat(alloc, drive, &mut self.directories, path)
     }
 }

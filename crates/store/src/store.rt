@@ -10,10 +10,9 @@ ghost use Rattle.store.specs.Agrees.{Agrees};
 ghost use Rattle.store.specs.Calls.{Knows, Opens};
 ghost use Rattle.store.specs.Opened.{IsOpenRefused};
 ghost use Rattle.udf.specs.Udf.{udf};
-ghost use Rattle.store.specs.Cache.{AreKept};
+ghost use Rattle.directories.specs.Cache.{AreKept};
 
-use crate::directories::Directories;
-use crate::nodes::Nodes;
+use directories::Directories;
 use drive::Drive;
 use recover::{State, StoreFault, last, state_at};
 use std::alloc::Global;

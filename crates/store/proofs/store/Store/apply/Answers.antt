@@ -12,17 +12,26 @@ use Rattle.request.specs.Numbers.{code_number}
 use Rattle.request.specs.declared.answer.Reply.{Reply}
 use Rattle.vat.specs.Table.{view}
 use Rattle.store.specs.declared.store.Store.{Store}
-use Rattle.store.specs.Cache.{AreKept}
-use Rattle.store.specs.Needs.{change_need}
+use Rattle.directories.specs.Cache.{AreKept}
+use Rattle.planning.specs.Needs.{change_need}
 use Rattle.table.specs.NextTable.{begun}
-use Rattle.store.specs.Plan.{IsPlan}
+use Rattle.planning.specs.Plan.{IsPlan}
 use Rattle.store.specs.Putting.{Makes}
 use Rattle.table.specs.TableChange.{committed}
 use Rattle.store.proofs.Commits.{if_ok, makes_plan, plan_is, writes_plan, has_failed, goes_on, some_is}
 use Rattle.store.proofs.Applying.{applies, full, short}
 use Rattle.store.proofs.Knowing.{does_lent, few, knows_again, nodes, shows_lent, takes}
-use Rattle.store.proofs.Taking.{IsTakenBy}
+use Rattle.planning.proofs.Taking.{IsTakenBy}
 use Rattle.store.proofs.store.Store.apply.Goals as goal
+
+pub plan-requires-clause-agrees : goal.plan-requires-clause-agrees
+plan-requires-clause-agrees g c = record {
+  keeps = c.requires.agrees.keeps;
+  on = omega (arith, ap next_of c.change.ensures.reads.journal, c.requires.agrees.on);
+  least = c.requires.agrees.least;
+  most = c.requires.agrees.most;
+  fits = omega (arith, c.requires.agrees.fits, c.change.ensures.reads.capacity);
+}
 
 pub commit-requires-clause-agrees : goal.commit-requires-clause-agrees
 commit-requires-clause-agrees g c =
@@ -99,7 +108,7 @@ returns-in_err-change-clause-applies g c volume S honest knows going =
     let r = c.args.request.now in
     let J = g.D.Drive.journal c.args.drive.now in
     let capacity = g.D.Drive.capacity c.args.drive.now in
-    let now : Store = record { at = c.args.self.now.at; capacity = c.args.self.now.capacity; vat = c.args.self.now.vat; directories = c.change.new.self; is_stopped = c.args.self.now.is_stopped; most_held = c.args.self.now.most_held } in
+    let now : Store = record { at = c.args.self.now.at; capacity = c.args.self.now.capacity; vat = c.args.self.now.vat; directories = c.change.new.directories; is_stopped = c.args.self.now.is_stopped; most_held = c.args.self.now.most_held } in
     let p = err_from_is_err_and c.from_residual.result c.from_residual.ensures.1 in
     let going_on = shows_lent capacity volume J S store knows (g.D.Drive.honest c.change.new.drive) honest c.deref.result.now c.deref.ensures.value in
     let shortage : IsShortage p.0 = subst (λ (f : StoreFault). IsShortage f) (sym p.2) (c.in_err-change.ensures.short S.tree going_on) in
@@ -113,7 +122,7 @@ returns-in_err-plan-clause-applies g c volume S honest knows going =
     let J = g.D.Drive.journal c.args.drive.now in
     let capacity = g.D.Drive.capacity c.args.drive.now in
     let change = c.in_ok-change.change in
-    let now : Store = record { at = c.args.self.now.at; capacity = c.args.self.now.capacity; vat = c.args.self.now.vat; directories = c.change.new.self; is_stopped = c.args.self.now.is_stopped; most_held = c.args.self.now.most_held } in
+    let now : Store = record { at = c.args.self.now.at; capacity = c.args.self.now.capacity; vat = c.args.self.now.vat; directories = c.change.new.directories; is_stopped = c.args.self.now.is_stopped; most_held = c.args.self.now.most_held } in
     let p = err_from_is_err_and c.from_residual-in_err-plan.result c.from_residual-in_err-plan.ensures.1 in
     let after_change = c.plan.ensures.reads.honest honest in
     let of_moment : c.unwrap-moment.result ≡ c.args.request.now.moment = some_is c.of.result c.unwrap-moment.result c.args.request.now.moment _ (search rules) c.of.ensures in
@@ -148,6 +157,6 @@ returns-clause-applies g c volume S honest knows going =
     let room = subst (λ (L : List Event). next_of L + change_need c.in_ok-change.change (begun c.args.self.now.at c.args.request.now.client c.args.request.now.number (code_number c.in_ok-change.change.code) c.in_ok-change.change.made (view c.args.self.now.vat)) ≤ c.args.self.now.capacity) c.change.ensures.reads.journal c.in_ok-plan.ensures.room in
     let same : K ≡ J = c.plan.ensures.reads.journal ∙ c.change.ensures.reads.journal in
     let once = subst (λ (L : List Event). Once L) (sym same) knows.once in
-    let kept = subst (λ (L : List Event). AreKept L c.change.new.self) (sym same) (c.change.ensures.kept after_change knows.kept) in
+    let kept = subst (λ (L : List Event). AreKept L c.change.new.directories) (sym same) (c.change.ensures.kept after_change knows.kept) in
     applies capacity volume J S store knows r change does plan makes is room c.commit.result K (g.D.Drive.journal c.commit.new.drive) c.commit.new.self same c.commit.ensures.reply c.commit.ensures.at c.commit.ensures.vat
     c.commit.ensures.written c.commit.ensures.front c.commit.ensures.device c.commit.ensures.stopped c.commit.ensures.volume (c.commit.ensures.kept once kept)

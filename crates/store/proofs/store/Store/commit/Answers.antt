@@ -4,16 +4,16 @@ use Rattle.std.specs.Vec.Iter.{into_iter_items}
 use Rattle.drive.specs.Reads.{Follows, one_if}
 use Rattle.drive.proofs.Reading.{writes_follow}
 use Rattle.drive.specs.Journal.{next_of, written, AddsFront}
-use Rattle.store.specs.Plan.{plan_blocks}
+use Rattle.planning.specs.Plan.{plan_blocks}
 use Rattle.vat.specs.declared.table.Vat.{Vat}
-use Rattle.store.specs.Agrees.{Keeps}
-use Rattle.store.specs.Cache.{LiesThere}
-use Rattle.store.specs.declared.placed.PlacedDirectory.{PlacedDirectory}
-use Rattle.store.specs.declared.plan.PlacedTable.{PlacedTable}
+use Rattle.planning.specs.Last.{Keeps}
+use Rattle.directories.specs.Cache.{LiesThere}
+use Rattle.planning.specs.declared.placed.PlacedDirectory.{PlacedDirectory}
+use Rattle.planning.specs.declared.placed.PlacedTable.{PlacedTable}
 use Rattle.store.proofs.Keeping.{kept_front, kept_longer, plan_lies}
-use Rattle.store.proofs.Names.{all_next}
-use Rattle.store.proofs.Plans.{plan_ends}
-use Rattle.store.proofs.Puttings.{on_err, on_ok, front_ends, writes_ends}
+use Rattle.planning.proofs.Names.{all_next}
+use Rattle.planning.proofs.Plans.{plan_ends}
+use Rattle.planning.proofs.Puttings.{on_err, on_ok, front_ends, writes_ends}
 use Rattle.store.proofs.store.Store.commit.Goals as goal
 
 pub returns-then-is_err-clause-follows : goal.returns-then-is_err-clause-follows

@@ -1,5 +1,5 @@
 use Rattle.std.proofs.Common.{sym, subst, List, Option, ℕ}
-use Rattle.store.specs.Shows.{Shows}
+use Rattle.directories.specs.Shows.{Shows}
 use Rattle.store.proofs.store.Store.list.Goals as goal
 
 pub returns-clause-told : goal.returns-clause-told

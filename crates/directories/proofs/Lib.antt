@@ -1,0 +1,9 @@
+pub mod Asking
+pub mod Behind
+pub mod Caches
+pub mod FileBytes
+pub mod FileSizes
+pub mod Heights
+pub mod Listings
+pub mod StoredNodes
+pub mod Walks

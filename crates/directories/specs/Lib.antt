@@ -1,0 +1,5 @@
+pub mod Asked
+pub mod Cache
+pub mod Heights
+pub mod Queries
+pub mod Shows

@@ -1,0 +1,43 @@
+//! A directory apart from where it lies.
+
+ghost use Rattle.std.specs.Prelude.{◌≡◌, [], ◌∷◌, ◌++◌, ◌<◌, ◌≤◌, IfErr, IfSome, None, OnErr, OnOk, length, nat_eq};
+ghost use Rattle.std.specs.Cmp.Lexicographic.{pointwise};
+ghost use Rattle.std.specs.Map.{lookup, remove_entry};
+ghost use Rattle.recover.specs.Faults.{devices};
+ghost use Rattle.recover.specs.declared.fault.StoreFault.TheVariants.{Memory};
+
+use dir::{Dir, Entry};
+use osta::Name;
+use recover::StoreFault;
+
+/// A directory that a volume may have.
+#[derive(Drop)]
+pub struct Content {
+    pub dir: Dir,
+    pub ghost few: { length dir.entries.entries ≤ 512 },
+}
+
+impl Content {
+    /// Adds a name behind the others.
+    pub fn add(&mut self, name: Name, entry: Entry) -> Result<(), StoreFault>
+        requires room { length self.old.dir.entries.entries < 512 }
+        ensures added { OnOk result (lookup (pointwise nat_eq name) self.old.dir.entries.entries ≡ None → self.new.dir.entries.entries ≡ self.old.dir.entries.entries ++ (name, entry) ∷ []) }
+        ensures parent { self.new.dir.parent ≡ self.old.dir.parent }
+        ensures unchanged { OnErr result (self.new.dir.entries.entries ≡ self.old.dir.entries.entries) }
+        ensures memory { IfErr result (λ fault. fault ≡ Memory) }
+        ensures device { devices result ≡ 0 }
+    {
+        self.dir.entries.insert(name, entry)?;
+        Ok(())
+    }
+
+    /// Takes a name away, and says what was said of it.
+    pub fn remove(&mut self, name: &Name) -> Option<Entry>
+        ensures said { result ≡ lookup (pointwise nat_eq name.now) self.old.dir.entries.entries }
+        ensures entries { self.new.dir.entries.entries ≡ remove_entry (pointwise nat_eq name.now) self.old.dir.entries.entries }
+        ensures parent { self.new.dir.parent ≡ self.old.dir.parent }
+        ensures room { IfSome result (λ _. length self.new.dir.entries.entries < 512) }
+    {
+        self.dir.entries.shift_remove(name)
+    }
+}

@@ -1,0 +1,146 @@
+//! The walk: from the root of a state's tree by names, and down to its leaves.
+
+ghost use Rattle.std.specs.Prelude.{◌≡◌, ◌+◌, ◌<◌, ◌≤◌, List, IsTrue, IfOk, IfErr};
+ghost use Rattle.std.specs.Int.{div_ceil};
+ghost use Rattle.drive.specs.Journal.{Event, held, next_of};
+ghost use Rattle.drive.specs.Reads.{Reads};
+ghost use Rattle.recover.specs.Faults.{devices};
+ghost use Rattle.recover.specs.Nodes.{IsDirectoryRefused, data_of};
+ghost use Rattle.table.specs.Below.{AreBelow};
+ghost use Rattle.std.specs.Map.{lookup};
+ghost use Rattle.std.specs.Cmp.Lexicographic.{pointwise};
+ghost use Rattle.std.specs.Prelude.{nat_eq, true};
+ghost use Rattle.model.specs.Tree.{Path, Tree};
+ghost use Rattle.model.specs.Graph.{Stored, is_directory};
+ghost use Rattle.recover.specs.Faults.{IsShortage};
+ghost use Rattle.directories.specs.declared.content.Content.{Content};
+ghost use Rattle.directories.specs.Cache.{AreKept, LiesThere};
+ghost use Rattle.directories.specs.Heights.{IsHeight};
+ghost use Rattle.directories.specs.Shows.{IsAt, IsOpened, Shows, IsFound, IsFoundDirectory, graph_below};
+ghost use Rattle.udf.specs.Said.{names_directory};
+ghost use Rattle.table.specs.declared.node.Node.{Node};
+
+use crate::content::Content;
+use crate::directories::Directories;
+use crate::nodes::{Nodes, Placed};
+use dir::Kind;
+use drive::Drive;
+use osta::Name;
+use recover::StoreFault;
+use std::alloc::Global;
+use table::{Node, ROOT};
+
+impl Nodes<'_> {
+    /// The directory at a virtual address, which is not kept any longer, and where it lies.
+    pub fn open<D: Drive>(
+        &self,
+        alloc: Global,
+        drive: &mut D,
+        directories: &mut Directories,
+        address: u32,
+    ) -> Result<(Placed, Content), StoreFault>
+        requires below { AreBelow self.now.at self.now.entries.now }
+        requires within { self.now.at ≤ next_of (D.journal drive.old) }
+        ensures opened { IfOk result (λ read. IsTrue (D.honest drive.new) → AreKept (D.journal drive.old) directories.old → (s : Stored) → graph_below self.now.at self.now.entries.now (D.journal drive.old) address s → is_directory s ≡ true → IsOpened s read.0 read.1) }
+        ensures lies { IfOk result (λ read. IsTrue (D.honest drive.new) → AreKept (D.journal drive.old) directories.old → LiesThere (D.journal drive.old) read.0.extent read.1) }
+        ensures refused { IfErr result (λ fault. IsTrue (D.honest drive.new) → (s : Stored) → graph_below self.now.at self.now.entries.now (D.journal drive.old) address s → is_directory s ≡ true → IsShortage fault) }
+        ensures kept { IsTrue (D.honest drive.new) → AreKept (D.journal drive.old) directories.old → AreKept (D.journal drive.old) directories.new }
+        ensures reads { Reads D.Drive (devices result) drive.old drive.new }
+    {
+        let placed = self.directory(drive, address)?;
+        let content = directories.take(alloc, drive, placed.extent)?;
+        Ok((placed, content))
+    }
+
+    /// The node that a path leads to.
+    pub fn find<D: Drive>(
+        &self,
+        alloc: Global,
+        drive: &mut D,
+        directories: &mut Directories,
+        names: &[Name],
+    ) -> Result<Option<Node>, StoreFault>
+        requires below { AreBelow self.now.at self.now.entries.now }
+        requires within { self.now.at ≤ next_of (D.journal drive.old) }
+        ensures found { (tree : Tree) → Shows (D.honest drive.new) (D.journal drive.old) directories.old self.now.at self.now.entries.now tree → IfOk result (IsFound (graph_below self.now.at self.now.entries.now (D.journal drive.old)) tree names.now) }
+        ensures refused { (tree : Tree) → Shows (D.honest drive.new) (D.journal drive.old) directories.old self.now.at self.now.entries.now tree → IfErr result IsShortage }
+        ensures kept { IsTrue (D.honest drive.new) → AreKept (D.journal drive.old) directories.old → AreKept (D.journal drive.old) directories.new }
+        ensures reads { Reads D.Drive (devices result) drive.old drive.new }
+    {
+        let mut node = ROOT;
+        for name in names {
+            if !node.is_directory() {
+                return Ok(None);
+            }
+            let placed = self.directory(drive, node.address)?;
+            node = match directories.entry(alloc, drive, placed.extent, name)? {
+                Some(entry) => Node {
+                    kind: entry.kind,
+                    address: entry.icb,
+                    unique: entry.unique,
+                },
+                None => return Ok(None),
+            };
+        }
+        Ok(Some(node))
+    }
+
+    /// The directory that a path leads to.
+    pub fn find_directory<D: Drive>(
+        &self,
+        alloc: Global,
+        drive: &mut D,
+        directories: &mut Directories,
+        names: &[Name],
+    ) -> Result<Option<Node>, StoreFault>
+        requires below { AreBelow self.now.at self.now.entries.now }
+        requires within { self.now.at ≤ next_of (D.journal drive.old) }
+        ensures found { (tree : Tree) → Shows (D.honest drive.new) (D.journal drive.old) directories.old self.now.at self.now.entries.now tree → IfOk result (IsFoundDirectory (graph_below self.now.at self.now.entries.now (D.journal drive.old)) tree names.now) }
+        ensures refused { (tree : Tree) → Shows (D.honest drive.new) (D.journal drive.old) directories.old self.now.at self.now.entries.now tree → IfErr result IsShortage }
+        ensures kept { IsTrue (D.honest drive.new) → AreKept (D.journal drive.old) directories.old → AreKept (D.journal drive.old) directories.new }
+        ensures reads { Reads D.Drive (devices result) drive.old drive.new }
+    {
+        let Some(node) = self.find(alloc, drive, directories, names)? else {
+            return Ok(None);
+        };
+        if !node.is_directory() {
+            return Ok(None);
+        }
+        Ok(Some(node))
+    }
+
+    /// How many names the longest path below a directory has, looking no further than `left` names.
+    pub fn height<D: Drive>(
+        &self,
+        alloc: Global,
+        drive: &mut D,
+        directories: &mut Directories,
+        address: u32,
+        left: u32,
+    ) -> Result<u32, StoreFault>
+        requires below { AreBelow self.now.at self.now.entries.now }
+        requires within { self.now.at ≤ next_of (D.journal drive.old) }
+        ensures bound { IfOk result (λ height. height ≤ left) }
+        ensures height { (tree : Tree) (path : Path) (node : Node) → Shows (D.honest drive.new) (D.journal drive.old) directories.old self.now.at self.now.entries.now tree → IsAt (graph_below self.now.at self.now.entries.now (D.journal drive.old)) path node → names_directory node.kind ≡ true → node.address ≡ address → IfOk result (IsHeight tree path left) }
+        ensures short { (tree : Tree) (path : Path) (node : Node) → Shows (D.honest drive.new) (D.journal drive.old) directories.old self.now.at self.now.entries.now tree → IsAt (graph_below self.now.at self.now.entries.now (D.journal drive.old)) path node → names_directory node.kind ≡ true → node.address ≡ address → IfErr result IsShortage }
+        ensures kept { IsTrue (D.honest drive.new) → AreKept (D.journal drive.old) directories.old → AreKept (D.journal drive.old) directories.new }
+        ensures reads { Reads D.Drive (devices result) drive.old drive.new }
+    {
+        if left == 0 {
+            return Ok(0);
+        }
+        let (placed, content) = self.open(alloc, drive, directories, address)?;
+        let mut most = 0;
+        for index in 0..content.dir.entries.len() {
+            let (_, entry) = content.dir.entries.get_index(index).unwrap();
+            let Kind::Directory = entry.kind else {
+                most = most.max(1);
+                continue;
+            };
+            let below = self.height(alloc, drive, directories, entry.icb, left - 1)?;
+            most = most.max(below + 1);
+        }
+        directories.keep(placed.extent, content);
+        Ok(most)
+    }
+}

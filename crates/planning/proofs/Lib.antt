@@ -1,0 +1,13 @@
+pub mod Adding
+pub mod Deepness
+pub mod DirectoryBytes
+pub mod Moving
+pub mod Names
+pub mod Packing
+pub mod Plans
+pub mod Puttings
+pub mod Removing
+pub mod Replacing
+pub mod Sizing
+pub mod Taking
+pub mod Writings

@@ -1,0 +1,102 @@
+-- What replacing a file's bytes does.
+use Rattle.std.proofs.Common.{◌≡◌, ℕ, suc, ◌==◌, if◌then◌else◌, not, Bool, true, false, List, [], ◌∷◌, ◌++◌, length, map, take, Option, Some, None, is_some, refl, sym, ap, ◌∙◌, arith}
+use Rattle.std.specs.FinMap.{get, contains_key}
+use Rattle.model.specs.Tree.{Path, Tree, IsTree, is_directory_at}
+use Rattle.model.specs.Graph.{Graph, MakesTree, whole}
+use Rattle.model.specs.Graph.Body.{Bytes}
+use Rattle.model.specs.Operation.{Operation, code_of}
+use Rattle.model.specs.Operation.Operation.{Replace}
+use Rattle.medium.specs.Plan.{Writing}
+use Rattle.medium.proofs.Stored.{stored_one}
+use Rattle.drive.specs.Journal.{Event, held}
+use Rattle.request.specs.Numbers.{code_number}
+use Rattle.request.specs.declared.answer.Code.{Code}
+use Rattle.request.specs.declared.answer.Code.TheVariants as code
+use Rattle.udf.specs.Udf.{udf}
+use Rattle.udf.specs.Said.{names_directory}
+use Rattle.udf.proofs.Formats.{exact}
+use Rattle.planning.specs.declared.change.Change.{Change}
+use Rattle.planning.specs.declared.change.NewFile.{NewFile}
+use Rattle.table.specs.declared.node.Node.{Node}
+use Rattle.directories.specs.Shows.{graph_below, IsAt}
+use Rattle.planning.specs.Writings.{file_writing, directory_writing, new_file, change_writings}
+use Rattle.planning.specs.Changes.{addresses_in, gone_of, IsRefusal, Does}
+use Rattle.directories.proofs.Walks.{node_at, directory_stored}
+
+-- nothing is written where nothing is done
+pub nothing : (moment : ℕ) (code : Code) (change : Change) → IsRefusal code change → (change_writings moment change ≡ []) × (gone_of change ≡ []) × (change.made ≡ None) × (change.removed ≡ None)
+nothing moment code change r =
+    ((λ i. new_file moment (r.file i) ++ map directory_writing (r.directories i)), ap addresses_in r.removed, r.made, r.removed)
+
+-- with the operation's code, which is not 0
+pub refuses : (graph : Graph) (free : ℕ) (tree : Tree) (operation : Operation) (moment identity n : ℕ) (code : Code) (change : Change) → IsRefusal code change → code_number code ≡ suc n → code_of operation tree ≡ suc n → Does graph free tree operation moment identity change
+refuses graph free tree operation moment identity n code change r number is = record {
+  code_is = ap code_number r.code_is ∙ (number ∙ sym is);
+  done = λ none. let e : suc n ≡ 0 = sym is ∙ none in absurd (omega (arith, e));
+  refused = λ some. nothing moment code change r;
+}
+
+not_done : (c : Code) → (c ≡ code.Done → ⊥) → code_number c ≡ 0 → ⊥
+not_done code.Done apart e = apart refl
+not_done code.NoParent apart e = absurd (omega (arith, e))
+not_done code.NotFound apart e = absurd (omega (arith, e))
+not_done code.Exists apart e = absurd (omega (arith, e))
+not_done code.IsDirectory apart e = absurd (omega (arith, e))
+not_done code.NotEmpty apart e = absurd (omega (arith, e))
+not_done code.IntoItself apart e = absurd (omega (arith, e))
+not_done code.Root apart e = absurd (omega (arith, e))
+not_done code.TooDeep apart e = absurd (omega (arith, e))
+not_done code.DirectoryFull apart e = absurd (omega (arith, e))
+not_done code.TooMany apart e = absurd (omega (arith, e))
+
+-- with a code that is another than the first
+pub refuses_other : (graph : Graph) (free : ℕ) (tree : Tree) (operation : Operation) (moment identity : ℕ) (why : Code) (change : Change) → IsRefusal why change → (why ≡ code.Done → ⊥) → code_number why ≡ code_of operation tree → Does graph free tree operation moment identity change
+refuses_other graph free tree operation moment identity why change r apart same = record {
+  code_is = ap code_number r.code_is ∙ same;
+  done = λ none. absurd (not_done why apart (same ∙ none));
+  refused = λ some. nothing moment why change r;
+}
+
+abbrev pub replace_code : Bool → Bool → Bool → ℕ
+replace_code empty there directory = if empty then 7 else (if not there then 2 else (if directory then 4 else 0))
+
+pub replace_root : (path : Path) (bytes : List ℕ) (tree : Tree) → (length path == 0) ≡ true → code_of (Replace path bytes) tree ≡ 7
+replace_root path bytes tree e = ap (λ (b : Bool). replace_code b (contains_key tree path) (is_directory_at tree path)) e
+
+pub replace_missing : (path : Path) (bytes : List ℕ) (tree : Tree) → (length path == 0) ≡ false → get tree path ≡ None → code_of (Replace path bytes) tree ≡ 2
+replace_missing path bytes tree some none =
+    ap (λ (b : Bool). replace_code b (contains_key tree path) (is_directory_at tree path)) some
+    ∙ ap (λ (b : Bool). replace_code false b (is_directory_at tree path)) (ap is_some none)
+
+module _ (at : ℕ) (entries : List (Option ℕ)) (J : List Event) (tree : Tree) (is : IsTree tree) (makes : MakesTree (graph_below at entries J) tree) where
+  there_at : (path : Path) (node : Node) → IsAt (graph_below at entries J) path node → contains_key tree path ≡ true
+  there_at path node here = ap is_some (node_at (graph_below at entries J) tree (stored_one udf exact (take at (held J)) entries) is makes path node here)
+
+  directory_there : (path : Path) (node : Node) → IsAt (graph_below at entries J) path node → is_directory_at tree path ≡ names_directory node.kind
+  directory_there path node here = directory_stored (graph_below at entries J) tree (stored_one udf exact (take at (held J)) entries) is makes path node here
+
+  replace_there : (path : Path) (node : Node) (b : Bool) → (length path == 0) ≡ false → IsAt (graph_below at entries J) path node → names_directory node.kind ≡ b → (bytes : List ℕ) → code_of (Replace path bytes) tree ≡ (if b then 4 else 0)
+  replace_there path node b some here kind bytes =
+      ap (λ (e : Bool). replace_code e (contains_key tree path) (is_directory_at tree path)) some
+      ∙ (ap (λ (e : Bool). replace_code false e (is_directory_at tree path)) (there_at path node here)
+      ∙ ap (λ (e : Bool). replace_code false true e) (directory_there path node here ∙ kind))
+
+  pub replace_directory : (path : Path) (node : Node) → (length path == 0) ≡ false → IsAt (graph_below at entries J) path node → names_directory node.kind ≡ true → (bytes : List ℕ) → code_of (Replace path bytes) tree ≡ 4
+  replace_directory path node some here kind bytes = replace_there path node true some here kind bytes
+
+  -- the file is written anew
+  pub replaces : (free moment identity : ℕ) (path : Path) (node : Node) (file : NewFile) (done change : Change) → (length path == 0) ≡ false → IsAt (graph_below at entries J) path node → names_directory node.kind ≡ false
+      → IsRefusal code.Done done → change.code ≡ done.code → change.file ≡ Some file → change.directories ≡ done.directories → change.made ≡ done.made → change.removed ≡ done.removed → file.address ≡ node.address → file.unique ≡ node.unique
+      → Does (graph_below at entries J) free tree (Replace path file.bytes.now) moment identity change
+  replaces free moment identity path node file done change some here kind r code_is file_is dirs made removed address unique =
+      let zero_code : code_of (Replace path file.bytes.now) tree ≡ 0 = replace_there path node false some here kind file.bytes.now in
+      let items : change.directories.items ≡ [] = ap (λ ds. ds.items) dirs ∙ r.directories in
+      let gone : gone_of change ≡ [] = ap addresses_in (removed ∙ r.removed) in
+      let writing : file_writing moment file ≡ record { address = here.found.address; stored = whole here.found.stored.identity moment (Bytes file.bytes.now) } =
+      λ i. record { address = (address ∙ here.address) i; stored = whole ((unique ∙ here.identity) i) moment (Bytes file.bytes.now) } in
+      let nodes : change_writings moment change ≡ file_writing moment file ∷ [] = λ i. new_file moment (file_is i) ++ map directory_writing (items i) in
+      record {
+        code_is = ap code_number (code_is ∙ r.code_is) ∙ sym zero_code;
+        done = λ none. ((record { file = here.found; nodes_are = nodes ∙ ap (λ (w : Writing). w ∷ []) writing }, gone), made ∙ r.made, removed ∙ r.removed);
+        refused = λ other. absurd (other zero_code);
+      }

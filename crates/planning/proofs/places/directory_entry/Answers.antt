@@ -1,0 +1,26 @@
+use Rattle.std.proofs.Common.{ℕ, ◌∙◌, refl, subst, arith, rules}
+use Rattle.dir.specs.Directory.{directory_blocks}
+use Rattle.medium.specs.Formats.Kind.{Directory}
+use Rattle.medium.specs.Formats.Place.{Extent}
+use Rattle.udf.specs.Udf.{udf}
+use Rattle.planning.proofs.Writings.{links_agree, holds_directory}
+use Rattle.planning.proofs.places.directory_entry.Goals as goal
+
+pub returns : goal.returns
+returns c =
+    let d = c.args.directory.now in
+    let dir = d.content.dir in
+    let first = c.args.extent.first in
+    let size = c.args.extent.size in
+    let links = c.link_count.ensures ∙ links_agree dir.parent dir.entries.entries in
+    let says : (l u : ℕ) → Type 0 = λ l u. udf.IsEntry (record { kind = Directory; moment = d.moment; links = l; identity = u; size = size; place = Extent first }) c.encode_fe.result d.address in
+    record {
+      before = directory_blocks dir first;
+      entry = c.encode_fe.result;
+      blocks_are = refl;
+      number_is = omega (arith, c.requires.blocks);
+      place = Extent first;
+      size = size;
+      body = (refl, c.requires.blocks, holds_directory dir first size (search rules) (search rules) c.requires.proper (omega (arith, c.requires.room)) c.requires.size);
+      is = subst (λ l. says l d.unique) links (subst (λ u. says c.link_count.result u) c.from.ensures c.encode_fe.ensures);
+    }

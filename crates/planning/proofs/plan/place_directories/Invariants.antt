@@ -1,0 +1,33 @@
+use Rattle.std.proofs.Common.{◌≡◌, ◌+◌, ◌≤◌, ◌++◌, length}
+use Rattle.std.specs.Prelude.{All}
+use Rattle.std.specs.Vec.Iter.{into_iter_items, into_iter_len}
+use Rattle.medium.specs.Plan.{WritesNodes}
+use Rattle.udf.specs.Udf.{udf}
+use Rattle.vat.specs.Table.{Fits, view}
+use Rattle.table.specs.Below.{AreBelow, IsUsed}
+use Rattle.planning.specs.Plan.{AreLaid, directories_list, directories_writings, directories_written}
+use Rattle.planning.specs.Needs.{table_need, directories_need}
+use Rattle.table.specs.NextTable.{all_placed}
+use Rattle.planning.specs.Writings.{IsProper, new_directories}
+use Rattle.planning.proofs.plan.place_directories.Given as goal
+
+-- the directories so far were placed
+abbrev pub invariant-loop-directory : goal.invariant-loop-directory
+invariant-loop-directory l = record {
+  left : All (λ d. IsProper d.content.dir) (into_iter_items l.directory-iterator);
+  used : All (λ d. IsUsed d.address l.fn.vat.entries.items) l.fn.directories.items → All (λ d. IsUsed d.address l.vat.entries.items) (into_iter_items l.directory-iterator);
+  count : into_iter_len l.directory-iterator ≡ length (into_iter_items l.directory-iterator);
+  writings : new_directories l.fn.directories.items ≡ directories_writings l.all.items ++ new_directories (into_iter_items l.directory-iterator);
+  table : view l.vat ≡ all_placed (directories_written l.all.items) (view l.fn.vat);
+  fits : Fits (view l.vat);
+  below : AreBelow (l.fn.numbers.next + 257) l.fn.vat.entries.items → AreBelow (l.numbers.next + 257) l.vat.entries.items;
+  previous : l.vat.previous ≡ l.fn.vat.previous;
+  commits : l.vat.sessions.commits ≡ l.fn.vat.sessions.commits;
+  unique : l.vat.sessions.next_unique ≡ l.fn.vat.sessions.next_unique;
+  written : WritesNodes udf (directories_writings l.all.items) l.fn.numbers.next (directories_list l.all.items) (directories_written l.all.items);
+  laid : AreLaid l.fn.numbers.next l.all.items;
+  room : l.numbers.next + directories_need (into_iter_items l.directory-iterator) ≤ l.fn.numbers.next + directories_need l.fn.directories.items;
+  need : table_need (view l.vat) ≡ table_need (view l.fn.vat);
+  next : l.numbers.next ≡ l.fn.numbers.next + length (directories_list l.all.items);
+  end : l.numbers.end ≡ l.fn.numbers.end;
+}

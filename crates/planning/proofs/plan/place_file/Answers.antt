@@ -1,0 +1,35 @@
+use Rattle.std.proofs.Common.{◌+◌, ◌≤◌, ◌++◌, ◌∷◌, ◌∙◌, [], ℕ, List, sym, ap, arith}
+use Rattle.model.specs.Graph.{whole}
+use Rattle.model.specs.Graph.Body.{Bytes}
+use Rattle.medium.specs.Plan.{Writing}
+use Rattle.planning.specs.Needs.{file_need}
+use Rattle.planning.specs.Plan.{file_data}
+use Rattle.table.proofs.BelowLemmas.{below_later}
+use Rattle.planning.proofs.Writings.{node_ends}
+use Rattle.planning.specs.Writings.{file_writing, new_file}
+use Rattle.planning.proofs.plan.place_file.Goals as goal
+
+pub returns-clause-below : goal.returns-clause-below
+returns-clause-below c h =
+    let p = c.place_file-placed.result in
+    let next = c.place_file-placed.new.self.next in
+    let ends = node_ends (file_writing c.args.moment p.file) c.args.numbers.now.next (file_data p ++ p.entry ∷ []) p.number c.place_file-placed.ensures.written in
+    let later : c.args.numbers.now.next + 257 ≤ next + 257 = omega (arith, ends, c.place_file-placed.ensures.next) in
+    c.place_node.ensures.below (next + 257) (omega (arith, c.place_file-placed.ensures.next)) (below_later (c.args.numbers.now.next + 257) (next + 257) c.args.vat.now.entries.items later h)
+
+pub returns-clause-writings : goal.returns-clause-writings
+returns-clause-writings c =
+    let m = c.args.moment in
+    let p = c.place_file-placed.result.file in
+    let f = c.in-Some.file in
+    let of : ℕ → ℕ → List ℕ → List Writing = λ a u bs. record { address = a; stored = whole u m (Bytes bs) } ∷ [] in
+    ap (λ a. of a p.unique p.bytes.now) c.place_file-placed.ensures.address
+    ∙ ap (λ u. of f.address u p.bytes.now) c.place_file-placed.ensures.unique
+    ∙ ap (λ (bs : List ℕ). of f.address f.unique bs) c.place_file-placed.ensures.bytes
+    ∙ sym (ap (new_file m) c.in-Some.is)
+
+pub place_file-placed-requires : goal.place_file-placed-requires
+place_file-placed-requires c = record { room = omega (arith, c.requires.room, ap file_need c.in-Some.is) }
+
+pub returns-clause-most : goal.returns-clause-most
+returns-clause-most c = omega (arith, c.place_file-placed.ensures.most, ap file_need c.in-Some.is)

@@ -1,0 +1,16 @@
+use Rattle.std.proofs.Common.{◌≡◌, false, ◌++◌, ℕ, List, length}
+use Rattle.drive.specs.Reads.{Writes}
+use Rattle.drive.specs.Waiting.{Takes}
+use Rattle.dir.specs.Directory.{directory_blocks}
+use Rattle.dir.specs.Laying.{blocks_left}
+use Rattle.planning.proofs.write.Writer.put_directory.Given as goal
+
+-- the blocks that are not left were taken
+abbrev pub invariant-loop-block : goal.invariant-loop-block
+invariant-loop-block g l = record {
+  takes : (done : List (List ℕ)) × (directory_blocks l.directory l.first ≡ done ++ blocks_left l.lay) × Takes (g.D.Drive.journal l.fn.drive) l.fn.self.packets done (g.D.Drive.journal l.drive) l.self.packets;
+  writes : Writes g.D.Drive false l.fn.drive l.drive;
+}
+
+abbrev pub decreases-loop-block : goal.decreases-loop-block
+decreases-loop-block g l = length (blocks_left l.lay)

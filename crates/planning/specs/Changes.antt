@@ -1,0 +1,54 @@
+-- What a request does to the nodes, in the model's words.
+use Rattle.std.specs.Prelude.{◌≡◌, ℕ, Bool, List, [], ◌∷◌, Option, Some, None, if◌then◌else◌, nat_le}
+use Rattle.model.specs.Tree.{Path, Tree, Content}
+use Rattle.model.specs.Tree.Content.{File as FileContent, Directory as DirectoryContent}
+use Rattle.model.specs.Graph.{Graph}
+use Rattle.model.specs.Operation.{Operation, code_of}
+use Rattle.model.specs.Operation.Operation.{Create, MakeDir}
+use Rattle.medium.specs.Plan.{Plans}
+use Rattle.request.specs.Numbers.{code_number}
+use Rattle.request.specs.declared.answer.Code.{Code}
+use Rattle.planning.specs.declared.change.Change.{Change}
+use Rattle.planning.specs.declared.change.Thing.{Thing}
+use Rattle.planning.specs.declared.change.Thing.TheVariants as thing
+use Rattle.table.specs.declared.node.Node.{Node}
+use Rattle.table.specs.NextTable.{made_by, Takes}
+use Rattle.planning.specs.Writings.{change_writings}
+
+-- a new path with this at it
+abbrev pub addition : Path → Thing → Operation
+addition path (thing.File bytes) = Create path bytes.now
+addition path thing.Directory = MakeDir path
+
+abbrev pub content_of_thing : Thing → Content
+content_of_thing (thing.File bytes) = FileContent bytes.now
+content_of_thing thing.Directory = DirectoryContent []
+
+-- the code of an addition, by whether the directory has the name, how many names it has, and how many nodes there are
+abbrev pub code_by_names : Bool → ℕ → ℕ → ℕ
+code_by_names has names nodes = if has then 3 else (if nat_le 512 names then 9 else (if nat_le 4096 nodes then 10 else 0))
+
+abbrev pub addresses_in : Option Node → List ℕ
+addresses_in None = []
+addresses_in (Some node) = node.address ∷ []
+
+-- the addresses that are unused afterwards
+abbrev pub gone_of : Change → List ℕ
+gone_of change = addresses_in change.removed
+
+-- nothing is done, with this code
+pub record IsRefusal (code : Code) (change : Change) : Type 0 where
+  pub code_is : change.code ≡ code
+  pub file : change.file ≡ None
+  pub directories : change.directories.items ≡ []
+  pub made : change.made ≡ None
+  pub removed : change.removed ≡ None
+
+-- The change has the operation's code. With code 0 it is the one that the operation plans, with the node that it makes and
+-- the one that goes, and else nothing is done.
+pub record Does (graph : Graph) (free : ℕ) (tree : Tree) (operation : Operation) (moment identity : ℕ) (change : Change) : Type 0 where
+  pub code_is : code_number change.code ≡ code_of operation tree
+  pub done : code_of operation tree ≡ 0
+      → Plans graph free operation moment identity (change_writings moment change) (gone_of change)
+      × (change.made ≡ made_by operation free) × Takes operation tree (gone_of change) change.removed
+  pub refused : (code_of operation tree ≡ 0 → ⊥) → (change_writings moment change ≡ []) × (gone_of change ≡ []) × (change.made ≡ None) × (change.removed ≡ None)

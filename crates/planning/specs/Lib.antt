@@ -1,0 +1,6 @@
+pub mod Changes
+pub mod Last
+pub mod Moves
+pub mod Needs
+pub mod Plan
+pub mod Writings

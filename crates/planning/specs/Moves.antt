@@ -1,0 +1,41 @@
+-- What is asked of a node that gets another path.
+use Rattle.std.specs.Prelude.{◌≡◌, ℕ, true, List, [], ◌∷◌, ◌++◌, length, nat_le, if◌then◌else◌, None}
+use Rattle.std.specs.FinMap.{get}
+use Rattle.model.specs.Tree.{Name, Path, Tree, Has, names_at}
+use Rattle.model.specs.Graph.{Graph, Stored, Entry}
+use Rattle.model.specs.Operation.{code_of}
+use Rattle.model.specs.Operation.Operation.{Rename}
+use Rattle.medium.specs.Plan.{Writing, turned}
+use Rattle.udf.specs.Said.{names_directory}
+use Rattle.table.specs.declared.node.Node.{Node}
+use Rattle.directories.specs.Shows.{IsAt}
+
+-- another name in one directory, which does not have it
+pub record IsWithin (graph : Graph) (tree : Tree) (from to : Path) (parent : Node) (old new : Name) : Type 0 where
+  pub above : Path
+  pub from_is : from ≡ above ++ old ∷ []
+  pub to_is : to ≡ above ++ new ∷ []
+  pub here : Has tree from
+  pub new_there : get tree to ≡ None
+  pub parent_at : IsAt graph above parent
+  pub directory : names_directory parent.kind ≡ true
+  pub code_is : code_of (Rename from to) tree ≡ 0
+
+-- to another directory, which does not have the name, and may be full
+pub record IsBetween (graph : Graph) (tree : Tree) (from to : Path) (node loses gains : Node) (old new : Name) : Type 0 where
+  pub above : Path
+  pub beyond : Path
+  pub from_is : from ≡ above ++ old ∷ []
+  pub to_is : to ≡ beyond ++ new ∷ []
+  pub elsewhere : above ≡ beyond → ⊥
+  pub node_at : IsAt graph from node
+  pub new_there : get tree to ≡ None
+  pub loses_at : IsAt graph above loses
+  pub loses_directory : names_directory loses.kind ≡ true
+  pub gains_at : IsAt graph beyond gains
+  pub gains_directory : names_directory gains.kind ≡ true
+  pub code_is : code_of (Rename from to) tree ≡ (if nat_le 512 (length (names_at tree beyond)) then 9 else 0)
+
+-- what is written of the node at this address, which gets another parent
+abbrev pub Turns : ℕ → Stored → ℕ → List Writing → Type 0
+Turns address s parent nodes = (moved : Entry) → moved.address ≡ address → nodes ≡ turned moved s parent

@@ -1,0 +1,27 @@
+-- The most blocks that a commit may take, from sizes alone.
+use Rattle.std.specs.Prelude.{ℕ, ◌+◌, ◌*◌, ◌/◌, List, [], ◌∷◌, length, Option, Some, None}
+use Rattle.std.specs.Int.{div_ceil}
+use Rattle.dir.specs.Size.{name_sizes, plain_sizes}
+use Rattle.vat.specs.Table.{Table}
+pub use Rattle.table.specs.Needs.{table_need}
+use Rattle.table.specs.Outside.{outside}
+use Rattle.planning.specs.declared.change.Change.{Change}
+use Rattle.planning.specs.declared.change.NewFile.{NewFile}
+use Rattle.planning.specs.declared.change.NewDirectory.{NewDirectory}
+
+-- before data there may be as many blocks of zeros
+abbrev pub file_need : Option NewFile → ℕ
+file_need None = 0
+file_need (Some f) = 2 * div_ceil (length (outside f.bytes.now)) 2048 + 1
+
+-- a block of a directory that another one follows is used up to byte 1,720 at least
+abbrev pub directory_need : NewDirectory → ℕ
+directory_need d = 2 + (40 + plain_sizes (name_sizes d.content.dir.entries.entries)) / 1720
+
+abbrev pub directories_need : List NewDirectory → ℕ
+directories_need [] = 0
+directories_need (d ∷ ds) = directory_need d + directories_need ds
+
+-- for a change, where the table is as long as this one
+abbrev pub change_need : Change → Table → ℕ
+change_need change t = table_need t + file_need change.file + directories_need change.directories.items

@@ -1,0 +1,102 @@
+-- The blocks that a planned commit writes.
+use Rattle.std.specs.Prelude.{◌≡◌, ℕ, ◌+◌, ◌-◌, ◌<◌, ◌≤◌, ⊤, List, [], ◌∷◌, ◌++◌, length, replicate, Option, Some, None}
+use Rattle.std.specs.Int.{div_ceil}
+use Rattle.dir.specs.Directory.{directory_blocks, IsDirectory}
+use Rattle.medium.specs.Formats.{Fields}
+use Rattle.medium.specs.Formats.Kind.{Table}
+use Rattle.medium.specs.Formats.Place.{Extent}
+use Rattle.medium.specs.Plan.{zeros, packed, Writing, Written, IsPlaced, WritesNodes}
+use Rattle.udf.specs.Udf.{udf}
+use Rattle.vat.specs.Table.{view, IsTableAt}
+use Rattle.table.specs.Outside.{outside}
+use Rattle.planning.specs.Writings.{file_writing, directory_writing}
+use Rattle.planning.specs.declared.placed.PlacedFile.{PlacedFile}
+use Rattle.planning.specs.declared.placed.PlacedDirectory.{PlacedDirectory}
+use Rattle.planning.specs.declared.placed.PlacedTable.{PlacedTable}
+use Rattle.planning.specs.declared.plan.Plan.{Plan}
+use Rattle.planning.specs.Last.{Keeps}
+
+-- the blocks of a file's bytes, where they are outside the entry
+abbrev pub file_data : PlacedFile → List (List ℕ)
+file_data p = replicate p.gap zeros ++ packed (outside p.file.bytes.now)
+
+-- these, and the entry
+abbrev pub file_list : Option PlacedFile → List (List ℕ)
+file_list None = []
+file_list (Some p) = file_data p ++ p.entry ∷ []
+
+abbrev pub directory_data : PlacedDirectory → List (List ℕ)
+directory_data p = directory_blocks p.directory.content.dir p.extent.first
+
+abbrev pub directory_list : PlacedDirectory → List (List ℕ)
+directory_list p = directory_data p ++ p.entry ∷ []
+
+abbrev pub directories_list : List PlacedDirectory → List (List ℕ)
+directories_list [] = []
+directories_list (p ∷ ps) = directory_list p ++ directories_list ps
+
+-- the directory's data lie in its extent, which begins at a block number
+pub record IsLaid (from : ℕ) (p : PlacedDirectory) : Type 0 where
+  pub first : p.extent.first ≡ from
+  pub blocks : length (directory_data p) ≡ div_ceil p.extent.size 2048
+  pub is : IsDirectory p.directory.content.dir.parent p.directory.content.dir.entries.entries p.extent.first p.extent.size (directory_data p)
+
+-- the directories lie one behind the other
+abbrev pub AreLaid : ℕ → List PlacedDirectory → Type 0
+AreLaid from [] = ⊤
+AreLaid from (p ∷ ps) = IsLaid from p × AreLaid (from + length (directory_list p)) ps
+
+abbrev pub table_data : PlacedTable → List (List ℕ)
+table_data t = replicate t.gap zeros ++ packed t.bytes.items
+
+-- the blocks of the nodes
+abbrev pub node_list : Plan → List (List ℕ)
+node_list p = file_list p.file ++ directories_list p.directories.items
+
+-- all, the table's entry last
+abbrev pub plan_blocks : Plan → List (List ℕ)
+plan_blocks p = node_list p ++ (table_data p.table ++ p.table.entry ∷ [])
+
+-- what the nodes say, and where their entries are
+abbrev pub file_writings : ℕ → Option PlacedFile → List Writing
+file_writings moment None = []
+file_writings moment (Some p) = file_writing moment p.file ∷ []
+
+abbrev pub file_written : Option PlacedFile → List Written
+file_written None = []
+file_written (Some p) = record { address = p.file.address; number = p.number } ∷ []
+
+abbrev pub directories_writings : List PlacedDirectory → List Writing
+directories_writings [] = []
+directories_writings (p ∷ ps) = directory_writing p.directory ∷ directories_writings ps
+
+abbrev pub directories_written : List PlacedDirectory → List Written
+directories_written [] = []
+directories_written (p ∷ ps) = record { address = p.directory.address; number = p.number } ∷ directories_written ps
+
+abbrev pub plan_writings : Plan → List Writing
+plan_writings p = file_writings p.moment p.file ++ directories_writings p.directories.items
+
+abbrev pub plan_written : Plan → List Written
+plan_written p = file_written p.file ++ directories_written p.directories.items
+
+-- what the entry of a table says
+abbrev pub table_fields : ℕ → PlacedTable → Fields
+table_fields moment t = record { kind = Table; moment = moment; links = 0; identity = 0; size = length t.bytes.items; place = Extent t.first }
+
+-- The table, its bytes behind block numbers from one on, and its entry.
+pub record IsTablePlaced (from moment : ℕ) (t : PlacedTable) : Type 0 where
+  pub placed : IsPlaced udf t.bytes.items from t.first (table_data t)
+  pub number : t.at ≡ from + 257 + length (table_data t)
+  pub spelled : IsTableAt (t.at - 257) (view t.vat) t.bytes.items
+  pub mark : udf.IsEntry (table_fields moment t) t.entry (t.at - 257)
+
+-- the blocks lie behind each other from an address on, on a drive with room for so many
+pub record IsPlan (next capacity : ℕ) (p : Plan) : Type 0 where
+  pub begins : p.writer.packets ≡ record { at = next; blocks = [] }
+  pub low : 257 ≤ next
+  pub nodes : WritesNodes udf (plan_writings p) (next - 257) (node_list p) (plan_written p)
+  pub laid : AreLaid (next - 257 + length (file_list p.file)) p.directories.items
+  pub table : IsTablePlaced (next - 257 + length (node_list p)) p.moment p.table
+  pub fits : p.table.at < capacity
+  pub keeps : Keeps p.table.at p.table.vat

@@ -1,0 +1,45 @@
+//! The nodes of a commit with their places.
+
+ghost use Rattle.std.specs.Prelude.{◌≤◌};
+
+use crate::change::{NewDirectory, NewFile};
+use ecma::Block;
+use recover::Extent;
+use vat::Vat;
+
+/// A file with its place.
+#[derive(Drop)]
+pub struct PlacedFile<'r> {
+    pub file: NewFile<'r>,
+    /// The blocks of zeros before its bytes, where they are outside the entry.
+    pub gap: u32,
+    pub entry: Block,
+    /// The number of its entry.
+    pub number: u32,
+}
+
+/// A directory with its place.
+#[derive(Drop)]
+pub struct PlacedDirectory {
+    pub directory: NewDirectory,
+    pub extent: Extent,
+    pub entry: Block,
+    /// The number of its entry.
+    pub number: u32,
+    pub ghost room: { extent.first ≤ 449_743 },
+}
+
+/// A table with its place.
+#[derive(Drop)]
+pub struct PlacedTable {
+    /// As it is kept when it is written.
+    pub vat: Vat,
+    pub bytes: Vec<u8>,
+    /// The number of the first block of its bytes.
+    pub first: u32,
+    /// The blocks of zeros before them.
+    pub gap: u32,
+    pub entry: Block,
+    /// The address of its entry.
+    pub at: u32,
+}

@@ -1,0 +1,197 @@
+//! Where the blocks of a commit lie.
+
+ghost use Rattle.std.specs.Prelude.{◌≡◌, ℕ, ◌+◌, ◌*◌, ◌<◌, ◌≤◌, List, [], ◌∷◌, ◌++◌, length, Some};
+ghost use Rattle.std.specs.Int.{div_ceil};
+ghost use Rattle.icb.specs.Entry.{FitsPlace, place_of};
+ghost use Rattle.icb.specs.declared.entry.Kind.TheVariants.{File};
+ghost use Rattle.dir.specs.Directory.{directory_blocks, directory_size};
+ghost use Rattle.medium.specs.Plan.{packed, IsClearStart, IsPlaced, PlacesFile, WritesNode};
+ghost use Rattle.planning.specs.Needs as needs;
+ghost use Rattle.table.specs.Outside.{outside};
+ghost use Rattle.planning.specs.Plan.{file_data, directory_data, IsLaid};
+ghost use Rattle.planning.specs.Writings.{IsProper, file_writing, directory_writing};
+ghost use Rattle.udf.specs.Said.{said_place};
+ghost use Rattle.udf.specs.Udf.{udf};
+
+use crate::change::{NewDirectory, NewFile};
+use crate::placed::{PlacedDirectory, PlacedFile};
+use ecma::{Block, Timestamp};
+use icb::{FileEntry, Kind, Place, encode_fe};
+use recover::{Extent, block_count, link_count};
+use vat::clear_start;
+
+/// The most bytes of a file that stand inside its entry.
+pub(crate) const INSIDE_BYTES: usize = 1872;
+
+/// The block numbers that a commit gives out, one behind another.
+#[derive(Clone, Copy, Debug)]
+pub(crate) struct Numbers {
+    /// The next number.
+    next: u32,
+    /// How many blocks the partition has.
+    end: u32,
+    ghost within: { next ≤ end },
+    ghost partition: { end ≤ 449_743 },
+}
+
+impl Numbers {
+    /// The numbers from one on. The partition has so many blocks.
+    pub(crate) fn new(next: u32, end: u32) -> Numbers
+        requires within { next ≤ end }
+        requires partition { end ≤ 449_743 }
+        ensures next { result.next ≡ next }
+        ensures end { result.end ≡ end }
+    {
+        Numbers { next, end }
+    }
+
+    /// The number that the next block gets.
+    pub(crate) fn next(&self) -> u32
+        ensures next { result ≡ self.now.next }
+        ensures room { result ≤ self.now.end }
+        ensures partition { self.now.end ≤ 449_743 }
+    {
+        self.next
+    }
+
+    /// Gives out so many numbers, for which there is room.
+    pub(crate) fn take(&mut self, count: u32)
+        requires room { self.old.next + count ≤ self.old.end }
+        ensures next { self.new.next ≡ self.old.next + count }
+        ensures end { self.new.end ≡ self.old.end }
+    {
+        self.next += count;
+    }
+
+    /// Places bytes at the least clear start, and says where it is.
+    pub(crate) fn place_bytes(&mut self, bytes: &[u8]) -> u32
+        requires few { length bytes.now ≤ 1_048_576 }
+        requires room { self.old.next + 2 * div_ceil (length bytes.now) 2048 ≤ self.old.end }
+        ensures start { IsClearStart udf (packed bytes.now) self.old.next result }
+        ensures next { self.new.next ≡ result + div_ceil (length bytes.now) 2048 }
+        ensures most { self.new.next ≤ self.old.next + 2 * div_ceil (length bytes.now) 2048 }
+        ensures end { self.new.end ≡ self.old.end }
+    {
+        let start = self.next;
+        let first = clear_start(bytes, start);
+        self.take(first - start + block_count(bytes.len() as u32));
+        first
+    }
+
+    /// Places a file: its bytes, where they are outside its entry, and the entry, of this moment.
+    pub(crate) fn place_file<'r>(&mut self, file: NewFile<'r>, moment: Timestamp) -> PlacedFile<'r>
+        requires room { self.old.next + needs.file_need (Some file) ≤ self.old.end }
+        ensures address { result.file.address ≡ file.entry.address }
+        ensures unique { result.file.unique ≡ file.entry.unique }
+        ensures bytes { result.file.bytes.now ≡ file.entry.bytes.now }
+        ensures written { WritesNode udf (file_writing moment result.file) self.old.next (file_data result ++ result.entry ∷ []) result.number }
+        ensures next { self.new.next ≡ result.number + 1 }
+        ensures most { self.new.next ≤ self.old.next + needs.file_need (Some file.entry) }
+        ensures end { self.new.end ≡ self.old.end }
+    {
+        let start = self.next;
+        let first = self.place_bytes(outside_of(file.bytes.as_slice()));
+        let number = self.next;
+        self.take(1);
+        PlacedFile {
+            file,
+            gap: first - start,
+            entry: file_entry(&file, moment, first),
+            number,
+        }
+    }
+
+    /// Places a directory: its data and its entry.
+    pub(crate) fn place_directory(&mut self, directory: NewDirectory) -> PlacedDirectory
+        requires proper { IsProper directory.content.dir }
+        requires room { self.old.next + needs.directory_need directory ≤ self.old.end }
+        ensures directory { result.directory ≡ directory }
+        ensures laid { IsLaid self.old.next result }
+        ensures written { WritesNode udf (directory_writing result.directory) self.old.next (directory_data result ++ result.entry ∷ []) result.number }
+        ensures next { self.new.next ≡ result.number + 1 }
+        ensures most { self.new.next ≤ self.old.next + needs.directory_need directory }
+        ensures end { self.new.end ≡ self.old.end }
+    {
+        let size = directory.content.dir.data_size();
+        let extent = Extent {
+            first: self.next,
+            size: size.bytes() as u32,
+        };
+        self.take(size.blocks());
+        let number = self.next;
+        self.take(1);
+        let entry = directory_entry(&directory, extent);
+        PlacedDirectory {
+            directory,
+            extent,
+            entry,
+            number,
+        }
+    }
+}
+
+/// The entry of a file whose bytes, where they are outside of it, begin at the block of this number.
+fn file_entry(file: &NewFile<'_>, moment: Timestamp, first: u32) -> Block
+    requires { first + div_ceil (length (outside file.now.bytes.now)) 2048 ≤ 449_743 }
+    ensures { (from : ℕ) (blocks : List (List ℕ)) → IsPlaced udf (outside file.now.bytes.now) from first blocks → WritesNode udf (file_writing moment file.now) from (blocks ++ result ∷ []) (from + length blocks) }
+{
+    let bytes = file.bytes.as_slice();
+    let entry = FileEntry {
+        kind: Kind::File,
+        moment,
+        links: 1,
+        unique: u64::from(file.unique),
+        size: bytes.len() as u32,
+        place: place_of_bytes(bytes, first),
+    };
+    encode_fe(&entry, file.address)
+}
+
+/// The entry of a directory whose data lie there.
+fn directory_entry(directory: &NewDirectory, extent: Extent) -> Block
+    requires proper { IsProper directory.now.content.dir }
+    requires size { extent.size ≡ directory_size directory.now.content.dir }
+    requires some { 0 < extent.size }
+    requires few { extent.size ≤ 1_048_576 }
+    requires room { extent.first + div_ceil extent.size 2048 ≤ 449_743 }
+    requires blocks { length (directory_blocks directory.now.content.dir extent.first) ≡ div_ceil extent.size 2048 }
+    ensures { WritesNode udf (directory_writing directory.now) extent.first (directory_blocks directory.now.content.dir extent.first ++ result ∷ []) (extent.first + div_ceil extent.size 2048) }
+{
+    // Read so that the proof has that it is of 32 bits.
+    let _parent = directory.content.dir.parent;
+    let entry = FileEntry {
+        kind: Kind::Directory,
+        moment: directory.moment,
+        links: link_count(&directory.content.dir),
+        unique: u64::from(directory.unique),
+        size: extent.size,
+        place: Place::Extent(extent.first),
+    };
+    encode_fe(&entry, directory.address)
+}
+
+/// The bytes of a file that lie outside its entry: all or none.
+pub(crate) fn outside_of(bytes: &[u8]) -> &[u8]
+    ensures { result.now ≡ outside bytes.now }
+{
+    if bytes.len() > INSIDE_BYTES {
+        bytes
+    } else {
+        &bytes[..0]
+    }
+}
+
+/// Where the bytes of a file stand, the first block of those outside its entry having this number.
+fn place_of_bytes(bytes: &[u8], first: u32) -> Place<'_>
+    requires { first + div_ceil (length (outside bytes.now)) 2048 ≤ 449_743 }
+    ensures fits { FitsPlace File (length bytes.now) (place_of result) }
+    ensures places { (from : ℕ) (blocks : List (List ℕ)) → IsPlaced udf (outside bytes.now) from first blocks → PlacesFile udf bytes.now from blocks (said_place (place_of result)) }
+{
+    if bytes.is_empty() {
+        Place::None
+    } else if bytes.len() <= INSIDE_BYTES {
+        Place::Inside(bytes)
+    } else {
+        Place::Extent(first)
+    }
+}

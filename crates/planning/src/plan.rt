@@ -1,0 +1,501 @@
+//! A commit, planned whole: which blocks it writes, and where; and the writes.
+
+ghost use Rattle.std.specs.Prelude.{min, ◌≡◌, ℕ, ◌+◌, ◌-◌, ◌*◌, ◌<◌, ◌≤◌, ◌^◌, ◌++◌, [], ◌∷◌, Some, IsTrue, IfOk, IfErr, OnOk, OnErr, IfSome, All, Err, false, is_err, length, map, List, ◌⊎◌};
+ghost use Rattle.std.specs.Int.{div_ceil};
+ghost use Rattle.drive.specs.Journal.{next_of, written, AddsFront};
+ghost use Rattle.drive.specs.Reads.{Reads, Writes};
+ghost use Rattle.drive.specs.Waiting.{end_of, Takes, Stops};
+ghost use Rattle.osta.specs.Compressed.{compressed};
+ghost use Rattle.dir.specs.Directory.{IsEntry};
+ghost use Rattle.dir.specs.Identifier.{plain_size};
+ghost use Rattle.dir.specs.Size.{name_sizes, plain_sizes};
+ghost use Rattle.medium.specs.Formats.Kind.{Table};
+ghost use Rattle.medium.specs.Formats.Place.{Extent};
+ghost use Rattle.medium.specs.Plan.{WritesNodes, Written};
+ghost use Rattle.recover.specs.declared.fault.StoreFault.TheVariants.{Full, Memory};
+ghost use Rattle.udf.specs.Udf.{udf};
+ghost use Rattle.vat.specs.Table.{Fits, view};
+ghost use Rattle.recover.specs.Faults.{IsShortage, devices};
+ghost use Rattle.request.specs.Numbers.{code_number};
+ghost use Rattle.planning.specs.Last.{IsLast, Keeps};
+ghost use Rattle.table.specs.Below.{AreBelow, IsUsed};
+ghost use Rattle.table.specs.Full.{is_full};
+ghost use Rattle.planning.specs.Needs as needs;
+ghost use Rattle.planning.specs.Plan.{IsPlan, IsTablePlaced, AreLaid, file_list, file_writings, file_written, directory_list, directories_list, directories_writings, directories_written, plan_blocks, plan_writings, plan_written, table_data};
+ghost use Rattle.table.specs.NextTable.{AreTaken, all_placed, begun, next_table, without_gone};
+ghost use Rattle.table.specs.TableChange.{IsFree, IsNext, IsRemovable, committed};
+ghost use Rattle.planning.specs.Writings.{IsProper, new_file, new_directories, change_writings};
+
+use crate::change::{Change, NewDirectory, NewFile};
+use crate::placed::{PlacedDirectory, PlacedFile, PlacedTable};
+use crate::places::{Numbers, outside_of};
+use crate::write::Writer;
+use dir::Entry;
+use directories::Content;
+use drive::{Drive, DriveFault};
+use ecma::{Block, Timestamp};
+use icb::{FileEntry, Kind, Place, encode_fe};
+use osta::Name;
+use recover::{PARTITION_START, StoreFault, block_count, cause, damaged};
+use request::{Reply, Request};
+use std::alloc::Global;
+use table::{Node, add_node, copied, keep_reply, place_node, remove_node};
+use vat::{Vat, encode_vat};
+
+/// A block of directory data that another one follows is used up to this byte at least.
+const LEAST_USED: u64 = 1720;
+
+/// All that a commit writes, in order: the file, the directories, the table.
+#[derive(Drop)]
+pub struct Plan<'r> {
+    pub reply: Reply,
+    pub moment: Timestamp,
+    pub file: Option<PlacedFile<'r>>,
+    pub directories: Vec<PlacedDirectory>,
+    pub table: PlacedTable,
+    pub(crate) writer: Writer,
+}
+
+impl Plan<'_> {
+    /// Writes all that is planned, in order.
+    pub fn write<D: Drive>(&mut self, drive: &mut D) -> Result<(), DriveFault>
+        requires plan { IsPlan (next_of (D.journal drive.old)) (D.capacity drive.old) self.old }
+        ensures ok { OnOk result (D.journal drive.new ≡ D.journal drive.old ++ written (next_of (D.journal drive.old)) (plan_blocks self.old)) }
+        ensures err { OnErr result (AddsFront (D.journal drive.old) (next_of (D.journal drive.old)) (plan_blocks self.old) (D.journal drive.new)) }
+        ensures directories { self.new.directories.items ≡ self.old.directories.items }
+        ensures table { self.new.table ≡ self.old.table }
+        ensures reply { self.new.reply ≡ self.old.reply }
+        ensures writes { Writes D.Drive (is_err result) drive.old drive.new }
+    {
+        let held = self.held();
+        self.writer.hold(held);
+        write_file(&mut self.writer, drive, &self.file)?;
+        write_directories(&mut self.writer, drive, &self.directories)?;
+        write_table(&mut self.writer, drive, &self.table)?;
+        self.writer.finish(drive)?;
+        Ok(())
+    }
+
+    /// How many blocks are held encoded all the while: the entries, and the table's bytes.
+    fn held(&self) -> usize {
+        let nodes = self
+            .directories
+            .len()
+            .saturating_add(usize::from(self.file.is_some()));
+        let table = 1 + self.table.bytes.len().div_ceil(2048);
+        nodes.saturating_add(table)
+    }
+
+    /// The greatest number of encoded blocks that were held at once.
+    pub fn most_held(&self) -> usize
+        ensures { result ≡ self.now.writer.most_held }
+    {
+        self.writer.most_held()
+    }
+}
+
+/// A file's bytes, where they are outside its entry, and the entry. No file takes no block.
+fn write_file<D: Drive>(
+    writer: &mut Writer,
+    drive: &mut D,
+    file: &Option<PlacedFile<'_>>,
+) -> Result<(), DriveFault>
+    requires begins { writer.old.packets.at ≤ next_of (D.journal drive.old) }
+    requires fits { end_of writer.old.packets + length (file_list file.now) ≤ D.capacity drive.old }
+    ensures ok { OnOk result (Takes (D.journal drive.old) writer.old.packets (file_list file.now) (D.journal drive.new) writer.new.packets) }
+    ensures err { OnErr result (Stops (D.journal drive.old) writer.old.packets (file_list file.now) (D.journal drive.new)) }
+    ensures writes { Writes D.Drive (is_err result) drive.old drive.new }
+{
+    let Some(placed) = file else {
+        return Ok(());
+    };
+    let bytes = placed.file.bytes.as_slice();
+    writer.put_bytes(drive, placed.gap, outside_of(bytes))?;
+    writer.put(drive, &placed.entry)?;
+    Ok(())
+}
+
+/// A directory's data, and its entry.
+fn write_directory<D: Drive>(
+    writer: &mut Writer,
+    drive: &mut D,
+    placed: &PlacedDirectory,
+) -> Result<(), DriveFault>
+    requires begins { writer.old.packets.at ≤ next_of (D.journal drive.old) }
+    requires fits { end_of writer.old.packets + length (directory_list placed.now) ≤ D.capacity drive.old }
+    ensures ok { OnOk result (Takes (D.journal drive.old) writer.old.packets (directory_list placed.now) (D.journal drive.new) writer.new.packets) }
+    ensures err { OnErr result (Stops (D.journal drive.old) writer.old.packets (directory_list placed.now) (D.journal drive.new)) }
+    ensures writes { Writes D.Drive (is_err result) drive.old drive.new }
+{
+    let content = &placed.directory.content;
+    writer.put_directory(drive, &content.dir, placed.extent.first)?;
+    writer.put(drive, &placed.entry)?;
+    Ok(())
+}
+
+/// The directories in order.
+fn write_directories<D: Drive>(
+    writer: &mut Writer,
+    drive: &mut D,
+    directories: &[PlacedDirectory],
+) -> Result<(), DriveFault>
+    requires begins { writer.old.packets.at ≤ next_of (D.journal drive.old) }
+    requires fits { end_of writer.old.packets + length (directories_list directories.now) ≤ D.capacity drive.old }
+    ensures ok { OnOk result (Takes (D.journal drive.old) writer.old.packets (directories_list directories.now) (D.journal drive.new) writer.new.packets) }
+    ensures err { OnErr result (Stops (D.journal drive.old) writer.old.packets (directories_list directories.now) (D.journal drive.new)) }
+    ensures writes { Writes D.Drive (is_err result) drive.old drive.new }
+{
+    for placed in directories {
+        write_directory(writer, drive, placed)?;
+    }
+    Ok(())
+}
+
+/// The table's bytes, and its entry, with which the commit takes effect. The entry waits for a write of its own, behind the
+/// finished writes of all else: whatever part of a write a loss of power leaves, it stands only where all that it leads to does.
+fn write_table<D: Drive>(
+    writer: &mut Writer,
+    drive: &mut D,
+    table: &PlacedTable,
+) -> Result<(), DriveFault>
+    requires few { length table.now.bytes.items < 2 ^ 32 }
+    requires begins { writer.old.packets.at ≤ next_of (D.journal drive.old) }
+    requires fits { end_of writer.old.packets + length (table_data table.now ++ table.now.entry ∷ []) ≤ D.capacity drive.old }
+    ensures ok { OnOk result (Takes (D.journal drive.old) writer.old.packets (table_data table.now ++ table.now.entry ∷ []) (D.journal drive.new) writer.new.packets) }
+    ensures err { OnErr result (Stops (D.journal drive.old) writer.old.packets (table_data table.now ++ table.now.entry ∷ []) (D.journal drive.new)) }
+    ensures writes { Writes D.Drive (is_err result) drive.old drive.new }
+{
+    writer.put_bytes(drive, table.gap, &table.bytes)?;
+    writer.finish(drive)?;
+    writer.put(drive, &table.entry)?;
+    Ok(())
+}
+
+/// The last table of a volume, behind which a commit is planned.
+#[derive(Clone, Copy, Debug)]
+pub struct LastTable<'s> {
+    /// The address of its entry.
+    pub at: u32,
+    /// Of the volume, in blocks.
+    pub capacity: u32,
+    pub vat: &'s Vat,
+}
+
+impl LastTable<'_> {
+    /// Plans a commit. All memory that it needs is taken here.
+    pub fn plan<'r, D: Drive>(
+        &self,
+        alloc: Global,
+        drive: &mut D,
+        request: &Request,
+        change: Change<'r>,
+        moment: Timestamp,
+    ) -> Result<Plan<'r>, StoreFault>
+        requires agrees { IsLast (D.journal drive.old) (D.capacity drive.old) self.now }
+        requires next { IsNext request.now.client request.now.number self.now.vat.now.sessions.records.items }
+        ensures plan { IfOk result (IsPlan (next_of (D.journal drive.old)) (D.capacity drive.old)) }
+        ensures code { IfOk result (λ p. p.reply.code ≡ change.entry.code) }
+        ensures commit { IfOk result (λ p. p.reply.commit ≡ self.now.vat.now.sessions.commits + 1) }
+        ensures moment { IfOk result (λ p. p.moment ≡ moment) }
+        ensures writings { IfOk result (λ p. plan_writings p ≡ change_writings moment change.entry) }
+        ensures table { IfOk result (λ p. view p.table.vat ≡ next_table self.now.at request.now.client request.now.number (code_number change.entry.code) change.entry.made (plan_written p) change.entry.removed (view self.now.vat.now)) }
+        ensures room { OnOk result (next_of (D.journal drive.old) + needs.change_need change.entry (begun self.now.at request.now.client request.now.number (code_number change.entry.code) change.entry.made (view self.now.vat.now)) ≤ self.now.capacity) }
+        ensures full { result ≡ Err Full → self.now.capacity < next_of (D.journal drive.old) + needs.change_need change.entry (begun self.now.at request.now.client request.now.number (code_number change.entry.code) change.entry.made (view self.now.vat.now)) }
+        // Where the table takes each change, nothing else is refused.
+        ensures refused { ((written : List Written) → map (λ w. w.address) written ≡ map (λ n. n.address) (change_writings moment change.entry) → AreTaken change.entry.made written change.entry.removed (committed self.now.at request.now.client request.now.number (code_number change.entry.code) (view self.now.vat.now))) → IfErr result (λ fault. IsShortage fault ⊎ (fault ≡ Full)) }
+        ensures reads { Reads D.Drive (devices result) drive.old drive.new }
+    {
+        let next = match drive.next() {
+            Ok(next) => next,
+            Err(_) => return Err(StoreFault::Device),
+        };
+        let mut vat = self.next_table(alloc, request, &change)?;
+        if u64::from(next).saturating_add(need(&change, &vat)) > u64::from(self.capacity) {
+            return Err(StoreFault::Full);
+        }
+        let mut numbers = Numbers::new(next - PARTITION_START, self.capacity - PARTITION_START);
+        let reply = Reply {
+            code: change.code,
+            commit: vat.sessions.commits,
+        };
+        let file = place_file(&mut vat, &mut numbers, change.file, moment, self.at)?;
+        let directories = place_directories(
+            alloc,
+            &mut vat,
+            &mut numbers,
+            change.directories,
+            self.at,
+        )?;
+        take_away(&mut vat, change.removed, self.at)?;
+        let table = place_table(alloc, vat, &mut numbers, moment)?;
+        Ok(Plan {
+            reply,
+            moment,
+            file,
+            directories,
+            table,
+            writer: Writer::new(alloc, next)?,
+        })
+    }
+
+    /// The table of the next commit, with the request's reply and the node that is made, which is placed later.
+    fn next_table(
+        &self,
+        alloc: Global,
+        request: &Request,
+        change: &Change<'_>,
+    ) -> Result<Vat, StoreFault>
+        requires keeps { Keeps self.now.at self.now.vat.now }
+        requires next { IsNext request.now.client request.now.number self.now.vat.now.sessions.records.items }
+        ensures table { IfOk result (λ vat. view vat ≡ begun self.now.at request.now.client request.now.number (code_number change.now.code) change.now.made (view self.now.vat.now)) }
+        ensures fits { IfOk result (λ vat. Fits (view vat)) }
+        ensures below { IfOk result (λ vat. AreBelow self.now.at vat.entries.items) }
+        ensures previous { IfOk result (λ vat. vat.previous ≡ Some (self.now.at - 257)) }
+        ensures commits { IfOk result (λ vat. vat.sessions.commits ≡ self.now.vat.now.sessions.commits + 1) }
+        ensures unique { IfOk result (λ vat. vat.sessions.next_unique ≤ 16 + vat.sessions.commits) }
+        ensures free { IfSome change.now.made (λ node. IsFree node.address self.now.vat.now.entries.items) → IfErr result (λ fault. fault ≡ Memory) }
+        ensures full { is_full result ≡ false }
+        ensures device { devices result ≡ 0 }
+    {
+        let at = self.at;
+        let mut vat = copied(alloc, self.vat)?;
+        keep_reply(
+            &mut vat,
+            at,
+            request.client,
+            request.number,
+            change.code.number(),
+        )?;
+        if let Some(made) = change.made {
+            if !add_node(&mut vat, made.kind, made.address, 0)? {
+                return Err(damaged(at, cause::IDENTITY));
+            }
+        }
+        Ok(vat)
+    }
+}
+
+/// The most blocks that a commit may take, from sizes alone.
+fn need(change: &Change<'_>, vat: &Vat) -> u64
+    requires { Fits (view vat.now) }
+    ensures value { result ≡ min (needs.change_need change.now (view vat.now)) (2 ^ 64 - 1) }
+    ensures proper { All (λ d. IsProper d.content.dir) change.now.directories.items }
+{
+    let nodes = directories_need(&change.directories);
+    nodes.saturating_add(file_need(&change.file) + table_need(vat))
+}
+
+/// The most blocks for a table.
+fn table_need(vat: &Vat) -> u64
+    requires { Fits (view vat.now) }
+    ensures value { result ≡ needs.table_need (view vat.now) }
+    ensures few { result ≤ 1_000 }
+{
+    let size = 196 + 48 * vat.sessions.records.len() as u64 + 4 * vat.entries.len() as u64;
+    2 * size.div_ceil(2048) + 1
+}
+
+/// The most blocks for a file, if one is written.
+fn file_need(file: &Option<NewFile<'_>>) -> u64
+    ensures value { result ≡ needs.file_need file.now }
+    ensures few { result ≤ 1_025 }
+{
+    let Some(file) = file else {
+        return 0;
+    };
+    let outside = outside_of(file.bytes.as_slice());
+    2 * u64::from(block_count(outside.len() as u32)) + 1
+}
+
+/// The most blocks for directories.
+fn directories_need(directories: &[NewDirectory]) -> u64
+    ensures value { result ≡ min (needs.directories_need directories.now) (2 ^ 64 - 1) }
+    ensures proper { All (λ d. IsProper d.content.dir) directories.now }
+{
+    let mut blocks: u64 = 0;
+    for directory in directories {
+        let size = identifiers_size(&directory.content);
+        blocks = blocks.saturating_add(2 + size / LEAST_USED);
+    }
+    blocks
+}
+
+/// The bytes of a directory's identifiers, none of them lengthened.
+fn identifiers_size(content: &Content) -> u64
+    ensures size { result ≡ 40 + plain_sizes (name_sizes content.now.dir.entries.entries) }
+    ensures proper { IsProper content.now.dir }
+{
+    let entries = &content.dir.entries;
+    let mut size = 40;
+    for i in 0..entries.len() {
+        let (name, entry) = entries.get_index(i).unwrap();
+        size += identifier_size(name, *entry);
+    }
+    size
+}
+
+/// The bytes of a name's identifier, not lengthened.
+fn identifier_size(name: &Name, entry: Entry) -> u64
+    ensures size { result ≡ plain_size (length (compressed name.now)) }
+    ensures few { result ≤ 296 }
+    ensures entry { IsEntry (name.now, entry) }
+{
+    let Entry { icb, unique, .. } = entry;
+    // Both are read so that the proof has what a name and its numbers are within.
+    let _text = name.as_str();
+    let _said = (icb, unique);
+    (38 + name.compressed().len() as u64).div_ceil(4) * 4
+}
+
+/// Places a file, if one is written, at this moment. The table of the state before stands at `at`.
+fn place_file<'r>(
+    vat: &mut Vat,
+    numbers: &mut Numbers,
+    file: Option<NewFile<'r>>,
+    moment: Timestamp,
+    at: u32,
+) -> Result<Option<PlacedFile<'r>>, StoreFault>
+    requires fits { Fits (view vat.old) }
+    requires room { numbers.old.next + needs.file_need file ≤ numbers.old.end }
+    ensures fits { OnOk result (Fits (view vat.new)) }
+    ensures below { OnOk result (AreBelow (numbers.old.next + 257) vat.old.entries.items → AreBelow (numbers.new.next + 257) vat.new.entries.items) }
+    ensures previous { OnOk result (vat.new.previous ≡ vat.old.previous) }
+    ensures commits { OnOk result (vat.new.sessions.commits ≡ vat.old.sessions.commits) }
+    ensures unique { OnOk result (vat.new.sessions.next_unique ≡ vat.old.sessions.next_unique) }
+    ensures table { IfOk result (λ placed. view vat.new ≡ all_placed (file_written placed) (view vat.old)) }
+    ensures writings { IfOk result (λ placed. file_writings moment placed ≡ new_file moment file.entry) }
+    ensures written { IfOk result (λ placed. WritesNodes udf (file_writings moment placed) numbers.old.next (file_list placed) (file_written placed)) }
+    ensures next { IfOk result (λ placed. numbers.new.next ≡ numbers.old.next + length (file_list placed)) }
+    ensures end { numbers.new.end ≡ numbers.old.end }
+    ensures most { OnOk result (numbers.new.next ≤ numbers.old.next + needs.file_need file.entry) }
+    ensures used { IfSome file.entry (λ f. IsUsed f.address vat.old.entries.items) → is_err result ≡ false }
+    ensures need { OnOk result (needs.table_need (view vat.new) ≡ needs.table_need (view vat.old)) }
+    ensures full { is_full result ≡ false }
+    ensures device { devices result ≡ 0 }
+{
+    let Some(file) = file else {
+        return Ok(None);
+    };
+    let address = file.address;
+    let placed = numbers.place_file(file, moment);
+    if !place_node(vat, address, placed.number) {
+        return Err(damaged(at, cause::IDENTITY));
+    }
+    Ok(Some(placed))
+}
+
+/// Places the directories that are written, in order. The table of the state before stands at `at`.
+fn place_directories(
+    alloc: Global,
+    vat: &mut Vat,
+    numbers: &mut Numbers,
+    directories: Vec<NewDirectory>,
+    at: u32,
+) -> Result<Vec<PlacedDirectory>, StoreFault>
+    requires fits { Fits (view vat.old) }
+    requires proper { All (λ d. IsProper d.content.dir) directories.items }
+    requires room { numbers.old.next + needs.directories_need directories.items ≤ numbers.old.end }
+    ensures fits { OnOk result (Fits (view vat.new)) }
+    ensures below { OnOk result (AreBelow (numbers.old.next + 257) vat.old.entries.items → AreBelow (numbers.new.next + 257) vat.new.entries.items) }
+    ensures previous { OnOk result (vat.new.previous ≡ vat.old.previous) }
+    ensures commits { OnOk result (vat.new.sessions.commits ≡ vat.old.sessions.commits) }
+    ensures unique { OnOk result (vat.new.sessions.next_unique ≡ vat.old.sessions.next_unique) }
+    ensures table { IfOk result (λ placed. view vat.new ≡ all_placed (directories_written placed.items) (view vat.old)) }
+    ensures writings { IfOk result (λ placed. directories_writings placed.items ≡ new_directories directories.items) }
+    ensures laid { IfOk result (λ placed. AreLaid numbers.old.next placed.items) }
+    ensures written { IfOk result (λ placed. WritesNodes udf (directories_writings placed.items) numbers.old.next (directories_list placed.items) (directories_written placed.items)) }
+    ensures next { IfOk result (λ placed. numbers.new.next ≡ numbers.old.next + length (directories_list placed.items)) }
+    ensures end { numbers.new.end ≡ numbers.old.end }
+    ensures most { OnOk result (numbers.new.next ≤ numbers.old.next + needs.directories_need directories.items) }
+    ensures need { OnOk result (needs.table_need (view vat.new) ≡ needs.table_need (view vat.old)) }
+    ensures used { All (λ d. IsUsed d.address vat.old.entries.items) directories.items → IfErr result (λ fault. fault ≡ Memory) }
+    ensures full { is_full result ≡ false }
+    ensures device { devices result ≡ 0 }
+{
+    let mut all = Vec::with_capacity(alloc, directories.len())?;
+    for directory in directories {
+        let address = directory.address;
+        let placed = numbers.place_directory(directory);
+        if !place_node(vat, address, placed.number) {
+            return Err(damaged(at, cause::IDENTITY));
+        }
+        all.push(placed)?;
+    }
+    Ok(all)
+}
+
+/// Takes a node away, if one goes. The table of the state before stands at `at`.
+fn take_away(vat: &mut Vat, removed: Option<Node>, at: u32) -> Result<(), StoreFault>
+    requires fits { Fits (view vat.old) }
+    ensures table { OnOk result (view vat.new ≡ without_gone removed (view vat.old)) }
+    ensures fits { OnOk result (Fits (view vat.new)) }
+    ensures below { OnOk result ((at : ℕ) → AreBelow at vat.old.entries.items → AreBelow at vat.new.entries.items) }
+    ensures previous { OnOk result (vat.new.previous ≡ vat.old.previous) }
+    ensures commits { OnOk result (vat.new.sessions.commits ≡ vat.old.sessions.commits) }
+    ensures unique { OnOk result (vat.new.sessions.next_unique ≡ vat.old.sessions.next_unique) }
+    ensures need { OnOk result (needs.table_need (view vat.new) ≡ needs.table_need (view vat.old)) }
+    ensures there { IfSome removed (λ node. IsRemovable node.kind node.address (view vat.old)) → is_err result ≡ false }
+    ensures full { is_full result ≡ false }
+    ensures device { devices result ≡ 0 }
+{
+    let Some(node) = removed else {
+        return Ok(());
+    };
+    if !remove_node(vat, node.kind, node.address) {
+        return Err(damaged(at, cause::COUNTS));
+    }
+    Ok(())
+}
+
+/// Places the table, behind all that it leads to. Its entry has this moment.
+fn place_table(
+    alloc: Global,
+    vat: Vat,
+    numbers: &mut Numbers,
+    moment: Timestamp,
+) -> Result<PlacedTable, StoreFault>
+    requires fits { Fits (view vat) }
+    requires below { AreBelow (numbers.old.next + 257) vat.entries.items }
+    requires previous { IfSome vat.previous (λ previous. previous < numbers.old.next) }
+    requires room { numbers.old.next + needs.table_need (view vat) ≤ numbers.old.end }
+    ensures vat { IfOk result (λ t. t.vat ≡ vat) }
+    ensures placed { IfOk result (IsTablePlaced numbers.old.next moment) }
+    ensures some { IfOk result (λ t. 0 < length t.bytes.items) }
+    ensures within { IfOk result (λ t. t.at < numbers.old.end + 257) }
+    ensures memory { IfErr result (λ fault. fault ≡ Memory) }
+    ensures full { is_full result ≡ false }
+    ensures device { devices result ≡ 0 }
+{
+    let bytes = encode_vat(alloc, &vat)?;
+    let start = numbers.next();
+    let first = numbers.place_bytes(&bytes);
+    let number = numbers.next();
+    numbers.take(1);
+    let entry = table_entry(bytes.len() as u32, first, number, moment);
+    Ok(PlacedTable {
+        vat,
+        bytes,
+        first,
+        gap: first - start,
+        entry,
+        at: number + PARTITION_START,
+    })
+}
+
+/// The entry of a table of so many bytes, which begin at the block of a number, for the block of another.
+fn table_entry(size: u32, first: u32, number: u32, moment: Timestamp) -> Block
+    requires some { 0 < size }
+    requires few { size ≤ 1_048_576 }
+    requires room { first + div_ceil size 2048 ≤ 449_743 }
+    ensures { udf.IsEntry (record { kind = Table; moment = moment; links = 0; identity = 0; size = size; place = Extent first }) result number }
+{
+    let entry = FileEntry {
+        kind: Kind::Vat,
+        moment,
+        links: 0,
+        unique: 0,
+        size,
+        place: Place::Extent(first),
+    };
+    encode_fe(&entry, number)
+}
