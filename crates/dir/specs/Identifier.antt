@@ -28,16 +28,18 @@ use_of more = take (min more 32) developer ++ replicate (more - 32) 0
 -- the fields from the tag's end to the implementation use
 abbrev pub head_of : ℕ → ℕ → ℕ → ℕ → ℕ → List ℕ
 head_of characteristics len icb unique more = concat (
-    to_le_bytes w16 1  -- 16 version
-    ∷ (characteristics ∷ len ∷ [])  -- 18 characteristics, 19 length of the name
-    ∷ to_le_bytes w32 2048 ∷ to_le_bytes w32 icb ∷ to_le_bytes w16 1  -- 20 the entry's length, 24 address, 28 partition
-    ∷ to_le_bytes w16 0 ∷ to_le_bytes w32 unique  -- 30 flags and unique ID
-    ∷ to_le_bytes w16 more ∷ [])  -- 36 length of the implementation use
+    to_le_bytes w16 1  -- 16 file version number
+    ∷ (characteristics ∷ len ∷ [])  -- 18 file characteristics, 19 length of file identifier
+    ∷ to_le_bytes w32 2048 ∷ to_le_bytes w32 icb ∷ to_le_bytes w16 1  -- 20 ICB: extent length, extent location and its partition
+    ∷ to_le_bytes w16 0 ∷ to_le_bytes w32 unique  -- 30 its implementation use: flags and unique ID
+    ∷ to_le_bytes w16 more  -- 36 length of implementation use
+    ∷ [])
 
 -- an identifier behind its tag, lengthened by so many bytes
 abbrev pub body_of : Identifier → ℕ → List ℕ
 body_of x more =
     head_of x.characteristics (length x.name) x.icb x.unique more
+    -- 38 implementation use, file identifier and padding
     ++ (use_of more ++ (x.name ++ replicate (plain_size (length x.name) - (38 + length x.name)) 0))
 
 -- a whole identifier in the block of this number

@@ -126,11 +126,11 @@ impl Item<'_> {
             unique: self.unique,
         };
         let mut fields = [0; FIELDS_SIZE];
-        LittleEndian::write_u16(&mut fields[..2], VERSION);
-        fields[2] = self.characteristics.bits();
-        fields[3] = self.name.len() as u8;
-        fields[4..20].copy_from_slice(&icb.to_bytes());
-        LittleEndian::write_u16(&mut fields[20..], more);
+        LittleEndian::write_u16(&mut fields[..2], VERSION); // 16 file version number
+        fields[2] = self.characteristics.bits(); // 18 file characteristics
+        fields[3] = self.name.len() as u8; // 19 length of file identifier
+        fields[4..20].copy_from_slice(&icb.to_bytes()); // 20 ICB
+        LittleEndian::write_u16(&mut fields[20..], more); // 36 length of implementation use
         fields
     }
 }

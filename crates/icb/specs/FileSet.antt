@@ -16,15 +16,21 @@ use Rattle.icb.specs.declared.fault.IcbFault.TheVariants as faults
 abbrev pub set_parts : List ℕ → List ℕ → List (List ℕ)
 set_parts label stamp =
     stamp  -- 16 recording date and time
-    ∷ to_le_bytes w16 3 ∷ to_le_bytes w16 3  -- 28 interchange level, 30 the greatest
-    ∷ to_le_bytes w32 1 ∷ to_le_bytes w32 1  -- 32 character set list, 36 the greatest
-    ∷ to_le_bytes w32 0 ∷ to_le_bytes w32 0  -- 40 file set number, 44 file set descriptor number
-    ∷ cs0 ∷ dstring 128 label  -- 48, 112 logical volume identifier
-    ∷ cs0 ∷ dstring 32 label  -- 240, 304 file set identifier
-    ∷ replicate 64 0  -- 336 copyright file, 368 abstract file
-    ∷ to_le_bytes w32 2048 ∷ to_le_bytes w32 1 ∷ to_le_bytes w16 1 ∷ replicate 6 0  -- 400 root directory: virtual address 1
-    ∷ (0 ∷ codes "*OSTA UDF Compliant") ∷ replicate 4 0 ∷ to_le_bytes w16 0x0201 ∷ replicate 6 0  -- 416 domain
-    ∷ replicate 64 0 ∷ []  -- 448 next extent, 464 system stream directory, 480 reserved
+    ∷ to_le_bytes w16 3  -- 28 interchange level
+    ∷ to_le_bytes w16 3  -- 30 maximum interchange level
+    ∷ to_le_bytes w32 1  -- 32 character set list
+    ∷ to_le_bytes w32 1  -- 36 maximum character set list
+    ∷ to_le_bytes w32 0  -- 40 file set number
+    ∷ to_le_bytes w32 0  -- 44 file set descriptor number
+    ∷ cs0  -- 48 logical volume identifier character set
+    ∷ dstring 128 label  -- 112 logical volume identifier
+    ∷ cs0  -- 240 file set character set
+    ∷ dstring 32 label  -- 304 file set identifier
+    ∷ replicate 64 0  -- 336 copyright file identifier, 368 abstract file identifier
+    ∷ to_le_bytes w32 2048 ∷ to_le_bytes w32 1 ∷ to_le_bytes w16 1 ∷ replicate 6 0  -- 400 root directory ICB: virtual address 1
+    ∷ (0 ∷ codes "*OSTA UDF Compliant") ∷ replicate 4 0 ∷ to_le_bytes w16 0x0201 ∷ replicate 6 0  -- 416 domain identifier
+    ∷ replicate 64 0  -- 448 next extent, 464 system stream directory ICB, 480 reserved
+    ∷ []
 
 -- the bytes behind the tag are the fields of a file set with this label and moment
 pub record HasFields (set : FileSet) (fields : List ℕ) : Type 0 where

@@ -44,21 +44,21 @@ pub fn encode_fsd(set: &FileSet) -> Block
         FILE_SET,
         ADDRESS,
         &[
-            Field::Bytes(&stamp),
-            Field::U16(3),
-            Field::U16(3),
-            Field::U32(1),
-            Field::U32(1),
-            Field::U32(0),
-            Field::U32(0),
-            Field::Bytes(&CS0),
-            Field::Bytes(&volume),
-            Field::Bytes(&CS0),
-            Field::Bytes(&label),
-            Field::Zeros(64),
-            Field::LongAd(ROOT),
-            Field::EntityId(EntityId::DOMAIN),
-            Field::Zeros(64),
+            Field::Bytes(&stamp), // 16 recording date and time
+            Field::U16(3), // 28 interchange level
+            Field::U16(3), // 30 maximum interchange level
+            Field::U32(1), // 32 character set list
+            Field::U32(1), // 36 maximum character set list
+            Field::U32(0), // 40 file set number
+            Field::U32(0), // 44 file set descriptor number
+            Field::Bytes(&CS0), // 48 logical volume identifier character set
+            Field::Bytes(&volume), // 112 logical volume identifier
+            Field::Bytes(&CS0), // 240 file set character set
+            Field::Bytes(&label), // 304 file set identifier
+            Field::Zeros(64), // 336 copyright file identifier, 368 abstract file identifier
+            Field::LongAd(ROOT), // 400 root directory ICB
+            Field::EntityId(EntityId::DOMAIN), // 416 domain identifier
+            Field::Zeros(64), // 448 next extent, 464 system stream directory ICB, 480 reserved
         ],
     )
 }

@@ -43,20 +43,26 @@ use_size version count = 44 + record_size version * count
 -- what stands between the label and the records, piece by piece
 abbrev pub middle_parts : ℕ → ℕ → ℕ → ℕ → ℕ → ℕ → ℕ → List (List ℕ)
 middle_parts previous files directories version count next_unique commits =
-    to_le_bytes w32 previous  -- 132
-    ∷ to_le_bytes w32 files ∷ to_le_bytes w32 directories  -- 136, 140
-    ∷ to_le_bytes w16 0x0201 ∷ to_le_bytes w16 0x0201 ∷ to_le_bytes w16 0x0201  -- 144 minimum read, minimum write and maximum write revision
+    to_le_bytes w32 previous  -- 132 previous VAT ICB location
+    ∷ to_le_bytes w32 files  -- 136 number of files
+    ∷ to_le_bytes w32 directories  -- 140 number of directories
+    ∷ to_le_bytes w16 0x0201  -- 144 minimum UDF read revision
+    ∷ to_le_bytes w16 0x0201  -- 146 minimum UDF write revision
+    ∷ to_le_bytes w16 0x0201  -- 148 maximum UDF write revision
     ∷ to_le_bytes w16 0  -- 150 reserved
-    ∷ (0 ∷ codes "*udfburn sessions") ∷ replicate 14 0  -- 152 the sessions' identifier
-    ∷ to_le_bytes w16 version ∷ to_le_bytes w16 count  -- 184, 186
-    ∷ to_le_bytes w32 next_unique ∷ to_le_bytes w32 commits  -- 188, 192
+    ∷ (0 ∷ codes "*udfburn sessions") ∷ replicate 14 0  -- 152 implementation use: the identifier of the sessions
+    ∷ to_le_bytes w16 version  -- 184 their version
+    ∷ to_le_bytes w16 count  -- 186 number of records
+    ∷ to_le_bytes w32 next_unique  -- 188 next unique ID
+    ∷ to_le_bytes w32 commits  -- 192 commits
     ∷ []
 
 -- what stands before the records
 abbrev pub head_parts : ℕ → List ℕ → List (List ℕ) → List (List ℕ)
 head_parts size label middle =
-    to_le_bytes w16 (152 + size) ∷ to_le_bytes w16 size  -- 0 length of the header, 2 length of the implementation use
-    ∷ label  -- 4
+    to_le_bytes w16 (152 + size)  -- 0 length of header
+    ∷ to_le_bytes w16 size  -- 2 length of implementation use
+    ∷ label  -- 4 logical volume identifier
     ∷ middle
 
 abbrev pub middle_of : Table → List (List ℕ)

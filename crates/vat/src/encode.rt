@@ -97,22 +97,22 @@ fn head(vat: &Vat) -> [u8; RECORDS_AT]
     let mut head = [0; RECORDS_AT];
     write_fields(
         &[
-            Field::U16(152 + implementation_use),
-            Field::U16(implementation_use),
-            Field::Bytes(&label),
-            Field::U32(number_of(vat.previous)),
-            Field::U32(vat.files),
-            Field::U32(vat.directories),
-            Field::U16(REVISION),
-            Field::U16(REVISION),
-            Field::U16(REVISION),
-            Field::U16(0),
-            Field::Bytes(SESSIONS),
-            Field::Zeros(14),
-            Field::U16(sessions.version.number()),
-            Field::U16(count),
-            Field::U32(sessions.next_unique),
-            Field::U32(sessions.commits),
+            Field::U16(152 + implementation_use), // 0 length of header
+            Field::U16(implementation_use), // 2 length of implementation use
+            Field::Bytes(&label), // 4 logical volume identifier
+            Field::U32(number_of(vat.previous)), // 132 previous VAT ICB location
+            Field::U32(vat.files), // 136 number of files
+            Field::U32(vat.directories), // 140 number of directories
+            Field::U16(REVISION), // 144 minimum UDF read revision
+            Field::U16(REVISION), // 146 minimum UDF write revision
+            Field::U16(REVISION), // 148 maximum UDF write revision
+            Field::U16(0), // 150 reserved
+            Field::Bytes(SESSIONS), // 152 implementation use: the identifier of the sessions
+            Field::Zeros(14), // 170 the rest of it
+            Field::U16(sessions.version.number()), // 184 their version
+            Field::U16(count), // 186 number of records
+            Field::U32(sessions.next_unique), // 188 next unique ID
+            Field::U32(sessions.commits), // 192 commits
         ],
         &mut head,
     );
@@ -127,20 +127,20 @@ pub(crate) fn record_bytes(kept: &Record) -> [u8; 48]
     let mut bytes = [0; 48];
     write_fields(
         &[
-            Field::U64(kept.client),
-            Field::U64(kept.latest),
-            Field::U16(first.code),
-            Field::U16(0),
-            Field::U32(first.commit),
-            Field::U16(second.code),
-            Field::U16(0),
-            Field::U32(second.commit),
-            Field::U16(third.code),
-            Field::U16(0),
-            Field::U32(third.commit),
-            Field::U16(fourth.code),
-            Field::U16(0),
-            Field::U32(fourth.commit),
+            Field::U64(kept.client), // 0 client
+            Field::U64(kept.latest), // 8 its latest number
+            Field::U16(first.code), // 16 code of the reply to that
+            Field::U16(0), // 18 reserved
+            Field::U32(first.commit), // 20 its commit
+            Field::U16(second.code), // 24 code of the reply to the number before
+            Field::U16(0), // 26 reserved
+            Field::U32(second.commit), // 28 its commit
+            Field::U16(third.code), // 32 code of the one before that
+            Field::U16(0), // 34 reserved
+            Field::U32(third.commit), // 36 its commit
+            Field::U16(fourth.code), // 40 code of the oldest that is kept
+            Field::U16(0), // 42 reserved
+            Field::U32(fourth.commit), // 44 its commit
         ],
         &mut bytes,
     );

@@ -20,24 +20,31 @@ digits n =
 -- volume set, and its timestamp
 abbrev pub primary_fields : List ℕ → List ℕ → List ℕ → List ℕ
 primary_fields volume set stamp = concat (
-    to_le_bytes w32 1 ∷ to_le_bytes w32 0  -- 16 volume descriptor sequence number, 20 primary volume descriptor number
+    to_le_bytes w32 1  -- 16 volume descriptor sequence number
+    ∷ to_le_bytes w32 0  -- 20 primary volume descriptor number
     ∷ volume  -- 24 volume identifier
-    ∷ to_le_bytes w16 1 ∷ to_le_bytes w16 1  -- 56 volume sequence number, 58 the greatest
-    ∷ to_le_bytes w16 2 ∷ to_le_bytes w16 3  -- 60 interchange level, 62 the greatest
-    ∷ to_le_bytes w32 1 ∷ to_le_bytes w32 1  -- 64 character set list, 68 the greatest
+    ∷ to_le_bytes w16 1  -- 56 volume sequence number
+    ∷ to_le_bytes w16 1  -- 58 maximum volume sequence number
+    ∷ to_le_bytes w16 2  -- 60 interchange level
+    ∷ to_le_bytes w16 3  -- 62 maximum interchange level
+    ∷ to_le_bytes w32 1  -- 64 character set list
+    ∷ to_le_bytes w32 1  -- 68 maximum character set list
     ∷ set  -- 72 volume set identifier
-    ∷ cs0 ∷ cs0  -- 200 of the descriptor, 264 explanatory
-    ∷ replicate 48 0  -- 328 abstract, 336 copyright notice, 344 application
-    ∷ stamp ∷ developer  -- 376 recording date and time, 388 implementation
-    ∷ replicate 92 0  -- 420 implementation use, 484 predecessor, 488 flags, 490 reserved
+    ∷ cs0  -- 200 descriptor character set
+    ∷ cs0  -- 264 explanatory character set
+    ∷ replicate 48 0  -- 328 volume abstract, 336 volume copyright notice, 344 application identifier
+    ∷ stamp  -- 376 recording date and time
+    ∷ developer  -- 388 implementation identifier
+    ∷ replicate 92 0  -- 420 implementation use, 484 predecessor volume descriptor sequence location, 488 flags, 490 reserved
     ∷ [])
 
 -- the anchor (ECMA-167 3/10.2), of 512 bytes: the extents of both sequences
 abbrev pub anchor_fields : List ℕ
 anchor_fields = concat (
-    to_le_bytes w32 32_768 ∷ to_le_bytes w32 32  -- 16 main
-    ∷ to_le_bytes w32 32_768 ∷ to_le_bytes w32 48  -- 24 reserve
-    ∷ replicate 480 0 ∷ [])
+    to_le_bytes w32 32_768 ∷ to_le_bytes w32 32  -- 16 main volume descriptor sequence extent
+    ∷ to_le_bytes w32 32_768 ∷ to_le_bytes w32 48  -- 24 reserve volume descriptor sequence extent
+    ∷ replicate 480 0  -- 32 reserved
+    ∷ [])
 
 -- the implementation use volume descriptor (ECMA-167 3/10.4, UDF 2.01 2.2.7), of 512 bytes, with the dstring of the
 -- logical volume
@@ -45,53 +52,81 @@ abbrev pub use_fields : List ℕ → List ℕ
 use_fields volume = concat (
     to_le_bytes w32 2  -- 16 volume descriptor sequence number
     ∷ entity (codes "*UDF LV Info") udf_suffix  -- 20 implementation identifier
-    ∷ cs0 ∷ volume  -- 52, 116 logical volume identifier
-    ∷ replicate 108 0  -- 244, 280, 316 three texts of information
-    ∷ developer ∷ replicate 128 0 ∷ [])  -- 352 implementation, 384 its use
+    ∷ cs0  -- 52 LVI charset
+    ∷ volume  -- 116 logical volume identifier
+    ∷ replicate 108 0  -- 244, 280, 316 LV info 1 to 3
+    ∷ developer  -- 352 implementation ID
+    ∷ replicate 128 0  -- 384 implementation use
+    ∷ [])
 
 -- the partition descriptor (ECMA-167 3/10.5), of 512 bytes
 abbrev pub partition_fields : ℕ → List ℕ
 partition_fields capacity = concat (
     to_le_bytes w32 3  -- 16 volume descriptor sequence number
-    ∷ to_le_bytes w16 1 ∷ to_le_bytes w16 0  -- 20 flags, 22 number
-    ∷ entity (codes "+NSR03") (replicate 8 0)  -- 24 contents
-    ∷ replicate 128 0  -- 56 contents use
+    ∷ to_le_bytes w16 1  -- 20 partition flags: allocated
+    ∷ to_le_bytes w16 0  -- 22 partition number
+    ∷ entity (codes "+NSR03") (replicate 8 0)  -- 24 partition contents
+    ∷ replicate 128 0  -- 56 partition contents use
     ∷ to_le_bytes w32 2  -- 184 access type: write once
-    ∷ to_le_bytes w32 257 ∷ to_le_bytes w32 (capacity - 257)  -- 188 starting location, 192 length
-    ∷ developer ∷ replicate 284 0 ∷ [])  -- 196 implementation, 228 its use, 356 reserved
+    ∷ to_le_bytes w32 257  -- 188 partition starting location
+    ∷ to_le_bytes w32 (capacity - 257)  -- 192 partition length
+    ∷ developer  -- 196 implementation identifier
+    ∷ replicate 284 0  -- 228 implementation use, 356 reserved
+    ∷ [])
 
 -- the logical volume descriptor (ECMA-167 3/10.6), of 510 bytes, with the dstring of the logical volume
 abbrev pub logical_fields : List ℕ → List ℕ
 logical_fields volume = concat (
     to_le_bytes w32 4  -- 16 volume descriptor sequence number
-    ∷ cs0 ∷ volume  -- 20, 84 logical volume identifier
+    ∷ cs0  -- 20 descriptor character set
+    ∷ volume  -- 84 logical volume identifier
     ∷ to_le_bytes w32 2048  -- 212 logical block size
-    ∷ domain  -- 216 domain
-    ∷ to_le_bytes w32 2048 ∷ to_le_bytes w32 0 ∷ to_le_bytes w16 1 ∷ replicate 6 0  -- 248 contents use: the file set
-    ∷ to_le_bytes w32 70 ∷ to_le_bytes w32 2  -- 264 length of the map table, 268 number of maps
-    ∷ developer ∷ replicate 128 0  -- 272 implementation, 304 its use
-    ∷ to_le_bytes w32 8_192 ∷ to_le_bytes w32 64  -- 432 integrity sequence
-    ∷ (1 ∷ 6 ∷ []) ∷ to_le_bytes w16 1 ∷ to_le_bytes w16 0  -- 440 the physical partition
-    ∷ (2 ∷ 64 ∷ []) ∷ to_le_bytes w16 0  -- 446 the virtual partition (UDF 2.01 2.2.8)
-    ∷ entity (codes "*UDF Virtual Partition") udf_suffix
-    ∷ to_le_bytes w16 1 ∷ to_le_bytes w16 0 ∷ replicate 24 0 ∷ [])
+    ∷ domain  -- 216 domain identifier
+    ∷ to_le_bytes w32 2048 ∷ to_le_bytes w32 0 ∷ to_le_bytes w16 1 ∷ replicate 6 0  -- 248 logical volume contents use: the file set descriptor
+    ∷ to_le_bytes w32 70  -- 264 map table length
+    ∷ to_le_bytes w32 2  -- 268 number of partition maps
+    ∷ developer  -- 272 implementation identifier
+    ∷ replicate 128 0  -- 304 implementation use
+    ∷ to_le_bytes w32 8_192 ∷ to_le_bytes w32 64  -- 432 integrity sequence extent
+    -- the physical partition's map (ECMA-167 3/10.7.2)
+    ∷ (1 ∷ 6 ∷ [])  -- 440 partition map type, 441 partition map length
+    ∷ to_le_bytes w16 1  -- 442 volume sequence number
+    ∷ to_le_bytes w16 0  -- 444 partition number
+    -- the virtual partition's map (UDF 2.01 2.2.8)
+    ∷ (2 ∷ 64 ∷ [])  -- 446 partition map type, 447 partition map length
+    ∷ to_le_bytes w16 0  -- 448 reserved
+    ∷ entity (codes "*UDF Virtual Partition") udf_suffix  -- 450 partition type identifier
+    ∷ to_le_bytes w16 1  -- 482 volume sequence number
+    ∷ to_le_bytes w16 0  -- 484 partition number
+    ∷ replicate 24 0  -- 486 reserved
+    ∷ [])
 
 -- the unallocated space descriptor (ECMA-167 3/10.8), of 24 bytes: with no extents
 abbrev pub unallocated_fields : List ℕ
-unallocated_fields = concat (to_le_bytes w32 5 ∷ to_le_bytes w32 0 ∷ [])
+unallocated_fields = concat (
+    to_le_bytes w32 5  -- 16 volume descriptor sequence number
+    ∷ to_le_bytes w32 0  -- 20 number of allocation descriptors
+    ∷ [])
 
 -- the terminating descriptor (ECMA-167 3/10.9), of 512 bytes
 abbrev pub terminating_fields : List ℕ
-terminating_fields = replicate 496 0
+terminating_fields = replicate 496 0  -- 16 reserved
 
 -- the logical volume integrity descriptor (ECMA-167 3/10.10, UDF 2.01 2.2.6), of 142 bytes
 abbrev pub integrity_fields : List ℕ → ℕ → List ℕ
 integrity_fields stamp capacity = concat (
-    stamp ∷ to_le_bytes w32 0  -- 16 recording date and time, 28 type: open
-    ∷ replicate 8 0  -- 32 next extent
-    ∷ to_le_bytes w64 16 ∷ replicate 24 0  -- 40 next unique ID, 48 reserved
-    ∷ to_le_bytes w32 2 ∷ to_le_bytes w32 46  -- 72 number of partitions, 76 length of the implementation use
-    ∷ to_le_bytes w32 (capacity - 262) ∷ to_le_bytes w32 0xFFFF_FFFF  -- 80 free blocks
-    ∷ to_le_bytes w32 (capacity - 257) ∷ to_le_bytes w32 0xFFFF_FFFF  -- 88 sizes
-    ∷ developer ∷ to_le_bytes w32 0 ∷ to_le_bytes w32 1  -- 96 implementation, 128 files, 132 directories
-    ∷ to_le_bytes w16 0x0201 ∷ to_le_bytes w16 0x0201 ∷ to_le_bytes w16 0x0201 ∷ [])  -- 136 revisions to read and to write
+    stamp  -- 16 recording date and time
+    ∷ to_le_bytes w32 0  -- 28 integrity type: open
+    ∷ replicate 8 0  -- 32 next integrity extent
+    ∷ to_le_bytes w64 16 ∷ replicate 24 0  -- 40 logical volume contents use: the next unique ID, 48 reserved
+    ∷ to_le_bytes w32 2  -- 72 number of partitions
+    ∷ to_le_bytes w32 46  -- 76 length of implementation use
+    ∷ to_le_bytes w32 (capacity - 262) ∷ to_le_bytes w32 0xFFFF_FFFF  -- 80 free space table: the physical and the virtual partition
+    ∷ to_le_bytes w32 (capacity - 257) ∷ to_le_bytes w32 0xFFFF_FFFF  -- 88 size table: the physical and the virtual partition
+    ∷ developer  -- 96 implementation ID
+    ∷ to_le_bytes w32 0  -- 128 number of files
+    ∷ to_le_bytes w32 1  -- 132 number of directories
+    ∷ to_le_bytes w16 0x0201  -- 136 minimum UDF read revision
+    ∷ to_le_bytes w16 0x0201  -- 138 minimum UDF write revision
+    ∷ to_le_bytes w16 0x0201  -- 140 maximum UDF write revision
+    ∷ [])

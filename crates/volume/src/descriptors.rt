@@ -27,6 +27,24 @@ pub(crate) const INTEGRITY: u32 = 64;
 
 const BLOCK_SIZE: u32 = 2048;
 
+// The tag identifiers of the descriptors (ECMA-167 3/7.2.1).
+
+pub(crate) const PRIMARY_VOLUME_TAG: u16 = 1;
+
+const ANCHOR_TAG: u16 = 2;
+
+const IMPLEMENTATION_USE_TAG: u16 = 4;
+
+pub(crate) const PARTITION_TAG: u16 = 5;
+
+const LOGICAL_VOLUME_TAG: u16 = 6;
+
+const UNALLOCATED_SPACE_TAG: u16 = 7;
+
+const TERMINATING_TAG: u16 = 8;
+
+const INTEGRITY_TAG: u16 = 9;
+
 /// The revision of UDF, 2.01.
 const REVISION: u16 = 0x0201;
 
@@ -57,24 +75,26 @@ pub(crate) fn primary(
 {
     let set = label.dstring_128_behind(&digits(moment));
     descriptor_block(
-        1,
+        PRIMARY_VOLUME_TAG,
         n,
         &[
-            Field::U32(1),
-            Field::U32(0),
-            Field::Bytes(&volume),
-            Field::U16(1),
-            Field::U16(1),
-            Field::U16(2),
-            Field::U16(3),
-            Field::U32(1),
-            Field::U32(1),
-            Field::Bytes(&set),
-            Field::Bytes(&CS0),
-            Field::Bytes(&CS0),
+            Field::U32(1), // 16 volume descriptor sequence number
+            Field::U32(0), // 20 primary volume descriptor number
+            Field::Bytes(&volume), // 24 volume identifier
+            Field::U16(1), // 56 volume sequence number
+            Field::U16(1), // 58 maximum volume sequence number
+            Field::U16(2), // 60 interchange level
+            Field::U16(3), // 62 maximum interchange level
+            Field::U32(1), // 64 character set list
+            Field::U32(1), // 68 maximum character set list
+            Field::Bytes(&set), // 72 volume set identifier
+            Field::Bytes(&CS0), // 200 descriptor character set
+            Field::Bytes(&CS0), // 264 explanatory character set
+            // 328 volume abstract, 336 volume copyright notice, 344 application identifier
             Field::Zeros(48),
-            Field::Bytes(&stamp),
-            Field::EntityId(EntityId::DEVELOPER),
+            Field::Bytes(&stamp), // 376 recording date and time
+            Field::EntityId(EntityId::DEVELOPER), // 388 implementation identifier
+            // 420 implementation use, 484 predecessor volume descriptor sequence location, 488 flags
             Field::Zeros(92),
         ],
     )
@@ -86,18 +106,20 @@ pub(crate) fn anchor(n: u32) -> Block
 {
     let length = SEQUENCE_BLOCKS * BLOCK_SIZE;
     descriptor_block(
-        2,
+        ANCHOR_TAG,
         n,
         &[
+            // 16 main volume descriptor sequence extent
             Field::ExtentAd(ExtentAd {
                 length,
                 location: MAIN,
             }),
+            // 24 reserve volume descriptor sequence extent
             Field::ExtentAd(ExtentAd {
                 length,
                 location: RESERVE,
             }),
-            Field::Zeros(480),
+            Field::Zeros(480), // 32 reserved
         ],
     )
 }
@@ -108,16 +130,16 @@ pub(crate) fn implementation_use(label: &Label, n: u32) -> Block
 {
     let volume = label.dstring_128();
     descriptor_block(
-        4,
+        IMPLEMENTATION_USE_TAG,
         n,
         &[
-            Field::U32(2),
-            Field::EntityId(VOLUME_INFORMATION),
-            Field::Bytes(&CS0),
-            Field::Bytes(&volume),
-            Field::Zeros(108),
-            Field::EntityId(EntityId::DEVELOPER),
-            Field::Zeros(128),
+            Field::U32(2), // 16 volume descriptor sequence number
+            Field::EntityId(VOLUME_INFORMATION), // 20 implementation identifier
+            Field::Bytes(&CS0), // 52 LVI charset
+            Field::Bytes(&volume), // 116 logical volume identifier
+            Field::Zeros(108), // 244, 280, 316 LV info 1 to 3
+            Field::EntityId(EntityId::DEVELOPER), // 352 implementation ID
+            Field::Zeros(128), // 384 implementation use
         ],
     )
 }
@@ -128,19 +150,19 @@ pub(crate) fn partition(capacity: u32, n: u32) -> Block
     ensures { IsDescriptor 5 n (spec.partition_fields capacity) result }
 {
     descriptor_block(
-        5,
+        PARTITION_TAG,
         n,
         &[
-            Field::U32(3),
-            Field::U16(1),
-            Field::U16(0),
-            Field::EntityId(PARTITION_CONTENTS),
-            Field::Zeros(128),
-            Field::U32(2),
-            Field::U32(PARTITION),
-            Field::U32(capacity - PARTITION),
-            Field::EntityId(EntityId::DEVELOPER),
-            Field::Zeros(284),
+            Field::U32(3), // 16 volume descriptor sequence number
+            Field::U16(1), // 20 partition flags: allocated
+            Field::U16(0), // 22 partition number
+            Field::EntityId(PARTITION_CONTENTS), // 24 partition contents
+            Field::Zeros(128), // 56 partition contents use
+            Field::U32(2), // 184 access type: write once
+            Field::U32(PARTITION), // 188 partition starting location
+            Field::U32(capacity - PARTITION), // 192 partition length
+            Field::EntityId(EntityId::DEVELOPER), // 196 implementation identifier
+            Field::Zeros(284), // 228 implementation use, 356 reserved
         ],
     )
 }
@@ -152,14 +174,15 @@ pub(crate) fn logical_volume(label: &Label, n: u32) -> Block
 {
     let volume = label.dstring_128();
     descriptor_block(
-        6,
+        LOGICAL_VOLUME_TAG,
         n,
         &[
-            Field::U32(4),
-            Field::Bytes(&CS0),
-            Field::Bytes(&volume),
-            Field::U32(BLOCK_SIZE),
-            Field::EntityId(EntityId::DOMAIN),
+            Field::U32(4), // 16 volume descriptor sequence number
+            Field::Bytes(&CS0), // 20 descriptor character set
+            Field::Bytes(&volume), // 84 logical volume identifier
+            Field::U32(BLOCK_SIZE), // 212 logical block size
+            Field::EntityId(EntityId::DOMAIN), // 216 domain identifier
+            // 248 logical volume contents use: the file set descriptor
             Field::LongAd(LongAd {
                 length: BLOCK_SIZE,
                 block: 0,
@@ -167,25 +190,26 @@ pub(crate) fn logical_volume(label: &Label, n: u32) -> Block
                 flags: 0,
                 unique: 0,
             }),
-            Field::U32(70),
-            Field::U32(2),
-            Field::EntityId(EntityId::DEVELOPER),
-            Field::Zeros(128),
+            Field::U32(70), // 264 map table length
+            Field::U32(2), // 268 number of partition maps
+            Field::EntityId(EntityId::DEVELOPER), // 272 implementation identifier
+            Field::Zeros(128), // 304 implementation use
+            // 432 integrity sequence extent
             Field::ExtentAd(ExtentAd {
                 length: INTEGRITY_BLOCKS * BLOCK_SIZE,
                 location: INTEGRITY,
             }),
-            Field::U8(1),
-            Field::U8(6),
-            Field::U16(1),
-            Field::U16(0),
-            Field::U8(2),
-            Field::U8(64),
-            Field::U16(0),
-            Field::EntityId(VIRTUAL_PARTITION),
-            Field::U16(1),
-            Field::U16(0),
-            Field::Zeros(24),
+            Field::U8(1), // 440 partition map type
+            Field::U8(6), // 441 partition map length
+            Field::U16(1), // 442 volume sequence number
+            Field::U16(0), // 444 partition number
+            Field::U8(2), // 446 partition map type
+            Field::U8(64), // 447 partition map length
+            Field::U16(0), // 448 reserved
+            Field::EntityId(VIRTUAL_PARTITION), // 450 partition type identifier
+            Field::U16(1), // 482 volume sequence number
+            Field::U16(0), // 484 partition number
+            Field::Zeros(24), // 486 reserved
         ],
     )
 }
@@ -194,14 +218,22 @@ pub(crate) fn logical_volume(label: &Label, n: u32) -> Block
 pub(crate) fn unallocated_space(n: u32) -> Block
     ensures { IsDescriptor 7 n spec.unallocated_fields result }
 {
-    descriptor_block(7, n, &[Field::U32(5), Field::U32(0)])
+    descriptor_block(
+        UNALLOCATED_SPACE_TAG,
+        n,
+        &[
+            Field::U32(5), // 16 volume descriptor sequence number
+            Field::U32(0), // 20 number of allocation descriptors
+        ],
+    )
 }
 
 /// The terminating descriptor (ECMA-167 3/10.9).
 pub(crate) fn terminating(n: u32) -> Block
     ensures { IsDescriptor 8 n spec.terminating_fields result }
 {
-    descriptor_block(8, n, &[Field::Zeros(496)])
+    // 16 reserved
+    descriptor_block(TERMINATING_TAG, n, &[Field::Zeros(496)])
 }
 
 /// The logical volume integrity descriptor (ECMA-167 3/10.10, UDF 2.01 2.2.6), which stays open: the counts of a volume as
@@ -211,26 +243,26 @@ pub(crate) fn integrity(stamp: [u8; 12], capacity: u32, n: u32) -> Block
     ensures { IsDescriptor 9 n (spec.integrity_fields stamp capacity) result }
 {
     descriptor_block(
-        9,
+        INTEGRITY_TAG,
         n,
         &[
-            Field::Bytes(&stamp),
-            Field::U32(0),
-            Field::Zeros(8),
-            Field::U64(16),
-            Field::Zeros(24),
-            Field::U32(2),
-            Field::U32(46),
-            Field::U32(capacity - FORMATTED),
-            Field::U32(u32::MAX),
-            Field::U32(capacity - PARTITION),
-            Field::U32(u32::MAX),
-            Field::EntityId(EntityId::DEVELOPER),
-            Field::U32(0),
-            Field::U32(1),
-            Field::U16(REVISION),
-            Field::U16(REVISION),
-            Field::U16(REVISION),
+            Field::Bytes(&stamp), // 16 recording date and time
+            Field::U32(0), // 28 integrity type: open
+            Field::Zeros(8), // 32 next integrity extent
+            Field::U64(16), // 40 logical volume contents use: the next unique ID
+            Field::Zeros(24), // 48 reserved
+            Field::U32(2), // 72 number of partitions
+            Field::U32(46), // 76 length of implementation use
+            Field::U32(capacity - FORMATTED), // 80 free space table: the physical partition
+            Field::U32(u32::MAX), // 84 the virtual partition
+            Field::U32(capacity - PARTITION), // 88 size table: the physical partition
+            Field::U32(u32::MAX), // 92 the virtual partition
+            Field::EntityId(EntityId::DEVELOPER), // 96 implementation ID
+            Field::U32(0), // 128 number of files
+            Field::U32(1), // 132 number of directories
+            Field::U16(REVISION), // 136 minimum UDF read revision
+            Field::U16(REVISION), // 138 minimum UDF write revision
+            Field::U16(REVISION), // 140 maximum UDF write revision
         ],
     )
 }

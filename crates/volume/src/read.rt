@@ -5,7 +5,7 @@ ghost use Rattle.volume.specs.declared.read.VolumeFault.TheVariants.{Field};
 ghost use Rattle.volume.specs.Front.{IsFront, IsFrontBlock};
 ghost use Rattle.volume.specs.Reading.{word_rules, Tells, DiffersAt, DiffersFirst, IsTold, stamp_field};
 
-use crate::descriptors::{MAIN, PARTITION};
+use crate::descriptors::{MAIN, PARTITION, PARTITION_TAG, PRIMARY_VOLUME_TAG};
 use crate::front::{Front, front_block};
 use ecma::{Block, Timestamp, open_tag, u32_at};
 use osta::Label;
@@ -51,7 +51,7 @@ pub fn front_words(primary: &Block, partition: &Block) -> Result<Front, VolumeFa
     ensures capacity { IfOk result (λ f. (512 ≤ f.capacity) × (f.capacity ≤ 450_000)) }
     ensures fault { IfErr result (IsFirst (word_rules primary.now partition.now)) }
 {
-    if !has_tag(primary, 1, PRIMARY) {
+    if !has_tag(primary, PRIMARY_VOLUME_TAG, PRIMARY) {
         return Err(fault(PRIMARY, 0));
     }
     let Some(label) = Label::of(&primary[24..56]) else {
@@ -60,7 +60,7 @@ pub fn front_words(primary: &Block, partition: &Block) -> Result<Front, VolumeFa
     let Some(moment) = Timestamp::read(&stamp(primary)) else {
         return Err(fault(PRIMARY, 376));
     };
-    if !has_tag(partition, 5, PARTITION_DESCRIPTOR) {
+    if !has_tag(partition, PARTITION_TAG, PARTITION_DESCRIPTOR) {
         return Err(fault(PARTITION_DESCRIPTOR, 0));
     }
     let length = u32_at(partition, 192);
