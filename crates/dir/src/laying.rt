@@ -8,10 +8,10 @@ use crate::size::{BLOCK_SIZE, fits, plain_size};
 use ecma::Block;
 
 /// The most names of a directory.
-pub const MAX_NAMES: usize = 512;
+pub const MAX_NAMES: usize = limits::DIRECTORY_NAMES as usize;
 
 /// The blocks of the largest partition.
-pub const MAX_BLOCKS: u32 = 449_743;
+pub const MAX_BLOCKS: u32 = limits::PARTITION_BLOCKS;
 
 /// The blocks of a directory in order, each made when it is asked for. It takes no memory.
 #[derive(Drop)]

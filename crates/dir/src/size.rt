@@ -5,7 +5,7 @@ ghost use Rattle.dir.specs.Identifier as identifier;
 ghost use Rattle.dir.specs.Layout as layout;
 
 /// The bytes of a block.
-pub(crate) const BLOCK_SIZE: usize = 2048;
+pub(crate) const BLOCK_SIZE: usize = limits::BLOCK_BYTES as usize;
 
 /// The least multiple of 4 that is not below the size.
 pub(crate) fn rounded(size: usize) -> usize

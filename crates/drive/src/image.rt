@@ -17,7 +17,7 @@ use std::io::ErrorKind;
 use std::os::unix::fs::{FileExt, MetadataExt};
 use std::{fs, io};
 
-const BLOCK_BYTES: u64 = 2048;
+const BLOCK_BYTES: u64 = limits::BLOCK_BYTES as u64;
 
 /// What a file is open for.
 #[derive(Clone, Copy, Debug, PartialEq, Eq)]

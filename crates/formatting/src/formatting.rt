@@ -30,11 +30,11 @@ use vat::{Sessions, Vat, Version, encode_vat};
 use volume::{FRONT_BLOCKS, front_block};
 
 /// How many blocks a format writes.
-const FORMAT_BLOCKS: u32 = 262;
+const FORMAT_BLOCKS: u32 = limits::FORMAT_BLOCKS;
 
-const LEAST_CAPACITY: u32 = 512;
+const LEAST_CAPACITY: u32 = limits::LEAST_CAPACITY;
 
-const GREATEST_CAPACITY: u32 = 450_000;
+const GREATEST_CAPACITY: u32 = limits::GREATEST_CAPACITY;
 
 /// The bytes of a directory without names.
 const EMPTY_DIRECTORY: u32 = 40;

@@ -38,10 +38,10 @@ use std::alloc::Global;
 use table::{NewNode, Node};
 
 /// The greatest number of names in a path of the tree.
-const PATH_NAMES: usize = 16;
+const PATH_NAMES: usize = limits::PATH_NAMES as usize;
 
 /// The most nodes of a tree, its root counted.
-const MAX_NODES: u32 = 4096;
+const MAX_NODES: u32 = limits::NODES;
 
 /// The state before a request: its nodes, how many they are, and the unique ID of the next one.
 #[derive(Clone, Copy, Debug)]

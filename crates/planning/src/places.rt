@@ -21,7 +21,7 @@ use recover::{Extent, block_count, link_count};
 use vat::clear_start;
 
 /// The most bytes of a file that stand inside its entry.
-pub(crate) const INSIDE_BYTES: usize = 1872;
+pub(crate) const INSIDE_BYTES: usize = limits::INSIDE_BYTES as usize;
 
 /// The block numbers that a commit gives out, one behind another.
 #[derive(Clone, Copy, Debug)]

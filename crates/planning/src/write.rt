@@ -14,7 +14,7 @@ use drive::{Drive, DriveFault, PACKET, PacketWriter};
 use ecma::Block;
 use std::alloc::{AllocError, Global};
 
-const BLOCK_SIZE: usize = 2048;
+const BLOCK_SIZE: usize = limits::BLOCK_BYTES as usize;
 
 const ZEROS: Block = [0; BLOCK_SIZE];
 

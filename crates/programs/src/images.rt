@@ -10,7 +10,7 @@ use std::fs::{File, Files};
 use store::StoreFault;
 
 /// The greatest capacity of a volume, in blocks.
-const GREATEST_CAPACITY: u32 = 450_000;
+const GREATEST_CAPACITY: u32 = limits::GREATEST_CAPACITY;
 
 /// The image at this path, to write it.
 pub(crate) fn open_image<R: Files<File = File>>(rt: &R, path: &str) -> Result<FileDrive, Fault>

@@ -15,10 +15,10 @@ use ecma::Block;
 use std::alloc::Global;
 
 /// The address of the block with number 0 of the partition.
-pub const PARTITION_START: u32 = 257;
+pub const PARTITION_START: u32 = limits::PARTITION_START;
 
 /// The bytes of a block.
-pub const BLOCK_BYTES: u32 = 2048;
+pub const BLOCK_BYTES: u32 = limits::BLOCK_BYTES;
 
 /// How many blocks so many bytes take.
 pub fn block_count(size: u32) -> u32

@@ -31,7 +31,7 @@ const PRIMARY: u32 = 32;
 const PARTITION: u32 = 34;
 
 /// The least address behind the blocks of a format and its last one's. Each commit writes two blocks at least.
-const FORMAT_BLOCKS: u64 = 261;
+const FIRST_TABLE: u64 = limits::FORMAT_BLOCKS as u64 - 1;
 
 /// What stands where the entry of a table does, but for the tree.
 #[derive(Drop)]
@@ -211,7 +211,7 @@ fn check_tree<D: Drive>(
     if files != vat.files || directories != vat.directories {
         return Err(damaged(data_at, cause::COUNTS));
     }
-    let has_room = 2 * commits + FORMAT_BLOCKS <= u64::from(at);
+    let has_room = 2 * commits + FIRST_TABLE <= u64::from(at);
     if !has_room || u64::from(sessions.next_unique) > 16 + commits {
         return Err(damaged(data_at, cause::COUNTS));
     }

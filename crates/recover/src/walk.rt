@@ -23,13 +23,13 @@ use drive::Drive;
 use std::alloc::Global;
 
 /// The greatest number of names in a path of the tree.
-pub const PATH_NAMES: u32 = 16;
+pub const PATH_NAMES: u32 = limits::PATH_NAMES;
 
 /// The virtual address of the root directory.
 pub const ROOT_ADDRESS: u32 = 1;
 
 /// The least unique ID of a node but the root.
-pub const FIRST_UNIQUE: u32 = 16;
+pub const FIRST_UNIQUE: u32 = limits::FIRST_UNIQUE;
 
 /// A node as the directory above it names it.
 #[derive(Clone, Copy, Debug)]

@@ -8,7 +8,7 @@ use std::alloc::{AllocError, Global};
 use std::marker::Model;
 
 /// The most names that a directory can have.
-pub const DIRECTORY_NAMES: usize = 512;
+pub const DIRECTORY_NAMES: usize = limits::DIRECTORY_NAMES as usize;
 
 /// How a committed request went.
 #[derive(Clone, Copy, Debug, PartialEq, Eq)]

@@ -23,5 +23,5 @@ pub use encode::encode_answer;
 pub use frames::{Frames, PAYLOAD_BYTES};
 pub use laws::{feeding_goes_on, no_answer_begins_another, one_reading, taking_goes_on};
 pub use message::{Cause, FILE_BYTES, FileData, MOMENT_LIMIT, Message, Op, Query, Request};
-pub use path::{PATH_NAMES, Path, PathFault};
+pub use path::{MESSAGE_PATH_NAMES, Path, PathFault};
 pub use payload::read_payload;

@@ -7,10 +7,10 @@ use std::alloc::{AllocError, Global};
 use std::marker::Model;
 
 /// The most bytes that a file can have.
-pub const FILE_BYTES: usize = 1_048_576;
+pub const FILE_BYTES: usize = limits::FILE_BYTES as usize;
 
 /// The first moment that has no timestamp, in microseconds from 1970-01-01 UTC.
-pub const MOMENT_LIMIT: u64 = 4_102_444_800_000_000;
+pub const MOMENT_LIMIT: u64 = limits::MOMENT_LIMIT;
 
 /// The bytes of a file, at most 1,048,576.
 #[derive(Debug, Drop)]

@@ -11,7 +11,7 @@ use std::alloc::{AllocError, Global};
 use std::marker::Model;
 
 /// The most names that a path can have in a message.
-pub const PATH_NAMES: usize = 255;
+pub const MESSAGE_PATH_NAMES: usize = limits::MESSAGE_PATH_NAMES as usize;
 
 /// The names from the root on, at most 255. The root itself has none.
 #[derive(Debug, Drop)]
@@ -106,7 +106,7 @@ impl Path {
     {
         let mut path = Path::root(alloc);
         for part in names.split('/') {
-            if path.names().len() == PATH_NAMES {
+            if path.names().len() == MESSAGE_PATH_NAMES {
                 return Err(PathFault::Path);
             }
             let name = match Name::read(alloc, part) {

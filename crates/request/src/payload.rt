@@ -9,7 +9,7 @@ ghost use Rattle.request.specs.Payload.{Tells, IsSpelled, told_by, said_by};
 ghost use Rattle.request.specs.declared.payload.ReadError.TheVariants.{Memory};
 
 use crate::message::{Cause, FILE_BYTES, FileData, MOMENT_LIMIT, Message, Op, Query, Request};
-use crate::path::{PATH_NAMES, Path};
+use crate::path::{MESSAGE_PATH_NAMES, Path};
 use osta::{Name, NameFault};
 use std::alloc::{AllocError, AllocFailed, Global};
 

@@ -10,7 +10,7 @@ use request::{Code, Reply};
 use vat::Record;
 
 /// The most clients whose sessions are kept.
-const CLIENTS: usize = 64;
+const CLIENTS: usize = limits::CLIENTS as usize;
 
 /// What a request number is to a client's session.
 #[derive(Clone, Copy, Debug, PartialEq, Eq)]

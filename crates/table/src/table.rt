@@ -16,7 +16,7 @@ use std::alloc::Global;
 use vat::{Record, Replies, Reply, Sessions, Vat, Version};
 
 /// The most virtual addresses of a table.
-const MOST_ADDRESSES: usize = 4097;
+const MOST_ADDRESSES: usize = limits::ADDRESSES as usize;
 
 /// A copy of a table.
 pub fn copied(alloc: Global, vat: &Vat) -> Result<Vat, StoreFault>

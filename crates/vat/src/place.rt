@@ -9,7 +9,7 @@ ghost use Rattle.vat.specs.Imitation.{Imitates};
 use ecma::{Block, u32_at};
 use icb::{Kind, decode_fe};
 
-const BLOCK_SIZE: usize = 2048;
+const BLOCK_SIZE: usize = limits::BLOCK_BYTES as usize;
 
 /// Where a descriptor's tag tells its location (ECMA-167 4/7.2.8).
 const LOCATION: usize = 12;

@@ -6,7 +6,7 @@ ghost use Rattle.vat.specs.Reply as spec;
 use std::marker::Model;
 
 /// How many replies a record keeps at most.
-pub const KEPT_REPLIES: usize = 4;
+pub const KEPT_REPLIES: usize = limits::KEPT_REPLIES as usize;
 
 /// What a request was answered.
 #[derive(Clone, Copy, Debug, PartialEq, Eq)]

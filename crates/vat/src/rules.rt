@@ -19,13 +19,13 @@ use ecma::{Field, stands_at, u16_at, u32_at, u64_at};
 use osta::Label;
 
 /// How many clients are kept at most.
-const CLIENTS: u16 = 64;
+const CLIENTS: u16 = limits::CLIENTS;
 
 /// How many virtual addresses there are at most.
-const ENTRIES: usize = 4097;
+const ENTRIES: usize = limits::ADDRESSES as usize;
 
 /// The first unique ID of a node that is not the root.
-const FIRST_UNIQUE: u32 = 16;
+const FIRST_UNIQUE: u32 = limits::FIRST_UNIQUE;
 
 /// The version of the sessions. Lengths of a version that is unknown are reckoned as those of the first.
 pub(crate) fn version(bytes: &[u8]) -> Version

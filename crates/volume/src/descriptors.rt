@@ -9,10 +9,10 @@ use ecma::{Block, CS0, EntityId, ExtentAd, Field, LongAd, descriptor_block};
 use osta::Label;
 
 /// Where the partition begins.
-pub(crate) const PARTITION: u32 = 257;
+pub(crate) const PARTITION: u32 = limits::PARTITION_START;
 
 /// How many blocks a format takes.
-const FORMATTED: u32 = 262;
+const FORMATTED: u32 = limits::FORMAT_BLOCKS;
 
 /// How many blocks the sequence of volume descriptors may take, and how many the integrity sequence.
 const SEQUENCE_BLOCKS: u32 = 16;
@@ -25,7 +25,7 @@ pub(crate) const RESERVE: u32 = 48;
 
 pub(crate) const INTEGRITY: u32 = 64;
 
-const BLOCK_SIZE: u32 = 2048;
+const BLOCK_SIZE: u32 = limits::BLOCK_BYTES;
 
 // The tag identifiers of the descriptors (ECMA-167 3/7.2.1).
 

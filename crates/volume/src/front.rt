@@ -12,7 +12,7 @@ use osta::Label;
 use std::alloc::{AllocError, Global};
 
 /// How many blocks the front has.
-pub const FRONT_BLOCKS: u32 = 257;
+pub const FRONT_BLOCKS: u32 = limits::PARTITION_START;
 
 /// What a format says of its volume, and its front tells.
 #[derive(Clone, Copy, Debug, PartialEq, Eq)]

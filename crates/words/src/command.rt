@@ -7,12 +7,12 @@ ghost use Rattle.words.specs.Commands.{Asks, AsksApply, AsksFormat, IsCapacity};
 use crate::number::read_number;
 
 /// The least and the greatest capacity of a volume, in blocks.
-const LEAST_CAPACITY: u64 = 512;
+const LEAST_CAPACITY: u64 = limits::LEAST_CAPACITY as u64;
 
-const GREATEST_CAPACITY: u64 = 450_000;
+const GREATEST_CAPACITY: u64 = limits::GREATEST_CAPACITY as u64;
 
 /// The last moment that has a timestamp, in microseconds from 1970-01-01 UTC.
-const LAST_MOMENT: u64 = 4_102_444_799_999_999;
+const LAST_MOMENT: u64 = limits::MOMENT_LIMIT - 1;
 
 /// What requests are applied to.
 #[derive(Clone, Copy, Debug, PartialEq, Eq)]

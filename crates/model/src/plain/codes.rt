@@ -35,13 +35,13 @@ impl Code {
 }
 
 /// How many names a path of the tree may have.
-const MOST_NAMES_IN_A_PATH: usize = 16;
+const MOST_NAMES_IN_A_PATH: usize = limits::PATH_NAMES as usize;
 
 /// How many names a directory may have.
-const MOST_NAMES: usize = 512;
+const MOST_NAMES: usize = limits::DIRECTORY_NAMES as usize;
 
 /// How many nodes there may be, the root counted.
-const MOST_NODES: usize = 4_096;
+const MOST_NODES: usize = limits::NODES as usize;
 
 /// The code of an operation at these nodes.
 pub fn code_of(nodes: &[Entry], operation: &Operation) -> Code

@@ -10,10 +10,10 @@ use super::Code;
 use std::alloc::{AllocError, Global};
 
 /// How many clients have a record.
-const MOST_CLIENTS: usize = 64;
+const MOST_CLIENTS: usize = limits::CLIENTS as usize;
 
 /// How many replies are kept for a client.
-const KEPT_REPLIES: usize = 4;
+const KEPT_REPLIES: usize = limits::KEPT_REPLIES as usize;
 
 /// The answer to a request that was committed: its code, and its number among all commits.
 #[derive(Clone, Copy, Debug, PartialEq, Eq)]

@@ -1,0 +1,54 @@
+//! The limits of this profile of UDF 2.01 and of the messages, each stated once. The crates above cite them; what each
+//! one means for a volume or a message is said, and proved, where it is kept.
+#![tactic(auto)]
+
+/// In bytes, of a logical sector and of a logical block alike (UDF 2.01 2.2.4.2).
+pub const BLOCK_BYTES: u32 = 2048;
+
+/// How many blocks a medium has at least.
+pub const LEAST_CAPACITY: u32 = 512;
+
+/// How many blocks of a medium are used at most.
+pub const GREATEST_CAPACITY: u32 = 450_000;
+
+/// Where the partition begins, in blocks from the volume's start, and so how many blocks the front has.
+pub const PARTITION_START: u32 = 257;
+
+/// How many blocks the longest partition has.
+pub const PARTITION_BLOCKS: u32 = GREATEST_CAPACITY - PARTITION_START;
+
+/// How many blocks a format writes: the front, the file set, the root, and the first virtual allocation table.
+pub const FORMAT_BLOCKS: u32 = 262;
+
+/// How many files and directories there are at most, the root among them.
+pub const NODES: u32 = 4096;
+
+/// How many virtual addresses a table has at most: the file set's, and one for each file and directory.
+pub const ADDRESSES: u32 = NODES + 1;
+
+/// How many names a directory has at most.
+pub const DIRECTORY_NAMES: u32 = 512;
+
+/// How many names a path of the tree has at most.
+pub const PATH_NAMES: u32 = 16;
+
+/// How many names a path has at most in a message. A longer one than [`PATH_NAMES`] is refused by the volume.
+pub const MESSAGE_PATH_NAMES: u32 = 255;
+
+/// In bytes, of a file.
+pub const FILE_BYTES: u32 = 1_048_576;
+
+/// How many bytes of a file its entry has room for.
+pub const INSIDE_BYTES: u32 = 1_872;
+
+/// How many clients a volume knows at most.
+pub const CLIENTS: u16 = 64;
+
+/// How many replies are kept for each client.
+pub const KEPT_REPLIES: u16 = 4;
+
+/// The unique ID that the first file or directory behind the root gets (UDF 2.01 3.2.1.1).
+pub const FIRST_UNIQUE: u32 = 16;
+
+/// The first moment that no timestamp tells, in microseconds from 1970: the year 2100's beginning.
+pub const MOMENT_LIMIT: u64 = 4_102_444_800_000_000;
