@@ -15,12 +15,10 @@ mod process;
 mod questions;
 mod requests;
 mod sending;
-#[cfg(test)]
-mod tests;
 mod volumes;
 
 pub use commands::command;
 pub use daemons::{daemon, serve_one};
-pub use fault::Fault;
+pub use fault::{Fault, report};
 pub use process::{run_command, run_daemon};
 pub use sending::{copy_answers, send_frames};

@@ -1,9 +1,9 @@
 //! The daemon, and a client's calls beside it.
 
-use super::asking::{CREATE, formatted, run, run_daemon};
-use crate::{Fault, copy_answers, send_frames, serve_one};
+use crate::asking::{CREATE, formatted, run, run_daemon};
 use drive::FileDrive;
 use engine::{Engine, ServeFault};
+use programs::{Fault, copy_answers, send_frames, serve_one};
 use std::fs;
 use std::os::unix::net::{UnixListener, UnixStream};
 use std::test::Fail;

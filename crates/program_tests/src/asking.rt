@@ -1,7 +1,6 @@
 //! Programs that are run, and what they told.
 
-use crate::{command, daemon};
-use std::alloc::Global;
+use programs::{command, daemon};
 use std::fs;
 use std::test::Fail;
 

@@ -1,6 +1,6 @@
 //! The commits of an image, and what is found of damaged ones.
 
-use super::asking::{CREATE, MAKE, formatted, run};
+use crate::asking::{CREATE, MAKE, formatted, run};
 use std::fs::{self, File, OpenOptions};
 use std::io::{Seek, SeekFrom, Write};
 use std::test::Fail;

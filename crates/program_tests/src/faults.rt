@@ -1,7 +1,7 @@
 //! The lines of faults, beside what the crates below show of theirs.
 
-use crate::fault::{Fault, report};
 use engine::ServeFault;
+use programs::{Fault, report};
 use std::test::Fail;
 use store::StoreFault;
 

@@ -1,6 +1,6 @@
 //! The commands of `udfburn`: statuses, output and lines.
 
-use super::asking::{CREATE, MAKE, formatted, run};
+use crate::asking::{CREATE, MAKE, formatted, run};
 use std::fs;
 use std::test::Fail;
 

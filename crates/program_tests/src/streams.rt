@@ -1,9 +1,9 @@
 //! Streams of `udfburn` that fail, and that come byte by byte.
 
-use super::asking::{CREATE, Told, formatted, run};
-use crate::command;
-use crate::counting::FrameCount;
+use crate::asking::{CREATE, Told, formatted, run};
+use programs::{command, copy_answers, send_frames};
 use std::io::{Error, ErrorKind, Read, Write};
+use std::os::unix::net::UnixStream;
 use std::test::Fail;
 use std::{fs, io};
 
@@ -21,6 +21,23 @@ impl Read for Single<'_> {
             }
             _ => Err(Error::from(ErrorKind::Other)),
         }
+    }
+}
+
+/// A reader that gives so many of its bytes at once.
+#[derive(Drop)]
+struct Pieces<'a> {
+    bytes: &'a [u8],
+    size: usize,
+}
+
+impl Read for Pieces<'_> {
+    fn read(&mut self, buf: &mut [u8]) -> io::Result<usize> {
+        let count = self.bytes.len().min(self.size).min(buf.len());
+        let (piece, rest) = self.bytes.split_at(count);
+        buf[..count].copy_from_slice(piece);
+        self.bytes = rest;
+        Ok(count)
     }
 }
 
@@ -137,14 +154,16 @@ fn frames_that_end_are_counted(rt: HostRuntime) -> Result<(), Fail> {
         (b"\0\0\0\0\x01\0\x11\0\0\0\0\0", 2),
     ];
     for (bytes, count) in rows {
-        let mut whole = FrameCount::new();
-        whole.feed(bytes);
-        assert_eq!(rt; whole.count(), count);
-        let mut single = FrameCount::new();
-        for byte in bytes {
-            single.feed(&[*byte]);
+        // All at once, and byte by byte.
+        for size in [bytes.len(), 1] {
+            let (mut near, mut far) = UnixStream::pair(&rt)?;
+            let sent = send_frames(rt.alloc(), &mut near, &mut Pieces { bytes, size })?;
+            assert_eq!(rt; sent, count);
+            let mut came = Vec::new(rt.alloc());
+            let answered = copy_answers(rt.alloc(), &mut far, &mut came)?;
+            assert_eq!(rt; answered, count);
+            assert_eq!(rt; came.as_slice(), bytes);
         }
-        assert_eq!(rt; single.count(), count);
     }
     Ok(())
 }

@@ -1,0 +1,16 @@
+//! Tests of the programs on words, streams, files and sockets. They stand in a crate of their own, so that `programs` is
+//! proved once; they use what is public.
+#![tactic(auto)]
+
+#[cfg(test)]
+mod asking;
+#[cfg(test)]
+mod commands;
+#[cfg(test)]
+mod daemons;
+#[cfg(test)]
+mod faults;
+#[cfg(test)]
+mod history;
+#[cfg(test)]
+mod streams;

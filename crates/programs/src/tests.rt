@@ -1,8 +1,0 @@
-//! The programs on words, streams, files and sockets.
-
-mod asking;
-mod commands;
-mod daemons;
-mod faults;
-mod history;
-mod streams;
