@@ -44,18 +44,21 @@ class Connection:
 
     def answer(self) -> Answer:
         """The next answer."""
+        return decode_answer(self.payload())
+
+    def payload(self) -> bytes:
+        """The payload of the next answer."""
         limit = time.monotonic() + self.timeout
         while True:
             payload = self.frames.take()
             if payload is not None:
-                return decode_answer(payload)
+                return payload
             self._wait(limit, writing=False)
             self._feed()
 
-    def ready(self) -> Optional[Answer]:
-        """The next answer if it is here already."""
-        payload = self.frames.take()
-        return None if payload is None else decode_answer(payload)
+    def ready(self) -> Optional[bytes]:
+        """The payload of the next answer if it is here already."""
+        return self.frames.take()
 
     def close(self) -> None:
         """Ends the conversation."""

@@ -3,12 +3,12 @@
 from __future__ import annotations
 
 import time
-from dataclasses import dataclass
-from typing import Any, Dict, List, Optional, Sequence, Tuple, Type
+from typing import Any, Dict, List, NamedTuple, Optional, Sequence, Tuple, Type
 
 from .errors import TooLarge
 from .protocol import (
-    NOT_FOUND, Answer, AnyRequest, Code, Committed, Create, MakeDir, Node, NodeKind, Path, Rename, Replace, limits, show,
+    NOT_FOUND, Answer, AnyRequest, Code, Committed, Create, MakeDir, Node, NodeKind, Path, Rename, Replace, encode_answer, limits,
+    show,
 )
 
 
@@ -22,8 +22,7 @@ def clamped(moment: int) -> int:
     return min(max(moment, 0), limits.MOMENT - 1)
 
 
-@dataclass(frozen=True)
-class Operation:
+class Operation(NamedTuple):
     """What a request is to do. `tag` is for whoever made it."""
 
     kind: Type[AnyRequest]
@@ -37,16 +36,15 @@ class Operation:
         """The request of a client under a number."""
         if len(self.data) > limits.FILE:
             raise TooLarge(f"{show(self.path)}: {len(self.data)} bytes, and a file has at most {limits.FILE}")
-        fields: Dict[str, Any] = {"client": client, "number": number, "moment": self.moment, "path": self.path}
-        if self.kind is Rename:
-            fields["to"] = self.to
-        elif self.kind in (Create, Replace):
-            fields["data"] = self.data
-        return self.kind(**fields)
+        kind: Any = self.kind
+        if kind is Create or kind is Replace:
+            return kind(client, number, self.moment, self.path, self.data)  # type: ignore[no-any-return]
+        if kind is Rename:
+            return Rename(client, number, self.moment, self.path, self.to)
+        return kind(client, number, self.moment, self.path)  # type: ignore[no-any-return]
 
 
-@dataclass(frozen=True)
-class Outcome:
+class Outcome(NamedTuple):
     """How an operation went."""
 
     operation: Operation
@@ -57,8 +55,7 @@ class Outcome:
 
 # ---- what the tree must have behind a reply
 
-@dataclass(frozen=True)
-class Expected:
+class Expected(NamedTuple):
     """What is known of a path: nothing there, or a node of a kind, a size and a moment, where these are known."""
 
     there: bool
@@ -119,6 +116,15 @@ def confirmed(request: AnyRequest, code: Code, answers: Sequence[Answer]) -> boo
     return all(path not in wanted or wanted[path].agrees(answer) for path, answer in zip(paths_of(request), answers))
 
 
+def surely(request: AnyRequest) -> Optional[bytes]:
+    """The payload by which Stat of the request's path agrees with its being done, where it has one path: there is no other."""
+    if isinstance(request, (Create, Replace)):
+        return encode_answer(Node(NodeKind.FILE, request.moment, len(request.data)))
+    if isinstance(request, MakeDir):
+        return encode_answer(Node(NodeKind.DIRECTORY, request.moment, 0))
+    return None if isinstance(request, Rename) else encode_answer(NOT_FOUND)
+
+
 def after_all(replies: Sequence[Tuple[AnyRequest, Committed]]) -> Dict[Path, Expected]:
     """What the tree has behind requests that came one after another, as far as nobody else changed it.
 
@@ -144,4 +150,4 @@ def below(known: Dict[Path, Expected], path: Path) -> List[Path]:
     return [other for other in known if other[: len(path)] == path]
 
 
-__all__ = ["Expected", "Operation", "Outcome", "after", "after_all", "clamped", "confirmed", "now", "paths_of", "refused"]
+__all__ = ["Expected", "Operation", "Outcome", "after", "after_all", "clamped", "confirmed", "now", "paths_of", "refused", "surely"]

@@ -16,28 +16,40 @@ from .errors import (
 )
 from .ledger import Ledger, Pending, Reply, Volume
 from .line import DAMAGE, Line
-from .operations import Operation, Outcome, after_all, confirmed, paths_of
+from .operations import Operation, Outcome, after_all, confirmed, paths_of, surely
 from .protocol import (
-    CLIENTS_FULL, DAMAGED, FAULT, FULL, MEMORY, Answer, AnyRequest, BadAnswer, Committed, Gap, Malformed, Path, Remove, Stale, Stat,
-    decode_message, encode_message, frame, limits, show,
+    CLIENTS_FULL, DAMAGED, FAULT, FULL, MEMORY, Answer, AnyRequest, BadAnswer, Code, Committed, Gap, Malformed, Path, Remove, Stale,
+    Stat, decode_answer, decode_message, encode_message, frame, limits, show,
 )
 
+
 class Flight:
-    """A request under way, and its answers so far: the reply, and what Stat says of its paths."""
+    """A request under way, with a question for each of its paths, and what came back: its reply, and payloads of answers.
 
-    def __init__(self, operation: Operation, request: AnyRequest):
+    All that can be reckoned before the reply comes is reckoned here, while the program is at work.
+    """
+
+    def __init__(self, operation: Operation, client: int, number: int):
         self.operation = operation
-        self.request = request
-        self.pending = Pending(request.number, encode_message(request), show(request.path))
-        self.paths = paths_of(request)
-        self.answers: List[Answer] = []
+        self.request = operation.request(client, number)
+        self.pending = Pending(number, encode_message(self.request), show(self.request.path))
+        self.paths = paths_of(self.request)
+        self.frames = frame(self.pending.payload) + b"".join([frame(encode_message(Stat(path))) for path in self.paths])
+        self.sure = surely(self.request)
+        self.reply: Optional[Committed] = None
+        self.said: List[bytes] = []
 
-    def frames(self) -> List[bytes]:
-        """What is sent: the request, and a question for each of its paths."""
-        return [frame(self.pending.payload), *(frame(encode_message(Stat(path))) for path in self.paths)]
+    def number(self) -> int:
+        return self.pending.number
 
-    def complete(self) -> bool:
-        return len(self.answers) > len(self.paths)
+    def agrees(self, reply: Committed) -> bool:
+        """Whether the answers to the questions agree with the reply."""
+        if reply.code is Code.DONE and self.said == [self.sure]:
+            return True
+        answers = [decode_answer(payload) for payload in self.said]
+        if any(answer in (FAULT, MEMORY, DAMAGED) for answer in answers):
+            raise Lost("a question was not answered")
+        return confirmed(self.request, reply.code, answers)
 
 
 class Supply:
@@ -59,8 +71,8 @@ class Supply:
         while len(flights) < count and (self.ahead or self._take(number)):
             flight = self.ahead.popleft()
             # Behind a conversation that was lost the next number may be another one.
-            if flight.request.number != number:
-                flight = self._flight(flight.operation, number)
+            if flight.number() != number:
+                flight = Flight(flight.operation, self.client, number)
             flights.append(flight)
             number += 1
         return flights
@@ -69,11 +81,8 @@ class Supply:
         operation = next(self.operations, None)
         if operation is None:
             return False
-        self.ahead.append(self._flight(operation, number))
+        self.ahead.append(Flight(operation, self.client, number))
         return True
-
-    def _flight(self, operation: Operation, number: int) -> Flight:
-        return Flight(operation, operation.request(self.client, number))
 
 
 class Session:
@@ -277,7 +286,7 @@ class Session:
                 if fresh and len(window) < limits.REPLIES and not troubled:
                     continue
                 if not troubled:
-                    supply.look_ahead(window[-1].request.number)
+                    supply.look_ahead(window[-1].number())
                     finished, troubled = self._received(connection, window)
                 if troubled:
                     yield from self._recovered(finished, window)
@@ -300,22 +309,21 @@ class Session:
         if window and self.line.over():
             return []
         last = window[-1] if window else finished[-1] if finished else None
-        number = last.request.number if last else self.ledger.latest(self.volume())
+        number = last.number() if last else self.ledger.latest(self.volume())
         return supply.next(number + 1, limits.REPLIES - len(window))
 
     def _keep(self, finished: List[Flight], fresh: List[Flight]) -> None:
         """Makes replies and new requests durable, in one."""
         replies = []
         for flight in finished:
-            reply = flight.answers[0]
-            assert isinstance(reply, Committed)
-            replies.append(Reply(flight.request.number, reply.code, reply.commit, True))
+            assert flight.reply
+            replies.append(Reply(flight.number(), flight.reply.code, flight.reply.commit, True))
         self.ledger.record(self.volume(), replies, [flight.pending for flight in fresh])
 
     def _sent(self, connection: Connection, fresh: List[Flight]) -> bool:
         """Sends requests with their questions. Whether the conversation lasted."""
         try:
-            connection.send(b"".join(piece for flight in fresh for piece in flight.frames()))
+            connection.send(b"".join([flight.frames for flight in fresh]))
             return True
         except Lost:
             return False
@@ -324,21 +332,23 @@ class Session:
         """Takes the flights out of the window whose answers came, at least one; and whether there was trouble."""
         finished: List[Flight] = []
         try:
-            answer: Optional[Answer] = connection.answer()
-            while window:
-                if answer is not None:
-                    window[0].answers.append(answer)
-                    if len(window[0].answers) == 1 and not isinstance(answer, Committed):
-                        self._check_kind(answer)
+            payload: Optional[bytes] = connection.payload()
+            while payload is not None:
+                flight = window[0]
+                if flight.reply is None:
+                    reply = decode_answer(payload)
+                    if not isinstance(reply, Committed):
+                        self._check_kind(reply)
                         return finished, True
-                    if window[0].complete():
-                        self._check(window[0], finished)
-                        finished.append(window.popleft())
-                    answer = connection.ready()
-                elif finished:
-                    break
+                    flight.reply = reply
                 else:
-                    answer = connection.answer()
+                    flight.said.append(payload)
+                    if len(flight.said) == len(flight.paths):
+                        self._check(flight, flight.reply, finished)
+                        finished.append(window.popleft())
+                payload = connection.ready() if window else None
+                if payload is None and not finished:
+                    payload = connection.payload()
         except Lost:
             return finished, True
         self.line.patience.progress()
@@ -350,17 +360,13 @@ class Session:
         if answer not in bare and not isinstance(answer, (Gap, Stale, Malformed)):
             raise BadAnswer(f"{answer!r} is no answer to a request")
 
-    def _check(self, flight: Flight, finished: List[Flight]) -> None:
+    def _check(self, flight: Flight, reply: Committed, finished: List[Flight]) -> None:
         """Raises where the tree does not have what a reply says."""
-        reply, *answers = flight.answers
-        assert isinstance(reply, Committed)
         self._check_commit(reply)
-        if any(answer in (FAULT, MEMORY, DAMAGED) for answer in answers):
-            raise Lost("a question was not answered")
-        if not confirmed(flight.request, reply.code, answers):
+        if not flight.agrees(reply):
             self._keep(finished, [])
-            self.ledger.record(self.volume(), [Reply(flight.request.number, reply.code, reply.commit, False)], [])
-            raise self._foreign(flight.request.path, answers[0])
+            self.ledger.record(self.volume(), [Reply(flight.number(), reply.code, reply.commit, False)], [])
+            raise self._foreign(flight.request.path, decode_answer(flight.said[0]))
 
     def _recovered(self, finished: List[Flight], window: Deque[Flight]) -> Iterator[Outcome]:
         """Finishes what was under way when trouble came, and gives the outcomes."""
@@ -374,18 +380,17 @@ class Session:
         except NotCommitted as failed:
             replies, error = failed.replies, failed  # type: ignore[attr-defined]
         for flight in flights:
-            reply = replies.get(flight.request.number)
+            reply = replies.get(flight.number())
             if reply is not None:
-                yield Outcome(flight.operation, reply.code, reply.commit, flight.request.number)
+                yield Outcome(flight.operation, reply.code, reply.commit, flight.number())
         if error is not None:
             raise error
 
 
 def outcome(flight: Flight) -> Outcome:
     """What the reply of a flight says."""
-    reply = flight.answers[0]
-    assert isinstance(reply, Committed)
-    return Outcome(flight.operation, reply.code, reply.commit, flight.request.number)
+    assert flight.reply
+    return Outcome(flight.operation, flight.reply.code, flight.reply.commit, flight.number())
 
 
 __all__ = ["Session"]

@@ -5,7 +5,7 @@ from __future__ import annotations
 import os
 import stat
 from dataclasses import dataclass, field
-from typing import BinaryIO, Iterator, List, NamedTuple, Optional, Tuple
+from typing import Iterator, List, NamedTuple, Optional, Tuple
 
 from .errors import SourceChanged, SourceError
 from .operations import clamped
@@ -27,18 +27,16 @@ class Identity(NamedTuple):
         changed = status.st_ctime_ns if status.st_nlink == 1 else None
         return Identity(status.st_dev, status.st_ino, status.st_size, status.st_mtime_ns, changed)
 
-    def same(self, other: "Identity") -> bool:
-        """Whether both are of one file that did not change between."""
-        if None in (self.changed, other.changed):
-            return self.key() == other.key()
-        return self == other
+    def still(self, status: os.stat_result) -> bool:
+        """Whether a file is the one that was seen, and did not change since."""
+        return (
+            status.st_mtime_ns == self.modified and status.st_size == self.size
+            and status.st_ino == self.inode and status.st_dev == self.device
+            and (status.st_ctime_ns == self.changed or self.changed is None or status.st_nlink != 1)
+        )
 
-    def key(self) -> Tuple[int, int, int, int]:
-        return (self.device, self.inode, self.size, self.modified)
 
-
-@dataclass(frozen=True)
-class Source:
+class Source(NamedTuple):
     """A local file, and the path that it is to have."""
 
     local: str
@@ -50,8 +48,7 @@ class Source:
         return clamped(self.identity.modified // 1000)
 
 
-@dataclass(frozen=True)
-class Folder:
+class Folder(NamedTuple):
     """A local folder, and the path that it is to have."""
 
     local: str
@@ -78,10 +75,8 @@ KINDS = (
 )
 
 
-def odd(status: os.stat_result) -> Optional[str]:
+def odd(status: os.stat_result) -> str:
     """What a node is that is neither file nor folder."""
-    if stat.S_ISREG(status.st_mode) or stat.S_ISDIR(status.st_mode):
-        return None
     return next((text for test, text in KINDS if test(status.st_mode)), "no regular file")
 
 
@@ -90,10 +85,12 @@ def why_not(name: str) -> Optional[str]:
     if not name.isascii() and any(0xDC80 <= ord(character) <= 0xDCFF for character in name):
         return "its name is not UTF-8"
     fault = name_fault(name)
+    if fault is None:
+        return None
     if fault is NameFault.WIDE:
         wide = next(character for character in name if name_fault(character) is NameFault.WIDE)
         return f"its name has U+{ord(wide):04X}, which has no spelling in compressed Unicode"
-    return None if fault is None else f"its name {fault.value}"
+    return f"its name {fault.value}"
 
 
 def shown(local: str) -> str:
@@ -108,21 +105,21 @@ def scan(local: str, path: Path, recursive: bool, skip_odd: bool, into: Scan) ->
     except OSError as error:
         into.faults.append(f"{shown(local)}: {error.strerror}")
         return
-    strange = odd(status)
-    if strange:
-        (into.skipped if skip_odd else into.faults).append(f"{shown(local)}: is {strange}" + ("" if skip_odd else " (--skip-odd leaves it out)"))
-    elif stat.S_ISREG(status.st_mode):
+    if stat.S_ISREG(status.st_mode):
         into.files.append(Source(local, path, Identity.of(status)))
+    elif not stat.S_ISDIR(status.st_mode):
+        strange = odd(status)
+        (into.skipped if skip_odd else into.faults).append(f"{shown(local)}: is {strange}" + ("" if skip_odd else " (--skip-odd leaves it out)"))
     elif not recursive:
         into.faults.append(f"{shown(local)}: is a folder (-r stores folders)")
     else:
         into.folders.append(Folder(local, path, status.st_mtime_ns))
         for name in names_in(local, into):
-            fault = why_not(name)
+            below, fault = os.path.join(local, name), why_not(name)
             if fault:
-                into.faults.append(f"{shown(os.path.join(local, name))}: {fault}")
+                into.faults.append(f"{shown(below)}: {fault}")
             else:
-                scan(os.path.join(local, name), path + (name,), recursive, skip_odd, into)
+                scan(below, path + (name,), recursive, skip_odd, into)
 
 
 def names_in(folder: str, into: Scan) -> List[str]:
@@ -134,35 +131,23 @@ def names_in(folder: str, into: Scan) -> List[str]:
         return []
 
 
-def opened(source: Source) -> BinaryIO:
-    """The file, open for reading, where it is the one that was seen."""
-    try:
-        descriptor = os.open(source.local, os.O_RDONLY | os.O_NOFOLLOW | os.O_NONBLOCK | os.O_CLOEXEC)
-    except OSError as error:
-        raise SourceError(f"{shown(source.local)}: {error.strerror}") from error
-    file = os.fdopen(descriptor, "rb", buffering=0)
-    try:
-        unchanged(source, os.fstat(descriptor))
-    except BaseException:
-        file.close()
-        raise
-    return file
+READING = os.O_RDONLY | os.O_NOFOLLOW | os.O_NONBLOCK | os.O_CLOEXEC
 
 
 def unchanged(source: Source, status: os.stat_result) -> None:
     """Raises where a file is not the one that was seen, or is not as it was."""
-    if not stat.S_ISREG(status.st_mode) or not source.identity.same(Identity.of(status)):
+    if not stat.S_ISREG(status.st_mode) or not source.identity.still(status):
         raise SourceChanged(f"{shown(source.local)}: changed while it was read, or since it was first seen: store it again")
 
 
-def exactly(file: BinaryIO, count: int) -> bytes:
+def exactly(descriptor: int, count: int) -> bytes:
     """So many bytes, or fewer where the file ends."""
-    first = file.read(count)
+    first = os.read(descriptor, count)
     if len(first) == count:
         return first
     pieces = [first]
     while pieces[-1] and sum(map(len, pieces)) < count:
-        pieces.append(file.read(count - sum(map(len, pieces))))
+        pieces.append(os.read(descriptor, count - sum(map(len, pieces))))
     return b"".join(pieces)
 
 
@@ -170,17 +155,21 @@ def read_parts(source: Source) -> Iterator[bytes]:
     """The bytes of a file in parts of a mebibyte; the last is given only where the file did not change meanwhile."""
     left = source.identity.size
     try:
-        with opened(source) as file:
+        descriptor = os.open(source.local, READING)
+        try:
+            unchanged(source, os.fstat(descriptor))
             while True:
-                part = exactly(file, min(left, limits.FILE))
+                part = exactly(descriptor, min(left, limits.FILE))
                 left -= len(part)
                 if not left or len(part) < limits.FILE:
-                    unchanged(source, os.fstat(file.fileno()))
-                    if left or file.read(1):
+                    unchanged(source, os.fstat(descriptor))
+                    if left or os.read(descriptor, 1):
                         raise SourceChanged(f"{shown(source.local)}: has another size than it says")
                     yield part
                     return
                 yield part
+        finally:
+            os.close(descriptor)
     except OSError as error:
         raise SourceError(f"{shown(source.local)}: {error.strerror}") from error
 
@@ -194,4 +183,4 @@ def delete(source: Source) -> None:
         raise SourceError(f"{shown(source.local)}: {error.strerror}") from error
 
 
-__all__ = ["Folder", "Identity", "Scan", "Source", "delete", "opened", "read_parts", "scan", "shown"]
+__all__ = ["Folder", "Identity", "Scan", "Source", "delete", "read_parts", "scan", "shown"]

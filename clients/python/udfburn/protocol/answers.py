@@ -179,6 +179,7 @@ def encode_name(name: Name) -> bytes:
 # ---- read
 
 CODES = tuple(Code)
+COMMITTED = struct.Struct("<HI")
 NODE = struct.Struct("<BQQ")
 
 
@@ -251,6 +252,10 @@ READERS: Dict[int, Callable[[Fields], Answer]] = {
 
 def decode_answer(payload: bytes) -> Answer:
     """The answer of a payload, or `BadAnswer`."""
+    if len(payload) == COMMITTED.size:
+        code, commit = COMMITTED.unpack(payload)
+        if code <= Code.TOO_MANY:
+            return Committed(CODES[code], commit)
     fields = Fields(payload)
     try:
         code = fields.number(2)

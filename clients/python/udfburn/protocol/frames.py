@@ -11,12 +11,14 @@ from .answers import BadAnswer
 LENGTH = 4
 """Bytes of a frame's length."""
 
+PREFIX = struct.Struct("<I")
+
 
 def frame(payload: bytes) -> bytes:
     """A payload in its frame."""
     if len(payload) > limits.PAYLOAD:
         raise ValueError("a payload is above the limit")
-    return struct.pack("<I", len(payload)) + payload
+    return PREFIX.pack(len(payload)) + payload
 
 
 class Frames:
@@ -38,13 +40,14 @@ class Frames:
         begin = self.at + LENGTH
         if len(self.bytes) < begin:
             return None
-        (length,) = struct.unpack_from("<I", self.bytes, self.at)
+        (length,) = PREFIX.unpack_from(self.bytes, self.at)
+        end = begin + length
         if length > limits.PAYLOAD:
             raise BadAnswer(f"a frame says that it has {length} bytes, which is above the limit")
-        if len(self.bytes) < begin + length:
+        if len(self.bytes) < end:
             return None
-        self.at = begin + length
-        return bytes(self.bytes[begin : begin + length])
+        self.at = end
+        return bytes(self.bytes[begin:end])
 
     def rest(self) -> int:
         """The bytes of a frame that is not whole yet."""

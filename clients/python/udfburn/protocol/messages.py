@@ -136,19 +136,24 @@ QUERIES: Dict[int, Type[Query]] = {Kind.GET: Get, Kind.LIST: List, Kind.STAT: St
 
 # ---- written
 
+HEAD = struct.Struct("<BQQQ")
+SIZE = struct.Struct("<I")
+
+
+def name_field(name: str) -> bytes:
+    """The field of a name in a path."""
+    if name_fault(name) is not None:
+        raise Fault(Cause.PATH)
+    text = name.encode()
+    return struct.pack("<H", len(text)) + text
+
+
 @lru_cache(maxsize=1024)
 def encode_path(path: Path) -> bytes:
     """The field of a path."""
     if len(path) > limits.PATH_NAMES:
         raise Fault(Cause.PATH)
-    parts = [bytes((len(path),))]
-    for name in path:
-        if name_fault(name) is not None:
-            raise Fault(Cause.PATH)
-        text = name.encode()
-        parts.append(struct.pack("<H", len(text)))
-        parts.append(text)
-    return b"".join(parts)
+    return bytes((len(path),)) + b"".join(map(name_field, path))
 
 
 def encode_message(message: Message) -> bytes:
@@ -156,13 +161,13 @@ def encode_message(message: Message) -> bytes:
     if not isinstance(message, Request):
         return bytes((message.kind,)) + encode_path(message.path)
     check_request(message)
-    head = struct.pack("<BQQQ", message.kind, message.client, message.number, message.moment)
-    payload = head + encode_path(message.path)
-    if isinstance(message, Rename):
-        return payload + encode_path(message.to)
+    head = HEAD.pack(message.kind, message.client, message.number, message.moment)
+    path = encode_path(message.path)
     if isinstance(message, (Create, Replace)):
-        return b"".join((payload, struct.pack("<I", len(message.data)), message.data))
-    return payload
+        return b"".join((head, path, SIZE.pack(len(message.data)), message.data))
+    if isinstance(message, Rename):
+        return head + path + encode_path(message.to)
+    return head + path
 
 
 def check_request(message: Request) -> None:
