@@ -6,14 +6,11 @@ import argparse
 import os
 import sys
 from contextlib import contextmanager
-from datetime import datetime, timezone
 from typing import Iterator, List, Optional, Tuple
 
-from . import past
 from .client import Client, met
 from .connection import find_program
 from .errors import ConnectionFailed, IsDirectory, ProgramFailed, UsageError
-from .fetch import find_file, get_tree, parts_of, save, verify_tree
 from .protocol import Name, Node, NodeKind, Path, Stat, path_of, show
 from .progress import Progress, plural, size
 from .sources import shown
@@ -44,6 +41,8 @@ def writer(arguments: argparse.Namespace) -> Client:
 def reader(arguments: argparse.Namespace) -> Iterator[Client]:
     """A client for queries. An image that is kept by another program, or cannot be written, or is wanted as it was, is
     read by a copy of its front."""
+    from . import past
+
     commit: Optional[int] = getattr(arguments, "as_of", None)
     connect = way_of(arguments)
     if commit is not None and not arguments.image:
@@ -189,6 +188,8 @@ def resume(arguments: argparse.Namespace) -> int:
 
 def get(arguments: argparse.Namespace) -> int:
     """Copies a file or a directory."""
+    from .fetch import find_file, get_tree, parts_of, save
+
     progress = progress_of(arguments)
     path = path_of(arguments.path)
     with reader(arguments) as client, client.held():
@@ -215,6 +216,8 @@ def get(arguments: argparse.Namespace) -> int:
 
 def moment(microseconds: int) -> str:
     """A moment, as people read it."""
+    from datetime import datetime, timezone
+
     return datetime.fromtimestamp(microseconds // 1_000_000, timezone.utc).strftime("%Y-%m-%dT%H:%M:%SZ")
 
 
@@ -253,6 +256,8 @@ def list_names(client: Client, at: Path, names: Tuple[Name, ...], arguments: arg
 
 def verify(arguments: argparse.Namespace) -> int:
     """Compares."""
+    from .fetch import verify_tree
+
     progress = progress_of(arguments)
     progress.quiet, quiet = True, progress.quiet
     with reader(arguments) as client:

@@ -5,10 +5,7 @@ from __future__ import annotations
 import errno
 import os
 import select
-import shutil
 import socket
-import subprocess
-import tempfile
 import time
 from typing import IO, List, Optional
 
@@ -149,6 +146,9 @@ class ImageConnection(Connection):
     """A conversation with `udfburn apply IMAGE`, which runs as long as the conversation lasts."""
 
     def __init__(self, image: str, program: str):
+        import subprocess
+        import tempfile
+
         super().__init__()
         # An absolute path is never the name of a volume in memory.
         self.image = os.path.abspath(image)
@@ -232,7 +232,9 @@ class Way:
 
 def find_program(program: Optional[str] = None) -> str:
     """The program `udfburn`: as given, of the environment's UDFBURN, or on the PATH."""
-    found = program or os.environ.get("UDFBURN") or shutil.which("udfburn")
+    from shutil import which
+
+    found = program or os.environ.get("UDFBURN") or which("udfburn")
     if not found:
         raise UsageError("the program udfburn is not on the PATH: name it by --program or in UDFBURN")
     return os.path.abspath(found) if os.sep in found else found
@@ -240,6 +242,8 @@ def find_program(program: Optional[str] = None) -> str:
 
 def run_program(program: str, words: List[str]) -> bytes:
     """What the program prints on these words, or `ProgramFailed` with its line."""
+    import subprocess
+
     try:
         done = subprocess.run([program, *words], stdin=subprocess.DEVNULL, capture_output=True, check=False)
     except OSError as error:

@@ -9,11 +9,9 @@ from __future__ import annotations
 
 import fcntl
 import os
-import random
 import sqlite3
 import time
 from contextlib import contextmanager
-from dataclasses import dataclass
 from typing import Iterable, Iterator, List, NamedTuple, Optional, Sequence, Tuple
 
 from .errors import LedgerBusy, LedgerError
@@ -58,8 +56,7 @@ LOG_PAGES = 128
 log grows, each synchronisation waits for the journal of the file system, and so for what others have written there."""
 
 
-@dataclass(frozen=True)
-class Volume:
+class Volume(NamedTuple):
     """A volume as the ledger knows it: `latest` is the number of the last request with a reply."""
 
     id: int
@@ -162,7 +159,7 @@ class Ledger:
         return int(client)
 
     def _make(self, wanted: Optional[int]) -> int:
-        client = random.SystemRandom().randint(1, LAST) if wanted is None else wanted
+        client = 1 + int.from_bytes(os.urandom(8), "little") % LAST if wanted is None else wanted
         if not 0 < client <= limits.U64:
             raise LedgerError(f"{client} is no client: one is from 1 to {limits.U64}")
         for statement in SCHEMA.split(";\n"):

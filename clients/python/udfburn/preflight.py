@@ -3,42 +3,43 @@
 from __future__ import annotations
 
 from collections import Counter
-from dataclasses import dataclass, field
-from typing import Dict, List, Optional, Set, Tuple
+from typing import TYPE_CHECKING, Dict, List, Optional, Set, Tuple
 
-from .blocks import Reckoner, Space
 from .protocol import NodeKind, Path, limits, show
 from .sources import Folder, Scan, Source, shown
 from .split import PARTS, other_paths, part_count, stored_paths
 
+if TYPE_CHECKING:
+    from .blocks import Space
 
-@dataclass
+
 class Present:
     """What the volume has: the kind of each path that was looked at, and the names of its directories in stored order."""
 
-    kinds: Dict[Path, NodeKind] = field(default_factory=dict)
-    names: Dict[Path, List[str]] = field(default_factory=dict)
-    whole: bool = False
+    def __init__(self, whole: bool = False):
+        self.kinds: Dict[Path, NodeKind] = {}
+        self.names: Dict[Path, List[str]] = {}
+        self.whole = whole
 
     def add(self, path: Path, kind: NodeKind) -> None:
         self.kinds[path] = kind
 
 
-@dataclass
 class Plan:
     """What an import does: directories that are made, files with the paths of their parts, and files that go."""
 
-    folders: List[Folder] = field(default_factory=list)
-    files: List[Tuple[Source, List[Path]]] = field(default_factory=list)
-    stale: Dict[Path, List[Path]] = field(default_factory=dict)
-    faults: List[str] = field(default_factory=list)
-    blocks: Optional[int] = None
-    left: Optional[int] = None
+    def __init__(self, faults: List[str]):
+        self.folders: List[Folder] = []
+        self.files: List[Tuple[Source, List[Path]]] = []
+        self.stale: Dict[Path, List[Path]] = {}
+        self.faults = faults
+        self.blocks: Optional[int] = None
+        self.left: Optional[int] = None
 
 
 def plan(scan: Scan, present: Present, split: bool, space: Optional[Space]) -> Plan:
     """Plans an import, with all that stands against it."""
-    planned = Plan(faults=list(scan.faults))
+    planned = Plan(list(scan.faults))
     for folder in scan.folders:
         if present.kinds.get(folder.path) is NodeKind.FILE:
             planned.faults.append(f"{show(folder.path)}: is a file, and is to be a directory")
@@ -105,6 +106,8 @@ def reckon(planned: Plan, present: Present, space: Optional[Space]) -> None:
     """Blocks, where the image is there to be looked at."""
     if space is None or planned.faults:
         return
+    from .blocks import Reckoner
+
     begin, planned.left = space.next, space.left()
     reckoner = Reckoner(space)
     for path, names in present.names.items():

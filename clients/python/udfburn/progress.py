@@ -2,10 +2,9 @@
 
 from __future__ import annotations
 
-import json
 import sys
 import time
-from typing import Any, Optional, TextIO
+from typing import Any, Dict, Optional, TextIO
 
 from .protocol import Path, show
 
@@ -72,7 +71,7 @@ class Progress:
         if self.as_json:
             if not self.quiet:
                 step = {"did": what, "path": show(path), "bytes": count, "commit": commit or None}
-                print(json.dumps(step), file=self.output, flush=True)
+                self._print_json(step)
         elif self.bar:
             self._draw(count)
         elif not self.quiet:
@@ -115,6 +114,11 @@ class Progress:
         """The result: a line for people, fields for programs."""
         self.end()
         if self.as_json:
-            print(json.dumps(fields), file=self.output, flush=True)
+            self._print_json(fields)
         elif not self.quiet:
             print(printable(line), file=self.output, flush=True)
+
+    def _print_json(self, fields: Dict[str, object]) -> None:
+        from json import dumps
+
+        print(dumps(fields), file=self.output, flush=True)

@@ -4,7 +4,6 @@ from __future__ import annotations
 
 import os
 import stat
-from dataclasses import dataclass, field
 from typing import Iterator, List, NamedTuple, Optional, Tuple
 
 from .errors import SourceChanged, SourceError
@@ -59,14 +58,14 @@ class Folder(NamedTuple):
         return clamped(self.modified // 1000)
 
 
-@dataclass
 class Scan:
     """What was found: folders before what is in them, files, and what cannot be stored, each with why."""
 
-    folders: List[Folder] = field(default_factory=list)
-    files: List[Source] = field(default_factory=list)
-    faults: List[str] = field(default_factory=list)
-    skipped: List[str] = field(default_factory=list)
+    def __init__(self) -> None:
+        self.folders: List[Folder] = []
+        self.files: List[Source] = []
+        self.faults: List[str] = []
+        self.skipped: List[str] = []
 
 
 KINDS = (

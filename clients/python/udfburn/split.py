@@ -2,7 +2,6 @@
 
 from __future__ import annotations
 
-import re
 from typing import Dict, List, Mapping, Optional, Sequence, Tuple
 
 from .protocol import Path, limits
@@ -10,7 +9,8 @@ from .protocol import Path, limits
 PARTS = 1000
 """Parts of a file, at most: three digits."""
 
-PART = re.compile(r"(?s)(.+)\.(\d{3})\Z")
+FIRST = ".000"
+"""How the name of a first part ends."""
 
 
 def part_name(name: str, index: int) -> str:
@@ -50,11 +50,11 @@ def joined(sizes: Sequence[Tuple[str, Optional[int]]]) -> Tuple[Dict[str, List[s
     known = dict(sizes)
     files: Dict[str, List[str]] = {}
     for name, _ in sizes:
-        match = PART.match(name)
-        if match and match.group(2) == "000" and match.group(1) not in known:
-            parts = parts_from(match.group(1), known)
+        whole = name[: -len(FIRST)]
+        if name.endswith(FIRST) and whole and whole not in known:
+            parts = parts_from(whole, known)
             if len(parts) > 1:
-                files[match.group(1)] = parts
+                files[whole] = parts
     taken = {part for parts in files.values() for part in parts}
     return files, [name for name, _ in sizes if name not in taken]
 

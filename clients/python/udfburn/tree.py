@@ -2,13 +2,10 @@
 
 from __future__ import annotations
 
-import hashlib
 from collections import deque
-from dataclasses import dataclass, field
 from itertools import islice
-from typing import Callable, Deque, Iterable, Iterator, List, Optional, Tuple, Type
+from typing import TYPE_CHECKING, Callable, Deque, Iterable, Iterator, List, NamedTuple, Optional, Tuple, Type
 
-from .blocks import Space, space_of
 from .client import Client, met, refusal
 from .connection import find_program
 from .errors import Differs, DoesNotFit, SourceError, TooLarge, UsageError
@@ -20,6 +17,9 @@ from .protocol import (
 )
 from .sources import Folder, Scan, Source, delete, read_parts, scan
 from .split import other_paths, stored_paths
+
+if TYPE_CHECKING:
+    from .blocks import Space
 
 CHUNK = 64
 """Files that are stored before the first of them are read back or deleted, or what an earlier one left is removed."""
@@ -63,8 +63,7 @@ def look(client: Client, paths: Iterable[Path], whole: bool) -> Present:
 
 # ---- stored
 
-@dataclass(frozen=True)
-class Options:
+class Options(NamedTuple):
     """How folders and files are stored."""
 
     recursive: bool = False
@@ -79,20 +78,15 @@ class Options:
     image: Optional[str] = None
 
 
-@dataclass
 class Summary:
     """What an import did: counts, and each file that was not stored or not deleted, with why."""
 
-    files: int = 0
-    bytes: int = 0
-    folders: int = 0
-    same: int = 0
-    verified: int = 0
-    deleted: int = 0
-    blocks: Optional[int] = None
-    left: Optional[int] = None
-    failures: List[str] = field(default_factory=list)
-    skipped: List[str] = field(default_factory=list)
+    def __init__(self) -> None:
+        self.files = self.bytes = self.folders = self.same = self.verified = self.deleted = 0
+        self.blocks: Optional[int] = None
+        self.left: Optional[int] = None
+        self.failures: List[str] = []
+        self.skipped: List[str] = []
 
 
 Told = Callable[[str, Path, int, int], None]
@@ -103,16 +97,15 @@ def quiet(*_: object) -> None:
     """Tells nobody."""
 
 
-@dataclass
 class Job:
-    """A file on its way: the paths of its parts, what was read of it, and what became of it."""
+    """A file on its way: the paths of its parts, digests of what was read of it, and what became of it."""
 
-    source: Source
-    paths: List[Path]
-    digests: List[bytes] = field(default_factory=list)
-    done: int = 0
-    commit: int = 0
-    failure: Optional[str] = None
+    def __init__(self, source: Source, paths: List[Path]):
+        self.source = source
+        self.paths = paths
+        self.digests: List[bytes] = []
+        self.done = 0
+        self.failure: Optional[str] = None
 
     def fail(self, why: str) -> None:
         self.failure = self.failure or why
@@ -174,6 +167,8 @@ class Importer:
         except UsageError:
             return None
         # A dry run opens no ledger, and reckons with one client more: 0 is nobody's number.
+        from .blocks import space_of
+
         return space_of(image, program, 0 if self.options.dry_run else self.client.session().ledger.client)
 
     def run(self, planned: Plan) -> Summary:
@@ -252,7 +247,7 @@ class Importer:
             try:
                 for index, (path, part) in enumerate(zip(job.paths, read_parts(job.source))):
                     if self.options.verify:
-                        job.digests.append(hashlib.sha256(part).digest())
+                        job.digests.append(digest(part))
                     kind: Type[AnyRequest] = Replace if path in self.present.kinds else Create
                     yield Operation(kind, path, self._moment(job.source.moment()), part, tag=(job, index))
             except (SourceError, TooLarge) as error:
@@ -275,7 +270,7 @@ class Importer:
         operation = outcome.operation
         job: Job = operation.tag[0]
         if outcome.code is Code.DONE:
-            job.done, job.commit = job.done + 1, outcome.commit
+            job.done += 1
             self.present.add(operation.path, NodeKind.FILE)
             self.told("stored", operation.path, len(operation.data), outcome.commit)
         elif (operation.kind, outcome.code) in ((Create, Code.EXISTS), (Replace, Code.NOT_FOUND)):
@@ -332,7 +327,7 @@ class Importer:
         verified = []
         for job in jobs:
             found = [answer.data if isinstance(answer, Data) else None for answer in islice(answers, len(job.paths))]
-            if [None if data is None else hashlib.sha256(data).digest() for data in found] == job.digests:
+            if [None if data is None else digest(data) for data in found] == job.digests:
                 verified.append(job)
                 self.summary.verified += 1
             else:
@@ -347,6 +342,13 @@ class Importer:
                 self.summary.deleted += 1
             except SourceError as error:
                 self.summary.failures.append(f"{error} (it was stored, and is not deleted)")
+
+
+def digest(data: bytes) -> bytes:
+    """By which bytes that were sent are known again."""
+    from hashlib import sha256
+
+    return sha256(data).digest()
 
 
 def compare(job: Job, answers: Iterator[object]) -> bool:
