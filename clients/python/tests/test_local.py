@@ -86,6 +86,13 @@ class Preflight(Local):
         self.assertIn("has 17 names", told)
         self.assertIn("513 names", told)
 
+    def test_a_folder_that_goes_on_and_on(self) -> None:
+        """It is refused where it is too deep, and not followed to its end."""
+        os.makedirs(os.path.join(self.folder, *("d" * 40)))
+        told = self.refused()
+        self.assertIn("has 17 names", told)
+        self.assertEqual(len(told.split("\n")), 1, told)
+
     def test_too_many_files_for_the_volume(self) -> None:
         with mock.patch.object(p.limits, "NODES", 20):
             for index in range(30):

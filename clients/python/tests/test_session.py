@@ -4,6 +4,7 @@ from __future__ import annotations
 
 import os
 import random
+import resource
 import shutil
 import struct
 import tempfile
@@ -120,6 +121,22 @@ class Plain(WithServer):
         self.assertEqual([p.Stat(message.path) for message in sent[::2]], sent[1::2])
         history = client.session().ledger.history(client.session().volume())
         self.assertEqual([(number, commit, confirmed) for number, _, _, commit, confirmed in history], [(n, n, True) for n in range(1, 21)])
+
+
+class Many(WithServer):
+    """A process that has many files open."""
+
+    def test_descriptors_above_a_thousand(self) -> None:
+        soft, hard = resource.getrlimit(resource.RLIMIT_NOFILE)
+        resource.setrlimit(resource.RLIMIT_NOFILE, (min(2048, hard), hard))
+        taken = [os.open(os.devnull, os.O_RDONLY) for _ in range(1100)]
+        try:
+            with self.client() as client:
+                self.assertEqual(client.create("/a", bytes(p.limits.FILE)), 1)
+        finally:
+            for descriptor in taken:
+                os.close(descriptor)
+            resource.setrlimit(resource.RLIMIT_NOFILE, (soft, hard))
 
 
 class Lost(WithServer):

@@ -71,11 +71,18 @@ class Connection:
 
     def _wait(self, limit: float, writing: bool) -> "tuple[bool, bool]":
         source, sink = self._descriptors()
-        left = max(0.0, limit - time.monotonic())
-        readable, writable, _ = select.select([source], [sink] if writing else [], [], left)
-        if not readable and not writable:
+        poll = select.poll()
+        poll.register(source, select.POLLIN | (select.POLLOUT if writing and sink == source else 0))
+        if writing and sink != source:
+            poll.register(sink, select.POLLOUT)
+        found = poll.poll(max(0.0, limit - time.monotonic()) * 1000)
+        if not found:
             raise Lost(f"nothing came for {self.timeout:g} seconds")
-        return bool(readable), bool(writable)
+        # An end or an error is found by reading or writing.
+        return (
+            any(descriptor == source and event & ~select.POLLOUT for descriptor, event in found),
+            any(descriptor == sink and event & ~select.POLLIN for descriptor, event in found),
+        )
 
     def _ended(self) -> Exception:
         return Lost("the conversation was ended")

@@ -113,7 +113,8 @@ def scan(local: str, path: Path, recursive: bool, skip_odd: bool, into: Scan) ->
         into.faults.append(f"{shown(local)}: is a folder (-r stores folders)")
     else:
         into.folders.append(Folder(local, path, status.st_mtime_ns))
-        for name in names_in(local, into):
+        # A folder that is too deep is refused as it is, however deep it goes on.
+        for name in names_in(local, into) if len(path) <= limits.DEPTH else ():
             below, fault = os.path.join(local, name), why_not(name)
             if fault:
                 into.faults.append(f"{shown(below)}: {fault}")
