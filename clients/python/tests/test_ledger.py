@@ -3,6 +3,7 @@
 from __future__ import annotations
 
 import os
+import resource
 import shutil
 import sqlite3
 import subprocess
@@ -14,6 +15,7 @@ from typing import Optional
 from udfburn import Client, errors as e
 from udfburn import protocol as p
 from udfburn.ledger import Ledger
+from udfburn.operations import Operation
 from udfburn.tree import Options, put_all
 
 from .model import Volume
@@ -120,6 +122,27 @@ class Ledgers(WithServer):
         first = self.client()
         self.assertEqual(first.resume(), [])
         self.assertEqual(first.session().ledger.history(first.session().volume())[-1][-1], False)
+
+    def test_a_disk_without_room(self) -> None:
+        """The ledger says so, what it has is whole, and all goes on once there is room."""
+        operations = [Operation(p.Create, (f"f{index}",), index, bytes(5000)) for index in range(90)]
+        soft, hard = resource.getrlimit(resource.RLIMIT_FSIZE)
+        done = 0
+        for room in (0, 5000, 50_000, 200_000):
+            try:
+                resource.setrlimit(resource.RLIMIT_FSIZE, (room, hard))
+                with self.assertRaisesRegex(e.LedgerError, "cannot be written"), self.client() as client:
+                    for _ in client.run(operations[done:]):
+                        done += 1
+            finally:
+                resource.setrlimit(resource.RLIMIT_FSIZE, (soft, hard))
+            with self.client() as client:
+                done += len(client.resume())
+            self.assertEqual(self.volume.commits, done)
+        self.assertGreater(done, 8)
+        with self.client() as client:
+            done += len(list(client.run(operations[done:])))
+        self.assertEqual((done, self.volume.commits, len(self.volume.files())), (90, 90, 90))
 
     def test_a_foreign_reply_before_a_source_is_deleted(self) -> None:
         source = os.path.join(self.room, "source")

@@ -137,8 +137,14 @@ class Ledger:
             base.execute("PRAGMA cache_size = -16384")
         except sqlite3.DatabaseError as error:
             base.close()
-            raise LedgerError(f"{self.path}: is no ledger ({error}): name another by --ledger") from error
+            raise self._unusable(error) from error
         return base
+
+    def _unusable(self, error: Exception) -> LedgerError:
+        """What is told where the base cannot be opened, or is not a ledger's."""
+        if isinstance(error, sqlite3.OperationalError) and not str(error).startswith("no such"):
+            return LedgerError(f"{self.path}: cannot be written ({error}): see that its disk is well and has room")
+        return LedgerError(f"{self.path}: is no ledger ({error}): name another by --ledger")
 
     def _client(self, wanted: Optional[int]) -> int:
         """The ledger's client, which is drawn when the ledger is made."""
@@ -149,7 +155,7 @@ class Ledger:
             self._base.execute("COMMIT")
             version, client = self._base.execute("SELECT version, client FROM ledger").fetchone()
         except (sqlite3.DatabaseError, TypeError) as error:
-            raise LedgerError(f"{self.path}: is no ledger ({error}): name another by --ledger") from error
+            raise self._unusable(error) from error
         if version != VERSION:
             raise LedgerError(f"{self.path}: has version {version}, and this program writes version {VERSION}")
         if wanted is not None and wanted != int(client):
@@ -244,7 +250,7 @@ class Ledger:
                 if self._base.in_transaction:
                     self._base.execute("ROLLBACK")
         except sqlite3.Error as error:
-            raise LedgerError(f"{self.path}: cannot be written ({error}): see that its disk is well and has room") from error
+            raise self._unusable(error) from error
 
     def confirm(self, volume: Volume, numbers: Iterable[int]) -> None:
         """Marks replies as those that the tree agrees with."""
