@@ -10,7 +10,8 @@ import subprocess
 import sys
 import threading
 import unittest
-from typing import Optional
+from typing import List, Optional
+from unittest import mock
 
 from udfburn import Client, errors as e
 from udfburn import protocol as p
@@ -122,6 +123,20 @@ class Ledgers(WithServer):
         first = self.client()
         self.assertEqual(first.resume(), [])
         self.assertEqual(first.session().ledger.history(first.session().volume())[-1][-1], False)
+
+    def test_the_folders_that_are_made_for_it(self) -> None:
+        """Each is durable by its name in the one above, from the top down, and then the ledger in the last."""
+        synced: List[str] = []
+        real = os.fsync
+
+        def fsync(descriptor: int) -> None:
+            synced.append(os.readlink(f"/proc/self/fd/{descriptor}"))
+            real(descriptor)
+
+        top = os.path.realpath(self.room)
+        with mock.patch("udfburn.ledger.os.fsync", fsync):
+            Ledger(os.path.join(top, "a", "b", "ledger.sqlite")).close()
+        self.assertEqual(synced, [top, os.path.join(top, "a"), os.path.join(top, "a", "b")])
 
     def test_a_disk_without_room(self) -> None:
         """The ledger says so, what it has is whole, and all goes on once there is room."""

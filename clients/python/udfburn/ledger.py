@@ -87,12 +87,33 @@ def default_path() -> str:
     return os.environ.get("UDFBURN_LEDGER") or os.path.join(state, "udfburn", "ledger.sqlite")
 
 
+def sync_folder(path: str) -> None:
+    """Makes the names in a folder durable."""
+    folder = os.open(path, os.O_RDONLY | os.O_DIRECTORY)
+    try:
+        os.fsync(folder)
+    finally:
+        os.close(folder)
+
+
+def make_folder(path: str) -> None:
+    """Makes a folder with those above it, each durable: else a loss of power may take the ledger away with them."""
+    if os.path.isdir(path):
+        return
+    make_folder(os.path.dirname(path))
+    try:
+        os.mkdir(path)
+    except FileExistsError:
+        pass
+    sync_folder(os.path.dirname(path))
+
+
 class Ledger:
     """An open ledger. No other process has it meanwhile."""
 
     def __init__(self, path: str, client: Optional[int] = None, wait: float = 10.0):
         self.path = os.path.realpath(path)
-        os.makedirs(os.path.dirname(self.path), exist_ok=True)
+        make_folder(os.path.dirname(self.path))
         self._lock = self._take(wait)
         try:
             self._base = self._open()
@@ -172,11 +193,7 @@ class Ledger:
             self._base.execute(statement)
         self._base.execute("INSERT INTO ledger VALUES (?, ?)", (VERSION, str(client)))
         self._base.execute("COMMIT")
-        folder = os.open(os.path.dirname(self.path), os.O_RDONLY | os.O_DIRECTORY)
-        try:
-            os.fsync(folder)
-        finally:
-            os.close(folder)
+        sync_folder(os.path.dirname(self.path))
         return client
 
     def close(self) -> None:
