@@ -14,10 +14,6 @@ trap 'rm -rf "$room"' EXIT
 trap 'exit 1' HUP INT PIPE TERM
 export PYTHONDONTWRITEBYTECODE=1
 
-if ! command -v rsync > "$room/which" && [ "$(id -u)" -eq 0 ] && command -v apt-get > "$room/which"; then
-    apt-get -q update > "$room/apt.log" 2>&1
-    DEBIAN_FRONTEND=noninteractive apt-get -q -y --no-install-recommends -o DPkg::Lock::Timeout=300 install rsync \
-        >> "$room/apt.log" 2>&1
-fi
+command -v rsync > "$room/which" || test/packages.sh rsync > "$room/apt.log" 2>&1
 mkdir "$room/images"
 python3 test/copies/copies.py "$udfburn" "$udfburnd" "$room/images" "$@"

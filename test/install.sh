@@ -41,11 +41,7 @@ absent() {
 
 # need COMMAND: installs it from the package of its name where it is not there and we may, and says where it is still absent.
 need() {
-    if ! command -v "$1" > "$room/which" && [ "$(id -u)" -eq 0 ] && command -v apt-get > "$room/which"; then
-        apt-get -q update > "$room/apt.log" 2>&1
-        DEBIAN_FRONTEND=noninteractive apt-get -q -y --no-install-recommends -o DPkg::Lock::Timeout=300 install "$1" \
-            >> "$room/apt.log" 2>&1
-    fi
+    command -v "$1" > "$room/which" || test/packages.sh "$1" > "$room/apt.log" 2>&1
     command -v "$1" > "$room/which" || absent "$1"
 }
 

@@ -14,18 +14,11 @@ trap 'rm -rf "$room"' EXIT
 trap 'exit 1' HUP INT PIPE TERM
 PATH=$PATH:/usr/sbin:/sbin
 export PYTHONDONTWRITEBYTECODE=1
-updated=
 absent=
 
 # install PACKAGE..: installs them, where we may.
 install() {
-    [ "$(id -u)" -eq 0 ] && command -v apt-get > "$room/which" || return 1
-    if [ -z "$updated" ]; then
-        apt-get -q update > "$room/apt.log" 2>&1
-        updated=1
-    fi
-    DEBIAN_FRONTEND=noninteractive apt-get -q -y --no-install-recommends -o DPkg::Lock::Timeout=300 install "$@" \
-        >> "$room/apt.log" 2>&1
+    test/packages.sh "$@" >> "$room/apt.log" 2>&1
 }
 
 # have COMMAND PACKAGE..: whether the command is there, once its packages are.
@@ -50,7 +43,7 @@ compile() {
 
 # kernel: unpacks Debian's kernel for virtual machines, which has udf as a module; nothing of it is installed.
 kernel() {
-    [ -n "$updated" ] || apt-get -q update > "$room/apt.log" 2>&1
+    install --lists
     package=$(apt-cache depends linux-image-cloud-amd64 | sed -n 's/.*Depends: \(linux-image-[0-9].*\)/\1/p' | head -n 1)
     mkdir "$room/kernel" "$room/package"
     [ -n "$package" ] && (cd "$room/package" && apt-get -q download "$package" >> "$room/apt.log" 2>&1) &&
