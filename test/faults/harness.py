@@ -554,6 +554,18 @@ class Case(unittest.TestCase):
         self.folder.chmod(0o777)
         self.addCleanup(shutil.rmtree, self.folder, True)
 
+    def mounted(self, name: str, *words: str) -> Path:
+        """A folder of this name with what these words of `mount` name on it, until the test ends."""
+        need_root()
+        need_tools("mount", "umount")
+        where = self.folder / name
+        where.mkdir()
+        made = subprocess.run(["mount", *words, str(where)], capture_output=True, text=True)
+        if made.returncode:
+            lacks("mount %s: %s" % (" ".join(words), first_line(made.stderr)))
+        self.addCleanup(subprocess.run, ["umount", str(where)], check=True)
+        return where
+
     def program(self, words: Sequence[str], stdin: bytes = b"", image: str = "d.img",
                 log: Union[str, Path, None] = None, rules: str = "", more: Optional[Mapping[str, str]] = None,
                 patience: float = PATIENCE, **popen: Any) -> Ran:

@@ -37,14 +37,7 @@ class Disk(Case):
 
     def setUp(self) -> None:
         super().setUp()
-        harness.need_root()
-        harness.need_tools("mount", "umount")
-        self.disk = self.path("disk")
-        self.disk.mkdir()
-        made = subprocess.run(["mount", "-t", "tmpfs", "-o", "size=8m", "none", str(self.disk)], capture_output=True, text=True)
-        if made.returncode:
-            harness.lacks("nothing can be mounted: %s" % made.stderr.strip())
-        self.addCleanup(lambda: subprocess.run(["umount", str(self.disk)], check=True))
+        self.disk = self.mounted("disk", "-t", "tmpfs", "-o", "size=8m", "none")
         if os.sysconf("SC_PAGE_SIZE") != PAGE:
             harness.lacks("a page is not %d bytes" % PAGE)
 

@@ -5,14 +5,13 @@ Want of memory writes nothing: so behind the repeats the image has the same byte
 """
 from __future__ import annotations
 
-import threading
 import unittest
 from pathlib import Path
 from typing import Optional, Union
 
 from faults import harness
 from faults.harness import Answer, Client, Daemon, Model, Ran, Request
-from faults.load_support import Case, connect_or_none, during, expect_answers, in_pairs, listing, spell_all
+from faults.load_support import Case, connect_or_none, converse, during, expect_answers, in_pairs, listing, spell_all
 
 Message = Union[Request, tuple[str, str]]
 
@@ -238,16 +237,7 @@ class Applying(Refusing):
             except OSError:
                 pass
 
-        sender = threading.Thread(target=send)
-        sender.start()
-        answers = []
-        while True:
-            answer = client.answer()
-            if answer is None:
-                break
-            answers.append(answer)
-        # The daemon has left the stream, so that a send fails which still goes on.
-        sender.join()
+        answers = converse(send, client.answer)
         client.close()
         return answers
 

@@ -3,14 +3,13 @@ from __future__ import annotations
 
 import random
 import subprocess
-import threading
 import time
 import unittest
 from typing import Callable, Iterator, Union
 
 from faults import harness
 from faults.harness import Answer, Daemon, Model, Request
-from faults.load_support import Applying, Case, during, expect_answers, spell_all
+from faults.load_support import Applying, Case, converse, during, expect_answers, spell_all
 
 Message = Union[Request, tuple[str, str]]
 
@@ -51,6 +50,15 @@ def pieces(data: bytes, size: int) -> Iterator[bytes]:
         yield data[at:at + size]
 
 
+def send_parts(parts: list[bytes], pause: Callable[[int], float], give: Callable[[bytes], None]) -> None:
+    """Gives the parts in turn, with a pause behind each."""
+    for number, part in enumerate(parts):
+        give(part)
+        wait = pause(number)
+        if wait:
+            time.sleep(wait)
+
+
 class Cuts(Case):
     def setUp(self) -> None:
         super().setUp()
@@ -69,24 +77,9 @@ class Cuts(Case):
         return frames + TOO_LONG, answers + [TOO_LONG_ANSWER], model
 
     def by_socket(self, parts: list[bytes], pause: Callable[[int], float], name: str) -> list[Answer]:
-        answers = []
         with Daemon(self.folder, name + ".img", "--connections", "1", socket_name=name) as daemon, daemon.client() as client:
             client.socket.settimeout(LONGEST_WAIT)
-
-            def send() -> None:
-                for number, part in enumerate(parts):
-                    client.send(part)
-                    wait = pause(number)
-                    if wait:
-                        time.sleep(wait)
-            sender = threading.Thread(target=send)
-            sender.start()
-            while True:
-                answer = client.answer()
-                if answer is None:
-                    break
-                answers.append(answer)
-            sender.join()
+            answers = converse(lambda: send_parts(parts, pause, client.send), client.answer)
             self.assertEqual(daemon.wait(), 0)
             self.assertEqual(daemon.errors(), b"")
         return answers
@@ -95,21 +88,7 @@ class Cuts(Case):
         party = Applying(self.folder, name, name + ".img")
         party.patience = LONGEST_WAIT
         try:
-            def send() -> None:
-                for number, part in enumerate(parts):
-                    party.give(part)
-                    wait = pause(number)
-                    if wait:
-                        time.sleep(wait)
-            sender = threading.Thread(target=send)
-            sender.start()
-            answers = []
-            while True:
-                answer = party.take()
-                if answer is None:
-                    break
-                answers.append(answer)
-            sender.join()
+            answers = converse(lambda: send_parts(parts, pause, party.give), party.take)
             self.assertEqual(party.process.wait(harness.PATIENCE), 0)
             self.assertEqual(party.errors(), b"")
             return answers

@@ -11,6 +11,7 @@ import random
 import select
 import signal
 import subprocess
+import threading
 import time
 import unittest
 from concurrent.futures import ThreadPoolExecutor
@@ -287,6 +288,18 @@ def connect_or_none(daemon: Daemon) -> Optional[Client]:
 PATHS = ["/a", "/b", "/c", "/d", "/e", "/d/a", "/d/b", "/d/e", "/e/a", "/e/b", "/d/e/a", "/d/e/b", "/none/a"]
 # In the entry, at its edges, outside of it, and more than one write of 32 blocks.
 SIZES = [0, 5, 1872, 1873, 2048, 5000, 70000]
+
+
+def converse(send: Callable[[], None], take: Callable[[], Optional[Answer]]) -> list[Answer]:
+    """The answers up to the end, while a thread of its own sends."""
+    sender = threading.Thread(target=send)
+    sender.start()
+    answers = []
+    while (answer := take()) is not None:
+        answers.append(answer)
+    # Who answers has left the stream, so that a send fails which still goes on.
+    sender.join()
+    return answers
 
 
 class Die:

@@ -266,8 +266,7 @@ class Rights(Case):
         self.assertEqual(answers_of(self.as_user("apply", "d.img", stdin=spell(request)).output), [committed(0, 2)])
 
     def test_a_disk_that_is_mounted_for_reading(self) -> None:
-        harness.need_root()
-        where = self.mounted()
+        where = self.mounted("mounted", "-t", "tmpfs", "-o", "size=4m", "none")
         new = self.path("d.img").read_bytes()
         (where / "d.img").write_bytes(new)
         subprocess.run(["mount", "-o", "remount,ro", str(where)], check=True)
@@ -276,15 +275,6 @@ class Rights(Case):
         self.tell(self.udfburn("check", image), 0, b"sound 1\n", b"")
         self.tell(self.udfburn("apply", image, stdin=spell(CREATE)), 1, b"", DEVICE)
         self.tell(self.udfburn("format", str(where / "new.img"), *FORMAT), 1, b"", DEVICE)
-
-    def mounted(self) -> Path:
-        where = self.path("mounted")
-        where.mkdir()
-        made = subprocess.run(["mount", "-t", "tmpfs", "-o", "size=4m", "none", str(where)], capture_output=True, text=True)
-        if made.returncode:
-            harness.lacks("nothing can be mounted: " + harness.first_line(made.stderr))
-        self.addCleanup(subprocess.run, ["umount", str(where)], check=True)
-        return where
 
 
 class Limits(Case):
@@ -397,29 +387,16 @@ class Limits(Case):
         self.tree_is(model, paths, "copy.img")
 
     def test_a_full_disk_in_memory(self) -> None:
-        harness.need_root()
-        where = self.path("small")
-        where.mkdir()
-        made = subprocess.run(["mount", "-t", "tmpfs", "-o", "size=1500k", "none", str(where)], capture_output=True, text=True)
-        if made.returncode:
-            harness.lacks("nothing can be mounted: " + harness.first_line(made.stderr))
-        self.addCleanup(subprocess.run, ["umount", str(where)], check=True)
-        self.full_disk(where)
+        self.full_disk(self.mounted("small", "-t", "tmpfs", "-o", "size=1500k", "none"))
 
     def test_a_full_disk(self) -> None:
         harness.need_root()
         harness.need_tools("mkfs.ext4")
-        where = self.path("small")
-        where.mkdir()
         disk = self.path("disk")
         with open(disk, "wb") as file:
             file.truncate(8 << 20)
         subprocess.run(["mkfs.ext4", "-q", "-F", "-m", "0", str(disk)], check=True)
-        made = subprocess.run(["mount", "-o", "loop", str(disk), str(where)], capture_output=True, text=True)
-        if made.returncode:
-            harness.lacks("no loop device can be mounted: " + harness.first_line(made.stderr))
-        self.addCleanup(subprocess.run, ["umount", str(where)], check=True)
-        self.full_disk(where)
+        self.full_disk(self.mounted("small", "-o", "loop", str(disk)))
 
     def test_a_limit_is_told_by_the_system(self) -> None:
         """The limit is met by a write, so that the tests above test what they say."""
