@@ -23,7 +23,8 @@ use Rattle.table.specs.declared.node.Node.{Node}
 use Rattle.directories.specs.Asked.{is_directory, said_listed, said_names}
 use Rattle.directories.specs.Queries.{name_told}
 use Rattle.directories.specs.Shows.{graph_below, IsAt}
-use Rattle.directories.proofs.Walks.{node_at, leads_push}
+use Rattle.directories.proofs.Walks.{node_at}
+use Rattle.recover.proofs.Trees.{leads_push}
 
 -- ---- the listing that is written
 

@@ -13,10 +13,11 @@ use Rattle.recover.specs.Faults.{IsShortage}
 use Rattle.recover.specs.Nodes.{IsDirectoryRefused, data_of}
 use Rattle.recover.specs.declared.fault.StoreFault.{StoreFault}
 use Rattle.recover.specs.declared.fault.StoreFault.TheVariants as fault
+use Rattle.recover.proofs.Trees.{leads_push}
 use Rattle.dir.specs.declared.entry.Entry.{Entry as DirEntry}
 use Rattle.dir.specs.declared.entry.Kind.TheVariants as kinds
 use Rattle.model.specs.Tree.{Name, Path, Tree, IsTree, Has, has_names, names_in, names_at, found_directory, found_names, found_identity, is_directory_at, identity_at}
-use Rattle.model.specs.Graph.{Graph, Stored, Body, Entry, MakesTree, IsFunctional, Names, Leads, entries_in, entries_of, content_in, content_of, node_of, is_directory}
+use Rattle.model.specs.Graph.{Graph, Stored, Body, Entry, MakesTree, IsFunctional, entries_in, entries_of, content_in, content_of, node_of, is_directory}
 use Rattle.model.specs.Graph.Body.{Bytes, Entries}
 use Rattle.model.proofs.Lists.{contains_map, not_in_nil}
 use Rattle.model.proofs.Maps.{none_at, not_none, some_at, has_front}
@@ -76,10 +77,6 @@ said_names [] = refl
 said_names (e ∷ es) = ap (λ (names : List Name). e.0 ∷ names) (said_names es)
 
 -- ---- steps of the walk
-
-pub leads_push : (graph : Graph) (q : Path) (v w : ℕ) (name : Name) (to : ℕ) → Leads graph v q w → Names graph w name to → Leads graph v (q ++ name ∷ []) to
-leads_push graph [] v w name to l n = (to, subst (λ x. Names graph x name to) (sym l) n, refl)
-leads_push graph (x ∷ q) v w name to l n = (l.0, l.1, leads_push graph q l.0 w name to l.2 n)
 
 module _ (graph : Graph) (tree : Tree) (one : IsFunctional graph) (is : IsTree tree) (makes : MakesTree graph tree) where
   -- the tree's node where something is stored

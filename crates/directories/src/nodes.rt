@@ -13,7 +13,7 @@ ghost use Rattle.directories.specs.Shows.{LiesIn, graph_below};
 
 use drive::Drive;
 use ecma::{Block, Timestamp};
-use icb::{FileEntry, Place, decode_fe};
+use icb::{Place, decode_fe};
 use recover::{Extent, PARTITION_START, StoreFault, cause, damaged, lies_below, read_block};
 
 /// Where a directory's data lie, and its moment.

@@ -1,17 +1,17 @@
 //! Questions about the nodes of a state. What the medium holds is not trusted: a structure that is no such structure is
 //! refused.
 
-ghost use Rattle.std.specs.Prelude.{◌≡◌, ℕ, ◌<◌, ◌≤◌, List, IsTrue, IfOk, IfErr, length, map, true, false};
+ghost use Rattle.std.specs.Prelude.{◌≡◌, ℕ, ◌≤◌, List, IsTrue, IfOk, IfErr, length, map, true, false};
 ghost use Rattle.drive.specs.Journal.{Once, next_of};
 ghost use Rattle.drive.specs.Reads.{Reads};
 ghost use Rattle.medium.specs.Runs as runs;
 ghost use Rattle.model.specs.Tree.{Tree};
 ghost use Rattle.model.specs.Graph.{Stored, entries_of, is_directory};
-ghost use Rattle.model.specs.Graph.Body.{Bytes, Entries};
+ghost use Rattle.model.specs.Graph.Body.{Bytes};
 ghost use Rattle.recover.specs.Faults.{IsShortage, devices};
-ghost use Rattle.udf.specs.Said.{names_directory, said_entries};
+ghost use Rattle.udf.specs.Said.{names_directory};
 ghost use Rattle.table.specs.Below.{AreBelow};
-ghost use Rattle.directories.specs.Cache.{AreKept, LiesThere};
+ghost use Rattle.directories.specs.Cache.{AreKept};
 ghost use Rattle.directories.specs.Asked.{said_names};
 ghost use Rattle.directories.specs.Asked as asked;
 ghost use Rattle.directories.specs.Queries.{IsMissing, IsRefused, name_told};

@@ -1,19 +1,12 @@
 //! The walk: from the root of a state's tree by names, and down to its leaves.
 
-ghost use Rattle.std.specs.Prelude.{◌≡◌, ◌+◌, ◌<◌, ◌≤◌, List, IsTrue, IfOk, IfErr};
-ghost use Rattle.std.specs.Int.{div_ceil};
-ghost use Rattle.drive.specs.Journal.{Event, held, next_of};
+ghost use Rattle.std.specs.Prelude.{◌≡◌, ◌≤◌, IsTrue, IfOk, IfErr, true};
+ghost use Rattle.drive.specs.Journal.{next_of};
 ghost use Rattle.drive.specs.Reads.{Reads};
-ghost use Rattle.recover.specs.Faults.{devices};
-ghost use Rattle.recover.specs.Nodes.{IsDirectoryRefused, data_of};
 ghost use Rattle.table.specs.Below.{AreBelow};
-ghost use Rattle.std.specs.Map.{lookup};
-ghost use Rattle.std.specs.Cmp.Lexicographic.{pointwise};
-ghost use Rattle.std.specs.Prelude.{nat_eq, true};
 ghost use Rattle.model.specs.Tree.{Path, Tree};
 ghost use Rattle.model.specs.Graph.{Stored, is_directory};
-ghost use Rattle.recover.specs.Faults.{IsShortage};
-ghost use Rattle.directories.specs.declared.content.Content.{Content};
+ghost use Rattle.recover.specs.Faults.{IsShortage, devices};
 ghost use Rattle.directories.specs.Cache.{AreKept, LiesThere};
 ghost use Rattle.directories.specs.Heights.{IsHeight};
 ghost use Rattle.directories.specs.Shows.{IsAt, IsOpened, Shows, IsFound, IsFoundDirectory, graph_below};

@@ -1,6 +1,6 @@
 //! A commit, planned whole: which blocks it writes, and where; and the writes.
 
-ghost use Rattle.std.specs.Prelude.{min, ◌≡◌, ℕ, ◌+◌, ◌-◌, ◌*◌, ◌<◌, ◌≤◌, ◌^◌, ◌++◌, [], ◌∷◌, Some, IsTrue, IfOk, IfErr, OnOk, OnErr, IfSome, All, Err, false, is_err, length, map, List, ◌⊎◌};
+ghost use Rattle.std.specs.Prelude.{min, ◌≡◌, ℕ, ◌+◌, ◌-◌, ◌*◌, ◌<◌, ◌≤◌, ◌^◌, ◌++◌, [], ◌∷◌, Some, IfOk, IfErr, OnOk, OnErr, IfSome, All, Err, false, is_err, length, map, List, ◌⊎◌};
 ghost use Rattle.std.specs.Int.{div_ceil};
 ghost use Rattle.drive.specs.Journal.{next_of, written, AddsFront};
 ghost use Rattle.drive.specs.Reads.{Reads, Writes};
@@ -218,8 +218,8 @@ impl LastTable<'_> {
             code: change.code,
             commit: vat.sessions.commits,
         };
-        let file = place_file(&mut vat, &mut numbers, change.file, moment, self.at)?;
-        let directories = place_directories(
+        let file = enter_file(&mut vat, &mut numbers, change.file, moment, self.at)?;
+        let directories = enter_directories(
             alloc,
             &mut vat,
             &mut numbers,
@@ -347,8 +347,9 @@ fn identifier_size(name: &Name, entry: Entry) -> u64
     (38 + name.compressed().len() as u64).div_ceil(4) * 4
 }
 
-/// Places a file, if one is written, at this moment. The table of the state before stands at `at`.
-fn place_file<'r>(
+/// Places a file, if one is written, at this moment, and enters it in the table. The table of the state before stands at
+/// `at`.
+fn enter_file<'r>(
     vat: &mut Vat,
     numbers: &mut Numbers,
     file: Option<NewFile<'r>>,
@@ -384,8 +385,9 @@ fn place_file<'r>(
     Ok(Some(placed))
 }
 
-/// Places the directories that are written, in order. The table of the state before stands at `at`.
-fn place_directories(
+/// Places the directories that are written, in order, and enters them in the table. The table of the state before stands at
+/// `at`.
+fn enter_directories(
     alloc: Global,
     vat: &mut Vat,
     numbers: &mut Numbers,

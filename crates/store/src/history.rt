@@ -1,6 +1,6 @@
 //! The commits of a volume, and the state after each.
 
-ghost use Rattle.std.specs.Prelude.{◌≡◌, ◌+◌, ◌<◌, ◌≤◌, ◌↔◌, ℕ, List, All, Err, IsTrue, IfOk, IfErr, OnOk, false, length};
+ghost use Rattle.std.specs.Prelude.{◌≡◌, ◌+◌, ◌<◌, ◌≤◌, ℕ, All, Err, IsTrue, IfOk, IfErr, OnOk, false, length};
 ghost use Rattle.drive.specs.Journal.{held, next_of};
 ghost use Rattle.drive.specs.Reads.{Reads};
 ghost use Rattle.model.specs.Session as said;

@@ -1,8 +1,14 @@
-//! A volume that is kept: it is opened, requests are committed to it, and queries answered from it.
+//! A volume that is kept: it is opened, requests are committed to it, and queries answered from it, also as of an earlier
+//! commit.
 //!
-//! A store keeps the table, the sessions and a few directories, and no drive: each call is lent the one drive that nobody
-//! else writes. A commit is planned whole before its first block is written, and takes effect with its last. The new volume
-//! that is opened first is `formatting`'s.
+//! Promised: opening, queries and history write nothing. A request that is committed is on the medium, with all that it leads
+//! to. Where a write failed a front of the plan's blocks was written, and the store is stopped; after any other refusal the
+//! medium is as it was. On a drive whose reads are honest the store knows the state that stands (UDF 2.01 2.2.10), and its
+//! answers are those of that state, or of the one that stood behind an earlier commit. A store keeps the table, the sessions
+//! and a few directories, and no drive: each call is lent the one drive that nobody else writes.
+//!
+//! Left to others: the new volume that is opened first (`formatting`), what a request changes and where it is written
+//! (`planning`), the walk to a node (`directories`), and what a client is told.
 #![tactic(auto)]
 
 mod commit;

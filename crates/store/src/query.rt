@@ -1,6 +1,6 @@
 //! Questions about the tree.
 
-ghost use Rattle.std.specs.Prelude.{◌≡◌, ℕ, IsTrue, IfOk, IfErr, Err, false};
+ghost use Rattle.std.specs.Prelude.{◌≡◌, IsTrue, IfOk, IfErr, Err, false};
 ghost use Rattle.drive.specs.Journal.{Once};
 ghost use Rattle.drive.specs.Reads.{Reads};
 ghost use Rattle.medium.specs.Runs as runs;

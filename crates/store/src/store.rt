@@ -1,6 +1,6 @@
 //! A store, and how it is opened.
 
-ghost use Rattle.std.specs.Prelude.{◌≡◌, ◌≤◌, ℕ, IsTrue, IfOk, IfErr, false};
+ghost use Rattle.std.specs.Prelude.{◌≡◌, ℕ, IsTrue, IfOk, IfErr, false};
 ghost use Rattle.recover.specs.Faults.{devices};
 ghost use Rattle.drive.specs.Journal.{held, Once};
 ghost use Rattle.drive.specs.Reads.{Reads};

@@ -27,13 +27,13 @@ place_table-requires-clause-below g c =
     let start = c.new-numbers.result.next in
     let begins : start + 257 ≡ next_of (g.D.Drive.journal c.args.drive.now) = omega (arith, c.in-Ok.ensures.next, c.new-numbers.ensures.next, c.requires.agrees.on, c.requires.agrees.keeps.low) in
     let first = below_later c.args.self.now.at (start + 257) c.in_ok-vat.vat.entries.items (omega (arith, begins, c.requires.agrees.on)) c.in_ok-vat.ensures.below in
-    c.in_ok-take_away.ensures.below (c.place_directories.new.numbers.next + 257) (c.in_ok-directories.ensures.below (c.in_ok-file.ensures.below first))
+    c.in_ok-take_away.ensures.below (c.enter_directories.new.numbers.next + 257) (c.in_ok-directories.ensures.below (c.in_ok-file.ensures.below first))
 
 pub place_table-requires-clause-previous : goal.place_table-requires-clause-previous
 place_table-requires-clause-previous g c =
     let previous : c.take_away.new.vat.previous ≡ Some (c.args.self.now.at - 257) =
     c.in_ok-take_away.ensures.previous ∙ c.in_ok-directories.ensures.previous ∙ c.in_ok-file.ensures.previous ∙ c.in_ok-vat.ensures.previous in
-    let end = c.place_directories.new.numbers.next in
+    let end = c.enter_directories.new.numbers.next in
     let low : c.args.self.now.at - 257 < end =
     omega (arith, c.in-Ok.ensures.next, c.new-numbers.ensures.next, c.in_ok-file.ensures.next, c.in_ok-directories.ensures.next, c.requires.agrees.on, c.requires.agrees.keeps.low) in
     subst (λ (p : Option ℕ). IfSome p (λ n. n < end)) (sym previous) low
@@ -48,8 +48,8 @@ pub returns-clause-plan : goal.returns-clause-plan
 returns-clause-plan g c =
     let J = g.D.Drive.journal c.args.drive.now in
     let start = c.new-numbers.result.next in
-    let file_end = c.place_file.new.numbers.next in
-    let node_end = c.place_directories.new.numbers.next in
+    let file_end = c.enter_file.new.numbers.next in
+    let node_end = c.enter_directories.new.numbers.next in
     let file = c.in_ok-file.file in
     let directories = c.in_ok-directories.directories.items in
     let table = c.in_ok-table.table in

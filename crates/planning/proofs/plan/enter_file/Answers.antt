@@ -7,7 +7,7 @@ use Rattle.planning.specs.Plan.{file_data}
 use Rattle.table.proofs.BelowLemmas.{below_later}
 use Rattle.planning.proofs.Writings.{node_ends}
 use Rattle.planning.specs.Writings.{file_writing, new_file}
-use Rattle.planning.proofs.plan.place_file.Goals as goal
+use Rattle.planning.proofs.plan.enter_file.Goals as goal
 
 pub returns-clause-below : goal.returns-clause-below
 returns-clause-below c h =

@@ -9,7 +9,7 @@ use Rattle.planning.specs.Plan.{AreLaid, directories_list, directories_writings,
 use Rattle.planning.specs.Needs.{table_need, directories_need}
 use Rattle.table.specs.NextTable.{all_placed}
 use Rattle.planning.specs.Writings.{IsProper, new_directories}
-use Rattle.planning.proofs.plan.place_directories.Given as goal
+use Rattle.planning.proofs.plan.enter_directories.Given as goal
 
 -- the directories so far were placed
 abbrev pub invariant-loop-directory : goal.invariant-loop-directory

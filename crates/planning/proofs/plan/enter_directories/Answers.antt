@@ -18,7 +18,7 @@ use Rattle.planning.proofs.Names.{all_next, nothing}
 use Rattle.planning.proofs.Plans.{list_push, writings_push, written_push, laid_push, table_push}
 use Rattle.planning.proofs.Taking.{still_all}
 use Rattle.planning.proofs.Writings.{node_ends}
-use Rattle.planning.proofs.plan.place_directories.Goals as goal
+use Rattle.planning.proofs.plan.enter_directories.Goals as goal
 
 pub place_directory-placed-requires : goal.place_directory-placed-requires
 place_directory-placed-requires c = record {
