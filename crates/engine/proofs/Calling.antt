@@ -30,7 +30,6 @@ use Rattle.udf.specs.Said.{said_record}
 use Rattle.vat.specs.declared.record.Record.{Record}
 use Rattle.store.specs.declared.store.Store.{Store}
 use Rattle.store.specs.Asked.{said_request, said_query}
-use Rattle.store.specs.Sessions.{kept_of}
 use Rattle.store.specs.Calls.{Knows, StillKnows, Applies, IsDone, IsFailed, IsLeft, Gets, Lists, Stats}
 use Rattle.engine.specs.Situation.{Situation, IsOpen}
 use Rattle.engine.specs.Answered.{due_of}
@@ -140,16 +139,11 @@ module _ (volume : ℕ) where
 
   -- ---- what is due
 
-  kept_said : (rs : List Record) → map kept_of rs ≡ map said_record rs
-  kept_said [] = refl
-  kept_said (r ∷ rs) = ap (λ (xs : List ClientRecord). said_record r ∷ xs) (kept_said rs)
-
   same_due : (S : State) (s : Situation) (store : Store) (client number : ℕ) → Knows s.capacity volume s.journal S store → due_of store client number ≡ due S client number
   same_due S s store client number knows =
-      let rs : List Record = store.vat.sessions.records.items in
       let records : map said_record store.vat.sessions.records.items ≡ S.records = ap (λ (b : Table_). b.records) knows.table ∙ knows.stands.tells.records in
       let count : length store.vat.sessions.records.items ≡ length S.records = sym (length-map store.vat.sessions.records.items said_record) ∙ ap (λ (xs : List ClientRecord). length xs) records in
-      λ i. due_by number (count i) (record_of client ((kept_said store.vat.sessions.records.items ∙ records) i))
+      λ i. due_by number (count i) (record_of client (records i))
 
   -- ---- requests
 

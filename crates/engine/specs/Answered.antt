@@ -13,7 +13,8 @@ use Rattle.request.specs.declared.message.Message.TheVariants as message
 use Rattle.request.specs.declared.message.Query.{Query}
 use Rattle.request.specs.declared.message.Query.TheVariants as query
 use Rattle.store.specs.declared.store.Store.{Store}
-use Rattle.store.specs.Sessions.{kept_of, reply_said}
+use Rattle.store.specs.Sessions.{reply_said}
+use Rattle.udf.specs.Said.{said_record}
 use Rattle.engine.specs.Situation.{Situation, IsOpen, Follows}
 
 -- how many failures of the drive an answer stands for
@@ -51,7 +52,7 @@ IsCommitted before a after = ((reply : Reply) × (a ≡ answer.Reply reply))
 
 -- what is due for a number of a client, by the sessions that a store keeps
 abbrev pub due_of : Store → ℕ → ℕ → Due
-due_of store client number = due_by number (length store.vat.sessions.records.items) (record_of client (map kept_of store.vat.sessions.records.items))
+due_of store client number = due_by number (length store.vat.sessions.records.items) (record_of client (map said_record store.vat.sessions.records.items))
 
 -- What a request gets where this is due. Where it is not new, nothing changes, and the drive is not called.
 abbrev pub IsDue : Due → Situation → Answer → Situation → Type 0

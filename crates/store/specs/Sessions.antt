@@ -1,28 +1,20 @@
--- A table's sessions, and what is due by them, in the model's words.
-use Rattle.std.specs.Prelude.{◌≤◌, map}
+-- What is due for a client, in the model's words.
+use Rattle.std.specs.Prelude.{◌≤◌}
 use Rattle.request.specs.declared.answer.Reply as told
 use Rattle.request.specs.Numbers.{code_number}
 use Rattle.vat.specs.declared.record.Reply as table
-use Rattle.vat.specs.declared.record.Record.{Record}
-use Rattle.model.specs.Session.{Reply, ClientRecord}
+use Rattle.model.specs.Session.{Reply}
 use Rattle.model.specs.Session as model
 use Rattle.store.specs.declared.due.Due.{Due}
 use Rattle.store.specs.declared.due.Due.TheVariants as due
 
--- a reply as a table keeps it
-abbrev pub reply_of : table.Reply → Reply
-reply_of reply = record { code = reply.code; commit = reply.commit }
-
--- and as a client is told it
+-- a reply as a client is told it
 abbrev pub reply_said : told.Reply → Reply
 reply_said reply = record { code = code_number reply.code; commit = reply.commit }
 
 -- one of the eleven codes
 abbrev pub is_code : table.Reply → Type 0
 is_code reply = reply.code ≤ 10
-
-abbrev pub kept_of : Record → ClientRecord
-kept_of kept = record { client = kept.client; latest = kept.latest; replies = map reply_of kept.replies }
 
 abbrev pub due_said : Due → model.Due
 due_said (due.Repeat reply) = model.Due.Repeat (reply_said reply)

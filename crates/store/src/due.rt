@@ -1,8 +1,9 @@
 //! What is due for a client's request number.
 
-ghost use Rattle.std.specs.Prelude.{◌≡◌, ◌<◌, ◌≤◌, All, length, map, Some, None};
+ghost use Rattle.std.specs.Prelude.{◌≡◌, ◌<◌, All, length, map, Some, None};
 ghost use Rattle.model.specs.Session.{due_by, record_of};
-ghost use Rattle.store.specs.Sessions.{due_said, is_code, kept_of, reply_of, reply_said};
+ghost use Rattle.store.specs.Sessions.{due_said, is_code, reply_said};
+ghost use Rattle.udf.specs.Said.{said_record, said_reply};
 ghost use Rattle.vat.specs.Table.{Fits, view};
 
 use crate::store::Store;
@@ -31,7 +32,7 @@ impl Store {
     pub fn due(&self, client: u64, number: u64) -> Due
         requires above_zero { 0 < number }
         requires fits { Fits (view self.now.vat) }
-        ensures { due_said result ≡ due_by number (length self.now.vat.sessions.records.items) (record_of client (map kept_of self.now.vat.sessions.records.items)) }
+        ensures { due_said result ≡ due_by number (length self.now.vat.sessions.records.items) (record_of client (map said_record self.now.vat.sessions.records.items)) }
     {
         let records = &self.vat.sessions.records;
         for kept in records {
@@ -60,7 +61,7 @@ fn due_for_none(clients: usize, number: u64) -> Due
 /// What is due for a number of a client that has a record.
 fn due_for(kept: &Record, number: u64) -> Due
     requires { All is_code kept.now.replies }
-    ensures { due_said result ≡ due_by number 0 (Some (kept_of kept.now)) }
+    ensures { due_said result ≡ due_by number 0 (Some (said_record kept.now)) }
 {
     if number > kept.latest {
         return if number - kept.latest == 1 {
@@ -78,7 +79,7 @@ fn due_for(kept: &Record, number: u64) -> Due
 /// A reply as it is told.
 fn told(reply: vat::Reply) -> Reply
     requires { is_code reply }
-    ensures { reply_said result ≡ reply_of reply }
+    ensures { reply_said result ≡ said_reply reply }
 {
     Reply {
         code: Code::of(reply.code).unwrap(),
