@@ -144,6 +144,10 @@ class Faults(unittest.TestCase):
         for path, error in (("a", p.InvalidPath), ("", p.InvalidPath), ("/a//b", p.InvalidName), ("/a/../b", p.InvalidName), ("/" + "a/" * 256, p.InvalidPath)):
             with self.assertRaises(error):
                 p.path_of(path)
+        for path, told in ((b"/b\xff\x80", r"b\xff\x80 is not UTF-8"), (b"/\xed\xa0\x80", r"\xed\xa0\x80 is not UTF-8"), (b"/\xef\xbb\xbf", r"'\ufeff' has a character")):
+            with self.assertRaises(p.InvalidName) as raised:
+                p.path_of(os.fsdecode(path))
+            self.assertIn(told, str(raised.exception))
         self.assertEqual(name_module.spelled_size("\u00e9"), 2)
         self.assertEqual(name_module.spelled_size("\u0101a"), 5)
 

@@ -8,7 +8,7 @@ from typing import Iterator, List, NamedTuple, Optional, Tuple
 
 from .errors import SourceChanged, SourceError
 from .operations import clamped
-from .protocol import NameFault, Path, limits, name_fault
+from .protocol import NameFault, Path, is_bytes, limits, name_fault
 
 
 class Identity(NamedTuple):
@@ -81,7 +81,7 @@ def odd(status: os.stat_result) -> str:
 
 def why_not(name: str) -> Optional[str]:
     """Why a local name may not stand in a directory of a volume."""
-    if not name.isascii() and any(0xDC80 <= ord(character) <= 0xDCFF for character in name):
+    if is_bytes(name):
         return "its name is not UTF-8"
     fault = name_fault(name)
     if fault is None:

@@ -26,11 +26,20 @@ class NameFault(Enum):
     LONG = "takes more than 255 bytes as it is spelled on the medium"
 
 
+def is_bytes(name: str) -> bool:
+    """Whether the system gave bytes that are not UTF-8, which Python writes as low surrogates."""
+    return not name.isascii() and any("\udc80" <= character <= "\udcff" for character in name)
+
+
 class InvalidName(ValueError):
     """A text that is no name."""
 
     def __init__(self, name: str, fault: NameFault):
-        super().__init__(f"{name!r} {fault.value}")
+        if is_bytes(name):
+            written = "".join(f"\\x{ord(character) - 0xDC00:02x}" if is_bytes(character) else character for character in name)
+            super().__init__(f"{written} is not UTF-8")
+        else:
+            super().__init__(f"{name!r} {fault.value}")
         self.name = name
         self.fault = fault
 
