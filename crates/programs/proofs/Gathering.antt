@@ -1,16 +1,20 @@
 -- What was done of a task is so where the output keeps what it has, or is that which was gathered and then written.
 use Rattle.std.proofs.Common.{◌≡◌, ℕ, ◌+◌, Bool, List, [], ◌++◌, length, Option, Some, None, Result, Ok, Err, refl, sym, ap, subst, ◌∙◌, inl, inr}
+use Rattle.std.specs.Prelude.{OnOk, OnErr}
 use Rattle.std.specs.Io.KnownBytes.{Appends, Keeps, append_known}
 use Rattle.std.proofs.lemmas.List.{append-nil}
 use Rattle.std.proofs.Math.Seq.{take-append-add}
 use Rattle.drive.specs.Journal.{Event}
-use Rattle.engine.specs.Served.{frames_of}
+use Rattle.engine.specs.Delivered.{with_store}
+use Rattle.engine.specs.Served.{ServesAll, ServesSome, frames_of}
 use Rattle.engine.specs.Situation.{Situation}
 use Rattle.engine.specs.Streams.{PutsFront}
+use Rattle.engine.proofs.Messages.{nothing_more}
 use Rattle.engine.proofs.Pieces.{keeps_on}
 use Rattle.programs.specs.declared.fault.Fault.{Fault}
 use Rattle.programs.specs.declared.fault.Fault.TheVariants.{Usage, Path, Socket, Store, Stream}
 use Rattle.programs.specs.Applied.{Applies, AppliesToImage, AnswersInMemory}
+use Rattle.programs.specs.Connections.{ServesFront}
 use Rattle.programs.specs.Copies.{Sends}
 use Rattle.programs.specs.Images.{OnImage, Unopened}
 use Rattle.programs.specs.NewVolumes.{Makes, MakesOnImage, Unbegun}
@@ -47,31 +51,31 @@ module _ (i l o v w : Option (List ℕ)) (kept : Keeps v w) where
   made_kept : {T : Type 0} (label : List ℕ) (moment capacity : ℕ) (outcome : Result T Fault) → MakesOnImage label moment capacity outcome o v → MakesOnImage label moment capacity outcome o w
   made_kept label moment capacity outcome (inl h) = inl (unopened_kept outcome h)
   made_kept label moment capacity outcome (inr (inl h)) =
-      inr (inl (on_image capacity (λ before behind. Unbegun outcome before behind o v) (λ before behind. Unbegun outcome before behind o w)
-      (λ before behind k. record { refused = k.refused; journal = k.journal; unwritten = keeps_trans o v w k.unwritten kept }) h))
+      inr (inl (on_image capacity (λ before behind. Unbegun label moment capacity outcome before behind o v) (λ before behind. Unbegun label moment capacity outcome before behind o w)
+      (λ before behind k. record { refused = k.refused; why = k.why; journal = k.journal; unwritten = keeps_trans o v w k.unwritten kept }) h))
   made_kept label moment capacity outcome (inr (inr h)) =
       inr (inr (on_image capacity (λ before behind. Makes label moment capacity outcome before.journal behind.journal behind.honest o v) (λ before behind. Makes label moment capacity outcome before.journal behind.journal behind.honest o w)
       (λ before behind k. makes_kept label moment capacity outcome before.journal behind.journal behind.honest k) h))
 
+  serves_kept : (before behind : Situation) → ServesAll before behind i l o v → ServesAll before behind i l o w
+  serves_kept before behind h = record {
+    reader = h.reader;
+    serving = record {
+      bytes = h.serving.bytes;
+      messages = h.serving.messages;
+      answers = h.serving.answers;
+      consumed = h.serving.consumed;
+      messages_are = h.serving.messages_are;
+      answered = h.serving.answered;
+      told = keeps_on o v w (frames_of h.serving.answers) h.serving.told kept;
+    };
+    holds = h.holds;
+    idle = h.idle;
+    ends = h.ends;
+  }
+
   applies_kept : {T : Type 0} (outcome : Result T Fault) (before behind : Situation) → Applies outcome before behind i l o v → Applies outcome before behind i l o w
-  applies_kept (Ok x) before behind (store, h) = (
-    store,
-    record {
-      reader = h.reader;
-      serving = record {
-        bytes = h.serving.bytes;
-        messages = h.serving.messages;
-        answers = h.serving.answers;
-        consumed = h.serving.consumed;
-        messages_are = h.serving.messages_are;
-        answered = h.serving.answered;
-        told = keeps_on o v w (frames_of h.serving.answers) h.serving.told kept;
-      };
-      holds = h.holds;
-      idle = h.idle;
-      ends = h.ends;
-    },
-  )
+  applies_kept (Ok x) before behind (store, h) = (store, serves_kept before (with_store store behind) h)
   applies_kept (Err fault) before behind (store, h) = (
     store,
     record {
@@ -196,3 +200,57 @@ module _ (task : Task) (status : ℕ) (i l e f : Option (List ℕ)) {O : Type 0}
 
   pub gathered_whole : (now : Option (List ℕ)) → Appends (contents inner) now bytes → HasFront task i l (contents output) now
   gathered_whole now put = gathered_part now (whole_front (contents inner) now bytes put)
+
+-- ---- the same of a connection
+
+pub err_of : {T E : Type 0} (r : Result T E) (e : E) (P : Type 0) → r ≡ Err e → OnErr r P → P
+err_of {T} {E} r e P is h = subst (λ (x : Result T E). OnErr x P) is h
+
+serves_part : (before behind : Situation) (i l o w : Option (List ℕ)) → ServesAll before behind i l o w → ServesSome before behind i l o w
+serves_part before behind i l o w h = record {
+  bytes = h.serving.bytes;
+  messages = h.serving.messages;
+  answers = h.serving.answers;
+  reader = h.reader;
+  consumed = h.serving.consumed;
+  messages_are = h.serving.messages_are;
+  answered = h.serving.answered;
+  holds = h.holds;
+  front = whole_front o w (frames_of h.serving.answers) h.serving.told;
+}
+
+module _ (before behind : Situation) (i l : Option (List ℕ)) {O : Type 0} (contents : O → Option (List ℕ)) (output first last inner : O) (waiting waited rest bytes : List ℕ)
+    (begins : first ≡ output) (empty : waiting ≡ []) (taken : inner ≡ last) (left : rest ≡ waited) (same : bytes ≡ rest) where
+  begins_with : append_known (contents first) waiting ≡ contents output
+  begins_with = ap (λ (x : O). append_known (contents x) waiting) begins ∙ nothing_waits (contents output) waiting empty
+
+  ends_with : append_known (contents last) waited ≡ append_known (contents inner) bytes
+  ends_with = ap (λ (x : O). append_known (contents x) waited) (sym taken) ∙ ap (λ (b : List ℕ). append_known (contents inner) b) (sym (same ∙ left))
+
+  pub served_all : (now : Option (List ℕ)) → Appends (contents inner) now bytes → ServesAll before behind i l (append_known (contents first) waiting) (append_known (contents last) waited) → ServesAll before behind i l (contents output) now
+  served_all now put h =
+      serves_kept i l (contents output) (append_known (contents inner) bytes) now (written_out (contents inner) now bytes put) before behind
+      (subst (λ (a : Option (List ℕ)). ServesAll before behind i l a (append_known (contents inner) bytes)) begins_with
+      (subst (λ (b : Option (List ℕ)). ServesAll before behind i l (append_known (contents first) waiting) b) ends_with h))
+
+  pub served_front : (now : Option (List ℕ)) → PutsFront (contents inner) now bytes → ServesSome before behind i l (append_known (contents first) waiting) (append_known (contents last) waited) → ServesFront before behind i l (contents output) now
+  served_front now put h = record {
+    gathered = append_known (contents inner) bytes;
+    serves = subst (λ (a : Option (List ℕ)). ServesSome before behind i l a (append_known (contents inner) bytes)) begins_with
+        (subst (λ (b : Option (List ℕ)). ServesSome before behind i l (append_known (contents first) waiting) b) ends_with h);
+    front = written_part (contents inner) now bytes put;
+  }
+
+  -- all messages were answered, and a front of what waited was written
+  pub served_part : (now : Option (List ℕ)) → PutsFront (contents inner) now bytes → ServesAll before behind i l (append_known (contents first) waiting) (append_known (contents last) waited) → ServesFront before behind i l (contents output) now
+  served_part now put h = served_front now put (serves_part before behind i l (append_known (contents first) waiting) (append_known (contents last) waited) h)
+
+  -- what waited was let go
+  pub served_cut : ServesSome before behind i l (append_known (contents first) waiting) (append_known (contents last) waited) → ServesFront before behind i l (contents output) (contents inner)
+  served_cut h = served_front (contents inner) (0, nothing_more (contents inner)) h
+
+  -- what waited was written, or a front of it
+  pub served_tried : {T E : Type 0} (r : Result T E) (now : Option (List ℕ)) → OnOk r (Appends (contents inner) now bytes) → OnErr r (PutsFront (contents inner) now bytes)
+      → ServesSome before behind i l (append_known (contents first) waiting) (append_known (contents last) waited) → ServesFront before behind i l (contents output) now
+  served_tried (Ok x) now all some h = served_front now (whole_front (contents inner) now bytes all) h
+  served_tried (Err e) now all some h = served_front now some h

@@ -9,3 +9,5 @@ pub mod Printing
 pub mod Going
 pub mod Ending
 pub mod Gathering
+pub mod Telling
+pub mod Beginnings

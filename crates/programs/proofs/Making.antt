@@ -1,6 +1,6 @@
 -- A volume was made, or it was refused.
 use Rattle.std.proofs.Common.{◌≡◌, ℕ, List, Bool, Option, Result, Ok, Err, sym, subst, inl, inr}
-use Rattle.std.specs.Prelude.{IsErrAnd, IsErr}
+use Rattle.std.specs.Prelude.{IsErrAnd, IsErr, IfErr}
 use Rattle.drive.specs.Journal.{Event}
 use Rattle.drive.specs.FileDrive.{journal_of, capacity_of, BeginsWith}
 use Rattle.drive.specs.declared.file.FileDrive.{FileDrive}
@@ -10,7 +10,7 @@ use Rattle.engine.specs.Situation.{Situation}
 use Rattle.programs.specs.declared.fault.Fault.{Fault}
 use Rattle.programs.specs.declared.fault.Fault.TheVariants.{Usage, Path, Socket, Store, Stream}
 use Rattle.programs.specs.Lines.{Puts, formatted_text}
-use Rattle.programs.specs.NewVolumes.{Makes, MakesOnImage, Unbegun}
+use Rattle.programs.specs.NewVolumes.{Makes, MakesOnImage, IsUnbegun, Unbegun}
 use Rattle.programs.proofs.Opening.{begins_on, keeps_self}
 
 pub makes_put : {T : Type 0} (label : List ℕ) (moment capacity : ℕ) (outcome : Result T Fault) (J K : List Event) (honest : Bool) (o w : Option (List ℕ)) → Puts outcome o w formatted_text
@@ -31,9 +31,16 @@ makes_refused {T} label moment capacity (Err f) J K honest o fault is refused =
 -- ---- on an image that was opened
 
 pub unbegun_image : {T : Type 0} (label : List ℕ) (moment capacity : ℕ) (outcome : Result T Fault) (d : FileDrive) (behind : Situation) (o : Option (List ℕ)) → (image : List (List ℕ)) × BeginsWith image d → capacity_of d ≡ capacity
-    → IsErr outcome → behind.journal ≡ journal_of d → MakesOnImage label moment capacity outcome o o
-unbegun_image label moment capacity outcome d behind o begins size is journal =
-    inr (inl (begins_on capacity (λ before after. Unbegun outcome before after o o) d behind begins size (record { refused = is; journal = journal; unwritten = keeps_self o })))
+    → IsErr outcome → IfErr outcome (IsUnbegun capacity label moment (journal_of d)) → behind.journal ≡ journal_of d → MakesOnImage label moment capacity outcome o o
+unbegun_image label moment capacity outcome d behind o begins size is why journal =
+    inr (inl (begins_on capacity (λ before after. Unbegun label moment capacity outcome before after o o) d behind begins size (record { refused = is; why = why; journal = journal; unwritten = keeps_self o })))
+
+-- the fault of what is left there is that of the command
+pub unbegun_why : {T : Type 0} (label : List ℕ) (moment capacity room : ℕ) (outcome : Result T Fault) (journal : List Event) (fault : Fault) → room ≡ capacity → IsErrAnd outcome (λ f. f ≡ fault)
+    → IsUnbegun room label moment journal fault → IfErr outcome (IsUnbegun capacity label moment journal)
+unbegun_why label moment capacity room (Ok x) journal fault size is why = absurd is
+unbegun_why label moment capacity room (Err f) journal fault size is why =
+    subst (λ (g : Fault). IsUnbegun capacity label moment journal g) (sym is) (subst (λ (n : ℕ). IsUnbegun n label moment journal fault) size why)
 
 pub makes_image : {T : Type 0} (label : List ℕ) (moment capacity room : ℕ) (outcome : Result T Fault) (d : FileDrive) (J : List Event) (behind : Situation) (o w : Option (List ℕ)) → (image : List (List ℕ)) × BeginsWith image d → capacity_of d ≡ capacity
     → room ≡ capacity_of d → J ≡ journal_of d → Makes label moment room outcome J behind.journal behind.honest o w → MakesOnImage label moment capacity outcome o w

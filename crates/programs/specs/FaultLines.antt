@@ -7,6 +7,7 @@ use Rattle.recover.specs.declared.fault.StoreFault.{StoreFault}
 use Rattle.recover.specs.declared.fault.StoreFault.TheVariants as stores
 use Rattle.programs.specs.declared.fault.Fault.{Fault}
 use Rattle.programs.specs.declared.fault.Fault.TheVariants.{Usage, Path, Socket, Store, Stream}
+use Rattle.programs.specs.Status.{status_of}
 
 abbrev pub stream_name : ServeFault → List ℕ
 stream_name streams.Read = codes "91 Read"
@@ -73,3 +74,7 @@ fault_line name fault = name ++ codes ": " ++ fault_name fault ++ damage_text (f
 abbrev pub Reports : {T : Type 0} → List ℕ → Result T Fault → Option (List ℕ) → Option (List ℕ) → Type 0
 Reports name (Ok x) errors told = told ≡ errors
 Reports name (Err fault) errors told = PutsFront errors told (fault_line name fault)
+
+-- A program with this name ended with this status, which is that of an outcome, and said of it what there is to say.
+abbrev pub Tells : List ℕ → ℕ → Option (List ℕ) → Option (List ℕ) → Type 0
+Tells name status errors told = (outcome : Result (Unit {0}) Fault) × (status ≡ status_of outcome) × Reports name outcome errors told

@@ -1,8 +1,11 @@
 -- What a command leaves that makes a volume.
-use Rattle.std.specs.Prelude.{◌≡◌, ◌⊎◌, ℕ, Bool, List, Option, Result, Ok, Err, IsErr}
+use Rattle.std.specs.Prelude.{◌≡◌, ◌⊎◌, ℕ, ◌<◌, ◌++◌, Bool, IsSome, IfErr, List, [], length, slice_index_or, Option, Result, Ok, Err, IsErr}
 use Rattle.std.specs.Io.KnownBytes.{Appends, Keeps}
-use Rattle.drive.specs.Journal.{Event}
-use Rattle.formatting.specs.NewVolume.{words_on, IsFormatted, IsRefused}
+use Rattle.drive.specs.Journal.{Event, next_of}
+use Rattle.osta.specs.FirstFault.{first_fault}
+use Rattle.osta.specs.Label.{label_faults}
+use Rattle.recover.specs.declared.fault.StoreFault.TheVariants as stores
+use Rattle.formatting.specs.NewVolume.{Words, words_on, IsFormatOf, IsFormatted, IsRefused}
 use Rattle.engine.specs.Streams.{PutsFront}
 use Rattle.engine.specs.Situation.{Situation}
 use Rattle.programs.specs.declared.fault.Fault.{Fault}
@@ -23,9 +26,36 @@ Makes label moment capacity (Err (Store fault)) before behind honest output writ
 Makes label moment capacity (Err (Stream fault)) before behind honest output written =
     IsFormatted capacity (words_on capacity label moment) before behind honest × PutsFront output written formatted_text
 
--- what is left behind the last whole block of an image begins no block of the format, or could not be read
-pub record Unbegun {T : Type 0} (outcome : Result T Fault) (before behind : Situation) (output written : Option (List ℕ)) : Type 0 where
+-- the bytes are a beginning of the block at this address in these blocks
+abbrev pub BeginsIn : List (List ℕ) → ℕ → List ℕ → Type 0
+BeginsIn blocks at part = (at < length blocks) × ((rest : List ℕ) × (slice_index_or blocks at [] ≡ part ++ rest))
+
+-- the bytes begin the block at this address of a format with these words
+abbrev pub Begins : Words → ℕ → List ℕ → Type 0
+Begins words at part = (blocks : List (List ℕ)) × IsFormatOf words blocks × BeginsIn blocks at part
+
+-- they begin no block of it there
+abbrev pub BeginsNot : Words → ℕ → List ℕ → Type 0
+BeginsNot words at part = (blocks : List (List ℕ)) × IsFormatOf words blocks × (BeginsIn blocks at part → ⊥)
+
+-- why bytes are refused as a beginning of a block: they are none of the format there, or there is no such format, or no memory for it
+abbrev pub IsNoPart : ℕ → List ℕ → ℕ → ℕ → List ℕ → Fault → Type 0
+IsNoPart capacity label moment at part fault =
+    ((fault ≡ Store stores.NotBlank) × BeginsNot (words_on capacity label moment) at part)
+    ⊎ (((fault ≡ Store stores.Label) × IsSome (first_fault (label_faults label)))
+    ⊎ (((fault ≡ Store stores.Small) × (capacity < 512))
+    ⊎ (fault ≡ Store stores.Memory)))
+
+-- why what is left behind the last whole block of an image is refused: it could not be read, or it begins no next block of the format
+abbrev pub IsUnbegun : ℕ → List ℕ → ℕ → List Event → Fault → Type 0
+IsUnbegun capacity label moment journal fault =
+    (fault ≡ Store stores.Device)
+    ⊎ ((part : List ℕ) × (0 < length part) × (length part < 2048) × IsNoPart capacity label moment (next_of journal) part fault)
+
+-- what is left behind the last whole block of an image was refused, and nothing was done
+pub record Unbegun {T : Type 0} (label : List ℕ) (moment capacity : ℕ) (outcome : Result T Fault) (before behind : Situation) (output written : Option (List ℕ)) : Type 0 where
   pub refused : IsErr outcome
+  pub why : IfErr outcome (IsUnbegun capacity label moment before.journal)
   pub journal : behind.journal ≡ before.journal
   pub unwritten : Keeps output written
 
@@ -33,5 +63,5 @@ pub record Unbegun {T : Type 0} (outcome : Result T Fault) (before behind : Situ
 abbrev pub MakesOnImage : {T : Type 0} → List ℕ → ℕ → ℕ → Result T Fault → Option (List ℕ) → Option (List ℕ) → Type 0
 MakesOnImage label moment capacity outcome output written =
     Unopened outcome output written
-    ⊎ (OnImage capacity (λ before behind. Unbegun outcome before behind output written)
+    ⊎ (OnImage capacity (λ before behind. Unbegun label moment capacity outcome before behind output written)
     ⊎ OnImage capacity (λ before behind. Makes label moment capacity outcome before.journal behind.journal behind.honest output written))

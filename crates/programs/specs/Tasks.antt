@@ -3,6 +3,7 @@ use Rattle.std.specs.Prelude.{◌≡◌, ⊤, ℕ, List, take, codes, Option, So
 use Rattle.words.specs.declared.command.Command.{Command}
 use Rattle.words.specs.declared.command.Command.TheVariants as commands
 use Rattle.words.specs.declared.command.Medium.TheVariants.{Image, Memory}
+use Rattle.words.specs.Commands.{Asks}
 use Rattle.programs.specs.declared.fault.Fault.{Fault}
 use Rattle.programs.specs.Applied.{AppliesToImage, AnswersInMemory}
 use Rattle.programs.specs.Copies.{Sends}
@@ -63,3 +64,17 @@ pub record HasFront (task : Task) (input left output written : Option (List ℕ)
   pub gathered : Option (List ℕ)
   pub does : Does task outcome input left output gathered
   pub front : IsFrontOf gathered written
+
+-- There are words of a command, and all was done that they ask for.
+pub record IsDone (input left output written errors told : Option (List ℕ)) : Type 0 where
+  pub words : List (List ℕ)
+  pub asked : Command
+  pub asks : Asks words asked
+  pub ends : Ends (task_of asked) 0 input left output written errors told
+
+-- There are words of a command, and of what was written for them a front is there.
+pub record IsBegun (input left output written : Option (List ℕ)) : Type 0 where
+  pub words : List (List ℕ)
+  pub asked : Command
+  pub asks : Asks words asked
+  pub front : HasFront (task_of asked) input left output written

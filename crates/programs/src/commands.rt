@@ -1,8 +1,9 @@
 //! The program `udfburn`.
 
-ghost use Rattle.std.specs.Prelude.{◌≡◌, ◌≤◌, ◌↔◌, map, IfErr};
+ghost use Rattle.std.specs.Prelude.{◌≡◌, ◌≤◌, ◌↔◌, map, codes, IfErr};
 ghost use Rattle.words.specs.Commands.{Asks};
 ghost use Rattle.programs.specs.Asked.{IsInRange};
+ghost use Rattle.programs.specs.FaultLines.{Tells};
 ghost use Rattle.programs.specs.Status.{IsRefusal};
 ghost use Rattle.programs.specs.Tasks.{Does, Ends, task_of};
 
@@ -34,6 +35,12 @@ where
     // The status is 2 exactly where the words are those of no command.
     ensures usage { (result ≡ 2) ↔ ((asked : _) → Asks (map (λ w. w.now) words.now) asked → ⊥) }
     ensures status { result ≤ 2 }
+    ensures asks { result ≤ 1 → (asked : _) × Asks (map (λ w. w.now) words.now) asked }
+    // Why it was refused is all that is said.
+    ensures tells { Tells (codes "udfburn") result (E.contents errors.old) (E.contents errors.new) }
+    // Of other words nothing is read, and nothing is written.
+    ensures unread { result ≡ 2 → I.remaining input.new ≡ I.remaining input.old }
+    ensures unwritten { result ≡ 2 → O.contents output.new ≡ O.contents output.old }
     // What they ask for was done, or refused.
     ensures does { (asked : _) → Asks (map (λ w. w.now) words.now) asked → Ends (task_of asked) result (I.remaining input.old) (I.remaining input.new) (O.contents output.old) (O.contents output.new) (E.contents errors.old) (E.contents errors.new) }
 {

@@ -1,21 +1,23 @@
 //! The program `udfburnd`.
 
-ghost use Rattle.std.specs.Prelude.{◌≡◌, ◌≤◌, map, IfErr, OnOk};
+ghost use Rattle.std.specs.Prelude.{◌≡◌, ◌≤◌, map, codes, IfErr, OnOk, OnErr, IfSome, IsSomeAnd};
 ghost use Rattle.drive.specs.Reads.{Follows};
 ghost use Rattle.engine.specs.Situation.{IsReady, seen_on, situation};
+ghost use Rattle.engine.specs.Served.{ServesAll};
 ghost use Rattle.words.specs.Daemon.{AsksDaemon};
-ghost use Rattle.programs.specs.Connections.{GoesOn, AreOneRun};
+ghost use Rattle.programs.specs.Connections.{GoesOn, AreOneRun, ServesFront};
+ghost use Rattle.programs.specs.FaultLines.{Tells};
 ghost use Rattle.programs.specs.Images.{OnImage};
 ghost use Rattle.programs.specs.Status.{IsRefusal};
 
 use crate::fault::{Fault, report};
 use crate::images::open_image;
 use drive::Drive;
-use engine::{Engine, ServeFault, serve};
+use engine::{Engine, ServeFault, put_all, serve};
 use std::alloc::Global;
 use std::fs::{File, Files};
-use std::io::{BufWriter, Write};
-use std::net::{Net, Shutdown};
+use std::io::{BufWriter, Read, Write};
+use std::net::Net;
 use std::os::unix::net::{UnixListener, UnixStream};
 use std::time::{Clock, Duration};
 use std::{io, thread};
@@ -46,6 +48,8 @@ where
     // The status of other words is 2, or 1 where memory is short.
     ensures usage { result ≡ 2 → (asked : _) → AsksDaemon (map (λ w. w.now) words.now) asked → ⊥ }
     ensures refused { ((asked : _) → AsksDaemon (map (λ w. w.now) words.now) asked → ⊥) → 1 ≤ result }
+    // Where it was refused, it said why, and nothing else.
+    ensures tells { 1 ≤ result → Tells (codes "udfburnd") result (E.contents errors.old) (E.contents errors.new) }
 {
     let outcome = match read_daemon(rt.alloc(), words) {
         Ok(asked) => serve_all(rt, &asked, errors),
@@ -62,6 +66,7 @@ where
     ensures refusal { IfErr result IsRefusal }
     // All of them together are one run.
     ensures run { OnOk result (OnImage 450_000 AreOneRun) }
+    ensures unsaid { OnErr result (E.contents errors.new ≡ E.contents errors.old) }
 {
     let mut drive = open_image(rt, asked.image)?;
     let listener = listen(rt, asked.socket)?;
@@ -143,32 +148,67 @@ pub fn serve_one<D: Drive>(
     if stream.set_read_timeout(patience).is_err() || stream.set_write_timeout(patience).is_err() {
         return Err(Fault::Socket);
     }
-    let mut writer = match BufWriter::new(alloc, Pieces(stream)) {
-        Ok(writer) => writer,
-        Err(_) => return Err(Fault::Store(StoreFault::Memory)),
-    };
     let mut reader = stream;
-    let served = serve(alloc, &mut reader, &mut writer, engine, drive);
-    if served == Err(ServeFault::Write) {
-        // What waits in the writer would wait for the client once more.
-        let _ = stream.shutdown(Shutdown::Both);
+    let (served, _) = serve_stream(alloc, &mut reader, Pieces(stream), engine, drive);
+    served
+}
+
+/// Answers the messages of the input on an output that is written many bytes at a time. It answers how that ended and the
+/// output, but for one that was let go for want of memory.
+fn serve_stream<I, O, D>(
+    alloc: Global,
+    input: &mut I,
+    output: O,
+    engine: &mut Engine,
+    drive: &mut D,
+) -> (Result<(), Fault>, Option<O>)
+where
+    I: Read,
+    O: Write + Drop,
+    D: Drive,
+    requires { IsReady (seen_on D.Drive engine.old drive.old) }
+    ensures ready { IsReady (seen_on D.Drive engine.new drive.new) }
+    ensures lent { Follows D.Drive 0 drive.old drive.new }
+    ensures goes { GoesOn (seen_on D.Drive engine.old drive.old) (seen_on D.Drive engine.new drive.new) }
+    ensures refusal { IfErr result.0 IsRefusal }
+    // Where it ended well, all messages of the input were answered, and each answer is written.
+    ensures all { OnOk result.0 (IsSomeAnd result.1 (λ written. ServesAll (seen_on D.Drive engine.old drive.old) (seen_on D.Drive engine.new drive.new) (I.remaining input.old) (I.remaining input.new) (O.contents output) (O.contents written))) }
+    // Else the first of them were, and a front of their answers is written.
+    ensures front { OnErr result.0 (IfSome result.1 (λ written. ServesFront (seen_on D.Drive engine.old drive.old) (seen_on D.Drive engine.new drive.new) (I.remaining input.old) (I.remaining input.new) (O.contents output) (O.contents written))) }
+{
+    let mut writer = match BufWriter::new(alloc, output) {
+        Ok(writer) => writer,
+        Err(_) => return (Err(Fault::Store(StoreFault::Memory)), None),
+    };
+    let served = serve(alloc, input, &mut writer, engine, drive);
+    let (mut output, rest) = writer.into_parts();
+    match served {
+        Ok(()) => match put_all(&mut output, &rest) {
+            Ok(()) => (Ok(()), Some(output)),
+            Err(fault) => (Err(Fault::Stream(fault)), Some(output)),
+        },
+        // What waits would wait once more for who takes nothing.
+        Err(ServeFault::Write) => (Err(Fault::Stream(ServeFault::Write)), Some(output)),
+        Err(fault) => {
+            let _ = put_all(&mut output, &rest);
+            (Err(Fault::Stream(fault)), Some(output))
+        }
     }
-    served?;
-    Ok(())
 }
 
 /// The writing half of a connection, a piece at a time. A socket takes a piece whole or not at all, so that no call waits
 /// behind a part that was taken.
 #[derive(Drop)]
-struct Pieces<'a>(&'a UnixStream);
+struct Pieces<W: Write + Drop>(W);
 
-impl Write for Pieces<'_> {
+impl<W: Write + Drop> Write for Pieces<W> {
+    ghost contents = { λ pieces. W.contents pieces.0 };
+
     fn write(&mut self, bytes: &[u8]) -> io::Result<usize> {
-        let mut stream = self.0;
-        stream.write(&bytes[..bytes.len().min(PIECE_BYTES)])
+        self.0.write(&bytes[..bytes.len().min(PIECE_BYTES)])
     }
 
     fn flush(&mut self) -> io::Result<()> {
-        Ok(())
+        self.0.flush()
     }
 }

@@ -1,8 +1,11 @@
 //! The process of a program: its words and its standard streams.
 
-ghost use Rattle.std.specs.Prelude.{◌≡◌, map, IfSome, IsSomeAnd};
+ghost use Rattle.std.specs.Prelude.{◌≡◌, ◌≤◌, map, codes, IfErr, IfOk, IfSome, IsSomeAnd};
 ghost use Rattle.words.specs.Commands.{Asks};
-ghost use Rattle.programs.specs.Tasks.{Ends, HasFront, task_of};
+ghost use Rattle.programs.specs.Connections.{AreOneRun};
+ghost use Rattle.programs.specs.FaultLines.{Tells};
+ghost use Rattle.programs.specs.Images.{OnImage};
+ghost use Rattle.programs.specs.Tasks.{Ends, HasFront, IsBegun, IsDone, task_of};
 
 use crate::commands::command;
 use crate::daemons::daemon;
@@ -21,25 +24,42 @@ use store::StoreFault;
 /// The name under which the lines of `udfburn` stand.
 const COMMAND_NAME: &str = "udfburn";
 
-/// `udfburn` on the words of the process and these streams. It answers the status.
-pub fn run_command<R, I, O, E>(rt: &R, input: &mut I, output: O, errors: &mut E) -> u8
+/// `udfburn` on the words of the process and these streams. It answers the status, and the output where that was not let go.
+#[tactic(auto, using(crate::proofs::Telling::refused_not))]
+pub fn run_command<R, I, O, E>(
+    rt: &R,
+    input: &mut I,
+    output: O,
+    errors: &mut E,
+) -> (u8, Option<O>)
 where
     R: Files<File = File> + Net + Env + AllocGlobal,
     I: Read,
     O: Write + Drop,
     E: Write,
+    ensures tells { Tells (codes "udfburn") result.0 (E.contents errors.old) (E.contents errors.new) }
+    // At status 0 there are words of a command, and all is written that was done of what they ask for.
+    ensures done { result.0 ≡ 0 → IsSomeAnd result.1 (λ written. IsDone (I.remaining input.old) (I.remaining input.new) (O.contents output) (O.contents written) (E.contents errors.old) (E.contents errors.new)) }
+    // At status 1 there are such words too where the output was not let go, and a front is written.
+    ensures begun { result.0 ≤ 1 → IfSome result.1 (λ written. IsBegun (I.remaining input.old) (I.remaining input.new) (O.contents output) (O.contents written)) }
 {
     match try_command(rt, input, output, errors) {
-        Ok(status) => status,
-        Err(fault) => report(COMMAND_NAME, Err(fault), errors),
+        Ok(ended) => ended,
+        Err(fault) => (report(COMMAND_NAME, Err(fault), errors), None),
     }
 }
 
 /// `udfburnd` on the words of the process. It answers the status.
+#[tactic(auto, using(crate::proofs::Telling::refused_not))]
 pub fn run_daemon<R, E>(rt: &R, errors: &mut E) -> u8
 where
     R: Files<File = File> + Net + Clock + Env + AllocGlobal,
     E: Write,
+    ensures status { result ≤ 2 }
+    // Where it ends by itself, all connections were one run.
+    ensures run { result ≡ 0 → OnImage 450_000 AreOneRun }
+    // Where it was refused, it said why, and nothing else.
+    ensures tells { 1 ≤ result → Tells (codes "udfburnd") result (E.contents errors.old) (E.contents errors.new) }
 {
     match try_daemon(rt, errors) {
         Ok(status) => status,
@@ -47,18 +67,26 @@ where
     }
 }
 
-fn try_command<R, I, O, E>(rt: &R, input: &mut I, output: O, errors: &mut E) -> Result<u8, Fault>
+fn try_command<R, I, O, E>(
+    rt: &R,
+    input: &mut I,
+    output: O,
+    errors: &mut E,
+) -> Result<(u8, Option<O>), Fault>
 where
     R: Files<File = File> + Net + Env + AllocGlobal,
     I: Read,
     O: Write + Drop,
     E: Write,
+    ensures unsaid { IfErr result (λ _. E.contents errors.new ≡ E.contents errors.old) }
+    ensures tells { IfOk result (λ ended. Tells (codes "udfburn") ended.0 (E.contents errors.old) (E.contents errors.new)) }
+    ensures done { IfOk result (λ ended. ended.0 ≡ 0 → IsSomeAnd ended.1 (λ written. IsDone (I.remaining input.old) (I.remaining input.new) (O.contents output) (O.contents written) (E.contents errors.old) (E.contents errors.new))) }
+    ensures begun { IfOk result (λ ended. ended.0 ≤ 1 → IfSome ended.1 (λ written. IsBegun (I.remaining input.old) (I.remaining input.new) (O.contents output) (O.contents written))) }
 {
     hold_standard_streams(rt)?;
     let words = own_words(rt)?;
     let texts = texts(rt.alloc(), &words)?;
-    let (status, _) = gathered(rt, behind_name(&texts), input, output, errors);
-    Ok(status)
+    Ok(gathered(rt, behind_name(&texts), input, output, errors))
 }
 
 /// `command` on an output that is written many bytes at a time. What waits in the end is written then. It answers the status
@@ -75,6 +103,9 @@ where
     I: Read,
     O: Write + Drop,
     E: Write,
+    ensures tells { Tells (codes "udfburn") result.0 (E.contents errors.old) (E.contents errors.new) }
+    ensures asks { result.0 ≤ 1 → IfSome result.1 (λ _. (asked : _) × Asks (map (λ w. w.now) words.now) asked) }
+    ensures kept { result.0 ≡ 0 → IsSomeAnd result.1 (λ _. (asked : _) × Asks (map (λ w. w.now) words.now) asked) }
     // At status 0 all is written that was done, and else a front of it.
     ensures all { (asked : _) → Asks (map (λ w. w.now) words.now) asked → result.0 ≡ 0 → IsSomeAnd result.1 (λ written. Ends (task_of asked) 0 (I.remaining input.old) (I.remaining input.new) (O.contents output) (O.contents written) (E.contents errors.old) (E.contents errors.new)) }
     ensures front { (asked : _) → Asks (map (λ w. w.now) words.now) asked → IfSome result.1 (λ written. HasFront (task_of asked) (I.remaining input.old) (I.remaining input.new) (O.contents output) (O.contents written)) }
@@ -103,6 +134,10 @@ fn try_daemon<R, E>(rt: &R, errors: &mut E) -> Result<u8, Fault>
 where
     R: Files<File = File> + Net + Clock + Env + AllocGlobal,
     E: Write,
+    ensures unsaid { IfErr result (λ _. E.contents errors.new ≡ E.contents errors.old) }
+    ensures status { IfOk result (λ status. status ≤ 2) }
+    ensures run { IfOk result (λ status. status ≡ 0 → OnImage 450_000 AreOneRun) }
+    ensures tells { IfOk result (λ status. 1 ≤ status → Tells (codes "udfburnd") status (E.contents errors.old) (E.contents errors.new)) }
 {
     hold_standard_streams(rt)?;
     let words = own_words(rt)?;

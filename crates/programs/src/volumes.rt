@@ -1,8 +1,9 @@
 //! New volumes on images.
 
-ghost use Rattle.std.specs.Prelude.{◌≡◌, ◌<◌, IfErr};
+ghost use Rattle.std.specs.Prelude.{◌≡◌, ◌<◌, IfErr, OnOk};
 ghost use Rattle.drive.specs.FileDrive.{journal_of, capacity_of, honest_of};
-ghost use Rattle.programs.specs.NewVolumes.{Makes, MakesOnImage};
+ghost use Rattle.formatting.specs.NewVolume.{words_on};
+ghost use Rattle.programs.specs.NewVolumes.{Begins, IsNoPart, IsUnbegun, Makes, MakesOnImage};
 ghost use Rattle.programs.specs.Status.{IsRefusal};
 
 use crate::fault::Fault;
@@ -62,6 +63,7 @@ fn require_beginning(
     ensures journal { journal_of drive.new ≡ journal_of drive.old }
     ensures capacity { capacity_of drive.new ≡ capacity_of drive.old }
     ensures honest { honest_of drive.new ≡ honest_of drive.old }
+    ensures refused { IfErr result (IsUnbegun (capacity_of drive.old) label.now moment (journal_of drive.old)) }
 {
     let mut part = [0; 2048];
     let Ok(count) = drive.part(&mut part) else {
@@ -73,13 +75,35 @@ fn require_beginning(
     let Ok(next) = drive.next() else {
         return Err(Fault::Store(StoreFault::Device));
     };
-    let mut whole = MemDrive::new(alloc, drive.capacity(), Vec::new(alloc));
-    format(alloc, &mut whole, label, moment)?;
-    let begins = match whole.journal().get(next as usize) {
-        Some(event) => event.1.starts_with(&part[..count]),
-        None => false,
+    require_part(alloc, drive.capacity(), label, moment, next, &part[..count])
+}
+
+/// Refuses bytes that do not begin the block at this address of a format with these words.
+fn require_part(
+    alloc: Global,
+    capacity: u32,
+    label: &str,
+    moment: u64,
+    at: u32,
+    part: &[u8],
+) -> Result<(), Fault>
+    requires { moment < 4_102_444_800_000_000 }
+    ensures refusal { IfErr result IsRefusal }
+    ensures begins { OnOk result (Begins (words_on capacity label.now moment) at part.now) }
+    ensures refused { IfErr result (IsNoPart capacity label.now moment at part.now) }
+{
+    let mut whole = MemDrive::new(alloc, capacity, Vec::new(alloc));
+    match format(alloc, &mut whole, label, moment) {
+        Ok(()) => {}
+        Err(StoreFault::Label) => return Err(Fault::Store(StoreFault::Label)),
+        Err(StoreFault::Small) => return Err(Fault::Store(StoreFault::Small)),
+        // A blank drive in memory fails where there is no more of it.
+        Err(_) => return Err(Fault::Store(StoreFault::Memory)),
+    }
+    let Some(event) = whole.journal().get(at as usize) else {
+        return Err(Fault::Store(StoreFault::NotBlank));
     };
-    if begins {
+    if event.1.starts_with(part) {
         Ok(())
     } else {
         Err(Fault::Store(StoreFault::NotBlank))

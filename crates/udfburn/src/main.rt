@@ -8,5 +8,6 @@ fn main(rt: HostRuntime) -> ExitCode {
     let mut input = rt.stdin();
     let output = rt.stdout();
     let mut errors = rt.stderr();
-    ExitCode::from(run_command(&rt, &mut input, output, &mut errors))
+    let (status, _) = run_command(&rt, &mut input, output, &mut errors);
+    ExitCode::from(status)
 }

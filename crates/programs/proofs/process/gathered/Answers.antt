@@ -1,5 +1,8 @@
+use Rattle.std.proofs.Common.{rules, codes, Err}
+use Rattle.programs.specs.declared.fault.Fault.TheVariants.{Stream}
 use Rattle.programs.specs.Tasks.{task_of}
 use Rattle.programs.proofs.Gathering.{gathered_done, gathered_part, gathered_whole}
+use Rattle.programs.proofs.Telling.{told_then}
 use Rattle.programs.proofs.process.gathered.Goals as goal
 
 pub returns-in-Ok-put_all-clause-all : goal.returns-in-Ok-put_all-clause-all
@@ -25,3 +28,7 @@ returns-clause-front g c asked asks =
     gathered_part (task_of asked) c.command-status.result _ _ _ _ g.O.Write.contents c.args.output _ _ c.into_parts-output.result.0 _ _ c.into_parts-output.result.1.items c.deref.result.now
     c.in-Ok.ensures.inner c.in-Ok.ensures.empty c.into_parts-output.ensures.inner c.into_parts-output.ensures.buffer c.deref.ensures.value (c.command-status.ensures.does asked asks)
     _ c.in-Err-2.ensures.err
+
+pub returns-clause-tells : goal.returns-clause-tells
+returns-clause-tells g c =
+    told_then (codes "udfburn") c.command-status.result c.report-in-Err-2.result (Err (Stream c.in-Err-put_all.field-0)) _ _ _ c.command-status.ensures.tells (search rules) c.report-in-Err-2.ensures.status c.report-in-Err-2.ensures.says

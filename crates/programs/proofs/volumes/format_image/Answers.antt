@@ -1,6 +1,6 @@
 use Rattle.std.proofs.Common.{◌==◌, inl, None}
 use Rattle.engine.specs.Situation.{situation}
-use Rattle.programs.proofs.Making.{makes_image, unbegun_image}
+use Rattle.programs.proofs.Making.{makes_image, unbegun_image, unbegun_why}
 use Rattle.programs.proofs.Opening.{unopened}
 use Rattle.programs.proofs.volumes.format_image.Goals as goal
 
@@ -11,7 +11,9 @@ pub returns-in_err-require_beginning-clause-makes : goal.returns-in_err-require_
 returns-in_err-require_beginning-clause-makes g c =
     unbegun_image c.args.label.now c.args.moment c.args.capacity c.from_residual-in_err-require_beginning.result c.in_ok-drive.drive
     (situation None c.require_beginning.new.drive.contents.journal c.require_beginning.new.drive.failures c.require_beginning.new.drive.capacity (c.require_beginning.new.drive.contents.misreads == 0)) _
-    c.in_ok-drive.ensures.image c.in_ok-drive.ensures.capacity c.from_residual-in_err-require_beginning.ensures.0 c.require_beginning.ensures.journal
+    c.in_ok-drive.ensures.image c.in_ok-drive.ensures.capacity c.from_residual-in_err-require_beginning.ensures.0
+    (unbegun_why c.args.label.now c.args.moment c.args.capacity _ c.from_residual-in_err-require_beginning.result _ _ c.in_ok-drive.ensures.capacity c.from_residual-in_err-require_beginning.ensures.1 c.in_err-require_beginning.ensures.refused)
+    c.require_beginning.ensures.journal
 
 pub returns-clause-makes : goal.returns-clause-makes
 returns-clause-makes g c =

@@ -1,0 +1,6 @@
+use Rattle.std.proofs.Common.{codes}
+use Rattle.programs.proofs.Telling.{told_refused}
+use Rattle.programs.proofs.process.run_command.Goals as goal
+
+pub returns-in-Err-clause-tells : goal.returns-in-Err-clause-tells
+returns-in-Err-clause-tells g c = told_refused (codes "udfburn") c.report.result c.in-Err.fault _ _ _ c.in-Err.ensures.unsaid c.report.ensures.status c.report.ensures.says
