@@ -190,6 +190,9 @@ class Disks(Case):
         """The image in the file system that this disk has, or no bytes where it is not there. A journal is gone through by the mount;
         without one the file system is mended first."""
         disk, where = self.path("left"), self.path("remade")
+        # A file of its own: a loop device that has not let go of the one before, since some other process looks at it, would be taken
+        # again for the same file, with what the system remembers of it.
+        disk.unlink(missing_ok=True)
         disk.write_bytes(content)
         where.mkdir(exist_ok=True)
         if not has_journal:

@@ -1,8 +1,7 @@
 //! The front of a volume: the checks of its blocks, fields, and what is told of other blocks.
 
-ghost use Rattle.std.specs.Prelude.{◌<◌, ◌≤◌};
-
-use ecma::{Block, Timestamp, crc, seal};
+use crate::blocks::sealed_again;
+use ecma::{Timestamp, crc};
 use osta::Label;
 use std::test::Fail;
 use volume::{
@@ -83,28 +82,6 @@ fn a_front_is_read(rt: HostRuntime) -> Result<(), Fail> {
     assert_eq!(rt; front.moment, moment);
     assert_eq!(rt; front.capacity, 512);
     Ok(())
-}
-
-/// The first 512 bytes of a block, with zeros behind them.
-fn front_of(block: &Block) -> Block {
-    let mut front = [0; 2048];
-    front[..512].copy_from_slice(&block[..512]);
-    front
-}
-
-/// A descriptor of so many bytes in which some are changed, and which is sealed again.
-fn sealed_again(block: &Block, changes: &[(usize, u8)], end: usize, id: u16, loc: u32) -> Block
-    requires low { 16 ≤ end }
-    requires high { end ≤ 2048 }
-{
-    let mut changed = front_of(block);
-    for (at, byte) in changes {
-        if *at < changed.len() {
-            changed[*at] = *byte;
-        }
-    }
-    seal(id, loc, &mut changed[..end]);
-    changed
 }
 
 fn fault(block: u32, at: u32) -> Result<Front, VolumeFault> {
