@@ -1,0 +1,73 @@
+//! What the layers take, beside plain work on the same bytes.
+//!
+//! The words are names of benches, each with a count behind it, as `crc 4 dir 2`; each bench says what it counts. What was
+//! done is printed, which is the same in each run. With `--times` as the first word what it took stands behind that: processor
+//! time in microseconds, or memory. `drive` and `memory` write an image in the folder where the program runs, and remove it.
+#![tactic(auto)]
+
+mod bytes;
+mod checks;
+mod commits;
+mod directories;
+mod drives;
+mod histories;
+mod peaks;
+mod report;
+mod requests;
+mod streams;
+mod tables;
+mod volumes;
+
+use report::Report;
+use std::process::ExitCode;
+use std::rt::Env;
+use std::{env, io};
+
+/// Runs a bench with its count. False: there is none of this name.
+fn run(rt: &HostRuntime, report: Report, name: &str, count: u32) -> io::Result<bool> {
+    match name {
+        "crc" => checks::measure(rt, report, count)?,
+        "drive" => drives::measure(rt, report, count)?,
+        "dir" => directories::measure(rt, report, count)?,
+        "vat" => tables::measure(rt, report, count)?,
+        "request" => streams::measure(rt, report, count)?,
+        "commit" => commits::measure(rt, report, count)?,
+        "history" => histories::measure(rt, report, count)?,
+        "memory" => peaks::measure(rt, report, count)?,
+        _ => return Ok(false),
+    }
+    Ok(true)
+}
+
+/// Runs the benches that the words name. False: the words are no benches with counts.
+fn run_all(rt: &HostRuntime, words: &[String]) -> io::Result<bool> {
+    let mut report = Report { times: false };
+    let mut rest = words;
+    if let [first, later @ ..] = rest {
+        if first.as_str() == "--times" {
+            report = Report { times: true };
+            rest = later;
+        }
+    }
+    for pair in rest.chunks(2) {
+        let [name, count] = pair else {
+            return Ok(false);
+        };
+        let Ok(count) = count.parse::<u32>() else {
+            return Ok(false);
+        };
+        if !run(rt, report, name, count)? {
+            return Ok(false);
+        }
+    }
+    Ok(!rest.is_empty())
+}
+
+fn main(rt: HostRuntime) -> io::Result<ExitCode> {
+    let words: Vec<String> = env::args(&rt)?.skip(1).collect(rt.alloc())?;
+    if run_all(&rt, &words)? {
+        return Ok(ExitCode::SUCCESS);
+    }
+    eprintln!(&rt; "usage: benches [--times] (NAME COUNT)..")?;
+    Ok(ExitCode::from(2))
+}

@@ -1,0 +1,82 @@
+//! Streams of frames in pieces, beside a copy of the same bytes.
+
+use crate::bytes::MEBIBYTE;
+use crate::report::{Report, since, used};
+use request::Frames;
+use std::alloc::{AllocError, Global};
+use std::io;
+
+/// What a frame of a file of one letter in the root has beside the file's bytes.
+const BESIDE: usize = 37;
+
+/// Requests, each in a frame of a mebibyte that creates a file.
+fn large_frames(alloc: Global, count: u32) -> Result<Vec<u8>, AllocError> {
+    let file = vec![in alloc; 7u8; MEBIBYTE - BESIDE]?;
+    let mut bytes = Vec::new(alloc);
+    for number in 0..count {
+        bytes.extend_from_slice(&(MEBIBYTE as u32 - 4).to_le_bytes())?;
+        bytes.push(1)?;
+        bytes.extend_from_slice(&7u64.to_le_bytes())?;
+        bytes.extend_from_slice(&u64::from(number).to_le_bytes())?;
+        bytes.extend_from_slice(&0u64.to_le_bytes())?;
+        bytes.extend_from_slice(&[1, 1, 0, b'a'])?;
+        bytes.extend_from_slice(&((MEBIBYTE - BESIDE) as u32).to_le_bytes())?;
+        bytes.extend_from_slice(&file)?;
+    }
+    Ok(bytes)
+}
+
+/// Queries that list the root.
+fn small_frames(alloc: Global, count: u32) -> Result<Vec<u8>, AllocError> {
+    let mut bytes = Vec::new(alloc);
+    for _ in 0..count {
+        bytes.extend_from_slice(&[2, 0, 0, 0, 0x11, 0])?;
+    }
+    Ok(bytes)
+}
+
+/// How many messages a stream has that is fed in pieces.
+fn messages(alloc: Global, stream: &[u8], piece: usize) -> Result<u32, AllocError> {
+    let mut frames = Frames::new(alloc);
+    let mut count = 0u32;
+    for part in stream.chunks(piece.max(1)) {
+        frames.feed(part)?;
+        for _ in 0..u32::MAX {
+            if frames.take().is_none() {
+                break;
+            }
+            count = count.wrapping_add(1);
+        }
+    }
+    Ok(count)
+}
+
+/// The messages of a stream in pieces of each size, beside a copy into new memory.
+fn in_pieces(rt: &HostRuntime, report: Report, name: &str, stream: &[u8]) -> io::Result<()> {
+    let alloc = rt.alloc();
+    let start = used(rt);
+    let copied = Vec::from_slice(alloc, stream)?.len();
+    let copy_time = since(rt, start);
+    print!(rt; "{name}: {copied} bytes copied to new memory")?;
+    report.took(rt, copy_time)?;
+    for piece in [1, 65_536, stream.len()] {
+        let start = used(rt);
+        let count = messages(alloc, stream, piece)?;
+        let taken = since(rt, start);
+        print!(rt; "{name}: {count} messages in pieces of {piece} bytes")?;
+        report.took_beside(rt, taken, copy_time)?;
+    }
+    Ok(())
+}
+
+/// So many frames of a mebibyte, 100 at most, and 10,000 times as many queries of 6 bytes.
+pub fn measure(rt: &HostRuntime, report: Report, count: u32) -> io::Result<()> {
+    let count = count.min(100);
+    in_pieces(rt, report, "large", &large_frames(rt.alloc(), count)?)?;
+    in_pieces(
+        rt,
+        report,
+        "small",
+        &small_frames(rt.alloc(), count * 10_000)?,
+    )
+}

@@ -1,0 +1,158 @@
+//! Clear starts and tables, beside copies of the same bytes.
+
+ghost use Rattle.vat.specs.Table.{view, Fits};
+
+use crate::bytes::{MEBIBYTE, ordinary};
+use crate::report::{Report, since, used, wrong};
+use ecma::Timestamp;
+use icb::{FileEntry, Kind, Place, encode_fe};
+use std::alloc::{AllocError, Global};
+use std::io;
+use vat::{Vat, clear_start, decode_vat, encode_vat};
+
+/// The place of the table's entry.
+const ICB: u32 = 40_000;
+
+/// 512 entries of tables, for every second block number from 5 on: there is one that imitates at each start.
+fn imitations(alloc: Global) -> Result<Vec<u8>, AllocError> {
+    let mut bytes = Vec::new(alloc);
+    let Some(moment) = Timestamp::of(0) else {
+        return Ok(bytes);
+    };
+    for i in 0..512u32 {
+        let entry = FileEntry {
+            kind: Kind::Vat,
+            moment,
+            links: 0,
+            unique: 0,
+            size: 204,
+            place: Place::Extent(3),
+        };
+        bytes.extend_from_slice(&encode_fe(&entry, 5 + 2 * i))?;
+    }
+    Ok(bytes)
+}
+
+/// A table with 64 records of four replies each and 4,097 entries, all of them used.
+fn table(alloc: Global) -> Result<Vec<u8>, AllocError> {
+    let mut bytes = Vec::new(alloc);
+    let implementation_use = 44u16 + 64 * 48;
+    bytes.extend_from_slice(&(152 + implementation_use).to_le_bytes())?;
+    bytes.extend_from_slice(&implementation_use.to_le_bytes())?;
+    bytes.extend_from_slice(b"\x08DISC")?;
+    bytes.extend_from_slice(&[0; 122])?;
+    bytes.push(5)?;
+    for number in [4u32, 4_000, 96] {
+        bytes.extend_from_slice(&number.to_le_bytes())?;
+    }
+    bytes.extend_from_slice(&[1, 2, 1, 2, 1, 2, 0, 0])?;
+    bytes.extend_from_slice(b"\x00*udfburn sessions")?;
+    bytes.extend_from_slice(&[0; 14])?;
+    bytes.extend_from_slice(&[2, 0, 64, 0])?;
+    bytes.extend_from_slice(&5_000u32.to_le_bytes())?;
+    bytes.extend_from_slice(&300u32.to_le_bytes())?;
+    for client in 1..65u64 {
+        bytes.extend_from_slice(&client.to_le_bytes())?;
+        bytes.extend_from_slice(&4u64.to_le_bytes())?;
+        for commit in [200u32, 199, 198, 197] {
+            bytes.extend_from_slice(&[0; 4])?;
+            bytes.extend_from_slice(&commit.to_le_bytes())?;
+        }
+    }
+    for i in 0..4_097u32 {
+        bytes.extend_from_slice(&(7 * i).to_le_bytes())?;
+    }
+    Ok(bytes)
+}
+
+/// How many bytes are copied in all.
+fn copy_often(alloc: Global, bytes: &[u8], rounds: u32) -> io::Result<usize> {
+    let mut count = 0usize;
+    for _ in 0..rounds {
+        count = count.saturating_add(Vec::from_slice(alloc, bytes)?.len());
+    }
+    Ok(count)
+}
+
+/// How many blocks the clear starts are behind the first place, in all.
+fn start_often(bytes: &[u8], rounds: u32) -> u64 {
+    let mut count = 0u64;
+    if bytes.len() <= MEBIBYTE {
+        for _ in 0..rounds {
+            count = count.saturating_add(u64::from(clear_start(bytes, 5) - 5));
+        }
+    }
+    count
+}
+
+/// The clear start of some bytes, so many times, and a copy of them as often.
+fn starts(
+    rt: &HostRuntime,
+    report: Report,
+    name: &str,
+    bytes: &[u8],
+    rounds: u32,
+) -> io::Result<()> {
+    let alloc = rt.alloc();
+    let start = used(rt);
+    let found = start_often(bytes, rounds);
+    let start_time = since(rt, start);
+    let start = used(rt);
+    let copied = copy_often(alloc, bytes, rounds)?;
+    let copy_time = since(rt, start);
+    print!(rt; "{name} x{rounds}: {found} blocks behind the first, {copied} bytes copied")?;
+    report.took_beside(rt, start_time, copy_time)
+}
+
+/// How many entries are read in all.
+fn read_often(alloc: Global, bytes: &[u8], rounds: u32) -> io::Result<usize> {
+    let mut count = 0usize;
+    for _ in 0..rounds {
+        match decode_vat(alloc, bytes, ICB) {
+            Ok(read) => count = count.saturating_add(read.entries.len()),
+            Err(_) => return Err(wrong()),
+        }
+    }
+    Ok(count)
+}
+
+/// How many bytes are written in all.
+fn write_often(alloc: Global, vat: &Vat, rounds: u32) -> io::Result<usize>
+    requires { Fits (view vat.now) }
+{
+    let mut count = 0usize;
+    for _ in 0..rounds {
+        count = count.saturating_add(encode_vat(alloc, vat)?.len());
+    }
+    Ok(count)
+}
+
+/// The table read and written so many times, and a copy of its bytes as often.
+fn tables(rt: &HostRuntime, report: Report, rounds: u32) -> io::Result<()> {
+    let alloc = rt.alloc();
+    let bytes = table(alloc)?;
+    let Ok(vat) = decode_vat(alloc, &bytes, ICB) else {
+        return Err(wrong());
+    };
+    let start = used(rt);
+    let read = read_often(alloc, &bytes, rounds)?;
+    let read_time = since(rt, start);
+    let start = used(rt);
+    let written = write_often(alloc, &vat, rounds)?;
+    let write_time = since(rt, start);
+    let start = used(rt);
+    let copied = copy_often(alloc, &bytes, rounds)?;
+    let copy_time = since(rt, start);
+    print!(rt; "table x{rounds}: {read} entries read")?;
+    report.took_beside(rt, read_time, copy_time)?;
+    print!(rt; "table x{rounds}: {written} bytes written, {copied} copied")?;
+    report.took_beside(rt, write_time, copy_time)
+}
+
+/// A mebibyte whose blocks imitate at each start so many times, an ordinary one and a table ten times as often.
+pub fn measure(rt: &HostRuntime, report: Report, count: u32) -> io::Result<()> {
+    let often = count.saturating_mul(10);
+    starts(rt, report, "ordinary", &ordinary(rt.alloc())?, often)?;
+    starts(rt, report, "imitations", &imitations(rt.alloc())?, count)?;
+    tables(rt, report, often)
+}
