@@ -16,12 +16,13 @@ honest_stays drive law old new same = subst IsTrue (law old ∙ (ap (λ n. n == 
 
 -- nothing was called
 pub reads_none : {D : Type 0} (drive : Ghosts D) (d : D) → Reads drive 0 d d
-reads_none drive d = record { journal = refl; capacity = refl; failures = λ few. omega arith; misreads = omega arith; honest = λ h. h; stays = λ same h. h }
+reads_none drive d = record { journal = refl; writes = refl; capacity = refl; failures = λ few. omega arith; misreads = omega arith; honest = λ h. h; stays = λ same h. h }
 
 -- a call behind one that did not fail
 pub reads_then : {D : Type 0} {drive : Ghosts D} {n : ℕ} {a b c : D} → Reads drive 0 a b → Reads drive n b c → Reads drive n a c
 reads_then p q = record {
   journal = q.journal ∙ p.journal;
+  writes = q.writes ∙ p.writes;
   capacity = q.capacity ∙ p.capacity;
   failures = λ few. let second = q.failures few in omega (arith, p.failures);
   misreads = omega (arith, p.misreads, q.misreads);

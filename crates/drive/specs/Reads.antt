@@ -14,6 +14,7 @@ one_if failed = if failed then 1 else 0
 -- Nothing was written, at least so many failures were counted, and no misread is forgotten. Honesty is not gained, and stays where no misread was added.
 pub record Reads {D : Type 0} (drive : Ghosts D) (failed : ℕ) (old new : D) : Type 0 where
   pub journal : drive.journal new ≡ drive.journal old
+  pub writes : drive.writes new ≡ drive.writes old
   pub capacity : drive.capacity new ≡ drive.capacity old
   pub failures : Counts failed (drive.failures old) (drive.failures new)
   pub misreads : drive.misreads old ≤ drive.misreads new

@@ -1,6 +1,8 @@
 -- Blocks that are given one by one and go out in packets.
-use Rattle.std.specs.Prelude.{◌≡◌, ℕ, ◌+◌, ◌≤◌, List, ◌++◌, length}
-use Rattle.drive.specs.Journal.{Event, written, next_of, AddsFront}
+use Rattle.std.specs.Prelude.{◌≡◌, ℕ, ◌+◌, ◌≤◌, true, false, List, ◌++◌, length}
+use Rattle.drive.specs.Journal.{written, next_of, AddsFront}
+use Rattle.drive.specs.Sending.{Sends}
+use Rattle.drive.specs.declared.Drive.{Ghosts}
 
 -- the blocks that wait, and the address where the first of them will lie
 pub record Waiting : Type 0 where
@@ -13,14 +15,16 @@ end_of w = w.at + length w.blocks
 
 -- These blocks were taken. Some of what waited and of these was written, in order, and the rest waits. The
 -- last two follow, and are what a next call asks for.
-pub record Takes (J : List Event) (w : Waiting) (blocks : List (List ℕ)) (J' : List Event) (w' : Waiting) : Type 0 where
+pub record Takes {D : Type 0} (drive : Ghosts D) (old : D) (w : Waiting) (blocks : List (List ℕ)) (new : D) (w' : Waiting) : Type 0 where
   pub sent : List (List ℕ)
   pub order : w.blocks ++ blocks ≡ sent ++ w'.blocks
-  pub journal : J' ≡ J ++ written w.at sent
+  pub journal : drive.journal new ≡ drive.journal old ++ written w.at sent
+  pub sends : Sends drive sent false old new
   pub place : w'.at ≡ w.at + length sent
   pub ends : end_of w' ≡ end_of w + length blocks
-  pub begins : w.at ≤ next_of J → w'.at ≤ next_of J'
+  pub begins : w.at ≤ next_of (drive.journal old) → w'.at ≤ next_of (drive.journal new)
 
--- a write failed, and a front of what waited and of these blocks was written
-abbrev pub Stops : List Event → Waiting → List (List ℕ) → List Event → Type 0
-Stops J w blocks J' = AddsFront J w.at (w.blocks ++ blocks) J'
+-- A write failed, and a front of what waited and of these blocks was written. No write was given another block.
+pub record Stops {D : Type 0} (drive : Ghosts D) (old : D) (w : Waiting) (blocks : List (List ℕ)) (new : D) : Type 0 where
+  pub front : AddsFront (drive.journal old) w.at (w.blocks ++ blocks) (drive.journal new)
+  pub sends : Sends drive (w.blocks ++ blocks) true old new

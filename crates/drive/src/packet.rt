@@ -1,8 +1,9 @@
 //! Blocks on their way to a drive, in packets that one write may be given.
-ghost use Rattle.std.specs.Prelude.{◌≡◌, ◌+◌, ◌*◌, ◌/◌, ◌==◌, ◌<◌, ◌≤◌, if◌then◌else◌, ◌∷◌, ◌++◌, [], length, vec_len, is_err, IfOk, OnOk, OnErr};
+ghost use Rattle.std.specs.Prelude.{◌≡◌, ◌+◌, ◌*◌, ◌/◌, ◌==◌, ◌<◌, ◌≤◌, if◌then◌else◌, ℕ, List, ◌∷◌, ◌++◌, [], length, vec_len, is_err, IfOk, OnOk, OnErr};
 ghost use Rattle.std.specs.Vec.{vec_capacity};
 ghost use Rattle.drive.specs.Journal.{written, next_of, AddsFront};
 ghost use Rattle.drive.specs.Reads.{Writes};
+ghost use Rattle.drive.specs.Sending.{as_write, Sends, SendsAlone};
 ghost use Rattle.drive.specs.Waiting.{Waiting, end_of, Takes, Stops};
 
 use crate::{Block, Drive, DriveFault, PACKET};
@@ -15,6 +16,7 @@ pub fn write_packets<D: Drive>(drive: &mut D, at: u32, blocks: &[Block]) -> Resu
     requires fits { at + length blocks.now ≤ D.capacity drive.old }
     ensures ok { OnOk result (D.journal drive.new ≡ D.journal drive.old ++ written at blocks.now) }
     ensures err { OnErr result (AddsFront (D.journal drive.old) at blocks.now (D.journal drive.new)) }
+    ensures sends { Sends D.Drive blocks.now (is_err result) drive.old drive.new }
     ensures writes { Writes D.Drive (is_err result) drive.old drive.new }
 {
     let _capacity = drive.capacity();
@@ -41,12 +43,17 @@ pub fn write_last_alone<D: Drive>(
     requires fits { at + length blocks.now ≤ D.capacity drive.old }
     ensures ok { OnOk result (D.journal drive.new ≡ D.journal drive.old ++ written at blocks.now) }
     ensures err { OnErr result (AddsFront (D.journal drive.old) at blocks.now (D.journal drive.new)) }
+    ensures none { blocks.now ≡ [] → drive.new ≡ drive.old }
+    ensures alone { (before : List (List ℕ)) (last : List ℕ) → blocks.now ≡ before ++ last ∷ [] → SendsAlone D.Drive before last (is_err result) drive.old drive.new }
     ensures writes { Writes D.Drive (is_err result) drive.old drive.new }
 {
+    if blocks.is_empty() {
+        return Ok(());
+    }
     let _capacity = drive.capacity();
-    let (before, last) = blocks.split_at(blocks.len().saturating_sub(1));
+    let (before, last) = blocks.split_at(blocks.len() - 1);
     write_packets(drive, at, before)?;
-    write_packets(drive, at + before.len() as u32, last)?;
+    drive.write(at + before.len() as u32, last)?;
     Ok(())
 }
 
@@ -93,12 +100,13 @@ impl PacketWriter {
         self.packet.len()
     }
 
-    /// Takes a block. Where a whole packet waits already, it is written first.
+    /// Takes a block, which waits. Where a whole packet waits already, it is written first.
     pub fn put<D: Drive>(&mut self, drive: &mut D, block: &Block) -> Result<(), DriveFault>
         requires begins { self.old.at ≤ next_of (D.journal drive.old) }
         requires fits { end_of self.old < D.capacity drive.old }
-        ensures ok { OnOk result (Takes (D.journal drive.old) self.old (block.now ∷ []) (D.journal drive.new) self.new) }
-        ensures err { OnErr result (Stops (D.journal drive.old) self.old (block.now ∷ []) (D.journal drive.new)) }
+        ensures ok { OnOk result (Takes D.Drive drive.old self.old (block.now ∷ []) drive.new self.new) }
+        ensures waits { OnOk result (0 < length self.new.blocks) }
+        ensures err { OnErr result (Stops D.Drive drive.old self.old [] drive.new) }
         ensures writes { Writes D.Drive (is_err result) drive.old drive.new }
     {
         if self.waiting() == PACKET {
@@ -115,8 +123,8 @@ impl PacketWriter {
     pub fn put_all<D: Drive>(&mut self, drive: &mut D, blocks: &[Block]) -> Result<(), DriveFault>
         requires begins { self.old.at ≤ next_of (D.journal drive.old) }
         requires fits { end_of self.old + length blocks.now ≤ D.capacity drive.old }
-        ensures ok { OnOk result (Takes (D.journal drive.old) self.old blocks.now (D.journal drive.new) self.new) }
-        ensures err { OnErr result (Stops (D.journal drive.old) self.old blocks.now (D.journal drive.new)) }
+        ensures ok { OnOk result (Takes D.Drive drive.old self.old blocks.now drive.new self.new) }
+        ensures err { OnErr result (Stops D.Drive drive.old self.old blocks.now drive.new) }
         ensures writes { Writes D.Drive (is_err result) drive.old drive.new }
     {
         let (packets, rest) = blocks.split_at(self.straight(blocks.len()));
@@ -143,8 +151,8 @@ impl PacketWriter {
         requires alone { 0 < length self.old.blocks → length blocks.now ≡ 0 }
         requires begins { self.old.at ≤ next_of (D.journal drive.old) }
         requires fits { end_of self.old + length blocks.now ≤ D.capacity drive.old }
-        ensures ok { OnOk result (Takes (D.journal drive.old) self.old blocks.now (D.journal drive.new) self.new) }
-        ensures err { OnErr result (Stops (D.journal drive.old) self.old blocks.now (D.journal drive.new)) }
+        ensures ok { OnOk result (Takes D.Drive drive.old self.old blocks.now drive.new self.new) }
+        ensures err { OnErr result (Stops D.Drive drive.old self.old blocks.now drive.new) }
         ensures writes { Writes D.Drive (is_err result) drive.old drive.new }
     {
         let _capacity = drive.capacity();
@@ -164,8 +172,8 @@ impl PacketWriter {
     fn put_each<D: Drive>(&mut self, drive: &mut D, blocks: &[Block]) -> Result<(), DriveFault>
         requires begins { self.old.at ≤ next_of (D.journal drive.old) }
         requires fits { end_of self.old + length blocks.now ≤ D.capacity drive.old }
-        ensures ok { OnOk result (Takes (D.journal drive.old) self.old blocks.now (D.journal drive.new) self.new) }
-        ensures err { OnErr result (Stops (D.journal drive.old) self.old blocks.now (D.journal drive.new)) }
+        ensures ok { OnOk result (Takes D.Drive drive.old self.old blocks.now drive.new self.new) }
+        ensures err { OnErr result (Stops D.Drive drive.old self.old blocks.now drive.new) }
         ensures writes { Writes D.Drive (is_err result) drive.old drive.new }
     {
         for block in blocks {
@@ -181,6 +189,7 @@ impl PacketWriter {
         ensures ok { OnOk result (D.journal drive.new ≡ D.journal drive.old ++ written self.old.at self.old.blocks) }
         ensures empty { OnOk result (self.new ≡ record { at = end_of self.old; blocks = [] }) }
         ensures err { OnErr result (AddsFront (D.journal drive.old) self.old.at self.old.blocks (D.journal drive.new)) }
+        ensures sent { D.writes drive.new ≡ D.writes drive.old ++ as_write self.old.blocks }
         ensures writes { Writes D.Drive (is_err result) drive.old drive.new }
     {
         let _capacity = drive.capacity();

@@ -17,7 +17,8 @@ use Rattle.medium.specs.Runs.Answer.{Fault}
 use Rattle.medium.specs.Runs.AnswersNew.{failed}
 use Rattle.medium.specs.Torn.{AreAlike, NothingStands, Endures, IsTried, AreTried, AreCommitted}
 use Rattle.medium.proofs.Lists.{side, take_past}
-use Rattle.medium.proofs.Writes.{last_left, joined_append, joined_writes, writes_short, split_left}
+use Rattle.drive.proofs.Sending.{joined_append}
+use Rattle.medium.proofs.Writes.{last_left, joined_writes, writes_short, split_left}
 use Rattle.medium.proofs.Mediums.{none_at, none_from, none-append, stands_both, past_both}
 use Rattle.medium.proofs.One.{stands_one}
 use Rattle.medium.proofs.History.{past_now}

@@ -2,6 +2,7 @@
 use Rattle.std.proofs.Common.{◌≡◌, ◌⊎◌, inl, inr, ℕ, zero, suc, ◌-◌, ◌≤◌, ◌<◌, Bool, true, false, if◌then◌else◌, List, [], ◌∷◌, ◌++◌, length, take, slice_get, Some, refl, sym, ◌∙◌, ap, subst, arith, append_assoc, length-append}
 use Rattle.std.proofs.lemmas.List.{take-append-le, length-take}
 use Rattle.std.proofs.lemmas.Option.{same_Some}
+use Rattle.drive.proofs.Sending.{joined_append}
 use Rattle.drive.specs.Writes.{unwritten, joined, LastIsAlone, IsTorn, IsLeft, torn_by}
 use Rattle.medium.specs.Formats.{Block}
 use Rattle.medium.proofs.Lists.{side, get-take, take_past}
@@ -35,10 +36,6 @@ left_short [] left none = omega (arith, ap (λ (xs : List Block). length xs) non
 left_short (write ∷ writes) left (inl torn) = omega (arith, torn.short, length-append write (joined writes))
 left_short (write ∷ writes) left (inr (rest, whole, more)) =
     omega (arith, left_short writes rest more, ap (λ (xs : List Block). length xs) whole, length-append write rest, length-append write (joined writes))
-
-pub joined_append : (xs ys : List (List Block)) → joined (xs ++ ys) ≡ joined xs ++ joined ys
-joined_append [] ys = refl
-joined_append (x ∷ xs) ys = ap (λ (bs : List Block). x ++ bs) (joined_append xs ys) ∙ sym (append_assoc x (joined xs) (joined ys))
 
 -- a front of them is left of them, and so are none and all
 pub fronts_left : (k : ℕ) (writes : List (List Block)) → IsLeft writes (take k (joined writes))

@@ -1,12 +1,14 @@
-use Rattle.std.proofs.Common.{◌≡◌, ◌+◌, ◌≤◌, ◌++◌, ℕ, List, length, subst, ap, arith}
+use Rattle.std.proofs.Common.{◌≡◌, ◌+◌, ◌-◌, ◌++◌, [], ◌∷◌, ℕ, List, length, subst, ap, refl, ◌∙◌, arith, length-append}
+use Rattle.std.proofs.lemmas.Bool.Decides.{nat_tests}
 use Rattle.std.proofs.lemmas.List.{take-append-drop}
 use Rattle.std.proofs.lemmas.Result.{err_from_is_err_and}
 use Rattle.drive.specs.Journal.{written, next_of, AddsFront}
 use Rattle.drive.proofs.Fronts.{front_longer, front_after, written_after, begins_after}
+use Rattle.drive.proofs.Sending.{sends_as, alone_stopped, alone_sent, front_split, last_split}
 use Rattle.drive.proofs.packet.write_last_alone.Goals as goal
 
-pub write_packets-requires-2-clause-begins : goal.write_packets-requires-2-clause-begins
-write_packets-requires-2-clause-begins g c =
+pub write-requires-clause-begins : goal.write-requires-clause-begins
+write-requires-clause-begins g c =
     omega (arith, begins_after (g.D.Drive.journal c.args.drive.now) c.args.at c.split_at.result.0.now c.requires.begins, ap next_of c.in_ok-write_packets.ensures.ok)
 
 pub returns-in_err-write_packets-clause-err : goal.returns-in_err-write_packets-clause-err
@@ -17,31 +19,55 @@ returns-in_err-write_packets-clause-err g c =
     let before = c.split_at.result.0.now in
     let last = c.split_at.result.1.now in
     let all : before ++ last ≡ c.args.blocks.now =
-    rw (c.split_at.ensures.front, c.split_at.ensures.back) (take-append-drop c.saturating_sub.result c.args.blocks.now) in
+    rw (c.split_at.ensures.front, c.split_at.ensures.back) (take-append-drop (length c.args.blocks.now - 1) c.args.blocks.now) in
     rw p.1 (subst (λ (blocks : List (List ℕ)). AddsFront J c.args.at blocks J1) all
     (front_longer J J1 c.args.at before last c.in_err-write_packets.ensures.err))
 
-pub returns-in_err-write_packets-2-clause-err : goal.returns-in_err-write_packets-2-clause-err
-returns-in_err-write_packets-2-clause-err g c =
-    let p = err_from_is_err_and c.from_residual-in_err-write_packets-2.result c.from_residual-in_err-write_packets-2.ensures.1 in
+pub returns-in_err-write_packets-clause-alone : goal.returns-in_err-write_packets-clause-alone
+returns-in_err-write_packets-clause-alone g c = λ before last is.
+    let p = err_from_is_err_and c.from_residual.result c.from_residual.ensures.1 in
+    let front = c.split_at.ensures.front ∙ front_split c.args.blocks.now before last (length c.args.blocks.now - 1) refl is in
+    rw p.1 (alone_stopped last (sends_as front c.in_err-write_packets.ensures.sends))
+
+pub returns-then-is_empty-clause-alone : goal.returns-then-is_empty-clause-alone
+returns-then-is_empty-clause-alone g c = λ before last is.
+    let none : length c.args.blocks.now ≡ 0 = grind (arith, nat_tests, c.is_empty.ensures, c.if-is_empty.true) in
+    absurd (omega (arith, none, ap length is, length-append before (last ∷ [])))
+
+pub returns-in_err-write-clause-err : goal.returns-in_err-write-clause-err
+returns-in_err-write-clause-err g c =
+    let p = err_from_is_err_and c.from_residual-in_err-write.result c.from_residual-in_err-write.ensures.1 in
     let J = g.D.Drive.journal c.args.drive.now in
     let J1 = g.D.Drive.journal c.write_packets.new.drive in
-    let J2 = g.D.Drive.journal c.write_packets-2.new.drive in
+    let J2 = g.D.Drive.journal c.write.new.self in
     let before = c.split_at.result.0.now in
     let last = c.split_at.result.1.now in
     let all : before ++ last ≡ c.args.blocks.now =
-    rw (c.split_at.ensures.front, c.split_at.ensures.back) (take-append-drop c.saturating_sub.result c.args.blocks.now) in
+    rw (c.split_at.ensures.front, c.split_at.ensures.back) (take-append-drop (length c.args.blocks.now - 1) c.args.blocks.now) in
     rw p.1 (subst (λ (blocks : List (List ℕ)). AddsFront J c.args.at blocks J2) all
-    (front_after J J1 J2 c.args.at (c.args.at + length before) before last c.in_ok-write_packets.ensures.ok (omega arith) c.in_err-write_packets-2.ensures.err))
+    (front_after J J1 J2 c.args.at (c.args.at + length before) before last c.in_ok-write_packets.ensures.ok (omega arith) c.in_err-write.ensures.err))
+
+pub returns-in_err-write-clause-alone : goal.returns-in_err-write-clause-alone
+returns-in_err-write-clause-alone g c = λ before last is.
+    let p = err_from_is_err_and c.from_residual-in_err-write.result c.from_residual-in_err-write.ensures.1 in
+    let front = c.split_at.ensures.front ∙ front_split c.args.blocks.now before last (length c.args.blocks.now - 1) refl is in
+    let back = c.split_at.ensures.back ∙ last_split c.args.blocks.now before last (length c.args.blocks.now - 1) refl is in
+    rw p.1 (alone_sent last (sends_as front c.in_ok-write_packets.ensures.sends) (c.write.ensures.writes ∙ ap (λ (b : List (List ℕ)). g.D.Drive.writes c.write_packets.new.drive ++ b ∷ []) back))
 
 pub returns-clause-ok : goal.returns-clause-ok
 returns-clause-ok g c =
     let J = g.D.Drive.journal c.args.drive.now in
     let J1 = g.D.Drive.journal c.write_packets.new.drive in
-    let J2 = g.D.Drive.journal c.write_packets-2.new.drive in
+    let J2 = g.D.Drive.journal c.write.new.self in
     let before = c.split_at.result.0.now in
     let last = c.split_at.result.1.now in
     let all : before ++ last ≡ c.args.blocks.now =
-    rw (c.split_at.ensures.front, c.split_at.ensures.back) (take-append-drop c.saturating_sub.result c.args.blocks.now) in
+    rw (c.split_at.ensures.front, c.split_at.ensures.back) (take-append-drop (length c.args.blocks.now - 1) c.args.blocks.now) in
     subst (λ (blocks : List (List ℕ)). J2 ≡ J ++ written c.args.at blocks) all
-    (written_after J J1 J2 c.args.at (c.args.at + length before) before last c.in_ok-write_packets.ensures.ok (omega arith) c.in_ok-write_packets-2.ensures.ok)
+    (written_after J J1 J2 c.args.at (c.args.at + length before) before last c.in_ok-write_packets.ensures.ok (omega arith) c.in_ok-write.ensures.ok)
+
+pub returns-clause-alone : goal.returns-clause-alone
+returns-clause-alone g c = λ before last is.
+    let front = c.split_at.ensures.front ∙ front_split c.args.blocks.now before last (length c.args.blocks.now - 1) refl is in
+    let back = c.split_at.ensures.back ∙ last_split c.args.blocks.now before last (length c.args.blocks.now - 1) refl is in
+    alone_sent last (sends_as front c.in_ok-write_packets.ensures.sends) (c.write.ensures.writes ∙ ap (λ (b : List (List ℕ)). g.D.Drive.writes c.write_packets.new.drive ++ b ∷ []) back)

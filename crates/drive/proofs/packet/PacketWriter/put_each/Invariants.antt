@@ -6,6 +6,6 @@ use Rattle.drive.proofs.packet.PacketWriter.put_each.Given as goal
 -- the blocks so far were taken
 abbrev pub invariant-loop-block : goal.invariant-loop-block
 invariant-loop-block g l = record {
-  taken : Takes (g.D.Drive.journal l.fn.drive) l.fn.self (take l.block-index l.blocks) (g.D.Drive.journal l.drive) l.self;
+  taken : Takes g.D.Drive l.fn.drive l.fn.self (take l.block-index l.blocks) l.drive l.self;
   writes : Writes g.D.Drive false l.fn.drive l.drive;
 }
