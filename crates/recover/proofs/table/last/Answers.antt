@@ -12,6 +12,7 @@ loop-left-init g c = record {
   within = (let within : c.in-Ok.next ≤ next_of (g.D.Drive.journal c.args.drive.now) = omega (arith, c.in-Ok.ensures.next) in within);
   reads = record {
     journal = c.next.ensures.journal;
+    writes = c.next.ensures.writes;
     capacity = c.next.ensures.capacity;
     failures = λ few. omega (arith, c.in-Ok.ensures.failures);
     misreads = omega (arith, c.next.ensures.misreads);
