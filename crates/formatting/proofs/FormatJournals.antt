@@ -1,5 +1,5 @@
 -- What a format leaves on a drive's journal.
-use Rattle.std.proofs.Common.{◌≡◌, ◌≢◌, ℕ, zero, suc, ◌+◌, ◌-◌, ◌<◌, ◌≤◌, Bool, true, false, IsTrue, List, [], ◌∷◌, ◌++◌, length, take, drop, get_or, Option, Some, None, inl, inr, refl, sym, ap, subst, ◌∙◌, arith, append_assoc, append-nil, length-append, length-drop, eq-eqb, ne_eqb}
+use Rattle.std.proofs.Common.{◌≡◌, ◌≢◌, ◌⊎◌, ℕ, zero, suc, ◌+◌, ◌-◌, ◌<◌, ◌≤◌, Bool, true, false, IsTrue, List, [], ◌∷◌, ◌++◌, length, take, drop, get_or, Option, Some, None, inl, inr, refl, sym, ap, subst, ◌∙◌, arith, append_assoc, append-nil, length-append, length-drop, eq-eqb, ne_eqb}
 use Rattle.std.specs.Prelude.{nat_eq, not, slice_get, unwrap_or}
 use Rattle.std.specs.Cmp.Lexicographic.{pointwise, same_text, other_text}
 use Rattle.std.proofs.Math.ListN.{get_or-append}
@@ -10,6 +10,10 @@ use Rattle.std.proofs.lemmas.List.Elements.{All-append, All-push}
 use Rattle.drive.specs.Journal.{Event, written, next_of, last_at, later_or, table, held, AddsFront}
 use Rattle.drive.proofs.Journals.{last-append, next_after_write}
 use Rattle.drive.proofs.Fronts.{front_whole, front_within}
+use Rattle.drive.proofs.Sending.{front_split, last_split}
+use Rattle.drive.specs.Sending.{SendsAlone}
+use Rattle.drive.specs.Writes.{LastIsAlone, IsLeft}
+use Rattle.drive.specs.declared.Drive.{Ghosts}
 use Rattle.volume.proofs.FrontLaws.{each_push}
 use Rattle.recover.proofs.Held.{length-held}
 use Rattle.model.specs.Session.{formatted}
@@ -19,9 +23,12 @@ use Rattle.medium.specs.Step.{IsFormat}
 use Rattle.medium.proofs.Formatted.{format_stands}
 use Rattle.medium.proofs.Mediums.{none_take_at}
 use Rattle.udf.specs.Udf.{udf, IsBlock}
-use Rattle.udf.proofs.Formats.{exact}
+use Rattle.medium.proofs.Torn.{format_torn}
+use Rattle.medium.proofs.Writes.{left_more}
+use Rattle.medium.specs.Torn.{NothingStands}
+use Rattle.udf.proofs.Formats.{exact, bounded, distinct}
 use Rattle.udf.proofs.NewVolume.{new_volumes_are_formats}
-use Rattle.formatting.specs.NewVolume.{Words, IsBlockAt, IsFormatOf, IsBegun, IsSeen, AreBlocks, HoldsFronts, IsFormatted, IsCut}
+use Rattle.formatting.specs.NewVolume.{Words, IsBlockAt, IsFormatOf, IsBegun, IsSeen, AreBlocks, HoldsFronts, IsFormatted, IsCut, Withstands}
 use Rattle.formatting.proofs.NewVolumes.{whole_format, format_long, block_at, one_block_at}
 
 -- ---- what a journal holds
@@ -167,6 +174,19 @@ module _ (capacity : ℕ) (words : Words) (blocks : List Block) (before behind :
         subst (λ (bs : List Block). Stands udf capacity words.volume bs (formatted words.moment)) (sym there) (format_stands udf capacity words.volume words.label words.moment first is.mark format_is exact);
   }
 
+-- nothing was written
+pub nothing_written : (capacity : ℕ) (words : Words) (before : List Event) (writes behind : List (List Block)) (honest : Bool) → behind ≡ writes → Withstands capacity words before writes behind honest
+nothing_written capacity words before writes behind honest same = record { added = []; writes_are = same ∙ sym (append-nil writes); torn = inl refl }
+
+-- blocks are none, or end in one
+pub none_or_last : (bs : List Block) → (bs ≡ []) ⊎ ((front : List Block) × (last : Block) × (bs ≡ front ++ last ∷ []))
+none_or_last [] = inl refl
+none_or_last (b ∷ bs) = inr (go b bs)
+  where
+    go : (b : Block) (bs : List Block) → (front : List Block) × (last : Block) × (b ∷ bs ≡ front ++ last ∷ [])
+    go b [] = ([], b, refl)
+    go b (c ∷ bs) = let rest = go c bs in (b ∷ rest.0, rest.1, ap (λ (cs : List Block). b ∷ cs) rest.2)
+
 -- a journal that was read, and goes on with the blocks that were not there
 module _ (capacity : ℕ) (words : Words) (low : 512 ≤ words.volume) (high : words.volume ≤ 450_000) (fits : words.volume ≤ capacity)
     (before between behind : List Event) (then now : Bool) (next : ℕ) (blocks : List Block) (between-is : between ≡ before) (next-is : next ≡ next_of before) (short : next ≤ 262)
@@ -230,6 +250,54 @@ module _ (capacity : ℕ) (words : Words) (low : 512 ≤ words.volume) (high : w
             ((fronts h).new (length behind) (omega (arith, ap length journal, length-append before (written (next_of before) (drop (next_of before) all))))
             (ap next_of whole ∙ sym (length-held behind) ∙ ap length (holds h) ∙ all_long));
       }
+
+  -- whatever a loss of power leaves of the blocks that were not there, the last of them in a write of its own
+  module _ (front : List Block) (last : Block) (ends : blocks ≡ front ++ last ∷ []) (added others : List (List Block)) (alone : LastIsAlone front last (added ++ others)) (honestly : IsTrue now) where
+    abbrev first_all : List Block
+    first_all = all_are.front ++ all_are.set ∷ all_are.names ∷ all_are.root ∷ all_are.table ∷ []
+
+    ends_all : first_all ++ all_are.mark ∷ [] ≡ (seen.blocks ++ front) ++ last ∷ []
+    ends_all =
+        append_assoc all_are.front (all_are.set ∷ all_are.names ∷ all_are.root ∷ all_are.table ∷ []) (all_are.mark ∷ []) ∙ sym all_are.order
+        ∙ ap (λ (bs : List Block). seen.blocks ++ bs) ends ∙ sym (append_assoc seen.blocks front (last ∷ []))
+
+    first_is : seen.blocks ++ front ≡ first_all
+    first_is = sym (front_split (first_all ++ all_are.mark ∷ []) (seen.blocks ++ front) last _ refl ends_all) ∙ front_split (first_all ++ all_are.mark ∷ []) first_all all_are.mark _ refl refl
+
+    last_is : last ∷ [] ≡ all_are.mark ∷ []
+    last_is = sym (last_split (first_all ++ all_are.mark ∷ []) (seen.blocks ++ front) last _ refl ends_all) ∙ last_split (first_all ++ all_are.mark ∷ []) first_all all_are.mark _ refl refl
+
+    all_alone : LastIsAlone first_all all_are.mark (seen.blocks ∷ (added ++ others))
+    all_alone = record {
+      before = seen.blocks ∷ alone.before;
+      order = ap (λ (bs : List Block). seen.blocks ++ bs) alone.order ∙ first_is;
+      writes_are = ap (λ (ws : List (List Block)). seen.blocks ∷ ws) (alone.writes_are ∙ ap (λ (write : List Block). alone.before ++ write ∷ []) last_is);
+    }
+
+    torn_is : (left : List Block) → IsLeft added left
+        → NothingStands udf (held (before ++ written (next_of before) left)) ⊎ Stands udf capacity words.volume (held (before ++ written (next_of before) left)) (formatted words.moment)
+    torn_is left cut =
+        let sofar : held before ≡ seen.blocks = held_is before seen.blocks (seen.long ∙ next-is) (λ n lt. seen.there (honest honestly) n (omega (arith, lt, seen.long))) in
+        let there : seen.blocks ++ left ≡ held (before ++ written (next_of before) left) = ap (λ (bs : List Block). bs ++ left) (sym sofar) ∙ sym (held_more before left) in
+        let are_format = new_volumes_are_formats capacity words.volume words.label words.moment all_are.front all_are.set all_are.names all_are.root all_are.table all_are.mark all_are.is fits in
+        elim (format_torn udf distinct exact bounded capacity words.volume words.label words.moment first_all all_are.mark are_format (seen.blocks ∷ (added ++ others)) (seen.blocks ++ left) all_alone
+        (inr (left, refl, left_more added others left cut))) [
+          | inl none ↦ inl (subst (λ (M : List Block). NothingStands udf M) there none)
+          | inr whole ↦ inr (subst (λ (M : List Block). Stands udf capacity words.volume M (formatted words.moment)) there whole.1)
+        ]
+
+  pub withstands_is : {D : Type 0} {drive : Ghosts D} {failed : Bool} {d e : D} (writes : List (List Block)) → drive.writes d ≡ writes → (blocks ≡ [] → e ≡ d)
+      → ((front : List Block) (last : Block) → blocks ≡ front ++ last ∷ [] → SendsAlone drive front last failed d e) → Withstands capacity words before writes (drive.writes e) now
+  withstands_is {drive = drive} {e = e} writes kept none alone = elim (none_or_last blocks) [
+    | inl empty ↦ nothing_written capacity words before writes (drive.writes e) now (ap (λ x. drive.writes x) (none empty) ∙ kept)
+    | inr some ↦
+        let sends = alone some.0 some.1 some.2 in
+        record {
+          added = sends.added;
+          writes_are = sends.writes ∙ ap (λ (ws : List (List Block)). ws ++ sends.added) kept;
+          torn = inr (λ honestly. torn_is some.0 some.1 some.2 sends.added sends.others sends.alone honestly);
+        }
+  ]
 
 -- words that are the same one by one
 pub same_words : (words : Words) (volume volume' : ℕ) (label label' : List ℕ) (moment moment' : ℕ) → words ≡ record { volume = volume; label = label; moment = moment }

@@ -7,9 +7,11 @@ use Rattle.dir.specs.Directory.{IsDirectory}
 use Rattle.vat.specs.Table.{IsTable}
 use Rattle.volume.specs.Front.{IsFrontBlock}
 use Rattle.drive.specs.Journal.{Event, written, next_of, last_at, held, AddsFront}
+use Rattle.drive.specs.Writes.{IsLeft}
 use Rattle.model.specs.Session.{State, formatted}
 use Rattle.medium.specs.Formats.{Block}
 use Rattle.medium.specs.Volume.{Stands}
+use Rattle.medium.specs.Torn.{NothingStands}
 use Rattle.udf.specs.Udf.{udf, IsBlock}
 use Rattle.udf.specs.NewVolume.{root_fields, first_table, table_fields, IsNewVolume}
 use Rattle.recover.specs.declared.fault.StoreFault.{StoreFault}
@@ -107,6 +109,14 @@ pub record IsCut (capacity : ℕ) (words : Words) (before behind : List Event) (
   pub short : next_of before ≤ 262
   pub journal : AddsFront before (next_of before) (drop (next_of before) blocks) behind
   pub fronts : IsTrue honest → HoldsFronts capacity words blocks before behind
+
+-- The writes that a call added. It added none, or whatever a loss of power leaves of them behind what was there, nothing
+-- stands, whatever drive and volume it is read in, or the new volume does.
+pub record Withstands (capacity : ℕ) (words : Words) (before : List Event) (writes behind : List (List Block)) (honest : Bool) : Type 0 where
+  pub added : List (List Block)
+  pub writes_are : behind ≡ writes ++ added
+  pub torn : (added ≡ []) ⊎ (IsTrue honest → (left : List Block) → IsLeft added left
+      → NothingStands udf (held (before ++ written (next_of before) left)) ⊎ Stands udf capacity words.volume (held (before ++ written (next_of before) left)) (formatted words.moment))
 
 -- What each refusal leaves. Where the drive is honest, `NotBlank` says that it has other blocks than these words give.
 abbrev pub IsRefused : ℕ → Words → List Event → List Event → Bool → StoreFault → Type 0

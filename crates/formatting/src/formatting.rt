@@ -11,7 +11,7 @@ ghost use Rattle.osta.specs.FirstFault.{first_fault};
 ghost use Rattle.osta.specs.Label.{IsLabel, label_faults};
 ghost use Rattle.recover.specs.Faults.{devices};
 ghost use Rattle.recover.specs.declared.fault.StoreFault.TheVariants as fault;
-ghost use Rattle.formatting.specs.NewVolume.{words_of, words_on, IsBlockAt, IsSeen, IsBegun, AreBlocks, IsFormatted, IsRefused, OneFormat};
+ghost use Rattle.formatting.specs.NewVolume.{words_of, words_on, IsBlockAt, IsSeen, IsBegun, AreBlocks, IsFormatted, IsRefused, Withstands, OneFormat};
 ghost use Rattle.udf.specs.Udf.{IsBlock};
 ghost use Rattle.udf.specs.NewVolume as udf;
 ghost use Rattle.udf.specs.NewVolume.{root_fields, table_fields};
@@ -48,6 +48,7 @@ const TABLE_ENTRY: u32 = 4;
 /// Writes a new volume on a blank drive, or the rest of one that the same words began. The moment is in microseconds from
 /// 1970-01-01 UTC. A drive is refused that has other blocks, or more. The last block, with which the volume stands, goes out
 /// in a write of its own, behind the finished writes of all others.
+#[tactic(auto, using(crate::proofs::FormatJournals::nothing_written))]
 pub fn format<D: Drive>(
     alloc: Global,
     drive: &mut D,
@@ -57,6 +58,8 @@ pub fn format<D: Drive>(
     requires moment { moment < 4_102_444_800_000_000 }
     ensures ok { OnOk result (IsFormatted (D.capacity drive.old) (words_on (D.capacity drive.old) label.now moment) (D.journal drive.old) (D.journal drive.new) (D.honest drive.new)) }
     ensures err { IfErr result (IsRefused (D.capacity drive.old) (words_on (D.capacity drive.old) label.now moment) (D.journal drive.old) (D.journal drive.new) (D.honest drive.new)) }
+    // Whatever part of its writes a loss of power leaves, where a disk keeps any choice of the blocks of the last one that it was given.
+    ensures withstands { Withstands (D.capacity drive.old) (words_on (D.capacity drive.old) label.now moment) (D.journal drive.old) (D.writes drive.old) (D.writes drive.new) (D.honest drive.new) }
     ensures label { (result ≡ Err fault.Label) ↔ IsSome (first_fault (label_faults label.now)) }
     ensures small { (result ≡ Err fault.Small) ↔ (IsNone (first_fault (label_faults label.now)) × (D.capacity drive.old < 512)) }
     ensures follows { Follows D.Drive (devices result) drive.old drive.new }

@@ -22,6 +22,7 @@ loop-n-preserved g c = record {
       (blocks_same c.read.new.into c.format_block-expected.result c.ne.result c.ne.ensures c.if-ne.false) (λ honest. rw c.loop-n.invariant.reads.journal at (c.in-Ok-read.ensures.read honest));
   reads = reads_then c.loop-n.invariant.reads (record {
     journal = c.read.ensures.journal;
+    writes = c.read.ensures.writes;
     capacity = c.read.ensures.capacity;
     failures = λ few. omega (arith, c.in-Ok-read.ensures.failures);
     misreads = c.read.ensures.misreads;

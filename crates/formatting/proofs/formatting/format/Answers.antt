@@ -1,8 +1,8 @@
 use Rattle.std.proofs.Common.{◌≡◌, ◌≤◌, ◌++◌, min, IsTrue, List, ◌∙◌, subst, ap, inr, arith, rules}
 use Rattle.drive.specs.Journal.{written, AddsFront}
 use Rattle.medium.specs.Formats.{Block}
-use Rattle.formatting.specs.NewVolume.{Words, words_of, IsFormatted, IsCut}
-use Rattle.formatting.proofs.FormatJournals.{cut_is, formatted_is, same_words}
+use Rattle.formatting.specs.NewVolume.{Words, words_of, IsFormatted, IsCut, Withstands}
+use Rattle.formatting.proofs.FormatJournals.{cut_is, formatted_is, withstands_is, same_words}
 use Rattle.formatting.proofs.formatting.format.Goals as goal
 
 pub returns-in-Ok-write_last_alone-clause-ok : goal.returns-in-Ok-write_last_alone-clause-ok
@@ -42,3 +42,41 @@ returns-clause-err g c =
     inr (subst (λ w. IsCut capacity w before behind now) words
     (cut_is capacity (words_of parts) parts.low parts.high room before between behind (g.D.Drive.honest c.begun.new.drive) now c.in-Ok-Some.count c.in-Ok-rest.blocks.items
     c.in-Ok-Some.ensures.reads.journal next.0 next.1 seen c.in-Ok-rest.ensures (subst IsTrue c.in-Err-write_last_alone.ensures.writes.honest) adds))
+
+pub returns-in-Ok-write_last_alone-clause-withstands : goal.returns-in-Ok-write_last_alone-clause-withstands
+returns-in-Ok-write_last_alone-clause-withstands g c =
+    let parts = c.in-Ok-parts_of.parts in
+    let capacity = g.D.Drive.capacity c.args.drive.now in
+    let before = g.D.Drive.journal c.args.drive.now in
+    let between = g.D.Drive.journal c.begun.new.drive in
+    let now = g.D.Drive.honest c.write_last_alone.new.drive in
+    let next = rw c.in-Ok-Some.field-0-is at c.in-Ok-Some.ensures.next in
+    let seen = rw c.in-Ok-Some.field-0-is at c.in-Ok-Some.ensures.seen in
+    let volume : c.min.result ≡ min capacity 450_000 = c.min.ensures ∙ ap (λ n. min n 450_000) c.capacity-capacity.ensures in
+    let moment : c.unwrap-moment.result ≡ c.args.moment = search rules in
+    let words = same_words (words_of parts) _ _ _ _ _ _ c.in-Ok-parts_of.ensures volume c.in-Ok.ensures.label.0 moment in
+    let room : parts.capacity ≤ capacity = omega (arith, ap (λ (w : Words). w.volume) words) in
+    subst (λ w. Withstands capacity w before (g.D.Drive.writes c.args.drive.now) (g.D.Drive.writes c.write_last_alone.new.drive) now) words
+    (withstands_is capacity (words_of parts) parts.low parts.high room before between (g.D.Drive.journal c.write_last_alone.new.drive) (g.D.Drive.honest c.begun.new.drive) now c.in-Ok-Some.count c.in-Ok-rest.blocks.items
+    c.in-Ok-Some.ensures.reads.journal next.0 next.1 seen c.in-Ok-rest.ensures (subst IsTrue c.in-Ok-write_last_alone.ensures.writes.honest) (g.D.Drive.writes c.args.drive.now) c.in-Ok-Some.ensures.reads.writes
+    (λ none. c.in-Ok-write_last_alone.ensures.none (c.deref.ensures.value ∙ none))
+    (λ front last ends. c.in-Ok-write_last_alone.ensures.alone front last (c.deref.ensures.value ∙ ends)))
+
+pub returns-clause-withstands : goal.returns-clause-withstands
+returns-clause-withstands g c =
+    let parts = c.in-Ok-parts_of.parts in
+    let capacity = g.D.Drive.capacity c.args.drive.now in
+    let before = g.D.Drive.journal c.args.drive.now in
+    let between = g.D.Drive.journal c.begun.new.drive in
+    let now = g.D.Drive.honest c.write_last_alone.new.drive in
+    let next = rw c.in-Ok-Some.field-0-is at c.in-Ok-Some.ensures.next in
+    let seen = rw c.in-Ok-Some.field-0-is at c.in-Ok-Some.ensures.seen in
+    let volume : c.min.result ≡ min capacity 450_000 = c.min.ensures ∙ ap (λ n. min n 450_000) c.capacity-capacity.ensures in
+    let moment : c.unwrap-moment.result ≡ c.args.moment = search rules in
+    let words = same_words (words_of parts) _ _ _ _ _ _ c.in-Ok-parts_of.ensures volume c.in-Ok.ensures.label.0 moment in
+    let room : parts.capacity ≤ capacity = omega (arith, ap (λ (w : Words). w.volume) words) in
+    subst (λ w. Withstands capacity w before (g.D.Drive.writes c.args.drive.now) (g.D.Drive.writes c.write_last_alone.new.drive) now) words
+    (withstands_is capacity (words_of parts) parts.low parts.high room before between (g.D.Drive.journal c.write_last_alone.new.drive) (g.D.Drive.honest c.begun.new.drive) now c.in-Ok-Some.count c.in-Ok-rest.blocks.items
+    c.in-Ok-Some.ensures.reads.journal next.0 next.1 seen c.in-Ok-rest.ensures (subst IsTrue c.in-Err-write_last_alone.ensures.writes.honest) (g.D.Drive.writes c.args.drive.now) c.in-Ok-Some.ensures.reads.writes
+    (λ none. c.in-Err-write_last_alone.ensures.none (c.deref.ensures.value ∙ none))
+    (λ front last ends. c.in-Err-write_last_alone.ensures.alone front last (c.deref.ensures.value ∙ ends)))
