@@ -4,6 +4,7 @@ ghost use Rattle.std.specs.Prelude.{min, ◌≡◌, ℕ, ◌+◌, ◌-◌, ◌*�
 ghost use Rattle.std.specs.Int.{div_ceil};
 ghost use Rattle.drive.specs.Journal.{next_of, written, AddsFront};
 ghost use Rattle.drive.specs.Reads.{Reads, Writes};
+ghost use Rattle.drive.specs.Sending.{SendsAlone};
 ghost use Rattle.drive.specs.Waiting.{end_of, Takes, Stops};
 ghost use Rattle.osta.specs.Compressed.{compressed};
 ghost use Rattle.dir.specs.Directory.{IsEntry};
@@ -21,7 +22,7 @@ ghost use Rattle.planning.specs.Last.{IsLast, Keeps};
 ghost use Rattle.table.specs.Below.{AreBelow, IsUsed};
 ghost use Rattle.table.specs.Full.{is_full};
 ghost use Rattle.planning.specs.Needs as needs;
-ghost use Rattle.planning.specs.Plan.{IsPlan, IsTablePlaced, AreLaid, file_list, file_writings, file_written, directory_list, directories_list, directories_writings, directories_written, plan_blocks, plan_writings, plan_written, table_data};
+ghost use Rattle.planning.specs.Plan.{IsPlan, IsTablePlaced, AreLaid, file_list, node_list, file_writings, file_written, directory_list, directories_list, directories_writings, directories_written, plan_blocks, plan_writings, plan_written, table_data};
 ghost use Rattle.table.specs.NextTable.{AreTaken, all_placed, begun, next_table, without_gone};
 ghost use Rattle.table.specs.TableChange.{IsFree, IsNext, IsRemovable, committed};
 ghost use Rattle.planning.specs.Writings.{IsProper, new_file, new_directories, change_writings};
@@ -62,6 +63,7 @@ impl Plan<'_> {
         requires plan { IsPlan (next_of (D.journal drive.old)) (D.capacity drive.old) self.old }
         ensures ok { OnOk result (D.journal drive.new ≡ D.journal drive.old ++ written (next_of (D.journal drive.old)) (plan_blocks self.old)) }
         ensures err { OnErr result (AddsFront (D.journal drive.old) (next_of (D.journal drive.old)) (plan_blocks self.old) (D.journal drive.new)) }
+        ensures alone { SendsAlone D.Drive (node_list self.old ++ table_data self.old.table) self.old.table.entry (is_err result) drive.old drive.new }
         ensures directories { self.new.directories.items ≡ self.old.directories.items }
         ensures table { self.new.table ≡ self.old.table }
         ensures reply { self.new.reply ≡ self.old.reply }
@@ -102,8 +104,8 @@ fn write_file<D: Drive>(
 ) -> Result<(), DriveFault>
     requires begins { writer.old.packets.at ≤ next_of (D.journal drive.old) }
     requires fits { end_of writer.old.packets + length (file_list file.now) ≤ D.capacity drive.old }
-    ensures ok { OnOk result (Takes (D.journal drive.old) writer.old.packets (file_list file.now) (D.journal drive.new) writer.new.packets) }
-    ensures err { OnErr result (Stops (D.journal drive.old) writer.old.packets (file_list file.now) (D.journal drive.new)) }
+    ensures ok { OnOk result (Takes D.Drive drive.old writer.old.packets (file_list file.now) drive.new writer.new.packets) }
+    ensures err { OnErr result (Stops D.Drive drive.old writer.old.packets (file_list file.now) drive.new) }
     ensures writes { Writes D.Drive (is_err result) drive.old drive.new }
 {
     let Some(placed) = file else {
@@ -123,8 +125,8 @@ fn write_directory<D: Drive>(
 ) -> Result<(), DriveFault>
     requires begins { writer.old.packets.at ≤ next_of (D.journal drive.old) }
     requires fits { end_of writer.old.packets + length (directory_list placed.now) ≤ D.capacity drive.old }
-    ensures ok { OnOk result (Takes (D.journal drive.old) writer.old.packets (directory_list placed.now) (D.journal drive.new) writer.new.packets) }
-    ensures err { OnErr result (Stops (D.journal drive.old) writer.old.packets (directory_list placed.now) (D.journal drive.new)) }
+    ensures ok { OnOk result (Takes D.Drive drive.old writer.old.packets (directory_list placed.now) drive.new writer.new.packets) }
+    ensures err { OnErr result (Stops D.Drive drive.old writer.old.packets (directory_list placed.now) drive.new) }
     ensures writes { Writes D.Drive (is_err result) drive.old drive.new }
 {
     let content = &placed.directory.content;
@@ -141,8 +143,8 @@ fn write_directories<D: Drive>(
 ) -> Result<(), DriveFault>
     requires begins { writer.old.packets.at ≤ next_of (D.journal drive.old) }
     requires fits { end_of writer.old.packets + length (directories_list directories.now) ≤ D.capacity drive.old }
-    ensures ok { OnOk result (Takes (D.journal drive.old) writer.old.packets (directories_list directories.now) (D.journal drive.new) writer.new.packets) }
-    ensures err { OnErr result (Stops (D.journal drive.old) writer.old.packets (directories_list directories.now) (D.journal drive.new)) }
+    ensures ok { OnOk result (Takes D.Drive drive.old writer.old.packets (directories_list directories.now) drive.new writer.new.packets) }
+    ensures err { OnErr result (Stops D.Drive drive.old writer.old.packets (directories_list directories.now) drive.new) }
     ensures writes { Writes D.Drive (is_err result) drive.old drive.new }
 {
     for placed in directories {
@@ -161,8 +163,9 @@ fn write_table<D: Drive>(
     requires few { length table.now.bytes.items < 2 ^ 32 }
     requires begins { writer.old.packets.at ≤ next_of (D.journal drive.old) }
     requires fits { end_of writer.old.packets + length (table_data table.now ++ table.now.entry ∷ []) ≤ D.capacity drive.old }
-    ensures ok { OnOk result (Takes (D.journal drive.old) writer.old.packets (table_data table.now ++ table.now.entry ∷ []) (D.journal drive.new) writer.new.packets) }
-    ensures err { OnErr result (Stops (D.journal drive.old) writer.old.packets (table_data table.now ++ table.now.entry ∷ []) (D.journal drive.new)) }
+    ensures ok { OnOk result (Takes D.Drive drive.old writer.old.packets (table_data table.now ++ table.now.entry ∷ []) drive.new writer.new.packets) }
+    ensures waits { OnOk result (writer.new.packets.blocks ≡ table.now.entry ∷ []) }
+    ensures err { OnErr result (Stops D.Drive drive.old writer.old.packets (table_data table.now) drive.new) }
     ensures writes { Writes D.Drive (is_err result) drive.old drive.new }
 {
     writer.put_bytes(drive, table.gap, &table.bytes)?;

@@ -4,6 +4,7 @@ ghost use Rattle.std.specs.Prelude.{◌≡◌, ◌+◌, ◌<◌, ◌≤◌, ◌^
 ghost use Rattle.std.specs.Int.{div_ceil};
 ghost use Rattle.drive.specs.Journal.{next_of, written, AddsFront};
 ghost use Rattle.drive.specs.Reads.{Writes};
+ghost use Rattle.drive.specs.Sending.{as_write};
 ghost use Rattle.drive.specs.Waiting.{end_of, Takes, Stops};
 ghost use Rattle.dir.specs.Directory.{directory_blocks};
 ghost use Rattle.ecma.specs.Descriptor.{padded};
@@ -56,8 +57,9 @@ impl Writer {
     pub(crate) fn put<D: Drive>(&mut self, drive: &mut D, block: &Block) -> Result<(), DriveFault>
         requires begins { self.old.packets.at ≤ next_of (D.journal drive.old) }
         requires fits { end_of self.old.packets < D.capacity drive.old }
-        ensures ok { OnOk result (Takes (D.journal drive.old) self.old.packets (block.now ∷ []) (D.journal drive.new) self.new.packets) }
-        ensures err { OnErr result (Stops (D.journal drive.old) self.old.packets (block.now ∷ []) (D.journal drive.new)) }
+        ensures ok { OnOk result (Takes D.Drive drive.old self.old.packets (block.now ∷ []) drive.new self.new.packets) }
+        ensures waits { OnOk result (0 < length self.new.packets.blocks) }
+        ensures err { OnErr result (Stops D.Drive drive.old self.old.packets [] drive.new) }
         ensures writes { Writes D.Drive (is_err result) drive.old drive.new }
     {
         let held = self.held.saturating_add(self.packets.waiting() + 1);
@@ -69,8 +71,8 @@ impl Writer {
     fn put_zeros<D: Drive>(&mut self, drive: &mut D, count: u32) -> Result<(), DriveFault>
         requires begins { self.old.packets.at ≤ next_of (D.journal drive.old) }
         requires fits { end_of self.old.packets + count ≤ D.capacity drive.old }
-        ensures ok { OnOk result (Takes (D.journal drive.old) self.old.packets (replicate count zeros) (D.journal drive.new) self.new.packets) }
-        ensures err { OnErr result (Stops (D.journal drive.old) self.old.packets (replicate count zeros) (D.journal drive.new)) }
+        ensures ok { OnOk result (Takes D.Drive drive.old self.old.packets (replicate count zeros) drive.new self.new.packets) }
+        ensures err { OnErr result (Stops D.Drive drive.old self.old.packets (replicate count zeros) drive.new) }
         ensures writes { Writes D.Drive (is_err result) drive.old drive.new }
     {
         for i in 0..count {
@@ -83,8 +85,8 @@ impl Writer {
     fn put_all<D: Drive>(&mut self, drive: &mut D, blocks: &[Block]) -> Result<(), DriveFault>
         requires begins { self.old.packets.at ≤ next_of (D.journal drive.old) }
         requires fits { end_of self.old.packets + length blocks.now ≤ D.capacity drive.old }
-        ensures ok { OnOk result (Takes (D.journal drive.old) self.old.packets blocks.now (D.journal drive.new) self.new.packets) }
-        ensures err { OnErr result (Stops (D.journal drive.old) self.old.packets blocks.now (D.journal drive.new)) }
+        ensures ok { OnOk result (Takes D.Drive drive.old self.old.packets blocks.now drive.new self.new.packets) }
+        ensures err { OnErr result (Stops D.Drive drive.old self.old.packets blocks.now drive.new) }
         ensures writes { Writes D.Drive (is_err result) drive.old drive.new }
     {
         let left = blocks.len() - self.packets.straight(blocks.len());
@@ -99,8 +101,8 @@ impl Writer {
         requires begins { self.old.packets.at ≤ next_of (D.journal drive.old) }
         requires size { length bytes.now < 2 ^ 32 }
         requires fits { end_of self.old.packets + div_ceil (length bytes.now) 2048 ≤ D.capacity drive.old }
-        ensures ok { OnOk result (Takes (D.journal drive.old) self.old.packets (packed bytes.now) (D.journal drive.new) self.new.packets) }
-        ensures err { OnErr result (Stops (D.journal drive.old) self.old.packets (packed bytes.now) (D.journal drive.new)) }
+        ensures ok { OnOk result (Takes D.Drive drive.old self.old.packets (packed bytes.now) drive.new self.new.packets) }
+        ensures err { OnErr result (Stops D.Drive drive.old self.old.packets (packed bytes.now) drive.new) }
         ensures writes { Writes D.Drive (is_err result) drive.old drive.new }
     {
         let (blocks, text) = bytes.as_chunks::<BLOCK_SIZE>();
@@ -114,8 +116,8 @@ impl Writer {
         requires begins { self.old.packets.at ≤ next_of (D.journal drive.old) }
         requires size { length text.now < 2048 }
         requires fits { end_of self.old.packets + div_ceil (length text.now) 2048 ≤ D.capacity drive.old }
-        ensures ok { OnOk result (Takes (D.journal drive.old) self.old.packets (packed text.now) (D.journal drive.new) self.new.packets) }
-        ensures err { OnErr result (Stops (D.journal drive.old) self.old.packets (packed text.now) (D.journal drive.new)) }
+        ensures ok { OnOk result (Takes D.Drive drive.old self.old.packets (packed text.now) drive.new self.new.packets) }
+        ensures err { OnErr result (Stops D.Drive drive.old self.old.packets (packed text.now) drive.new) }
         ensures writes { Writes D.Drive (is_err result) drive.old drive.new }
     {
         if text.is_empty() {
@@ -134,8 +136,8 @@ impl Writer {
         requires begins { self.old.packets.at ≤ next_of (D.journal drive.old) }
         requires size { length bytes.now < 2 ^ 32 }
         requires fits { end_of self.old.packets + (gap + div_ceil (length bytes.now) 2048) ≤ D.capacity drive.old }
-        ensures ok { OnOk result (Takes (D.journal drive.old) self.old.packets (replicate gap zeros ++ packed bytes.now) (D.journal drive.new) self.new.packets) }
-        ensures err { OnErr result (Stops (D.journal drive.old) self.old.packets (replicate gap zeros ++ packed bytes.now) (D.journal drive.new)) }
+        ensures ok { OnOk result (Takes D.Drive drive.old self.old.packets (replicate gap zeros ++ packed bytes.now) drive.new self.new.packets) }
+        ensures err { OnErr result (Stops D.Drive drive.old self.old.packets (replicate gap zeros ++ packed bytes.now) drive.new) }
         ensures writes { Writes D.Drive (is_err result) drive.old drive.new }
     {
         self.put_zeros(drive, gap)?;
@@ -154,8 +156,8 @@ impl Writer {
         requires first { first ≤ MAX_BLOCKS }
         requires begins { self.old.packets.at ≤ next_of (D.journal drive.old) }
         requires fits { end_of self.old.packets + length (directory_blocks directory.now first) ≤ D.capacity drive.old }
-        ensures ok { OnOk result (Takes (D.journal drive.old) self.old.packets (directory_blocks directory.now first) (D.journal drive.new) self.new.packets) }
-        ensures err { OnErr result (Stops (D.journal drive.old) self.old.packets (directory_blocks directory.now first) (D.journal drive.new)) }
+        ensures ok { OnOk result (Takes D.Drive drive.old self.old.packets (directory_blocks directory.now first) drive.new self.new.packets) }
+        ensures err { OnErr result (Stops D.Drive drive.old self.old.packets (directory_blocks directory.now first) drive.new) }
         ensures writes { Writes D.Drive (is_err result) drive.old drive.new }
     {
         let mut lay = Lay::new(directory, first);
@@ -172,6 +174,7 @@ impl Writer {
         ensures ok { OnOk result (D.journal drive.new ≡ D.journal drive.old ++ written self.old.packets.at self.old.packets.blocks) }
         ensures empty { OnOk result (self.new.packets ≡ record { at = end_of self.old.packets; blocks = [] }) }
         ensures err { OnErr result (AddsFront (D.journal drive.old) self.old.packets.at self.old.packets.blocks (D.journal drive.new)) }
+        ensures sent { D.writes drive.new ≡ D.writes drive.old ++ as_write self.old.packets.blocks }
         ensures writes { Writes D.Drive (is_err result) drive.old drive.new }
     {
         self.packets.finish(drive)

@@ -1,10 +1,12 @@
 -- What becomes of a new request, by where its commit ends.
-use Rattle.std.proofs.Common.{◌≡◌, ◌⊎◌, inl, inr, ℕ, ◌+◌, ◌<◌, ◌≤◌, true, List, [], ◌∷◌, ◌++◌, length, refl, sym, ap, subst, ◌∙◌, arith, append_assoc, append-nil}
+use Rattle.std.proofs.Common.{◌≡◌, ◌⊎◌, inl, inr, ℕ, Bool, ◌+◌, ◌<◌, ◌≤◌, true, List, [], ◌∷◌, ◌++◌, length, refl, sym, ap, subst, ◌∙◌, arith, append_assoc, append-nil}
 use Rattle.std.specs.Prelude.{Result, Ok, Err, IfOk, IfErr, OnOk, OnErr, is_err}
 use Rattle.std.proofs.lemmas.Bool.{false≢true}
 use Rattle.std.proofs.lemmas.List.{take_all}
 use Rattle.drive.specs.Journal.{AddsFront, Event, held, next_of, written}
 use Rattle.drive.proofs.Fronts.{held_write}
+use Rattle.drive.specs.Sending.{SendsAlone}
+use Rattle.drive.specs.declared.Drive.{Ghosts}
 use Rattle.model.specs.Addresses.{free_address}
 use Rattle.model.specs.Session.{State, after_one, reply_to}
 use Rattle.medium.specs.Commit.{need}
@@ -12,6 +14,9 @@ use Rattle.medium.specs.Formats.{Block}
 use Rattle.medium.specs.Journal.{Advances}
 use Rattle.medium.specs.Plan.{IsPlanned}
 use Rattle.medium.specs.Volume.{Medium, Stands}
+use Rattle.medium.proofs.OnJournals.{torn_advances}
+use Rattle.medium.proofs.Writes.{left_more}
+use Rattle.udf.proofs.Formats.{exact, bounded, distinct}
 use Rattle.recover.specs.Faults.{IsShortage}
 use Rattle.recover.specs.declared.fault.StoreFault.{StoreFault}
 use Rattle.recover.specs.declared.fault.StoreFault.TheVariants as fault
@@ -26,7 +31,7 @@ use Rattle.planning.specs.declared.plan.Plan.{Plan}
 use Rattle.store.specs.declared.store.Store.{Store}
 use Rattle.directories.specs.Asked.{said_operation, said_request}
 use Rattle.directories.specs.Cache.{AreKept}
-use Rattle.store.specs.Calls.{Applies, IsDone, IsFailed, Knows, Refuses}
+use Rattle.store.specs.Calls.{Applies, IsDone, IsFailed, Knows, Refuses, Withstands}
 use Rattle.planning.specs.Changes.{Does}
 use Rattle.table.specs.Commits.{IsPart, IsWhole}
 use Rattle.planning.specs.Needs.{change_need}
@@ -50,6 +55,14 @@ module _ (capacity volume : ℕ) (J : List Event) (S : State) (store : Store) (k
       ends = knows.stands;
       past = λ commits state h. h;
     };
+  }
+
+  -- so nothing can be torn
+  pub unwritten : (r : asking.Request) (W W' : List (List Block)) → W' ≡ W → Withstands capacity volume J S (said_request r) W W'
+  unwritten r W W' same = record {
+    added = [];
+    writes_are = same ∙ sym (append-nil W);
+    torn = λ left behind none there. inl (subst (λ (K : List Event). Advances udf capacity volume J S K S) (sym (there ∙ ap (λ (bs : List Block). J ++ written (length J) bs) none ∙ append-nil J)) stays);
   }
 
   -- the drive failed before anything was written, or memory was short
@@ -110,6 +123,17 @@ module _ (capacity volume : ℕ) (J : List Event) (S : State) (store : Store) (k
             room = λ more. roomy;
             knows = λ going. absurd (false≢true (sym going ∙ stops));
           }
+
+      -- whatever a loss of power leaves of what is written
+      pub withstands : {D : Type 0} {drive : Ghosts D} {failed : Bool} {d e : D} (W : List (List Block)) → drive.writes d ≡ W → SendsAlone drive (node_list plan ++ table_data plan.table) plan.table.entry failed d e
+          → Withstands capacity volume J S (said_request r) W (drive.writes e)
+      withstands W kept sends = record {
+        added = sends.added;
+        writes_are = sends.writes ∙ ap (λ (ws : List (List Block)). ws ++ sends.added) kept;
+        torn = λ left behind cut there.
+            elim (torn_advances udf capacity volume exact bounded distinct J behind S (said_request r) blocks plan.table.entry knows.once knows.stands plans (sends.added ++ sends.others) left sends.alone
+            (left_more sends.added sends.others left cut) there) [ inl stood ↦ inl stood | inr done ↦ inr done.1 ];
+      }
 
       -- all is written
       module _ (J' : List Event) (whole_is : J' ≡ J ++ written (next_of J) (plan_blocks plan)) where

@@ -1,6 +1,7 @@
 -- What the calls of a store say on a drive that is honest, of the state that stands on its journal.
-use Rattle.std.specs.Prelude.{◌≡◌, ◌⊎◌, ℕ, ◌+◌, ◌<◌, ◌≤◌, false, List, [], ◌∷◌, length, Result, Ok, Err}
-use Rattle.drive.specs.Journal.{Event, held, Once}
+use Rattle.std.specs.Prelude.{◌≡◌, ◌⊎◌, ℕ, ◌+◌, ◌<◌, ◌≤◌, false, List, [], ◌∷◌, ◌++◌, length, Result, Ok, Err}
+use Rattle.drive.specs.Journal.{Event, held, written, Once}
+use Rattle.drive.specs.Writes.{IsLeft as AreLeft}
 use Rattle.request.specs.declared.answer.Reply as told
 use Rattle.request.specs.declared.answer.Listed.{Listed}
 use Rattle.request.specs.declared.answer.NodeStatus.{NodeStatus}
@@ -79,6 +80,13 @@ Refuses capacity volume before S request refusal behind store =
 abbrev pub Applies : (capacity volume : ℕ) → List Event → State → Request → Result told.Reply StoreFault → List Event → Store → Type 0
 Applies capacity volume before S request (Ok reply) behind store = IsDone capacity volume before S request reply behind store
 Applies capacity volume before S request (Err refusal) behind store = Refuses capacity volume before S request refusal behind store
+
+-- The writes that a call added. Whatever a loss of power leaves of them behind what was there, the state stands as before, or the state after the request does.
+pub record Withstands (capacity volume : ℕ) (before : List Event) (S : State) (request : Request) (writes behind : List (List (List ℕ))) : Type 0 where
+  pub added : List (List (List ℕ))
+  pub writes_are : behind ≡ writes ++ added
+  pub torn : (left : List (List ℕ)) (journal : List Event) → AreLeft added left → journal ≡ before ++ written (length before) left
+      → Advances udf capacity volume before S journal S ⊎ Advances udf capacity volume before S journal (after_one S request)
 
 -- ---- queries
 

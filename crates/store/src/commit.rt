@@ -3,13 +3,14 @@
 ghost use Rattle.std.specs.Prelude.{◌≡◌, ℕ, ◌+◌, ◌++◌, false, true, Err, is_err, IsTrue, IfOk, IfErr, OnOk, OnErr};
 ghost use Rattle.drive.specs.Journal.{Once, next_of, written, AddsFront};
 ghost use Rattle.drive.specs.Reads.{Follows};
+ghost use Rattle.drive.specs.Sending.{SendsAlone};
 ghost use Rattle.recover.specs.Faults.{devices};
 ghost use Rattle.model.specs.Session.{State};
 ghost use Rattle.store.specs.Agrees.{Agrees};
 ghost use Rattle.directories.specs.Asked.{said_request};
-ghost use Rattle.store.specs.Calls.{Applies, Knows};
+ghost use Rattle.store.specs.Calls.{Applies, Knows, Withstands};
 ghost use Rattle.directories.specs.Cache.{AreKept};
-ghost use Rattle.planning.specs.Plan.{IsPlan, plan_blocks};
+ghost use Rattle.planning.specs.Plan.{IsPlan, table_data, node_list, plan_blocks};
 ghost use Rattle.store.specs.Putting.{WritesPlan, IsRefused};
 ghost use Rattle.table.specs.TableChange.{IsNext};
 ghost use Rattle.recover.specs.declared.fault.StoreFault.TheVariants.{Device, Stopped};
@@ -36,6 +37,8 @@ impl Store {
         requires next { IsNext request.now.client request.now.number self.old.vat.sessions.records.items }
         // What becomes of the request on an honest drive, where a state stands that the store knows.
         ensures applies { (volume : ℕ) (S : State) → IsTrue (D.honest drive.new) → Knows (D.capacity drive.old) volume (D.journal drive.old) S self.old → self.old.is_stopped ≡ false → Applies (D.capacity drive.old) volume (D.journal drive.old) S (said_request request.now) result (D.journal drive.new) self.new }
+        // Whatever part of its writes a loss of power leaves, where a disk keeps any choice of the blocks of the last one that it was given.
+        ensures withstands { (volume : ℕ) (S : State) → IsTrue (D.honest drive.new) → Knows (D.capacity drive.old) volume (D.journal drive.old) S self.old → Withstands (D.capacity drive.old) volume (D.journal drive.old) S (said_request request.now) (D.writes drive.old) (D.writes drive.new) }
         ensures agrees { Agrees (D.journal drive.new) (D.capacity drive.new) self.new }
         ensures commit { IfOk result (λ reply. reply.commit ≡ self.old.vat.sessions.commits + 1) }
         ensures written { IfOk result (λ reply. WritesPlan self.old request.now (D.capacity drive.old) (D.journal drive.old) (D.journal drive.new) self.new reply) }
@@ -77,6 +80,7 @@ impl Store {
         ensures vat { OnOk result (self.new.vat ≡ plan.entry.table.vat) }
         ensures written { OnOk result (D.journal drive.new ≡ D.journal drive.old ++ written (next_of (D.journal drive.old)) (plan_blocks plan.entry)) }
         ensures front { OnErr result (AddsFront (D.journal drive.old) (next_of (D.journal drive.old)) (plan_blocks plan.entry) (D.journal drive.new)) }
+        ensures alone { SendsAlone D.Drive (node_list plan.entry ++ table_data plan.entry.table) plan.entry.table.entry (is_err result) drive.old drive.new }
         ensures kept { Once (D.journal drive.old) → AreKept (D.journal drive.old) self.old.directories → AreKept (D.journal drive.new) self.new.directories }
         ensures stopped { self.new.is_stopped ≡ is_err result }
         ensures volume { self.new.capacity ≡ self.old.capacity }

@@ -26,8 +26,8 @@ returns-in_err-write_directory-clause-err g c =
     let p = c.placed-item.result in
     let is : get_or ds i p ≡ p = (let told = c.placed-item.is in cc) in
     let more = list_more ds i p c.loop-placed-test.true is in
-    let upto = stops_second (g.D.Drive.journal c.args.drive.now) (g.D.Drive.journal c.loop-placed.drive) (g.D.Drive.journal c.write_directory.new.drive) c.args.writer.now.packets c.loop-placed.writer.packets (directories_list (take i ds)) (directory_list p) (directories_list (take (i + 1) ds)) (sym more) c.loop-placed.invariant.takes c.in_err-write_directory.ensures.err in
-    rw q.1 (stops_first (g.D.Drive.journal c.args.drive.now) (g.D.Drive.journal c.write_directory.new.drive) c.args.writer.now.packets (directories_list (take (i + 1) ds)) (directories_list (drop (i + 1) ds)) (directories_list ds) (list_front (i + 1) ds) upto)
+    let upto = stops_second c.args.drive.now c.loop-placed.drive c.write_directory.new.drive c.args.writer.now.packets c.loop-placed.writer.packets (directories_list (take i ds)) (directory_list p) (directories_list (take (i + 1) ds)) (sym more) c.loop-placed.invariant.takes c.in_err-write_directory.ensures.err in
+    rw q.1 (stops_first c.args.drive.now c.write_directory.new.drive c.args.writer.now.packets (directories_list (take (i + 1) ds)) (directories_list (drop (i + 1) ds)) (directories_list ds) (list_front (i + 1) ds) upto)
 
 pub loop-placed-preserved : goal.loop-placed-preserved
 loop-placed-preserved g c =
@@ -37,6 +37,6 @@ loop-placed-preserved g c =
     let is : get_or ds i p ≡ p = (let told = c.placed-item.is in cc) in
     let more = list_more ds i p c.loop-placed-test.true is in
     record {
-      takes = takes_both (g.D.Drive.journal c.args.drive.now) (g.D.Drive.journal c.loop-placed.drive) (g.D.Drive.journal c.write_directory.new.drive) c.args.writer.now.packets c.loop-placed.writer.packets c.write_directory.new.writer.packets (directories_list (take i ds)) (directory_list p) (directories_list (take (i + 1) ds)) (sym more) c.loop-placed.invariant.takes c.in_ok-write_directory.ensures.ok;
+      takes = takes_both c.args.drive.now c.loop-placed.drive c.write_directory.new.drive c.args.writer.now.packets c.loop-placed.writer.packets c.write_directory.new.writer.packets (directories_list (take i ds)) (directory_list p) (directories_list (take (i + 1) ds)) (sym more) c.loop-placed.invariant.takes c.in_ok-write_directory.ensures.ok;
       writes = writes_then c.loop-placed.invariant.writes c.in_ok-write_directory.ensures.writes;
     }

@@ -7,6 +7,6 @@ use Rattle.planning.proofs.plan.write_directories.Given as goal
 -- the directories so far were taken
 abbrev pub invariant-loop-placed : goal.invariant-loop-placed
 invariant-loop-placed g l = record {
-  takes : Takes (g.D.Drive.journal l.fn.drive) l.fn.writer.packets (directories_list (take l.placed-index l.directories)) (g.D.Drive.journal l.drive) l.writer.packets;
+  takes : Takes g.D.Drive l.fn.drive l.fn.writer.packets (directories_list (take l.placed-index l.directories)) l.drive l.writer.packets;
   writes : Writes g.D.Drive false l.fn.drive l.drive;
 }

@@ -1,5 +1,6 @@
 use Rattle.std.proofs.Common.{◌∷◌, [], refl, arith, length-append}
 use Rattle.std.proofs.lemmas.Result.{err_from_is_err_and}
+use Rattle.drive.proofs.Packing.{stops_before}
 use Rattle.planning.specs.Plan.{directory_data, directory_list}
 use Rattle.planning.proofs.Puttings.{takes_both, stops_first, stops_second}
 use Rattle.planning.proofs.plan.write_directory.Goals as goal
@@ -14,15 +15,15 @@ pub returns-in_err-put_directory-clause-err : goal.returns-in_err-put_directory-
 returns-in_err-put_directory-clause-err g c =
     let q = err_from_is_err_and c.from_residual.result c.from_residual.ensures.1 in
     let p = c.args.placed.now in
-    rw q.1 (stops_first (g.D.Drive.journal c.args.drive.now) (g.D.Drive.journal c.put_directory.new.drive) c.args.writer.now.packets (directory_data p) (p.entry ∷ []) (directory_list p) refl c.in_err-put_directory.ensures.err)
+    rw q.1 (stops_first c.args.drive.now c.put_directory.new.drive c.args.writer.now.packets (directory_data p) (p.entry ∷ []) (directory_list p) refl c.in_err-put_directory.ensures.err)
 
 pub returns-in_err-put-clause-err : goal.returns-in_err-put-clause-err
 returns-in_err-put-clause-err g c =
     let q = err_from_is_err_and c.from_residual-in_err-put.result c.from_residual-in_err-put.ensures.1 in
     let p = c.args.placed.now in
-    rw q.1 (stops_second (g.D.Drive.journal c.args.drive.now) (g.D.Drive.journal c.put_directory.new.drive) (g.D.Drive.journal c.put.new.drive) c.args.writer.now.packets c.put_directory.new.self.packets (directory_data p) (p.entry ∷ []) (directory_list p) refl c.in_ok-put_directory.ensures.ok c.in_err-put.ensures.err)
+    rw q.1 (stops_second c.args.drive.now c.put_directory.new.drive c.put.new.drive c.args.writer.now.packets c.put_directory.new.self.packets (directory_data p) (p.entry ∷ []) (directory_list p) refl c.in_ok-put_directory.ensures.ok (stops_before c.in_err-put.ensures.err))
 
 pub returns-clause-ok : goal.returns-clause-ok
 returns-clause-ok g c =
     let p = c.args.placed.now in
-    takes_both (g.D.Drive.journal c.args.drive.now) (g.D.Drive.journal c.put_directory.new.drive) (g.D.Drive.journal c.put.new.drive) c.args.writer.now.packets c.put_directory.new.self.packets c.put.new.self.packets (directory_data p) (p.entry ∷ []) (directory_list p) refl c.in_ok-put_directory.ensures.ok c.in_ok-put.ensures.ok
+    takes_both c.args.drive.now c.put_directory.new.drive c.put.new.drive c.args.writer.now.packets c.put_directory.new.self.packets c.put.new.self.packets (directory_data p) (p.entry ∷ []) (directory_list p) refl c.in_ok-put_directory.ensures.ok c.in_ok-put.ensures.ok

@@ -1,5 +1,6 @@
 use Rattle.std.proofs.Common.{◌≡◌, ◌++◌, ◌∷◌, ◌∙◌, [], length, List, ℕ, replicate, ap, sym, arith, length-append}
 use Rattle.std.proofs.lemmas.Result.{err_from_is_err_and}
+use Rattle.drive.proofs.Packing.{stops_before}
 use Rattle.medium.specs.Plan.{zeros, packed}
 use Rattle.table.specs.Outside.{outside}
 use Rattle.planning.specs.Plan.{file_list}
@@ -30,7 +31,7 @@ returns-in_err-put_bytes-clause-err g c =
     let out = c.outside_of.result.now in
     let front = replicate p.gap zeros ++ packed out in
     let whole : front ++ p.entry ∷ [] ≡ file_list c.args.file.now = ap (λ (bs : List ℕ). (replicate p.gap zeros ++ packed bs) ++ p.entry ∷ []) (c.outside_of.ensures ∙ ap outside c.as_slice-bytes.ensures.bytes) ∙ sym (ap file_list c.in-Some.is) in
-    rw q.1 (stops_first (g.D.Drive.journal c.args.drive.now) (g.D.Drive.journal c.put_bytes.new.drive) c.args.writer.now.packets front (p.entry ∷ []) (file_list c.args.file.now) whole c.in_err-put_bytes.ensures.err)
+    rw q.1 (stops_first c.args.drive.now c.put_bytes.new.drive c.args.writer.now.packets front (p.entry ∷ []) (file_list c.args.file.now) whole c.in_err-put_bytes.ensures.err)
 
 pub returns-in_err-put-clause-err : goal.returns-in_err-put-clause-err
 returns-in_err-put-clause-err g c =
@@ -39,7 +40,7 @@ returns-in_err-put-clause-err g c =
     let out = c.outside_of.result.now in
     let front = replicate p.gap zeros ++ packed out in
     let whole : front ++ p.entry ∷ [] ≡ file_list c.args.file.now = ap (λ (bs : List ℕ). (replicate p.gap zeros ++ packed bs) ++ p.entry ∷ []) (c.outside_of.ensures ∙ ap outside c.as_slice-bytes.ensures.bytes) ∙ sym (ap file_list c.in-Some.is) in
-    rw q.1 (stops_second (g.D.Drive.journal c.args.drive.now) (g.D.Drive.journal c.put_bytes.new.drive) (g.D.Drive.journal c.put.new.drive) c.args.writer.now.packets c.put_bytes.new.self.packets front (p.entry ∷ []) (file_list c.args.file.now) whole c.in_ok-put_bytes.ensures.ok c.in_err-put.ensures.err)
+    rw q.1 (stops_second c.args.drive.now c.put_bytes.new.drive c.put.new.drive c.args.writer.now.packets c.put_bytes.new.self.packets front (p.entry ∷ []) (file_list c.args.file.now) whole c.in_ok-put_bytes.ensures.ok (stops_before c.in_err-put.ensures.err))
 
 pub returns-clause-ok : goal.returns-clause-ok
 returns-clause-ok g c =
@@ -47,4 +48,4 @@ returns-clause-ok g c =
     let out = c.outside_of.result.now in
     let front = replicate p.gap zeros ++ packed out in
     let whole : front ++ p.entry ∷ [] ≡ file_list c.args.file.now = ap (λ (bs : List ℕ). (replicate p.gap zeros ++ packed bs) ++ p.entry ∷ []) (c.outside_of.ensures ∙ ap outside c.as_slice-bytes.ensures.bytes) ∙ sym (ap file_list c.in-Some.is) in
-    takes_both (g.D.Drive.journal c.args.drive.now) (g.D.Drive.journal c.put_bytes.new.drive) (g.D.Drive.journal c.put.new.drive) c.args.writer.now.packets c.put_bytes.new.self.packets c.put.new.self.packets front (p.entry ∷ []) (file_list c.args.file.now) whole c.in_ok-put_bytes.ensures.ok c.in_ok-put.ensures.ok
+    takes_both c.args.drive.now c.put_bytes.new.drive c.put.new.drive c.args.writer.now.packets c.put_bytes.new.self.packets c.put.new.self.packets front (p.entry ∷ []) (file_list c.args.file.now) whole c.in_ok-put_bytes.ensures.ok c.in_ok-put.ensures.ok

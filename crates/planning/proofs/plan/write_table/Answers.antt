@@ -1,11 +1,13 @@
-use Rattle.std.proofs.Common.{◌++◌, ◌∷◌, [], length, List, ℕ, replicate, ap, arith, append-nil, length-append}
+use Rattle.std.proofs.Common.{◌++◌, ◌∷◌, [], length, List, ℕ, replicate, ap, sym, ◌∙◌, arith, append-nil, length-append}
 use Rattle.std.specs.Int.{div_ceil}
 use Rattle.std.proofs.lemmas.Result.{err_from_is_err_and}
 use Rattle.drive.proofs.Packing.{takes_finished, takes_front}
+use Rattle.drive.proofs.Sending.{one_waits}
+use Rattle.drive.specs.Waiting.{Waiting}
 use Rattle.medium.specs.Plan.{zeros, packed}
 use Rattle.planning.specs.Plan.{table_data}
 use Rattle.planning.proofs.Plans.{length-padded}
-use Rattle.planning.proofs.Puttings.{takes_both, stops_first, stops_second}
+use Rattle.planning.proofs.Puttings.{takes_both, stops_same, stops_second}
 use Rattle.planning.proofs.plan.write_table.Goals as goal
 
 pub put_bytes-requires-clause-fits : goal.put_bytes-requires-clause-fits
@@ -15,53 +17,59 @@ put_bytes-requires-clause-fits g c =
 
 pub put-requires-clause-begins : goal.put-requires-clause-begins
 put-requires-clause-begins g c =
-    let J1 = g.D.Drive.journal c.put_bytes.new.drive in
-    let J2 = g.D.Drive.journal c.finish.new.drive in
-    let rest = takes_finished J1 J2 c.put_bytes.new.self.packets c.finish.new.self.packets c.in_ok-finish.ensures.ok c.in_ok-finish.ensures.empty in
+    let J1 = c.put_bytes.new.drive in
+    let J2 = c.finish.new.drive in
+    let rest = takes_finished g.D.Drive J1 J2 c.put_bytes.new.self.packets c.finish.new.self.packets c.in_ok-finish.ensures.ok c.finish.ensures.sent c.in_ok-finish.ensures.empty in
     rest.begins (c.in_ok-put_bytes.ensures.ok.begins c.requires.begins)
 
 pub returns-in_err-put_bytes-clause-err : goal.returns-in_err-put_bytes-clause-err
 returns-in_err-put_bytes-clause-err g c =
     let q = err_from_is_err_and c.from_residual.result c.from_residual.ensures.1 in
     let t = c.args.table.now in
-    let whole = ap (λ (bs : List ℕ). (replicate t.gap zeros ++ packed bs) ++ t.entry ∷ []) c.deref.ensures.value in
-    rw q.1 (stops_first (g.D.Drive.journal c.args.drive.now) (g.D.Drive.journal c.put_bytes.new.drive) c.args.writer.now.packets (replicate t.gap zeros ++ packed c.deref.result.now) (t.entry ∷ []) (table_data t ++ t.entry ∷ []) whole c.in_err-put_bytes.ensures.err)
+    let same = ap (λ (bs : List ℕ). replicate t.gap zeros ++ packed bs) c.deref.ensures.value in
+    rw q.1 (stops_same c.args.drive.now c.put_bytes.new.drive c.args.writer.now.packets (replicate t.gap zeros ++ packed c.deref.result.now) (table_data t) same c.in_err-put_bytes.ensures.err)
 
 pub returns-in_err-finish-clause-err : goal.returns-in_err-finish-clause-err
 returns-in_err-finish-clause-err g c =
     let q = err_from_is_err_and c.from_residual-in_err-finish.result c.from_residual-in_err-finish.ensures.1 in
     let t = c.args.table.now in
-    let J = g.D.Drive.journal c.args.drive.now in
-    let J1 = g.D.Drive.journal c.put_bytes.new.drive in
-    let J2 = g.D.Drive.journal c.finish.new.drive in
+    let J = c.args.drive.now in
+    let J1 = c.put_bytes.new.drive in
+    let J2 = c.finish.new.drive in
     let blocks = replicate t.gap zeros ++ packed c.deref.result.now in
-    let whole = ap (λ (bs : List ℕ). (replicate t.gap zeros ++ packed bs) ++ t.entry ∷ []) c.deref.ensures.value in
-    rw q.1 (stops_first J J2 c.args.writer.now.packets blocks (t.entry ∷ []) (table_data t ++ t.entry ∷ []) whole
-    (takes_front J J1 J2 c.args.writer.now.packets c.put_bytes.new.self.packets blocks c.in_ok-put_bytes.ensures.ok c.in_err-finish.ensures.err))
+    let same = ap (λ (bs : List ℕ). replicate t.gap zeros ++ packed bs) c.deref.ensures.value in
+    rw q.1 (stops_same J J2 c.args.writer.now.packets blocks (table_data t) same
+    (takes_front J J1 J2 c.args.writer.now.packets c.put_bytes.new.self.packets blocks c.in_ok-put_bytes.ensures.ok c.in_err-finish.ensures.err c.finish.ensures.sent))
 
 pub returns-in_err-put-clause-err : goal.returns-in_err-put-clause-err
 returns-in_err-put-clause-err g c =
     let q = err_from_is_err_and c.from_residual-in_err-put.result c.from_residual-in_err-put.ensures.1 in
     let t = c.args.table.now in
-    let J = g.D.Drive.journal c.args.drive.now in
-    let J1 = g.D.Drive.journal c.put_bytes.new.drive in
-    let J2 = g.D.Drive.journal c.finish.new.drive in
+    let J = c.args.drive.now in
+    let J1 = c.put_bytes.new.drive in
+    let J2 = c.finish.new.drive in
     let w1 = c.put_bytes.new.self.packets in
     let w2 = c.finish.new.self.packets in
     let blocks = replicate t.gap zeros ++ packed c.deref.result.now in
-    let whole = ap (λ (bs : List ℕ). (replicate t.gap zeros ++ packed bs) ++ t.entry ∷ []) c.deref.ensures.value in
-    let taken = takes_both J J1 J2 c.args.writer.now.packets w1 w2 blocks [] blocks (append-nil blocks) c.in_ok-put_bytes.ensures.ok (takes_finished J1 J2 w1 w2 c.in_ok-finish.ensures.ok c.in_ok-finish.ensures.empty) in
-    rw q.1 (stops_second J J2 (g.D.Drive.journal c.put.new.drive) c.args.writer.now.packets w2 blocks (t.entry ∷ []) (table_data t ++ t.entry ∷ []) whole taken c.in_err-put.ensures.err)
+    let same = ap (λ (bs : List ℕ). replicate t.gap zeros ++ packed bs) c.deref.ensures.value in
+    let taken = takes_both J J1 J2 c.args.writer.now.packets w1 w2 blocks [] blocks (append-nil blocks) c.in_ok-put_bytes.ensures.ok (takes_finished g.D.Drive J1 J2 w1 w2 c.in_ok-finish.ensures.ok c.finish.ensures.sent c.in_ok-finish.ensures.empty) in
+    rw q.1 (stops_second J J2 c.put.new.drive c.args.writer.now.packets w2 blocks [] (table_data t) (append-nil blocks ∙ same) taken c.in_err-put.ensures.err)
+
+pub returns-clause-waits : goal.returns-clause-waits
+returns-clause-waits g c =
+    let entry = c.args.table.now.entry in
+    one_waits c.in_ok-put.ensures.ok.sent c.put.new.self.packets.blocks entry
+    (sym (ap (λ (v : Waiting). v.blocks ++ entry ∷ []) c.in_ok-finish.ensures.empty) ∙ c.in_ok-put.ensures.ok.order) c.in_ok-put.ensures.waits
 
 pub returns-clause-ok : goal.returns-clause-ok
 returns-clause-ok g c =
     let t = c.args.table.now in
-    let J = g.D.Drive.journal c.args.drive.now in
-    let J1 = g.D.Drive.journal c.put_bytes.new.drive in
-    let J2 = g.D.Drive.journal c.finish.new.drive in
+    let J = c.args.drive.now in
+    let J1 = c.put_bytes.new.drive in
+    let J2 = c.finish.new.drive in
     let w1 = c.put_bytes.new.self.packets in
     let w2 = c.finish.new.self.packets in
     let blocks = replicate t.gap zeros ++ packed c.deref.result.now in
     let whole = ap (λ (bs : List ℕ). (replicate t.gap zeros ++ packed bs) ++ t.entry ∷ []) c.deref.ensures.value in
-    let taken = takes_both J J1 J2 c.args.writer.now.packets w1 w2 blocks [] blocks (append-nil blocks) c.in_ok-put_bytes.ensures.ok (takes_finished J1 J2 w1 w2 c.in_ok-finish.ensures.ok c.in_ok-finish.ensures.empty) in
-    takes_both J J2 (g.D.Drive.journal c.put.new.drive) c.args.writer.now.packets w2 c.put.new.self.packets blocks (t.entry ∷ []) (table_data t ++ t.entry ∷ []) whole taken c.in_ok-put.ensures.ok
+    let taken = takes_both J J1 J2 c.args.writer.now.packets w1 w2 blocks [] blocks (append-nil blocks) c.in_ok-put_bytes.ensures.ok (takes_finished g.D.Drive J1 J2 w1 w2 c.in_ok-finish.ensures.ok c.finish.ensures.sent c.in_ok-finish.ensures.empty) in
+    takes_both J J2 c.put.new.drive c.args.writer.now.packets w2 c.put.new.self.packets blocks (t.entry ∷ []) (table_data t ++ t.entry ∷ []) whole taken c.in_ok-put.ensures.ok

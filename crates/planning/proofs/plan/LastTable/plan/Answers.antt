@@ -146,6 +146,7 @@ returns-in_err-new-clause-reads g c =
     let p = err_from_is_err_and c.from_residual-in_err-new.result c.from_residual-in_err-new.ensures.1 in
     let reads : Reads g.D.Drive 0 c.args.drive.now c.next.new.self = record {
       journal = c.next.ensures.journal;
+      writes = c.next.ensures.writes;
       capacity = c.next.ensures.capacity;
       failures = λ few. omega (arith, c.in-Ok.ensures.failures);
       misreads = omega (arith, c.next.ensures.misreads);
@@ -158,6 +159,7 @@ pub returns-clause-reads : goal.returns-clause-reads
 returns-clause-reads g c =
     let reads : Reads g.D.Drive 0 c.args.drive.now c.next.new.self = record {
       journal = c.next.ensures.journal;
+      writes = c.next.ensures.writes;
       capacity = c.next.ensures.capacity;
       failures = λ few. omega (arith, c.in-Ok.ensures.failures);
       misreads = omega (arith, c.next.ensures.misreads);

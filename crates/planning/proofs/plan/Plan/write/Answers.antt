@@ -4,8 +4,9 @@ use Rattle.drive.specs.Journal.{next_of}
 use Rattle.drive.specs.Waiting.{Waiting, end_of}
 use Rattle.planning.specs.declared.placed.PlacedDirectory.{PlacedDirectory}
 use Rattle.planning.specs.Plan.{file_list, directories_list, table_data, node_list, plan_blocks}
+use Rattle.drive.proofs.Packing.{stops_longer}
 use Rattle.planning.proofs.Plans.{plan_ends}
-use Rattle.planning.proofs.Puttings.{takes_both, stops_first, stops_second, takes_written, stops_front, takes_fronted}
+use Rattle.planning.proofs.Puttings.{takes_both, stops_first, stops_second, takes_written, stops_front, takes_fronted, alone_before, alone_behind}
 use Rattle.planning.proofs.plan.Plan.write.Goals as goal
 
 pub write_file-requires-clause-begins : goal.write_file-requires-clause-begins
@@ -97,28 +98,28 @@ pub returns-in_err-write_file-clause-err : goal.returns-in_err-write_file-clause
 returns-in_err-write_file-clause-err g c =
     let q = err_from_is_err_and c.from_residual.result c.from_residual.ensures.1 in
     let p = c.args.self.now in
-    let J = g.D.Drive.journal c.args.drive.now in
-    let J1 = g.D.Drive.journal c.write_file.new.drive in
+    let J = c.args.drive.now in
+    let J1 = c.write_file.new.drive in
     let w = c.hold.new.self.packets in
     let f = file_list p.file in
     let d = directories_list p.directories.items in
     let t = table_data p.table ++ p.table.entry ∷ [] in
-    rw q.1 (stops_front J J1 (next_of J) w (plan_blocks p) (c.hold.ensures ∙ c.requires.plan.begins)
+    rw q.1 (stops_front J J1 (next_of (g.D.Drive.journal J)) w (plan_blocks p) (c.hold.ensures ∙ c.requires.plan.begins)
     (stops_first J J1 w f (d ++ t) (plan_blocks p) (sym (append_assoc f d t)) c.in_err-write_file.ensures.err))
 
 pub returns-in_err-write_directories-clause-err : goal.returns-in_err-write_directories-clause-err
 returns-in_err-write_directories-clause-err g c =
     let q = err_from_is_err_and c.from_residual-in_err-write_directories.result c.from_residual-in_err-write_directories.ensures.1 in
     let p = c.args.self.now in
-    let J = g.D.Drive.journal c.args.drive.now in
-    let J1 = g.D.Drive.journal c.write_file.new.drive in
-    let J2 = g.D.Drive.journal c.write_directories.new.drive in
+    let J = c.args.drive.now in
+    let J1 = c.write_file.new.drive in
+    let J2 = c.write_directories.new.drive in
     let w = c.hold.new.self.packets in
     let f = file_list p.file in
     let ds = c.deref.result.now in
     let t = table_data p.table ++ p.table.entry ∷ [] in
     let nodes = ap (λ (es : List PlacedDirectory). f ++ directories_list es) c.deref.ensures.value in
-    rw q.1 (stops_front J J2 (next_of J) w (plan_blocks p) (c.hold.ensures ∙ c.requires.plan.begins)
+    rw q.1 (stops_front J J2 (next_of (g.D.Drive.journal J)) w (plan_blocks p) (c.hold.ensures ∙ c.requires.plan.begins)
     (stops_first J J2 w (node_list p) t (plan_blocks p) refl
     (stops_second J J1 J2 w c.write_file.new.writer.packets f (directories_list ds) (node_list p) nodes c.in_ok-write_file.ensures.ok c.in_err-write_directories.ensures.err)))
 
@@ -126,10 +127,10 @@ pub returns-in_err-write_table-clause-err : goal.returns-in_err-write_table-clau
 returns-in_err-write_table-clause-err g c =
     let q = err_from_is_err_and c.from_residual-in_err-write_table.result c.from_residual-in_err-write_table.ensures.1 in
     let p = c.args.self.now in
-    let J = g.D.Drive.journal c.args.drive.now in
-    let J1 = g.D.Drive.journal c.write_file.new.drive in
-    let J2 = g.D.Drive.journal c.write_directories.new.drive in
-    let J3 = g.D.Drive.journal c.write_table.new.drive in
+    let J = c.args.drive.now in
+    let J1 = c.write_file.new.drive in
+    let J2 = c.write_directories.new.drive in
+    let J3 = c.write_table.new.drive in
     let w = c.hold.new.self.packets in
     let w2 = c.write_directories.new.writer.packets in
     let f = file_list p.file in
@@ -137,17 +138,17 @@ returns-in_err-write_table-clause-err g c =
     let t = table_data p.table ++ p.table.entry ∷ [] in
     let nodes = ap (λ (es : List PlacedDirectory). f ++ directories_list es) c.deref.ensures.value in
     let both = takes_both J J1 J2 w c.write_file.new.writer.packets w2 f (directories_list ds) (node_list p) nodes c.in_ok-write_file.ensures.ok c.in_ok-write_directories.ensures.ok in
-    rw q.1 (stops_front J J3 (next_of J) w (plan_blocks p) (c.hold.ensures ∙ c.requires.plan.begins)
-    (stops_second J J2 J3 w w2 (node_list p) t (plan_blocks p) refl both c.in_err-write_table.ensures.err))
+    rw q.1 (stops_front J J3 (next_of (g.D.Drive.journal J)) w (plan_blocks p) (c.hold.ensures ∙ c.requires.plan.begins)
+    (stops_second J J2 J3 w w2 (node_list p) t (plan_blocks p) refl both (stops_longer J2 J3 w2 (table_data p.table) (p.table.entry ∷ []) c.in_err-write_table.ensures.err)))
 
 pub returns-in_err-finish-clause-err : goal.returns-in_err-finish-clause-err
 returns-in_err-finish-clause-err g c =
     let q = err_from_is_err_and c.from_residual-in_err-finish.result c.from_residual-in_err-finish.ensures.1 in
     let p = c.args.self.now in
-    let J = g.D.Drive.journal c.args.drive.now in
-    let J1 = g.D.Drive.journal c.write_file.new.drive in
-    let J2 = g.D.Drive.journal c.write_directories.new.drive in
-    let J3 = g.D.Drive.journal c.write_table.new.drive in
+    let J = c.args.drive.now in
+    let J1 = c.write_file.new.drive in
+    let J2 = c.write_directories.new.drive in
+    let J3 = c.write_table.new.drive in
     let w = c.hold.new.self.packets in
     let w2 = c.write_directories.new.writer.packets in
     let w3 = c.write_table.new.writer.packets in
@@ -157,15 +158,15 @@ returns-in_err-finish-clause-err g c =
     let nodes = ap (λ (es : List PlacedDirectory). f ++ directories_list es) c.deref.ensures.value in
     let both = takes_both J J1 J2 w c.write_file.new.writer.packets w2 f (directories_list ds) (node_list p) nodes c.in_ok-write_file.ensures.ok c.in_ok-write_directories.ensures.ok in
     let all = takes_both J J2 J3 w w2 w3 (node_list p) t (plan_blocks p) refl both c.in_ok-write_table.ensures.ok in
-    rw q.1 (takes_fronted J J3 (g.D.Drive.journal c.finish.new.drive) (next_of J) w w3 (plan_blocks p) (c.hold.ensures ∙ c.requires.plan.begins) all c.in_err-finish.ensures.err)
+    rw q.1 (takes_fronted J J3 c.finish.new.drive (next_of (g.D.Drive.journal J)) w w3 (plan_blocks p) (c.hold.ensures ∙ c.requires.plan.begins) all c.in_err-finish.ensures.err c.finish.ensures.sent)
 
 pub returns-clause-ok : goal.returns-clause-ok
 returns-clause-ok g c =
     let p = c.args.self.now in
-    let J = g.D.Drive.journal c.args.drive.now in
-    let J1 = g.D.Drive.journal c.write_file.new.drive in
-    let J2 = g.D.Drive.journal c.write_directories.new.drive in
-    let J3 = g.D.Drive.journal c.write_table.new.drive in
+    let J = c.args.drive.now in
+    let J1 = c.write_file.new.drive in
+    let J2 = c.write_directories.new.drive in
+    let J3 = c.write_table.new.drive in
     let w = c.hold.new.self.packets in
     let w2 = c.write_directories.new.writer.packets in
     let w3 = c.write_table.new.writer.packets in
@@ -175,4 +176,90 @@ returns-clause-ok g c =
     let nodes = ap (λ (es : List PlacedDirectory). f ++ directories_list es) c.deref.ensures.value in
     let both = takes_both J J1 J2 w c.write_file.new.writer.packets w2 f (directories_list ds) (node_list p) nodes c.in_ok-write_file.ensures.ok c.in_ok-write_directories.ensures.ok in
     let all = takes_both J J2 J3 w w2 w3 (node_list p) t (plan_blocks p) refl both c.in_ok-write_table.ensures.ok in
-    takes_written J J3 (g.D.Drive.journal c.finish.new.drive) (next_of J) w w3 (plan_blocks p) (c.hold.ensures ∙ c.requires.plan.begins) all c.in_ok-finish.ensures.ok
+    takes_written J J3 c.finish.new.drive (next_of (g.D.Drive.journal J)) w w3 (plan_blocks p) (c.hold.ensures ∙ c.requires.plan.begins) all c.in_ok-finish.ensures.ok
+
+pub returns-in_err-write_file-clause-alone : goal.returns-in_err-write_file-clause-alone
+returns-in_err-write_file-clause-alone g c =
+    let q = err_from_is_err_and c.from_residual.result c.from_residual.ensures.1 in
+    let p = c.args.self.now in
+    let J = c.args.drive.now in
+    let J1 = c.write_file.new.drive in
+    let w = c.hold.new.self.packets in
+    let f = file_list p.file in
+    let d = directories_list p.directories.items in
+    let t = table_data p.table in
+    rw q.1 (alone_before J J1 (next_of (g.D.Drive.journal J)) w (node_list p ++ t) p.table.entry (c.hold.ensures ∙ c.requires.plan.begins)
+    (stops_first J J1 w f (d ++ t) (node_list p ++ t) (sym (append_assoc f d t)) c.in_err-write_file.ensures.err))
+
+pub returns-in_err-write_directories-clause-alone : goal.returns-in_err-write_directories-clause-alone
+returns-in_err-write_directories-clause-alone g c =
+    let q = err_from_is_err_and c.from_residual-in_err-write_directories.result c.from_residual-in_err-write_directories.ensures.1 in
+    let p = c.args.self.now in
+    let J = c.args.drive.now in
+    let J1 = c.write_file.new.drive in
+    let J2 = c.write_directories.new.drive in
+    let w = c.hold.new.self.packets in
+    let f = file_list p.file in
+    let ds = c.deref.result.now in
+    let t = table_data p.table in
+    let nodes = ap (λ (es : List PlacedDirectory). f ++ directories_list es) c.deref.ensures.value in
+    rw q.1 (alone_before J J2 (next_of (g.D.Drive.journal J)) w (node_list p ++ t) p.table.entry (c.hold.ensures ∙ c.requires.plan.begins)
+    (stops_first J J2 w (node_list p) t (node_list p ++ t) refl
+    (stops_second J J1 J2 w c.write_file.new.writer.packets f (directories_list ds) (node_list p) nodes c.in_ok-write_file.ensures.ok c.in_err-write_directories.ensures.err)))
+
+pub returns-in_err-write_table-clause-alone : goal.returns-in_err-write_table-clause-alone
+returns-in_err-write_table-clause-alone g c =
+    let q = err_from_is_err_and c.from_residual-in_err-write_table.result c.from_residual-in_err-write_table.ensures.1 in
+    let p = c.args.self.now in
+    let J = c.args.drive.now in
+    let J1 = c.write_file.new.drive in
+    let J2 = c.write_directories.new.drive in
+    let w = c.hold.new.self.packets in
+    let f = file_list p.file in
+    let ds = c.deref.result.now in
+    let t = table_data p.table in
+    let nodes = ap (λ (es : List PlacedDirectory). f ++ directories_list es) c.deref.ensures.value in
+    let w2 = c.write_directories.new.writer.packets in
+    let J3 = c.write_table.new.drive in
+    let both = takes_both J J1 J2 w c.write_file.new.writer.packets w2 f (directories_list ds) (node_list p) nodes c.in_ok-write_file.ensures.ok c.in_ok-write_directories.ensures.ok in
+    rw q.1 (alone_before J J3 (next_of (g.D.Drive.journal J)) w (node_list p ++ t) p.table.entry (c.hold.ensures ∙ c.requires.plan.begins)
+    (stops_second J J2 J3 w w2 (node_list p) t (node_list p ++ t) refl both c.in_err-write_table.ensures.err))
+
+pub returns-in_err-finish-clause-alone : goal.returns-in_err-finish-clause-alone
+returns-in_err-finish-clause-alone g c =
+    let q = err_from_is_err_and c.from_residual-in_err-finish.result c.from_residual-in_err-finish.ensures.1 in
+    let p = c.args.self.now in
+    let J = c.args.drive.now in
+    let J1 = c.write_file.new.drive in
+    let J2 = c.write_directories.new.drive in
+    let w = c.hold.new.self.packets in
+    let f = file_list p.file in
+    let ds = c.deref.result.now in
+    let t = table_data p.table in
+    let nodes = ap (λ (es : List PlacedDirectory). f ++ directories_list es) c.deref.ensures.value in
+    let w2 = c.write_directories.new.writer.packets in
+    let J3 = c.write_table.new.drive in
+    let both = takes_both J J1 J2 w c.write_file.new.writer.packets w2 f (directories_list ds) (node_list p) nodes c.in_ok-write_file.ensures.ok c.in_ok-write_directories.ensures.ok in
+    let w3 = c.write_table.new.writer.packets in
+    let e = p.table.entry in
+    let all = takes_both J J2 J3 w w2 w3 (node_list p) (t ++ e ∷ []) ((node_list p ++ t) ++ e ∷ []) (sym (append_assoc (node_list p) t (e ∷ []))) both c.in_ok-write_table.ensures.ok in
+    rw q.1 (alone_behind J J3 c.finish.new.drive (next_of (g.D.Drive.journal J)) w w3 (node_list p ++ t) e (c.hold.ensures ∙ c.requires.plan.begins) all c.in_ok-write_table.ensures.waits c.finish.ensures.sent)
+
+pub returns-clause-alone : goal.returns-clause-alone
+returns-clause-alone g c =
+    let p = c.args.self.now in
+    let J = c.args.drive.now in
+    let J1 = c.write_file.new.drive in
+    let J2 = c.write_directories.new.drive in
+    let w = c.hold.new.self.packets in
+    let f = file_list p.file in
+    let ds = c.deref.result.now in
+    let t = table_data p.table in
+    let nodes = ap (λ (es : List PlacedDirectory). f ++ directories_list es) c.deref.ensures.value in
+    let w2 = c.write_directories.new.writer.packets in
+    let J3 = c.write_table.new.drive in
+    let both = takes_both J J1 J2 w c.write_file.new.writer.packets w2 f (directories_list ds) (node_list p) nodes c.in_ok-write_file.ensures.ok c.in_ok-write_directories.ensures.ok in
+    let w3 = c.write_table.new.writer.packets in
+    let e = p.table.entry in
+    let all = takes_both J J2 J3 w w2 w3 (node_list p) (t ++ e ∷ []) ((node_list p ++ t) ++ e ∷ []) (sym (append_assoc (node_list p) t (e ∷ []))) both c.in_ok-write_table.ensures.ok in
+    alone_behind J J3 c.finish.new.drive (next_of (g.D.Drive.journal J)) w w3 (node_list p ++ t) e (c.hold.ensures ∙ c.requires.plan.begins) all c.in_ok-write_table.ensures.waits c.finish.ensures.sent

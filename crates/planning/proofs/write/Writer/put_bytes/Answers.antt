@@ -7,13 +7,13 @@ use Rattle.planning.proofs.write.Writer.put_bytes.Goals as goal
 pub returns-in_err-put_zeros-clause-err : goal.returns-in_err-put_zeros-clause-err
 returns-in_err-put_zeros-clause-err g c =
     let p = err_from_is_err_and c.from_residual.result c.from_residual.ensures.1 in
-    rw p.1 (stops_longer (g.D.Drive.journal c.args.drive.now) (g.D.Drive.journal c.put_zeros.new.drive) c.args.self.now.packets (replicate c.args.gap zeros) (packed c.args.bytes.now) c.in_err-put_zeros.ensures.err)
+    rw p.1 (stops_longer c.args.drive.now c.put_zeros.new.drive c.args.self.now.packets (replicate c.args.gap zeros) (packed c.args.bytes.now) c.in_err-put_zeros.ensures.err)
 
 pub returns-in_err-put_data-clause-err : goal.returns-in_err-put_data-clause-err
 returns-in_err-put_data-clause-err g c =
     let p = err_from_is_err_and c.from_residual-in_err-put_data.result c.from_residual-in_err-put_data.ensures.1 in
-    rw p.1 (stops_after (g.D.Drive.journal c.args.drive.now) (g.D.Drive.journal c.put_zeros.new.drive) (g.D.Drive.journal c.put_data.new.drive) c.args.self.now.packets c.put_zeros.new.self.packets (replicate c.args.gap zeros) (packed c.args.bytes.now) c.in_ok-put_zeros.ensures.ok c.in_err-put_data.ensures.err)
+    rw p.1 (stops_after c.args.drive.now c.put_zeros.new.drive c.put_data.new.drive c.args.self.now.packets c.put_zeros.new.self.packets (replicate c.args.gap zeros) (packed c.args.bytes.now) c.in_ok-put_zeros.ensures.ok c.in_err-put_data.ensures.err)
 
 pub returns-clause-ok : goal.returns-clause-ok
 returns-clause-ok g c =
-    takes-append (g.D.Drive.journal c.args.drive.now) (g.D.Drive.journal c.put_zeros.new.drive) (g.D.Drive.journal c.put_data.new.drive) c.args.self.now.packets c.put_zeros.new.self.packets c.put_data.new.self.packets (replicate c.args.gap zeros) (packed c.args.bytes.now) c.in_ok-put_zeros.ensures.ok c.in_ok-put_data.ensures.ok
+    takes-append c.args.drive.now c.put_zeros.new.drive c.put_data.new.drive c.args.self.now.packets c.put_zeros.new.self.packets c.put_data.new.self.packets (replicate c.args.gap zeros) (packed c.args.bytes.now) c.in_ok-put_zeros.ensures.ok c.in_ok-put_data.ensures.ok

@@ -11,7 +11,7 @@ returns-in_err-put_all-clause-err g c =
     let blocks = c.as_chunks.result.0.now in
     let text = c.as_chunks.result.1.now in
     let whole : blocks ++ packed text ≡ packed c.args.bytes.now = rw (c.as_chunks.ensures.front, c.as_chunks.ensures.back) (packed_split c.args.bytes.now) in
-    rw p.1 (stops_first (g.D.Drive.journal c.args.drive.now) (g.D.Drive.journal c.put_all.new.drive) c.args.self.now.packets blocks (packed text) (packed c.args.bytes.now) whole c.in_err-put_all.ensures.err)
+    rw p.1 (stops_first c.args.drive.now c.put_all.new.drive c.args.self.now.packets blocks (packed text) (packed c.args.bytes.now) whole c.in_err-put_all.ensures.err)
 
 pub returns-in_err-put_text-clause-err : goal.returns-in_err-put_text-clause-err
 returns-in_err-put_text-clause-err g c =
@@ -19,11 +19,11 @@ returns-in_err-put_text-clause-err g c =
     let blocks = c.as_chunks.result.0.now in
     let text = c.as_chunks.result.1.now in
     let whole : blocks ++ packed text ≡ packed c.args.bytes.now = rw (c.as_chunks.ensures.front, c.as_chunks.ensures.back) (packed_split c.args.bytes.now) in
-    rw p.1 (stops_second (g.D.Drive.journal c.args.drive.now) (g.D.Drive.journal c.put_all.new.drive) (g.D.Drive.journal c.put_text.new.drive) c.args.self.now.packets c.put_all.new.self.packets blocks (packed text) (packed c.args.bytes.now) whole c.in_ok-put_all.ensures.ok c.in_err-put_text.ensures.err)
+    rw p.1 (stops_second c.args.drive.now c.put_all.new.drive c.put_text.new.drive c.args.self.now.packets c.put_all.new.self.packets blocks (packed text) (packed c.args.bytes.now) whole c.in_ok-put_all.ensures.ok c.in_err-put_text.ensures.err)
 
 pub returns-clause-ok : goal.returns-clause-ok
 returns-clause-ok g c =
     let blocks = c.as_chunks.result.0.now in
     let text = c.as_chunks.result.1.now in
     let whole : blocks ++ packed text ≡ packed c.args.bytes.now = rw (c.as_chunks.ensures.front, c.as_chunks.ensures.back) (packed_split c.args.bytes.now) in
-    takes_both (g.D.Drive.journal c.args.drive.now) (g.D.Drive.journal c.put_all.new.drive) (g.D.Drive.journal c.put_text.new.drive) c.args.self.now.packets c.put_all.new.self.packets c.put_text.new.self.packets blocks (packed text) (packed c.args.bytes.now) whole c.in_ok-put_all.ensures.ok c.in_ok-put_text.ensures.ok
+    takes_both c.args.drive.now c.put_all.new.drive c.put_text.new.drive c.args.self.now.packets c.put_all.new.self.packets c.put_text.new.self.packets blocks (packed text) (packed c.args.bytes.now) whole c.in_ok-put_all.ensures.ok c.in_ok-put_text.ensures.ok

@@ -1,6 +1,6 @@
 use Rattle.std.proofs.Common.{◌≡◌, ◌+◌, ◌∙◌, ◌++◌, [], ◌∷◌, ℕ, List, length, sym, ap, arith, append_assoc, append-nil, length-append}
 use Rattle.std.proofs.lemmas.Result.{err_from_is_err_and}
-use Rattle.drive.proofs.Packing.{takes-nil, takes-append, stops_after, stops_longer}
+use Rattle.drive.proofs.Packing.{stops_before, takes-nil, takes-append, stops_after, stops_longer}
 use Rattle.dir.specs.Directory.{directory_blocks}
 use Rattle.dir.specs.Laying.{blocks_left}
 use Rattle.drive.proofs.Reading.{writes_none, writes_then}
@@ -9,7 +9,7 @@ use Rattle.planning.proofs.write.Writer.put_directory.Goals as goal
 
 pub loop-block-init : goal.loop-block-init
 loop-block-init g c = record {
-  takes = ([], sym c.new-lay.ensures, takes-nil (g.D.Drive.journal c.args.drive.now) c.args.self.now.packets);
+  takes = ([], sym c.new-lay.ensures, takes-nil g.D.Drive c.args.drive.now c.args.self.now.packets);
   writes = writes_none _ _;
 }
 
@@ -32,7 +32,7 @@ loop-block-preserved g c =
       takes = (
         done ++ block ∷ [],
         c.loop-block.invariant.takes.1 ∙ ap (λ (bs : List (List ℕ)). done ++ bs) c.in-Some.ensures.next ∙ sym (append_assoc done (block ∷ []) left),
-        takes-append (g.D.Drive.journal c.args.drive.now) (g.D.Drive.journal c.loop-block.drive) (g.D.Drive.journal c.put.new.drive) c.args.self.now.packets c.loop-block.self.packets c.put.new.self.packets done (block ∷ []) c.loop-block.invariant.takes.2 c.in_ok-put.ensures.ok,
+        takes-append c.args.drive.now c.loop-block.drive c.put.new.drive c.args.self.now.packets c.loop-block.self.packets c.put.new.self.packets done (block ∷ []) c.loop-block.invariant.takes.2 c.in_ok-put.ensures.ok,
       );
       writes = writes_then c.loop-block.invariant.writes c.in_ok-put.ensures.writes;
     }
@@ -40,13 +40,13 @@ loop-block-preserved g c =
 pub returns-in_err-put-clause-err : goal.returns-in_err-put-clause-err
 returns-in_err-put-clause-err g c =
     let p = err_from_is_err_and c.from_residual.result c.from_residual.ensures.1 in
-    let J = g.D.Drive.journal c.args.drive.now in
-    let J2 = g.D.Drive.journal c.put.new.drive in
+    let J = c.args.drive.now in
+    let J2 = c.put.new.drive in
     let w = c.args.self.now.packets in
     let done = c.loop-block.invariant.takes.0 in
     let block = c.in-Some.block in
     let left = blocks_left c.next_block.new.self in
-    let stops = stops_after J (g.D.Drive.journal c.loop-block.drive) J2 w c.loop-block.self.packets done (block ∷ []) c.loop-block.invariant.takes.2 c.in_err-put.ensures.err in
+    let stops = stops_after J c.loop-block.drive J2 w c.loop-block.self.packets done (block ∷ []) c.loop-block.invariant.takes.2 (stops_before c.in_err-put.ensures.err) in
     let all : (done ++ block ∷ []) ++ left ≡ directory_blocks c.args.directory.now c.args.first =
     append_assoc done (block ∷ []) left ∙ sym (c.loop-block.invariant.takes.1 ∙ ap (λ (bs : List (List ℕ)). done ++ bs) c.in-Some.ensures.next) in
     rw p.1 (stops_same J J2 w ((done ++ block ∷ []) ++ left) (directory_blocks c.args.directory.now c.args.first) all (stops_longer J J2 w (done ++ block ∷ []) left stops))
@@ -55,4 +55,4 @@ pub returns-clause-ok : goal.returns-clause-ok
 returns-clause-ok g c =
     let done = c.loop-block.invariant.takes.0 in
     let all : done ≡ directory_blocks c.args.directory.now c.args.first = sym (append-nil done) ∙ sym (c.loop-block.invariant.takes.1 ∙ ap (λ (bs : List (List ℕ)). done ++ bs) c.in_default.ensures.next) in
-    takes_same (g.D.Drive.journal c.args.drive.now) (g.D.Drive.journal c.loop-block.drive) c.args.self.now.packets c.loop-block.self.packets done (directory_blocks c.args.directory.now c.args.first) all c.loop-block.invariant.takes.2
+    takes_same c.args.drive.now c.loop-block.drive c.args.self.now.packets c.loop-block.self.packets done (directory_blocks c.args.directory.now c.args.first) all c.loop-block.invariant.takes.2

@@ -8,7 +8,7 @@ use Rattle.planning.proofs.write.Writer.put_directory.Given as goal
 -- the blocks that are not left were taken
 abbrev pub invariant-loop-block : goal.invariant-loop-block
 invariant-loop-block g l = record {
-  takes : (done : List (List ℕ)) × (directory_blocks l.directory l.first ≡ done ++ blocks_left l.lay) × Takes (g.D.Drive.journal l.fn.drive) l.fn.self.packets done (g.D.Drive.journal l.drive) l.self.packets;
+  takes : (done : List (List ℕ)) × (directory_blocks l.directory l.first ≡ done ++ blocks_left l.lay) × Takes g.D.Drive l.fn.drive l.fn.self.packets done l.drive l.self.packets;
   writes : Writes g.D.Drive false l.fn.drive l.drive;
 }
 

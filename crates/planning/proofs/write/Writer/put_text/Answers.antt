@@ -2,8 +2,10 @@ use Rattle.std.proofs.Common.{◌≡◌, ◌<◌, ◌∙◌, ℕ, List, [], ◌�
 use Rattle.std.specs.Prelude.{OnErr, OnOk}
 use Rattle.std.proofs.lemmas.Bool.Decides.{nat_tests}
 use Rattle.drive.specs.Waiting.{Stops, Takes}
+use Rattle.drive.proofs.Packing.{stops_before}
 use Rattle.medium.specs.Plan.{packed}
 use Rattle.planning.proofs.Packing.{packed_short}
+use Rattle.planning.proofs.Puttings.{err_weaker}
 use Rattle.planning.proofs.write.Writer.put_text.Goals as goal
 
 pub returns-clause-ok : goal.returns-clause-ok
@@ -11,7 +13,7 @@ returns-clause-ok g c =
     let some : 0 < length c.args.text.now = grind (arith, nat_tests, c.is_empty.ensures, c.if-is_empty.false) in
     let one : c.block_of.result ∷ [] ≡ packed c.args.text.now =
     ap (λ (b : List ℕ). b ∷ []) c.block_of.ensures ∙ sym (packed_short c.args.text.now some c.requires.size) in
-    subst (λ (bs : List (List ℕ)). OnOk c.put.result (Takes (g.D.Drive.journal c.args.drive.now) c.args.self.now.packets bs (g.D.Drive.journal c.put.new.drive) c.put.new.self.packets)) one
+    subst (λ (bs : List (List ℕ)). OnOk c.put.result (Takes g.D.Drive c.args.drive.now c.args.self.now.packets bs c.put.new.drive c.put.new.self.packets)) one
     c.put.ensures.ok
 
 pub returns-clause-err : goal.returns-clause-err
@@ -19,5 +21,5 @@ returns-clause-err g c =
     let some : 0 < length c.args.text.now = grind (arith, nat_tests, c.is_empty.ensures, c.if-is_empty.false) in
     let one : c.block_of.result ∷ [] ≡ packed c.args.text.now =
     ap (λ (b : List ℕ). b ∷ []) c.block_of.ensures ∙ sym (packed_short c.args.text.now some c.requires.size) in
-    subst (λ (bs : List (List ℕ)). OnErr c.put.result (Stops (g.D.Drive.journal c.args.drive.now) c.args.self.now.packets bs (g.D.Drive.journal c.put.new.drive))) one
-    c.put.ensures.err
+    subst (λ (bs : List (List ℕ)). OnErr c.put.result (Stops g.D.Drive c.args.drive.now c.args.self.now.packets bs c.put.new.drive)) one
+    (err_weaker c.put.result (λ s. stops_before s) c.put.ensures.err)

@@ -1,6 +1,7 @@
 use Rattle.std.proofs.Common.{◌≡◌, ◌<◌, List, [], ℕ, length, get_or, replicate, arith}
 use Rattle.std.proofs.lemmas.List.{length-replicate, get_or-replicate, length-take-le}
 use Rattle.std.proofs.lemmas.Result.{err_from_is_err_and}
+use Rattle.drive.proofs.Packing.{stops_before}
 use Rattle.drive.proofs.Reading.{writes_then}
 use Rattle.medium.specs.Plan.{zeros}
 use Rattle.planning.proofs.Puttings.{takes_item, stops_item, takes_whole}
@@ -18,7 +19,7 @@ returns-in_err-put-clause-err g c =
     let all = replicate c.args.count zeros in
     let below : c.loop-i.i < length all = omega (arith, c.loop-i-test.true, length-replicate {A = List ℕ} c.args.count zeros) in
     let is : get_or all c.loop-i.i [] ≡ zeros = get_or-replicate c.args.count c.loop-i.i zeros [] c.loop-i-test.true in
-    rw p.1 (stops_item (g.D.Drive.journal c.args.drive.now) (g.D.Drive.journal c.loop-i.drive) (g.D.Drive.journal c.put.new.drive) c.args.self.now.packets c.loop-i.self.packets c.loop-i.i all zeros below is c.loop-i.invariant.takes c.in_err-put.ensures.err)
+    rw p.1 (stops_item c.args.drive.now c.loop-i.drive c.put.new.drive c.args.self.now.packets c.loop-i.self.packets c.loop-i.i all zeros below is c.loop-i.invariant.takes (stops_before c.in_err-put.ensures.err))
 
 pub loop-i-preserved : goal.loop-i-preserved
 loop-i-preserved g c =
@@ -26,11 +27,11 @@ loop-i-preserved g c =
     let below : c.loop-i.i < length all = omega (arith, c.loop-i-test.true, length-replicate {A = List ℕ} c.args.count zeros) in
     let is : get_or all c.loop-i.i [] ≡ zeros = get_or-replicate c.args.count c.loop-i.i zeros [] c.loop-i-test.true in
     record {
-      takes = takes_item (g.D.Drive.journal c.args.drive.now) (g.D.Drive.journal c.loop-i.drive) (g.D.Drive.journal c.put.new.drive) c.args.self.now.packets c.loop-i.self.packets c.loop-i.i all zeros below is c.loop-i.invariant.takes c.put.new.self.packets c.in_ok-put.ensures.ok;
+      takes = takes_item c.args.drive.now c.loop-i.drive c.put.new.drive c.args.self.now.packets c.loop-i.self.packets c.loop-i.i all zeros below is c.loop-i.invariant.takes c.put.new.self.packets c.in_ok-put.ensures.ok;
       writes = writes_then c.loop-i.invariant.writes c.in_ok-put.ensures.writes;
     }
 
 pub returns-clause-ok : goal.returns-clause-ok
 returns-clause-ok g c =
     let all = replicate c.args.count zeros in
-    takes_whole (g.D.Drive.journal c.args.drive.now) (g.D.Drive.journal c.loop-i.drive) c.args.self.now.packets c.loop-i.self.packets c.loop-i.i all (omega (arith, c.loop-i-test.false, length-replicate {A = List ℕ} c.args.count zeros)) c.loop-i.invariant.takes
+    takes_whole c.args.drive.now c.loop-i.drive c.args.self.now.packets c.loop-i.self.packets c.loop-i.i all (omega (arith, c.loop-i-test.false, length-replicate {A = List ℕ} c.args.count zeros)) c.loop-i.invariant.takes

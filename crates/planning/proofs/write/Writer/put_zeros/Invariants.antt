@@ -7,6 +7,6 @@ use Rattle.planning.proofs.write.Writer.put_zeros.Given as goal
 -- so many of the blocks were taken
 abbrev pub invariant-loop-i : goal.invariant-loop-i
 invariant-loop-i g l = record {
-  takes : Takes (g.D.Drive.journal l.fn.drive) l.fn.self.packets (take l.i (replicate l.count zeros)) (g.D.Drive.journal l.drive) l.self.packets;
+  takes : Takes g.D.Drive l.fn.drive l.fn.self.packets (take l.i (replicate l.count zeros)) l.drive l.self.packets;
   writes : Writes g.D.Drive false l.fn.drive l.drive;
 }

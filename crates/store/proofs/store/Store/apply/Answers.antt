@@ -19,7 +19,7 @@ use Rattle.planning.specs.Plan.{IsPlan}
 use Rattle.store.specs.Putting.{Makes}
 use Rattle.table.specs.TableChange.{committed}
 use Rattle.store.proofs.Commits.{if_ok, makes_plan, plan_is, writes_plan, has_failed, goes_on, some_is}
-use Rattle.store.proofs.Applying.{applies, full, short}
+use Rattle.store.proofs.Applying.{applies, full, short, unwritten, withstands}
 use Rattle.store.proofs.Knowing.{does_lent, few, knows_again, nodes, shows_lent, takes}
 use Rattle.planning.proofs.Taking.{IsTakenBy}
 use Rattle.store.proofs.store.Store.apply.Goals as goal
@@ -160,3 +160,35 @@ returns-clause-applies g c volume S honest knows going =
     let kept = subst (λ (L : List Event). AreKept L c.change.new.directories) (sym same) (c.change.ensures.kept after_change knows.kept) in
     applies capacity volume J S store knows r change does plan makes is room c.commit.result K (g.D.Drive.journal c.commit.new.drive) c.commit.new.self same c.commit.ensures.reply c.commit.ensures.at c.commit.ensures.vat
     c.commit.ensures.written c.commit.ensures.front c.commit.ensures.device c.commit.ensures.stopped c.commit.ensures.volume (c.commit.ensures.kept once kept)
+
+pub returns-clause-withstands : goal.returns-clause-withstands
+returns-clause-withstands g c volume S honest knows =
+    let store = c.args.self.now in
+    let r = c.args.request.now in
+    let J = g.D.Drive.journal c.args.drive.now in
+    let capacity = g.D.Drive.capacity c.args.drive.now in
+    let plan = c.in_ok-plan.plan in
+    let change = c.in_ok-change.change in
+    let after_plan = c.commit.ensures.follows.honest honest in
+    let after_change = c.plan.ensures.reads.honest after_plan in
+    let of_moment : c.unwrap-moment.result ≡ c.args.request.now.moment = some_is c.of.result c.unwrap-moment.result c.args.request.now.moment _ (search rules) c.of.ensures in
+    let counted : c.saturating_add.result ≡ len S.tree = omega (arith, c.saturating_add.ensures, nodes capacity volume J S store knows, few capacity volume J S store knows) in
+    let going_on = shows_lent capacity volume J S store knows (g.D.Drive.honest c.change.new.drive) after_change c.deref.result.now c.deref.ensures.value in
+    let does = does_lent capacity volume J S store knows r change c.deref.result.now c.unwrap-moment.result c.deref.ensures.value of_moment (c.in_ok-change.ensures.does S.tree going_on counted) in
+    let is : IsPlan (next_of J) capacity plan = plan_is J (g.D.Drive.journal c.change.new.drive) capacity (g.D.Drive.capacity c.change.new.drive) plan c.change.ensures.reads.journal c.change.ensures.reads.capacity c.in_ok-plan.ensures.plan in
+    let makes : Makes c.args.self.now c.args.request.now change plan = makes_plan c.args.self.now c.args.request.now change plan c.unwrap-moment.result of_moment c.in_ok-plan.ensures.moment c.in_ok-plan.ensures.code c.in_ok-plan.ensures.commit c.in_ok-plan.ensures.writings c.in_ok-plan.ensures.table in
+    let room = subst (λ (L : List Event). next_of L + change_need c.in_ok-change.change (begun c.args.self.now.at c.args.request.now.client c.args.request.now.number (code_number c.in_ok-change.change.code) c.in_ok-change.change.made (view c.args.self.now.vat)) ≤ c.args.self.now.capacity) c.change.ensures.reads.journal c.in_ok-plan.ensures.room in
+    withstands capacity volume J S store knows r change does plan makes is room (g.D.Drive.writes c.args.drive.now) (c.plan.ensures.reads.writes ∙ c.change.ensures.reads.writes) c.commit.ensures.alone
+
+pub returns-then-self-clause-withstands : goal.returns-then-self-clause-withstands
+returns-then-self-clause-withstands g c volume S honest knows =
+    unwritten (g.D.Drive.capacity c.args.drive.now) volume (g.D.Drive.journal c.args.drive.now) S c.args.self.now knows c.args.request.now (g.D.Drive.writes c.args.drive.now) (g.D.Drive.writes c.args.drive.now) refl
+
+pub returns-in_err-change-clause-withstands : goal.returns-in_err-change-clause-withstands
+returns-in_err-change-clause-withstands g c volume S honest knows =
+    unwritten (g.D.Drive.capacity c.args.drive.now) volume (g.D.Drive.journal c.args.drive.now) S c.args.self.now knows c.args.request.now (g.D.Drive.writes c.args.drive.now) (g.D.Drive.writes c.change.new.drive) c.change.ensures.reads.writes
+
+pub returns-in_err-plan-clause-withstands : goal.returns-in_err-plan-clause-withstands
+returns-in_err-plan-clause-withstands g c volume S honest knows =
+    unwritten (g.D.Drive.capacity c.args.drive.now) volume (g.D.Drive.journal c.args.drive.now) S c.args.self.now knows c.args.request.now (g.D.Drive.writes c.args.drive.now) (g.D.Drive.writes c.plan.new.drive)
+    (c.plan.ensures.reads.writes ∙ c.change.ensures.reads.writes)

@@ -2,9 +2,10 @@ use Rattle.std.proofs.Common.{◌≡◌, Bool, ◌++◌, ◌≤◌, ◌∙◌, L
 use Rattle.std.specs.Prelude.{is_err, All}
 use Rattle.std.specs.Vec.Iter.{into_iter_items}
 use Rattle.drive.specs.Reads.{Follows, one_if}
+use Rattle.drive.specs.Sending.{SendsAlone}
 use Rattle.drive.proofs.Reading.{writes_follow}
 use Rattle.drive.specs.Journal.{next_of, written, AddsFront}
-use Rattle.planning.specs.Plan.{plan_blocks}
+use Rattle.planning.specs.Plan.{node_list, plan_blocks, table_data}
 use Rattle.vat.specs.declared.table.Vat.{Vat}
 use Rattle.planning.specs.Last.{Keeps}
 use Rattle.directories.specs.Cache.{LiesThere}
@@ -117,3 +118,13 @@ returns-clause-kept g c once kept =
     let all = on_ok c.write-written.result (J' ≡ J ++ written (next_of J) (plan_blocks c.args.plan)) done c.write-written.ensures.ok in
     let longer = kept_longer J J' (plan_blocks c.args.plan) once all c.args.self.now.directories kept in
     (c.loop-placed.invariant.kept J' (plan_lies J J' once (g.D.Drive.capacity c.args.drive.now) c.args.plan c.requires.plan all) longer).1
+
+pub returns-then-is_err-clause-alone : goal.returns-then-is_err-clause-alone
+returns-then-is_err-clause-alone g c =
+    let failed : is_err c.write-written.result ≡ true = sym c.is_err.ensures.value ∙ c.if-is_err.true in
+    subst (λ (b : Bool). SendsAlone g.D.Drive (node_list c.args.plan ++ table_data c.args.plan.table) c.args.plan.table.entry b c.args.drive.now c.write-written.new.drive) failed c.write-written.ensures.alone
+
+pub returns-clause-alone : goal.returns-clause-alone
+returns-clause-alone g c =
+    let done : is_err c.write-written.result ≡ false = sym c.is_err.ensures.value ∙ c.if-is_err.false in
+    subst (λ (b : Bool). SendsAlone g.D.Drive (node_list c.args.plan ++ table_data c.args.plan.table) c.args.plan.table.entry b c.args.drive.now c.write-written.new.drive) done c.write-written.ensures.alone
