@@ -8,9 +8,9 @@
 mod bytes;
 mod checks;
 mod commits;
-mod directories;
 mod drives;
 mod histories;
+mod layouts;
 mod peaks;
 mod report;
 mod requests;
@@ -28,7 +28,7 @@ fn run(rt: &HostRuntime, report: Report, name: &str, count: u32) -> io::Result<b
     match name {
         "crc" => checks::measure(rt, report, count)?,
         "drive" => drives::measure(rt, report, count)?,
-        "dir" => directories::measure(rt, report, count)?,
+        "dir" => layouts::measure(rt, report, count)?,
         "vat" => tables::measure(rt, report, count)?,
         "request" => streams::measure(rt, report, count)?,
         "commit" => commits::measure(rt, report, count)?,

@@ -26,12 +26,7 @@ const COMMAND_NAME: &str = "udfburn";
 
 /// `udfburn` on the words of the process and these streams. It answers the status, and the output where that was not let go.
 #[tactic(auto, using(crate::proofs::Telling::refused_not))]
-pub fn run_command<R, I, O, E>(
-    rt: &R,
-    input: &mut I,
-    output: O,
-    errors: &mut E,
-) -> (u8, Option<O>)
+pub fn run_command<R, I, O, E>(rt: &R, input: &mut I, output: O, errors: &mut E) -> (u8, Option<O>)
 where
     R: Files<File = File> + Net + Env + AllocGlobal,
     I: Read,

@@ -9,11 +9,17 @@ returns-then-starts_with-clause-begins c =
     c.in-Some.event.now c.in-Some.ensures.lookup.3.0 c.in-Some.ensures.lookup.1 c.starts_with.result c.starts_with.ensures.value c.if-starts_with.true
 
 pub returns-in_default-clause-refused : goal.returns-in_default-clause-refused
-returns-in_default-clause-refused c = inl (refl, begins_nowhere c.new-whole.result.capacity c.args.capacity c.args.moment c.args.label.now _ _ c.journal.result.now _ c.args.at c.args.part.now
-    c.new-whole.ensures.capacity c.new-whole.ensures.journal c.journal.ensures c.in-Ok.ensures.ok
-    c.in_default.ensures.lookup.3)
+returns-in_default-clause-refused c = inl (
+  refl,
+  begins_nowhere c.new-whole.result.capacity c.args.capacity c.args.moment c.args.label.now _ _ c.journal.result.now _ c.args.at c.args.part.now
+      c.new-whole.ensures.capacity c.new-whole.ensures.journal c.journal.ensures c.in-Ok.ensures.ok
+      c.in_default.ensures.lookup.3,
+)
 
 pub returns-clause-refused : goal.returns-clause-refused
-returns-clause-refused c = inl (refl, begins_not c.new-whole.result.capacity c.args.capacity c.args.moment c.args.label.now _ _ c.journal.result.now _ c.args.at c.args.part.now
-    c.new-whole.ensures.capacity c.new-whole.ensures.journal c.journal.ensures c.in-Ok.ensures.ok
-    c.in-Some.event.now c.in-Some.ensures.lookup.3.0 c.in-Some.ensures.lookup.1 c.starts_with.result c.starts_with.ensures.value c.if-starts_with.false)
+returns-clause-refused c = inl (
+  refl,
+  begins_not c.new-whole.result.capacity c.args.capacity c.args.moment c.args.label.now _ _ c.journal.result.now _ c.args.at c.args.part.now
+      c.new-whole.ensures.capacity c.new-whole.ensures.journal c.journal.ensures c.in-Ok.ensures.ok
+      c.in-Some.event.now c.in-Some.ensures.lookup.3.0 c.in-Some.ensures.lookup.1 c.starts_with.result c.starts_with.ensures.value c.if-starts_with.false,
+)
