@@ -43,7 +43,7 @@ use Rattle.engine.specs.Called.{failed, refused, applied, got, listed, shown, ge
 abbrev nothing : Effect
 nothing = record { done = []; blocks = 0 }
 
-stay : (capacity volume : ℕ) (J : List Event) (S : State) → Once J → Stands udf capacity volume (held J) S → Advances udf capacity volume J S J S
+pub stay : (capacity volume : ℕ) (J : List Event) (S : State) → Once J → Stands udf capacity volume (held J) S → Advances udf capacity volume J S J S
 stay capacity volume J S once stands = record {
   front = take_all (length J) J (omega arith);
   once = once;
@@ -55,7 +55,7 @@ stands_there s t volume S journal capacity stands =
     subst (λ (J : List Event). Stands udf t.capacity volume (held J) S) (sym journal) (subst (λ (c : ℕ). Stands udf c volume (held s.journal) S) (sym capacity) stands)
 
 -- a journal goes on from its front
-front_grows : (J K : List Event) → take (length J) K ≡ J → length J ≤ length K
+pub front_grows : (J K : List Event) → take (length J) K ≡ J → length J ≤ length K
 front_grows J K front = omega (arith, ap (λ (L : List Event). length L) front, length-take (length J) K)
 
 -- the one store that is kept

@@ -2,6 +2,7 @@ pub mod Opening
 pub mod Holding
 pub mod Calling
 pub mod Running
+pub mod Withstanding
 pub mod Served
 pub mod Messages
 pub mod Delivering

@@ -6,4 +6,5 @@ pub mod Said
 pub mod Steps
 pub mod Called
 pub mod Headline
+pub mod Withstanding
 pub mod Served

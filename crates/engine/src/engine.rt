@@ -7,6 +7,7 @@ ghost use Rattle.drive.specs.Reads.{Reads};
 ghost use Rattle.drive.specs.Reads as drives;
 ghost use Rattle.recover.specs.Faults.{IsShortage, devices, failures_of};
 ghost use Rattle.request.specs.declared.answer.Answer.TheVariants as answers;
+ghost use Rattle.request.specs.declared.message.Message.TheVariants as messages;
 ghost use Rattle.request.specs.declared.message.Query.TheVariants as queries;
 ghost use Rattle.store.specs.Agrees.{Agrees};
 ghost use Rattle.store.specs.Calls.{Knows};
@@ -14,6 +15,7 @@ ghost use Rattle.engine.specs.Situation.{IsReady, Follows, HoldsNothing, seen_on
 ghost use Rattle.engine.specs.Answered.{Answered, due_of, IsDue, IsNothingThere, IsTold, MayFail, faults};
 ghost use Rattle.engine.specs.Called.{Calls, IsDealt, IsQueried, failed, refused, get_refused, list_refused, stat_refused};
 ghost use Rattle.engine.specs.Steps.{IsAt};
+ghost use Rattle.engine.specs.Withstanding.{Withstands, AsksFor};
 
 use drive::Drive;
 use request::{Answer, Message, Query, Request};
@@ -40,6 +42,8 @@ impl Engine {
         ensures answered { Answered message (seen_on D.Drive self.old drive.old) result (seen_on D.Drive self.new drive.new) }
         // On an honest drive, where a state stands that an open store knows.
         ensures calls { (volume : ℕ) (S : State) → IsTrue (D.honest drive.new) → IsAt volume S (seen_on D.Drive self.old drive.old) → Calls volume message S (seen_on D.Drive self.old drive.old) result (seen_on D.Drive self.new drive.new) }
+        // Whatever part of its writes a loss of power leaves, where a disk keeps any choice of the blocks of the last one that it was given.
+        ensures withstands { (volume : ℕ) (S : State) → IsTrue (D.honest drive.new) → IsAt volume S (seen_on D.Drive self.old drive.old) → Withstands (D.capacity drive.old) volume (D.journal drive.old) S (AsksFor message) (D.writes drive.old) (D.writes drive.new) }
         // On an honest drive where nothing stands.
         ensures nothing { IsTrue (D.honest drive.new) → HoldsNothing (seen_on D.Drive self.old drive.old) → IsNothingThere message (seen_on D.Drive self.old drive.old) result (seen_on D.Drive self.new drive.new) }
         ensures lent { drives.Follows D.Drive (faults result) drive.old drive.new }
@@ -97,6 +101,7 @@ fn answer_request<D: Drive>(
     ensures due { IsDue (due_of store.old request.now.client request.now.number) (situation_on D.Drive (Some store.old) drive.old) result (situation_on D.Drive (Some store.new) drive.new) }
     ensures follows { Follows (situation_on D.Drive (Some store.old) drive.old) (situation_on D.Drive (Some store.new) drive.new) }
     ensures dealt { (volume : ℕ) (S : State) → IsTrue (D.honest drive.new) → Knows (D.capacity drive.old) volume (D.journal drive.old) S store.old → store.old.is_stopped ≡ false → IsDealt (due_of store.old request.now.client request.now.number) volume S request.now (situation_on D.Drive (Some store.old) drive.old) store.old result (situation_on D.Drive (Some store.new) drive.new) }
+    ensures withstands { (volume : ℕ) (S : State) → IsTrue (D.honest drive.new) → Knows (D.capacity drive.old) volume (D.journal drive.old) S store.old → Withstands (D.capacity drive.old) volume (D.journal drive.old) S (AsksFor (messages.Request request.now)) (D.writes drive.old) (D.writes drive.new) }
     ensures lent { drives.Follows D.Drive (faults result) drive.old drive.new }
 {
     match store.due(request.client, request.number) {

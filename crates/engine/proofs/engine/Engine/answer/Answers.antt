@@ -1,7 +1,8 @@
-use Rattle.std.proofs.Common.{rules, Some, refl}
+use Rattle.std.proofs.Common.{rules, Some, refl, ◌∙◌}
 use Rattle.drive.proofs.Reading.{reads_are, reads_follows, reads_then}
 use Rattle.engine.specs.Situation.{Situation, situation_on}
 use Rattle.engine.proofs.Rows.{request_answered, same_situation, knows_there, request_calls, request_short, query_calls, query_short}
+use Rattle.engine.proofs.Withstanding.{unwritten, withstands_from}
 use Rattle.engine.proofs.engine.Engine.answer.Goals as goal
 
 pub returns-in-Ok-clause-answered : goal.returns-in-Ok-clause-answered
@@ -104,3 +105,30 @@ returns-in-Request-clause-lent g c = rw c.failure.ensures.device (reads_are c.in
 
 pub returns-clause-lent : goal.returns-clause-lent
 returns-clause-lent g c = rw c.failure-in-Err-take_open.ensures.device (reads_are c.in-Err-take_open.ensures.reads)
+
+pub returns-in-Ok-clause-withstands : goal.returns-in-Ok-clause-withstands
+returns-in-Ok-clause-withstands g c volume S honest at =
+    let d = g.D.Drive in
+    let first = c.args.drive.now in
+    let drive = c.take_open.new.drive in
+    let store = c.in-Ok.store in
+    let opened = c.in-Ok.ensures in
+    let known = opened.knows volume S (c.answer_request-answer.ensures.follows.honest honest) at in
+    let knows = knows_there (d.capacity first) (d.capacity drive) volume (d.journal first) (d.journal drive) S store opened.reads.capacity opened.reads.journal known in
+    rw c.in-Request.is (withstands_from (d.capacity first) (d.capacity drive) volume (d.journal first) (d.journal drive) S _ (d.writes first) (d.writes drive) (d.writes c.answer_request-answer.new.drive)
+    opened.reads.capacity opened.reads.journal opened.reads.writes (c.answer_request-answer.ensures.withstands volume S honest knows))
+
+pub returns-in-Ok-take_open-clause-withstands : goal.returns-in-Ok-take_open-clause-withstands
+returns-in-Ok-take_open-clause-withstands g c volume S honest at = unwritten _ volume _ S _ _ _ at.once at.stands (c.answer_query-answer.ensures.reads.writes ∙ c.in-Ok-take_open.ensures.reads.writes)
+
+pub returns-in-Request-clause-withstands : goal.returns-in-Request-clause-withstands
+returns-in-Request-clause-withstands g c volume S honest at = unwritten _ volume _ S _ _ _ at.once at.stands c.in-Err.ensures.reads.writes
+
+pub returns-clause-withstands : goal.returns-clause-withstands
+returns-clause-withstands g c volume S honest at = unwritten _ volume _ S _ _ _ at.once at.stands c.in-Err-take_open.ensures.reads.writes
+
+pub returns-in-Malformed-clause-withstands : goal.returns-in-Malformed-clause-withstands
+returns-in-Malformed-clause-withstands g c volume S honest at = unwritten _ volume _ S _ _ _ at.once at.stands refl
+
+pub returns-in-NoMemory-clause-withstands : goal.returns-in-NoMemory-clause-withstands
+returns-in-NoMemory-clause-withstands g c volume S honest at = unwritten _ volume _ S _ _ _ at.once at.stands refl
