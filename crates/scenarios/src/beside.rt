@@ -9,15 +9,12 @@ use crate::changes::{Asked, Change, query};
 use crate::die::Die;
 use crate::machine::Machine;
 use crate::trouble::Trouble;
-use drive::{Block, Fault};
+use drive::Fault;
 use model::plain::{Content, Due, Entry, Node, Reply, State};
 use std::alloc::Global;
 use std::fmt::Write;
 use std::marker::Model;
 use store::Snapshot;
-
-/// What is read where a block did not reach the medium.
-const UNWRITTEN: Block = [0; 2048];
 
 /// What is told where machine and plain program agree.
 const SAME: &str = "same";
@@ -365,36 +362,6 @@ impl Beside {
             if kept < until {
                 from = kept;
             }
-        }
-        Ok(String::from_str(alloc, SAME)?)
-    }
-
-    /// Tears the last commit, as a loss of power may: of the blocks behind some of its first, none of them the last, some are
-    /// left and zeros lie in place of the others. So the commit is lost, and its request is put again.
-    pub fn tear(&mut self, machine: &mut Machine) -> Result<String, Trouble> {
-        let alloc = self.alloc;
-        let sent = self.sent.last().ok_or(Trouble::Line("nothing was sent"))?;
-        let until = machine.blocks();
-        let last = until.saturating_sub(1);
-        let whole = sent.before.saturating_add(self.die.roll(4) as usize).min(last);
-        let end = whole.saturating_add(self.die.roll(33) as usize).min(last);
-        let mut left = machine.front(whole)?;
-        let mut at = 0usize;
-        for (_, block) in machine.journal() {
-            if at >= whole && at < end {
-                let is_left = self.die.roll(2) == 0;
-                left.burn(if is_left { block } else { &UNWRITTEN })?;
-            }
-            at = at.saturating_add(1);
-        }
-        *machine = left;
-        let got = told(alloc, &machine.ask(&sent.payload)?)?;
-        if got.as_str() != sent.text.as_str() {
-            return compare(alloc, &got, &sent.text);
-        }
-        let again = until.saturating_sub(sent.before);
-        if machine.blocks() != end.saturating_add(again) {
-            return Ok(String::from_str(alloc, "other blocks")?);
         }
         Ok(String::from_str(alloc, SAME)?)
     }
