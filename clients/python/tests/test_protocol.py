@@ -190,6 +190,31 @@ class Answers(unittest.TestCase):
             self.assertEqual(p.decode_answer(p.encode_answer(answer)), answer)
 
 
+class Values(unittest.TestCase):
+    """Requests, queries and answers are equal where their classes and all their fields are."""
+
+    def test_equal(self) -> None:
+        create = p.Create(1, 2, 3, ("a",), b"x")
+        self.assertEqual(create, p.Create(client=1, number=2, moment=3, path=("a",), data=b"x"))
+        others = [
+            p.Replace(1, 2, 3, ("a",), b"x"), p.Create(9, 2, 3, ("a",), b"x"), p.Create(1, 9, 3, ("a",), b"x"), p.Create(1, 2, 9, ("a",), b"x"),
+            p.Create(1, 2, 3, ("b",), b"x"), p.Create(1, 2, 3, ("a",), b"y"), p.Get(("a",)), None, (1, 2, 3, ("a",), b"x"),
+        ]
+        self.assertTrue(all(create != other for other in others))
+        self.assertNotEqual(p.Stale(5), p.Gap(5))
+        self.assertNotEqual(p.Rename(1, 2, 3, ("a",), ("b",)), p.Rename(1, 2, 3, ("a",), ("c",)))
+        self.assertEqual(len({p.Stat(("a",)), p.Stat(("a",)), p.Get(("a",)), p.FULL, p.Bare(p.AnswerCode.FULL)}), 3)
+
+    def test_shown(self) -> None:
+        self.assertEqual(repr(p.Rename(1, 2, 3, ("a",), ("b",))), "Rename(client=1, number=2, moment=3, path=('a',), to=('b',))")
+        self.assertEqual(repr(p.Gap(7)), "Gap(latest=7)")
+
+    def test_no_other_fields(self) -> None:
+        for value in (p.Create(1, 2, 3, (), b""), p.MakeDir(1, 2, 3, ()), p.Stat(()), p.FULL, p.Node(p.NodeKind.FILE, 0, 0)):
+            with self.assertRaises(AttributeError):
+                setattr(value, "another", 1)
+
+
 def random_path(chance: random.Random) -> p.Path:
     return tuple(random_name(chance) for _ in range(chance.choice((0, 1, 1, 2, 3, 16, 255))))
 

@@ -4,7 +4,6 @@ from __future__ import annotations
 
 import os
 import struct
-from dataclasses import dataclass, field
 from typing import Dict, Iterable, Optional, Set
 
 from .connection import run_program
@@ -31,13 +30,12 @@ def data_blocks(size: int) -> int:
     return 0 if size <= INSIDE else blocks_for(size)
 
 
-@dataclass
 class Layout:
     """A directory's identifiers as they are laid: whole blocks, the place in the last one, and the sum of their sizes."""
 
-    full: int = 0
-    at: int = PARENT
-    sum: int = PARENT
+    def __init__(self) -> None:
+        self.full = 0
+        self.at = self.sum = PARENT
 
     def add(self, name: str) -> None:
         """Lays one more name."""
@@ -58,26 +56,23 @@ class Layout:
         return 2 + self.sum // 1720
 
 
-@dataclass
 class Space:
     """What an image has: its capacity, the next address, and what its table takes."""
 
-    capacity: int
-    next: int
-    clients: Set[int] = field(default_factory=set)
-    entries: int = 2
-    nodes: int = 1
+    def __init__(self, capacity: int, address: int, clients: Set[int], entries: int = 2, nodes: int = 1):
+        self.capacity, self.next = capacity, address
+        self.clients, self.entries, self.nodes = clients, entries, nodes
 
     def left(self) -> int:
         return self.capacity - self.next
 
 
-@dataclass
 class Reckoner:
     """Blocks of requests one after another, at a state whose directories are known."""
 
-    space: Space
-    layouts: Dict[Path, Layout] = field(default_factory=dict)
+    def __init__(self, space: Space):
+        self.space = space
+        self.layouts: Dict[Path, Layout] = {}
 
     def directory(self, path: Path, names: Iterable[str]) -> None:
         """A directory that is there, with its names in stored order."""

@@ -4,9 +4,8 @@ from __future__ import annotations
 
 import os
 import tempfile
-from dataclasses import dataclass, field
 from itertools import islice
-from typing import Dict, Iterator, List, Optional, Tuple
+from typing import Dict, Iterator, List, NamedTuple, Optional, Tuple
 
 from .client import Client, met
 from .errors import SourceError
@@ -16,8 +15,7 @@ from .split import joined, stored_paths
 from .tree import Told, quiet, walk
 
 
-@dataclass
-class Stored:
+class Stored(NamedTuple):
     """A file of the volume: its path, the paths of its parts, and what Stat says of the first."""
 
     path: Path
@@ -142,15 +140,13 @@ def make_folder(folder: str) -> None:
 
 # ---- compared
 
-@dataclass
 class Comparison:
     """What a folder and a directory have in common, and where they differ: path and how."""
 
-    files: int = 0
-    bytes: int = 0
-    folders: int = 0
-    differences: List[Tuple[str, str]] = field(default_factory=list)
-    extra: List[str] = field(default_factory=list)
+    def __init__(self, differences: List[Tuple[str, str]]):
+        self.files = self.bytes = self.folders = 0
+        self.differences = differences
+        self.extra: List[str] = []
 
 
 def verify_tree(client: Client, local: str, path: Path, split: bool = False, skip_odd: bool = False, told: Told = quiet) -> Comparison:

@@ -5,8 +5,7 @@ from __future__ import annotations
 import colorsys
 import os
 import struct
-from dataclasses import dataclass
-from typing import Iterator, List, Sequence, Tuple
+from typing import Iterator, List, NamedTuple, Sequence, Tuple
 from xml.sax.saxutils import escape
 
 from .blocks import PARTITION
@@ -27,8 +26,7 @@ FRONT, FREE = "#9aa7b5", "#eef2f6"
 FILES, DIRECTORIES = "#0f766e", "#b45309"
 
 
-@dataclass(frozen=True)
-class Run:
+class Run(NamedTuple):
     """Blocks that belong together: from an address up to another, their colour, and what they are."""
 
     begin: int
@@ -37,8 +35,7 @@ class Run:
     text: str
 
 
-@dataclass(frozen=True)
-class Medium:
+class Medium(NamedTuple):
     """What the picture shows."""
 
     name: str

@@ -7,8 +7,7 @@ import os
 import shutil
 import tempfile
 from contextlib import contextmanager
-from dataclasses import dataclass
-from typing import Iterator, List, Optional
+from typing import Iterator, List, NamedTuple, Optional
 
 from .connection import run_program
 from .errors import UsageError
@@ -20,8 +19,7 @@ CLONE = 0x40049409
 PIECE = 1 << 20
 
 
-@dataclass(frozen=True)
-class Commit:
+class Commit(NamedTuple):
     """A line of `udfburn log`: a commit, the address of its last block, and what the tree had behind it."""
 
     number: int

@@ -3,7 +3,6 @@
 from __future__ import annotations
 
 import struct
-from dataclasses import dataclass
 from enum import IntEnum
 from typing import Callable, ClassVar, Dict, Tuple, Union
 
@@ -11,6 +10,7 @@ from . import limits
 from .messages import Cause
 from .names import name_fault
 from .reader import Fields, Short
+from .record import Record
 
 
 class Code(IntEnum):
@@ -59,35 +59,43 @@ class BadAnswer(Exception):
     """Bytes that are no answer of this protocol, or not one to what was asked."""
 
 
-@dataclass(frozen=True)
-class Committed:
+class Committed(Record):
     """The request is committed."""
 
-    code: Code
-    commit: int
+    __slots__ = ("code", "commit")
+
+    def __init__(self, code: Code, commit: int):
+        self.code = code
+        self.commit = commit
 
 
-@dataclass(frozen=True)
-class Stale:
+class Stale(Record):
     """The request is older than those whose replies are kept."""
 
     code: ClassVar[AnswerCode] = AnswerCode.STALE
-    latest: int
+    __slots__ = ("latest",)
+
+    def __init__(self, latest: int):
+        self.latest = latest
 
 
-@dataclass(frozen=True)
-class Gap:
+class Gap(Record):
     """The request's number is not its client's next."""
 
     code: ClassVar[AnswerCode] = AnswerCode.GAP
-    latest: int
+    __slots__ = ("latest",)
+
+    def __init__(self, latest: int):
+        self.latest = latest
 
 
-@dataclass(frozen=True)
-class Bare:
+class Bare(Record):
     """An answer of its code alone."""
 
-    code: AnswerCode
+    __slots__ = ("code",)
+
+    def __init__(self, code: AnswerCode):
+        self.code = code
 
 
 CLIENTS_FULL = Bare(AnswerCode.CLIENTS_FULL)
@@ -105,46 +113,56 @@ BARE: Dict[int, Bare] = {
 }
 
 
-@dataclass(frozen=True)
-class Malformed:
+class Malformed(Record):
     """The payload says nothing."""
 
     code: ClassVar[AnswerCode] = AnswerCode.MALFORMED
-    cause: Cause
+    __slots__ = ("cause",)
+
+    def __init__(self, cause: Cause):
+        self.cause = cause
 
 
-@dataclass(frozen=True)
-class Data:
+class Data(Record):
     """The bytes of a file."""
 
     code: ClassVar[AnswerCode] = AnswerCode.DATA
-    data: bytes
+    __slots__ = ("data",)
+
+    def __init__(self, data: bytes):
+        self.data = data
 
 
-@dataclass(frozen=True)
-class Name:
+class Name(Record):
     """A name in a directory."""
 
-    kind: NodeKind
-    name: str
+    __slots__ = ("kind", "name")
+
+    def __init__(self, kind: NodeKind, name: str):
+        self.kind = kind
+        self.name = name
 
 
-@dataclass(frozen=True)
-class Names:
+class Names(Record):
     """The names in a directory, in stored order."""
 
     code: ClassVar[AnswerCode] = AnswerCode.NAMES
-    names: Tuple[Name, ...]
+    __slots__ = ("names",)
+
+    def __init__(self, names: Tuple[Name, ...]):
+        self.names = names
 
 
-@dataclass(frozen=True)
-class Node:
+class Node(Record):
     """What is known of a path. `size` is the bytes of a file, the names of a directory."""
 
     code: ClassVar[AnswerCode] = AnswerCode.NODE
-    kind: NodeKind
-    moment: int
-    size: int
+    __slots__ = ("kind", "moment", "size")
+
+    def __init__(self, kind: NodeKind, moment: int, size: int):
+        self.kind = kind
+        self.moment = moment
+        self.size = size
 
 
 Answer = Union[Committed, Stale, Gap, Bare, Malformed, Data, Names, Node]

@@ -3,7 +3,6 @@
 from __future__ import annotations
 
 import struct
-from dataclasses import dataclass
 from enum import IntEnum
 from functools import lru_cache
 from typing import Any, ClassVar, Dict, Type, Union
@@ -11,6 +10,7 @@ from typing import Any, ClassVar, Dict, Type, Union
 from . import limits
 from .names import Path, name_fault
 from .reader import Fields, Short
+from .record import Record
 
 
 class Kind(IntEnum):
@@ -47,81 +47,100 @@ class Fault(ValueError):
         self.cause = cause
 
 
-@dataclass(frozen=True)
-class Request:
-    """What every request has: who asks, the number of the request, and its moment."""
+class Request(Record):
+    """What every request has: who asks, the number of the request, and its moment; and the path that it speaks of."""
 
     kind: ClassVar[Kind]
-    client: int
-    number: int
-    moment: int
+    __slots__ = ("client", "number", "moment", "path")
+
+    def __init__(self, client: int, number: int, moment: int, path: Path):
+        self.client = client
+        self.number = number
+        self.moment = moment
+        self.path = path
 
 
-@dataclass(frozen=True)
-class Create(Request):
+class Writing(Request):
+    """A request with the bytes of a file."""
+
+    __slots__ = ("data",)
+
+    def __init__(self, client: int, number: int, moment: int, path: Path, data: bytes):
+        self.client = client
+        self.number = number
+        self.moment = moment
+        self.path = path
+        self.data = data
+
+
+class Create(Writing):
     """A new file."""
 
-    kind: ClassVar[Kind] = Kind.CREATE
-    path: Path
-    data: bytes
+    kind = Kind.CREATE
+    __slots__ = ()
 
 
-@dataclass(frozen=True)
-class Replace(Request):
+class Replace(Writing):
     """Other bytes for a file that is there."""
 
-    kind: ClassVar[Kind] = Kind.REPLACE
-    path: Path
-    data: bytes
+    kind = Kind.REPLACE
+    __slots__ = ()
 
 
-@dataclass(frozen=True)
 class MakeDir(Request):
     """A new directory."""
 
-    kind: ClassVar[Kind] = Kind.MAKE_DIR
-    path: Path
+    kind = Kind.MAKE_DIR
+    __slots__ = ()
 
 
-@dataclass(frozen=True)
 class Rename(Request):
     """Another path for a file or a directory."""
 
-    kind: ClassVar[Kind] = Kind.RENAME
-    path: Path
-    to: Path
+    kind = Kind.RENAME
+    __slots__ = ("to",)
+
+    def __init__(self, client: int, number: int, moment: int, path: Path, to: Path):
+        super().__init__(client, number, moment, path)
+        self.to = to
 
 
-@dataclass(frozen=True)
 class Remove(Request):
     """A file or an empty directory that goes."""
 
-    kind: ClassVar[Kind] = Kind.REMOVE
-    path: Path
+    kind = Kind.REMOVE
+    __slots__ = ()
 
 
-@dataclass(frozen=True)
-class Get:
+class Question(Record):
+    """What every query has: the path that it asks about."""
+
+    kind: ClassVar[Kind]
+    __slots__ = ("path",)
+
+    def __init__(self, path: Path):
+        self.path = path
+
+
+class Get(Question):
     """Asks for the bytes of a file."""
 
-    kind: ClassVar[Kind] = Kind.GET
-    path: Path
+    kind = Kind.GET
+    __slots__ = ()
 
 
-@dataclass(frozen=True)
-class List:
+class List(Question):
     """Asks for the names in a directory."""
 
-    kind: ClassVar[Kind] = Kind.LIST
-    path: Path
+    kind = Kind.LIST
+    __slots__ = ()
 
 
-@dataclass(frozen=True)
-class Stat:
+class Stat(Question):
     """Asks what is known of a path."""
 
-    kind: ClassVar[Kind] = Kind.STAT
-    path: Path
+    kind = Kind.STAT
+    __slots__ = ()
 
 
 Query = Union[Get, List, Stat]
