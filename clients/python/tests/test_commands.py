@@ -10,7 +10,7 @@ from io import StringIO
 from typing import List
 from unittest import mock
 
-from udfburn import cli
+from udfburn import cli, errors as e
 from udfburn import protocol as p
 from udfburn.progress import Progress
 
@@ -117,10 +117,41 @@ class Commands(Local):
         self.words("put", "--dry-run", "--verify", self.write("a"), "/a", status=2)
         with mock.patch.dict(os.environ, clear=True), mock.patch("sys.stderr"):
             self.assertEqual(cli.main(["ls", "/"]), 2)
+
+    def test_seconds_and_clients(self) -> None:
+        """What is no count of seconds, and no client, is told as that, before anything is done."""
+        told = StringIO()
+        for wait in ("nan", "inf", "-inf", "-1", "-0.001", "1e999", "soon", ""):
+            with self.assertRaises(SystemExit) as raised, redirect_stderr(told):
+                cli.main(["ls", "--socket", self.server.path, f"--wait={wait}"])
+            self.assertEqual(raised.exception.code, 2, wait)
+            self.assertIn(f"{wait!r} is no count of seconds", told.getvalue())
+            if wait not in ("soon", ""):
+                with self.assertRaises(e.UsageError):
+                    self.client(patience=float(wait))
+        for client in ("0", "-1", str(1 << 64), "me"):
+            with self.assertRaises(SystemExit) as raised, redirect_stderr(told):
+                cli.main(["mkdir", "--socket", self.server.path, f"--client={client}", "/x"])
+            self.assertEqual(raised.exception.code, 2, client)
+            self.assertIn(f"{client!r} is no client", told.getvalue())
+        self.assertEqual(self.server.conversations, 0)
+        for wait in ("0", "-0", "0.5", "1e3", "1e300"):
+            self.words("ls", f"--wait={wait}")
+
+    def test_help(self) -> None:
+        """Each command tells what it does, and what each of its words and options is."""
         for name in cli.COMMANDS:
-            with self.assertRaises(SystemExit) as raised, mock.patch("sys.stdout"):
+            output = StringIO()
+            with self.assertRaises(SystemExit) as raised, redirect_stdout(output), mock.patch.dict(os.environ, {"COLUMNS": "1000"}):
                 cli.main([name, "--help"])
             self.assertEqual(raised.exception.code, 0)
+            usage, text = output.getvalue().split("\n\n", 1)
+            self.assertIn(f"udfburn-client {name}", usage)
+            self.assertRegex(text, r"^[A-Z].*\. .*\.\n")
+            for line in text.split("\n"):
+                if line.startswith("  "):
+                    self.assertRegex(line, r"^  \S.*?  +\S", f"{name}: {line}")
+        self.assertNotIn("--socket", output.getvalue())
 
     def test_interrupted(self) -> None:
         """Ctrl-C leaves what the same command finishes."""

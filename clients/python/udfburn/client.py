@@ -6,7 +6,7 @@ from contextlib import contextmanager
 from typing import Iterable, Iterator, List, Optional, Tuple, Type
 
 from .connection import Way
-from .errors import MISSES, REFUSALS, Exists, IsDirectory, NotDirectory, NotFound, Refused, UdfburnError
+from .errors import MISSES, REFUSALS, Exists, IsDirectory, NotDirectory, NotFound, Refused, UdfburnError, UsageError
 from .ledger import Ledger, default_path
 from .line import Line
 from .operations import Operation, Outcome, now
@@ -37,6 +37,8 @@ class Client:
         patience: float = 10.0,
         timeout: float = 120.0,
     ):
+        if not 0 <= patience < float("inf"):
+            raise UsageError(f"{patience!r} is no count of seconds: one is a number from 0 on")
         self.way = Way(connect, program)
         self.line = Line(self.way, patience, timeout)
         self._wanted = client
