@@ -18,7 +18,7 @@
 #include <unistd.h>
 
 /* In the order of `Kind` in test_order.py. */
-enum kind { WRITTEN, SYNCED, CUT, REMOVED, SENT };
+enum kind { WRITTEN, SYNCED, CUT, REMOVED, SENT, RENAMED };
 
 struct record {
     uint32_t kind, path, data, unused;
@@ -85,6 +85,13 @@ int unlink(const char *path) {
     REAL(int, unlink, const char *);
     int failed = real(path);
     if (!failed) note(REMOVED, path, 0, "", 0);
+    return failed;
+}
+
+int rename(const char *path, const char *to) {
+    REAL(int, rename, const char *, const char *);
+    int failed = real(path, to);
+    if (!failed) note(RENAMED, path, 0, to, strlen(to));
     return failed;
 }
 

@@ -10,17 +10,20 @@ import subprocess
 import sys
 import threading
 import unittest
-from typing import List, Optional
+from contextlib import closing
+from pathlib import Path
+from typing import Dict, List, Optional
 from unittest import mock
 
 from udfburn import Client, errors as e
 from udfburn import protocol as p
-from udfburn.ledger import Ledger
+from udfburn.ledger import Ledger, Lock
 from udfburn.operations import Operation
 from udfburn.tree import Options, put_all
 
 from .model import Volume
 from .server import request_of
+from .test_kills import killer
 from .test_session import PACKAGE, WithServer, creates
 
 
@@ -57,17 +60,60 @@ class Ledgers(WithServer):
         self.assertEqual(len(drawn), 20)
 
     def test_what_is_no_ledger(self) -> None:
-        with open(self.ledger, "wb") as file:
-            file.write(b"no base at all, " * 1000)
+        """It is told, stays as it was, and gets nothing beside it."""
+        room = os.path.join(self.room, "beside")
+        os.mkdir(room)
+
+        def write(name: str, data: bytes) -> None:
+            with open(os.path.join(room, name), "wb") as file:
+                file.write(data)
+
+        def base(name: str, *statements: str) -> None:
+            with closing(sqlite3.connect(os.path.join(room, name))) as other, other:
+                for statement in statements:
+                    other.execute(statement)
+
+        write("text", b"no base at all, " * 1000)
+        write("short", b"x")
+        write("torn.sqlite", b"SQLite format 3\0" + b"and what is none" * 1000)
+        base("other.sqlite", "CREATE TABLE what (ever)")
+        base("log.sqlite", "PRAGMA journal_mode = WAL", "CREATE TABLE what (ever)")
+        base("names.sqlite", "CREATE TABLE ledger (what, ever)")
+        base("none.sqlite", "CREATE TABLE ledger (version, client)")
+        base("words.sqlite", "CREATE TABLE ledger (version, client)", "INSERT INTO ledger VALUES (1, 'me')")
+        base("newer.sqlite", "CREATE TABLE ledger (version, client)", "INSERT INTO ledger VALUES (2, '5')")
+        os.mkdir(os.path.join(room, "folder"))
+        os.mkfifo(os.path.join(room, "pipe"))
+
+        def found() -> Dict[str, bytes]:
+            return {entry.name: Path(entry.path).read_bytes() if entry.is_file() else b"" for entry in os.scandir(room)}
+
+        before = found()
+        self.assertEqual(len(before), 11)
+        for name in before:
+            with self.assertRaisesRegex(e.LedgerError, "version 1" if name == "newer.sqlite" else "is no ledger .*--ledger", msg=name):
+                Ledger(os.path.join(room, name))
+            self.assertEqual(found(), before, name)
         with self.assertRaises(e.LedgerError):
-            Ledger(self.ledger)
-        other = os.path.join(self.room, "other.sqlite")
-        base = sqlite3.connect(other)
-        base.execute("CREATE TABLE what (ever)")
-        base.commit()
-        base.close()
-        with self.assertRaises(e.LedgerError):
-            Ledger(other)
+            Ledger(os.path.join(room, "new.sqlite"), client=0)
+        self.assertEqual(found(), before)
+
+    def test_a_lock_that_was_taken_away(self) -> None:
+        """Who waits for the lock of what is no ledger does not have a lock that nobody else sees."""
+        path = os.path.join(self.room, "locked")
+        first = Lock(path, 0.0)
+        self.assertTrue(first.made)
+        timer = threading.Timer(0.2, first.close, (True,))
+        timer.start()
+        second = Lock(path, 5.0)
+        timer.join()
+        with self.assertRaises(e.LedgerBusy):
+            Lock(path, 0.0)
+        second.close()
+        third = Lock(path, 0.0)
+        self.assertFalse(third.made)
+        third.close(needless=True)
+        self.assertTrue(os.path.exists(path + ".lock"))
 
     def test_a_ledger_whose_disk_is_full(self) -> None:
         client = self.client()
@@ -136,7 +182,49 @@ class Ledgers(WithServer):
         top = os.path.realpath(self.room)
         with mock.patch("udfburn.ledger.os.fsync", fsync):
             Ledger(os.path.join(top, "a", "b", "ledger.sqlite")).close()
-        self.assertEqual(synced, [top, os.path.join(top, "a"), os.path.join(top, "a", "b")])
+        last = os.path.join(top, "a", "b")
+        self.assertEqual(synced, [top, os.path.join(top, "a"), os.path.join(last, "ledger.sqlite.new"), last])
+
+    def test_a_making_that_is_killed(self) -> None:
+        """Between any two statements: there is no ledger then, or a whole one, and the next process has it."""
+        room = os.path.join(self.room, "made")
+        path, made = os.path.join(room, "ledger.sqlite"), {True: 0, False: 0}
+        for lines in range(1, 1000):
+            child = os.fork()
+            if not child:
+                try:
+                    sys.settrace(killer(lines))
+                    Ledger(path, client=5)
+                finally:
+                    sys.settrace(None)
+                    os._exit(0)
+            killed = os.WIFSIGNALED(os.waitpid(child, 0)[1])
+            there = os.path.exists(path)
+            made[there] += 1
+            if there:
+                base = sqlite3.connect(path)
+                self.assertEqual(base.execute("SELECT * FROM ledger").fetchall(), [(1, "5")])
+                base.close()
+            Ledger(path, client=5 if there else 7, wait=0.0).close()
+            self.assertEqual(sorted(os.listdir(room)), ["ledger.sqlite", "ledger.sqlite.lock"])
+            shutil.rmtree(room)
+            if not killed:
+                break
+        self.assertFalse(killed)
+        self.assertGreater(min(made.values()), 5)
+
+    def test_a_base_without_a_table(self) -> None:
+        """What an earlier program left whose making was cut short; and a file without a byte."""
+        base = sqlite3.connect(self.ledger)
+        base.execute("PRAGMA journal_mode = WAL")
+        base.close()
+        self.assertGreater(os.path.getsize(self.ledger), 0)
+        Ledger(self.ledger, client=5).close()
+        empty = os.path.join(self.room, "empty.sqlite")
+        with open(empty, "wb"), open(empty + "-wal", "wb") as log:
+            log.write(b"of another base")
+        Ledger(empty, client=6).close()
+        self.assertEqual([Ledger(path).client for path in (self.ledger, empty)], [5, 6])
 
     def test_a_disk_without_room(self) -> None:
         """The ledger says so, what it has is whole, and all goes on once there is room."""

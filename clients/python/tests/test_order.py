@@ -32,6 +32,7 @@ class Kind(IntEnum):
     CUT = 2
     REMOVED = 3
     SENT = 4
+    RENAMED = 5
 
 
 class Call(NamedTuple):
@@ -80,27 +81,44 @@ Files = Dict[str, bytes]
 
 
 class Disk:
-    """The files below a folder, as a loss of power may leave them."""
+    """The files in a folder, as a loss of power may leave them. A file that is renamed has its old name or its new one until
+    the folder is synchronised."""
 
-    def __init__(self) -> None:
+    def __init__(self, folder: str) -> None:
+        self.folder = folder
         self.files: Dict[str, Kept] = {}
+        self.renamed: Dict[str, str] = {}
         self.chance = random.Random(5)
 
     def take(self, call: Call) -> None:
-        file = self.files.setdefault(call.path, Kept())
+        if call.path == self.folder:
+            for new, old in self.renamed.items():
+                self.files[new] = self.files.pop(old)
+            self.renamed = {}
+            return
+        path = self.renamed.get(call.path, call.path)
+        if call.kind is Kind.RENAMED:
+            self.renamed[os.fsdecode(call.data)] = path
+            return
+        file = self.files.setdefault(path, Kept())
         if call.kind is Kind.SYNCED:
             file.sync()
         elif call.kind is Kind.REMOVED:
-            del self.files[call.path]
+            del self.files[path]
         else:
             file.since.append(call)
 
     def states(self) -> List[Files]:
         """The disk with none of what was not synchronised, with all of it, and with some by chance."""
-        return [
-            {path: bytes(file.left([call for call in file.since if self.chance.random() < share])) for path, file in self.files.items()}
-            for share in (0.0, 1.0, 0.5)
-        ]
+        return [self.left(share) for share in (0.0, 1.0, 0.5)]
+
+    def left(self, share: float) -> Files:
+        """The disk with this share of what was not synchronised."""
+        files = {path: bytes(file.left([call for call in file.since if self.chance.random() < share])) for path, file in self.files.items()}
+        for new, old in self.renamed.items():
+            if self.chance.random() < share:
+                files[new] = files.pop(old)
+        return files
 
 
 class Order(WithServer):
@@ -161,9 +179,17 @@ class Order(WithServer):
             self.assertEqual(pending.get(request.number), payload, f"request {request.number} was sent before it was kept")
             self.assertLessEqual(len(pending), 4)
 
+    def check_whole(self, states: List[Files]) -> None:
+        """A file of the ledger's name is a whole ledger in every state."""
+        for state in states:
+            if os.path.join(self.room, "kept", "ledger.sqlite") in state:
+                self.assertEqual(len(self.asked(state, "SELECT client FROM ledger WHERE version = 1")), 1)
+                self.whole += 1
+
     def follow(self, calls: List[Call]) -> "tuple[Set[int], Set[str]]":
         """Checks each call, and gives the numbers that were sent and the sources that were removed."""
-        disk, sent, removed = Disk(), set(), set()  # type: ignore[var-annotated]
+        kept = os.path.join(self.room, "kept")
+        disk, sent, removed = Disk(kept), set(), set()  # type: ignore[var-annotated]
         stream, begun = p.Frames(), disk.states()
         for call in calls:
             if call.kind is Kind.SENT:
@@ -179,12 +205,16 @@ class Order(WithServer):
                 for state in disk.states():
                     self.assertIn((path,), self.asked(state, CONFIRMED), f"{path} was removed before its reply was kept")
                 removed.add(path)
-            elif call.path.startswith(os.path.join(self.room, "kept", "ledger.sqlite")):
+            elif call.path == kept or call.path.startswith(os.path.join(kept, "ledger.sqlite")):
                 disk.take(call)
+                if not stream.bytes:
+                    self.check_whole(disk.states())
         return sent, removed
 
     def check(self, *words: str) -> None:
+        self.whole = 0
         sent, removed = self.follow(self.logged(*words))
+        self.assertGreater(self.whole, 3)
         self.assertEqual(sent, set(range(1, self.FILES + 2)))
         self.assertEqual(removed, {f"/x/f{index}" for index in range(self.FILES)})
         self.assertEqual(len(self.volume.files()), self.FILES)

@@ -7,10 +7,10 @@ import os
 import select
 import socket
 import time
-from typing import IO, List, Optional
+from typing import IO, List, Optional, Union
 
 from .errors import ProgramFailed, UsageError
-from .protocol import Answer, Frames, decode_answer
+from .protocol import Answer, Frames, decode_answer, is_bytes
 
 PIECE = 1 << 18
 """Bytes that are read or written at once."""
@@ -223,9 +223,10 @@ class Way:
     def __str__(self) -> str:
         return f"{self.kind}:{self.path}"
 
-    def key(self) -> str:
-        """The way's name in a ledger, by the file behind links."""
-        return f"{self.kind}:{os.path.realpath(self.path)}"
+    def key(self) -> Union[str, bytes]:
+        """The way's name in a ledger, by the file behind links; as bytes where these are not UTF-8."""
+        key = f"{self.kind}:{os.path.realpath(self.path)}"
+        return os.fsencode(key) if is_bytes(key) else key
 
     def open(self) -> Connection:
         """A new conversation, or `Lost`."""

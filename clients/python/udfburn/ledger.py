@@ -10,9 +10,10 @@ from __future__ import annotations
 import fcntl
 import os
 import sqlite3
+import stat
 import time
 from contextlib import contextmanager
-from typing import Iterable, Iterator, List, NamedTuple, Optional, Sequence, Tuple
+from typing import Iterable, Iterator, List, NamedTuple, Optional, Sequence, Tuple, Union
 
 from .errors import LedgerBusy, LedgerError
 from .protocol import limits
@@ -60,7 +61,7 @@ class Volume(NamedTuple):
     """A volume as the ledger knows it: `latest` is the number of the last request with a reply."""
 
     id: int
-    way: str
+    way: Union[str, bytes]
     latest: int
 
 
@@ -108,58 +109,139 @@ def make_folder(path: str) -> None:
     sync_folder(os.path.dirname(path))
 
 
+def sync_file(path: str) -> None:
+    """Makes the bytes of a file durable."""
+    descriptor = os.open(path, os.O_RDWR | os.O_CLOEXEC)
+    try:
+        os.fsync(descriptor)
+    finally:
+        os.close(descriptor)
+
+
+def remove(path: str) -> None:
+    """Removes a file that may be there."""
+    try:
+        os.unlink(path)
+    except FileNotFoundError:
+        pass
+
+
+MAGIC = b"SQLite format 3\0"
+
+
+def is_there(path: str) -> bool:
+    """Whether there is a file that may be a ledger. One without a byte is none yet; what is surely no ledger is an error."""
+    try:
+        status = os.stat(path)
+        if not stat.S_ISREG(status.st_mode):
+            raise LedgerError(f"{path}: is no ledger (no regular file): name another by --ledger")
+        if not status.st_size:
+            return False
+        with open(path, "rb") as file:
+            if file.read(len(MAGIC)) != MAGIC:
+                raise LedgerError(f"{path}: is no ledger (no base of SQLite): name another by --ledger")
+    except FileNotFoundError:
+        return False
+    return True
+
+
+def connect(path: str) -> sqlite3.Connection:
+    """A base, which nobody else reads but its user. Each of its transactions is durable at its end."""
+    old = os.umask(0o077)
+    try:
+        base = sqlite3.connect(path, isolation_level=None, timeout=5, check_same_thread=False)
+    finally:
+        os.umask(old)
+    try:
+        base.execute("PRAGMA locking_mode = EXCLUSIVE")
+        base.execute("PRAGMA synchronous = FULL")
+    except BaseException:
+        base.close()
+        raise
+    return base
+
+
+class Lock:
+    """The lock of a ledger: a file beside it, since closing the base would give up locks on the base itself."""
+
+    def __init__(self, path: str, wait: float):
+        self.path = path + ".lock"
+        limit = time.monotonic() + wait
+        while not self._take():
+            if time.monotonic() >= limit:
+                raise LedgerBusy(f"{path}: another process has this ledger: wait for it, or take another by --ledger")
+            time.sleep(0.05)
+
+    def _take(self) -> bool:
+        """Tries once. `made` is whether the file was not there."""
+        try:
+            self.descriptor = os.open(self.path, os.O_RDWR | os.O_CREAT | os.O_EXCL | os.O_CLOEXEC, 0o600)
+            self.made = True
+        except FileExistsError:
+            self.descriptor = os.open(self.path, os.O_RDWR | os.O_CREAT | os.O_CLOEXEC, 0o600)
+            self.made = False
+        try:
+            fcntl.flock(self.descriptor, fcntl.LOCK_EX | fcntl.LOCK_NB)
+            # Whoever found no ledger has taken the file away, maybe between the two calls.
+            if os.path.samestat(os.fstat(self.descriptor), os.stat(self.path)):
+                return True
+        except OSError:
+            pass
+        os.close(self.descriptor)
+        return False
+
+    def close(self, needless: bool = False) -> None:
+        """Gives the lock to others. Where it was needless its file goes, if it was made for it."""
+        if needless and self.made:
+            remove(self.path)
+        os.close(self.descriptor)
+
+
 class Ledger:
     """An open ledger. No other process has it meanwhile."""
 
     def __init__(self, path: str, client: Optional[int] = None, wait: float = 10.0):
         self.path = os.path.realpath(path)
+        is_there(self.path)
         make_folder(os.path.dirname(self.path))
-        self._lock = self._take(wait)
+        self._lock = Lock(self.path, wait)
         try:
-            self._base = self._open()
-            try:
-                self.client = self._client(client)
-            except BaseException:
-                self._base.close()
-                raise
+            if not is_there(self.path):
+                self._make(client)
+            self._base, self.client = self._open(client)
         except BaseException:
-            os.close(self._lock)
+            # A ledger that was made is there, and one that is there has its lock.
+            self._lock.close(needless=True)
             raise
 
     # ---- opening
 
-    def _take(self, wait: float) -> int:
-        """Takes the lock, which lies beside the ledger: closing the base itself would give up locks on it."""
-        lock = os.open(self.path + ".lock", os.O_RDWR | os.O_CREAT | os.O_CLOEXEC, 0o600)
-        limit = time.monotonic() + wait
-        while True:
-            try:
-                fcntl.flock(lock, fcntl.LOCK_EX | fcntl.LOCK_NB)
-                return lock
-            except OSError:
-                if time.monotonic() >= limit:
-                    os.close(lock)
-                    raise LedgerBusy(
-                        f"{self.path}: another process has this ledger: wait for it, or take another by --ledger"
-                    ) from None
-                time.sleep(0.05)
-
-    def _open(self) -> sqlite3.Connection:
-        old = os.umask(0o077)
+    def _open(self, wanted: Optional[int]) -> Tuple[sqlite3.Connection, int]:
+        """The base, and the client that it is of. A base that is no ledger is left as it is."""
         try:
-            base = sqlite3.connect(self.path, isolation_level=None, timeout=5, check_same_thread=False)
-        finally:
-            os.umask(old)
-        try:
-            base.execute("PRAGMA locking_mode = EXCLUSIVE")
-            base.execute("PRAGMA journal_mode = WAL")
-            base.execute("PRAGMA synchronous = FULL")
-            base.execute(f"PRAGMA wal_autocheckpoint = {LOG_PAGES}")
-            base.execute("PRAGMA cache_size = -16384")
-        except sqlite3.DatabaseError as error:
-            base.close()
+            base, client = self._begin(wanted)
+            if client is None:
+                # A ledger of an earlier program whose making was cut short: it has no table, and so nothing to lose.
+                base.close()
+                self._make(wanted)
+                base, client = self._begin(wanted)
+            assert client is not None
+            return base, client
+        except (sqlite3.DatabaseError, TypeError, ValueError) as error:
             raise self._unusable(error) from error
-        return base
+
+    def _begin(self, wanted: Optional[int]) -> Tuple[sqlite3.Connection, Optional[int]]:
+        base = connect(self.path)
+        try:
+            client = self._client(base, wanted)
+            if client is not None:
+                base.execute("PRAGMA journal_mode = WAL")
+                base.execute(f"PRAGMA wal_autocheckpoint = {LOG_PAGES}")
+                base.execute("PRAGMA cache_size = -16384")
+        except BaseException:
+            base.close()
+            raise
+        return base, client
 
     def _unusable(self, error: Exception) -> LedgerError:
         """What is told where the base cannot be opened, or is not a ledger's."""
@@ -167,16 +249,11 @@ class Ledger:
             return LedgerError(f"{self.path}: cannot be written ({error}): see that its disk is well and has room")
         return LedgerError(f"{self.path}: is no ledger ({error}): name another by --ledger")
 
-    def _client(self, wanted: Optional[int]) -> int:
-        """The ledger's client, which is drawn when the ledger is made."""
-        try:
-            self._base.execute("BEGIN IMMEDIATE")
-            if not self._base.execute("SELECT 1 FROM sqlite_master").fetchone():
-                return self._make(wanted)
-            self._base.execute("COMMIT")
-            version, client = self._base.execute("SELECT version, client FROM ledger").fetchone()
-        except (sqlite3.DatabaseError, TypeError) as error:
-            raise self._unusable(error) from error
+    def _client(self, base: sqlite3.Connection, wanted: Optional[int]) -> Optional[int]:
+        """The client that a base is of; None where it has no table at all."""
+        if not base.execute("SELECT 1 FROM sqlite_master").fetchone():
+            return None
+        version, client = base.execute("SELECT version, client FROM ledger").fetchone()
         if version != VERSION:
             raise LedgerError(f"{self.path}: has version {version}, and this program writes version {VERSION}")
         if wanted is not None and wanted != int(client):
@@ -185,25 +262,48 @@ class Ledger:
             )
         return int(client)
 
-    def _make(self, wanted: Optional[int]) -> int:
+    def _make(self, wanted: Optional[int]) -> None:
+        """Makes the ledger under another name, and gives it its own once it is whole and durable."""
         client = 1 + int.from_bytes(os.urandom(8), "little") % LAST if wanted is None else wanted
         if not 0 < client <= limits.U64:
             raise LedgerError(f"{client} is no client: one is from 1 to {limits.U64}")
-        for statement in SCHEMA.split(";\n"):
-            self._base.execute(statement)
-        self._base.execute("INSERT INTO ledger VALUES (?, ?)", (VERSION, str(client)))
-        self._base.execute("COMMIT")
+        new = self.path + ".new"
+        # What an earlier making left; and a log without its base, which SQLite would take for the new one's.
+        for path in (new, new + "-journal", new + "-wal", self.path + "-journal", self.path + "-wal"):
+            remove(path)
+        try:
+            self._fill(new, client)
+            sync_file(new)
+            os.rename(new, self.path)
+        except sqlite3.Error as error:
+            raise self._unusable(error) from error
+        finally:
+            remove(new)
         sync_folder(os.path.dirname(self.path))
-        return client
+
+    def _fill(self, new: str, client: int) -> None:
+        """Writes a ledger that has no request yet."""
+        base = connect(new)
+        try:
+            # A making that is cut short is thrown away, so nothing of it has to be undone.
+            base.execute("PRAGMA journal_mode = MEMORY")
+            base.execute("BEGIN IMMEDIATE")
+            for statement in SCHEMA.split(";\n"):
+                base.execute(statement)
+            base.execute("INSERT INTO ledger VALUES (?, ?)", (VERSION, str(client)))
+            base.execute("COMMIT")
+            base.execute("PRAGMA journal_mode = WAL")
+        finally:
+            base.close()
 
     def close(self) -> None:
         """Gives the ledger to others."""
         self._base.close()
-        os.close(self._lock)
+        self._lock.close()
 
     # ---- volumes
 
-    def volume(self, way: str) -> Optional[Volume]:
+    def volume(self, way: Union[str, bytes]) -> Optional[Volume]:
         """The volume that was last met on this way."""
         row = self._base.execute(f"SELECT id, way, ({LATEST}) FROM volume WHERE way = ? ORDER BY id DESC LIMIT 1", (way,)).fetchone()
         return None if row is None else Volume(*row)
@@ -212,7 +312,7 @@ class Ledger:
         """All volumes that were met."""
         return [Volume(*row) for row in self._base.execute(f"SELECT id, way, ({LATEST}) FROM volume ORDER BY id")]
 
-    def learn(self, way: str, latest: int) -> Volume:
+    def learn(self, way: Union[str, bytes], latest: int) -> Volume:
         """Keeps a volume that is met for the first time, and the number that it knows of this client."""
         if latest >= LAST - limits.REPLIES:
             raise LedgerError(f"client {self.client} has no numbers left: make a new ledger")

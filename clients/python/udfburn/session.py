@@ -129,7 +129,7 @@ class Session:
             return known
         if not pending and (latest == 0 or self._by_another_way(latest)):
             return self.ledger.learn(self.way, latest)
-        where = f"{self.ledger.path}, client {self.ledger.client}, {self.way}"
+        where = f"{self.ledger.path}, client {self.ledger.client}, {self.line.way}"
         if latest > last:
             raise NumberUsedElsewhere(
                 f"the volume has requests up to {latest} of this client, and this ledger sent {last} ({where}): another ledger"
