@@ -201,6 +201,55 @@ class Folders(WithPrograms):
         self.assertIn("f         5", self.run_command("ls", "-l", where=where))
 
 
+class Paths(WithPrograms):
+    """Paths of the system that are not UTF-8: of a socket, a ledger, a local file, and of an image."""
+
+    def setUp(self) -> None:
+        super().setUp()
+        self.odd = os.path.join(self.room, os.fsdecode(b"r\xff\xc3"))
+        os.mkdir(self.odd)
+        # The programs take no such words, and are told of the folder by a link.
+        self.link = os.path.join(self.room, "link")
+        os.symlink(self.odd, self.link)
+        self.local = os.path.join(self.odd, os.fsdecode(b"local\xe9"))
+        with open(self.local, "wb") as file:
+            file.write(b"hello")
+        self.ledger = os.path.join(self.odd, os.fsdecode(b"\xe9.sqlite"))
+
+    def test_a_socket(self) -> None:
+        self.path = os.path.join(self.link, "socket")
+        daemon = self.serve()
+        self.path = os.path.join(self.odd, "socket")
+        for count in range(2):
+            self.assertIn("stored 1 file", self.run_command("put", self.local, f"/a{count}"))
+        self.assertEqual(self.run_command("get", "/a1", "-"), "hello")
+        self.assertIn("got /a1", self.run_command("get", "/a1", os.path.join(self.odd, os.fsdecode(b"back\xff"))))
+        self.assertIn("all are there", self.run_command("verify", self.local, "/a1"))
+        # The numbers of this way are found again, whatever its bytes are.
+        with self.client() as client:
+            self.assertEqual(client.resume(), [])
+            self.assertEqual([volume.latest for volume in client.session().ledger.volumes()], [2])
+        daemon.kill()
+        os.unlink(self.path)
+        self.assertIn(r"r\xff\xc3/socket: No such file", self.run_command("ls", "--wait", "0", status=1))
+
+    def test_an_image(self) -> None:
+        os.rename(self.image, os.path.join(self.odd, "disc.img"))
+        self.image = os.path.join(self.odd, "disc.img")
+        drawn = os.path.join(self.odd, "map.svg")
+        where = ["--image", self.image]
+        for words in (["ls"], ["ls", "--as-of", "0"], ["put", self.local, "/a"], ["put", self.local, "/a", "--socket", self.path]):
+            self.assertRegex(self.run_command(*words, where=where, status=2), r"r\\xff\\xc3/disc.img: is not UTF-8.* link")
+        self.assertRegex(self.run_command("map", self.image, drawn, where=[], status=2), "is not UTF-8")
+        self.image = os.path.join(self.link, "disc.img")
+        where = ["--image", self.image]
+        for count in range(2):
+            self.assertIn("stored 1 file", self.run_command("put", self.local, f"/a{count}", where=where))
+        self.assertEqual(self.run_command("ls", "--as-of", "1", where=where), "f a0\n")
+        self.assertIn("drew", self.run_command("map", self.image, drawn, where=[]))
+        self.assertEqual(self.commits(), 2)
+
+
 class Limits(WithPrograms):
     """Full volumes, and every refusal."""
 

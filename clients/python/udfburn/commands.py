@@ -9,7 +9,7 @@ from contextlib import contextmanager
 from typing import Iterator, List, Optional, Tuple
 
 from .client import Client, met
-from .connection import find_program
+from .connection import check_word, find_program
 from .errors import ConnectionFailed, IsDirectory, ProgramFailed, UsageError
 from .protocol import Name, Node, NodeKind, Path, Stat, path_of, show
 from .progress import Progress, plural, size
@@ -19,6 +19,8 @@ from .tree import Importer, Options, remove_tree, walk
 
 def way_of(arguments: argparse.Namespace) -> str:
     """Where the volume is."""
+    if arguments.image:
+        check_word(os.path.abspath(arguments.image))
     if arguments.socket:
         return f"unix:{arguments.socket}"
     if arguments.image:

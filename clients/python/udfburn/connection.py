@@ -10,7 +10,7 @@ import time
 from typing import IO, List, Optional, Union
 
 from .errors import ProgramFailed, UsageError
-from .protocol import Answer, Frames, decode_answer, is_bytes
+from .protocol import Answer, Frames, decode_answer, is_bytes, shown
 
 PIECE = 1 << 18
 """Bytes that are read or written at once."""
@@ -109,7 +109,7 @@ class UnixConnection(Connection):
             connect(self.socket, path)
         except OSError as error:
             self.socket.close()
-            raise Lost(f"{path}: {error.strerror or error}") from error
+            raise Lost(error.strerror or str(error)) from error
         self.socket.setblocking(False)
 
     def close(self) -> None:
@@ -218,10 +218,12 @@ class Way:
             raise UsageError(f"{connect!r} is neither unix:PATH nor image:PATH")
         self.kind = kind
         self.path = os.path.abspath(path)
+        if kind == "image":
+            check_word(self.path)
         self.program = find_program(program) if kind == "image" else None
 
     def __str__(self) -> str:
-        return f"{self.kind}:{self.path}"
+        return f"{self.kind}:{shown(self.path)}"
 
     def key(self) -> Union[str, bytes]:
         """The way's name in a ledger, by the file behind links; as bytes where these are not UTF-8."""
@@ -248,10 +250,18 @@ def find_program(program: Optional[str] = None) -> str:
     return os.path.abspath(found) if os.sep in found else found
 
 
+def check_word(word: str) -> None:
+    """Raises where the program would not take a word: it takes UTF-8."""
+    if is_bytes(word):
+        raise UsageError(f"{shown(word)}: is not UTF-8, and the program udfburn takes no other path: name it by a link whose path is")
+
+
 def run_program(program: str, words: List[str]) -> bytes:
     """What the program prints on these words, or `ProgramFailed` with its line."""
     import subprocess
 
+    for word in words:
+        check_word(word)
     try:
         done = subprocess.run([program, *words], stdin=subprocess.DEVNULL, capture_output=True, check=False)
     except OSError as error:
@@ -262,4 +272,4 @@ def run_program(program: str, words: List[str]) -> bytes:
     return done.stdout
 
 
-__all__ = ["Connection", "ImageConnection", "Lost", "UnixConnection", "Way", "find_program", "run_program"]
+__all__ = ["Connection", "ImageConnection", "Lost", "UnixConnection", "Way", "check_word", "find_program", "run_program"]

@@ -8,7 +8,7 @@ from typing import Iterator, List, NamedTuple, Optional, Tuple
 
 from .errors import SourceChanged, SourceError
 from .operations import clamped
-from .protocol import NameFault, Path, is_bytes, limits, name_fault
+from .protocol import NameFault, Path, is_bytes, limits, name_fault, shown
 
 
 class Identity(NamedTuple):
@@ -90,11 +90,6 @@ def why_not(name: str) -> Optional[str]:
         wide = next(character for character in name if name_fault(character) is NameFault.WIDE)
         return f"its name has U+{ord(wide):04X}, which has no spelling in compressed Unicode"
     return f"its name {fault.value}"
-
-
-def shown(local: str) -> str:
-    """A local path that can be printed whatever bytes it has."""
-    return os.fsencode(local).decode(errors="backslashreplace")
 
 
 def scan(local: str, path: Path, recursive: bool, skip_odd: bool, into: Scan) -> None:

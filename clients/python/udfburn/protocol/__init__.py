@@ -16,7 +16,9 @@ from .messages import (
     AnyRequest, Cause, Create, Fault, Get, Kind, List, MakeDir, Message, Query, Remove, Rename, Replace, Request, Stat,
     decode_message, encode_message,
 )
-from .names import InvalidName, InvalidPath, NameFault, Path, PathLike, is_bytes, name_fault, path_of, show, spelled_size
+from .names import (
+    InvalidName, InvalidPath, NameFault, Path, PathLike, is_bytes, name_fault, path_of, show, shown, spelled_size,
+)
 
 __all__ = [
     "Answer", "AnswerCode", "AnyRequest", "BARE", "BadAnswer", "Bare", "CLIENTS_FULL", "Cause", "Code", "Committed",
@@ -24,5 +26,5 @@ __all__ = [
     "InvalidPath", "Kind", "LENGTH", "List", "MEMORY", "MakeDir", "Malformed", "Message", "NOT_DIRECTORY",
     "NOT_FOUND", "Name", "NameFault", "Names", "Node", "NodeKind", "Path", "PathLike", "Query", "Remove", "Rename",
     "Replace", "Request", "Stale", "Stat", "decode_answer", "decode_message", "encode_answer", "encode_message",
-    "frame", "is_bytes", "limits", "name_fault", "path_of", "show", "spelled_size",
+    "frame", "is_bytes", "limits", "name_fault", "path_of", "show", "shown", "spelled_size",
 ]

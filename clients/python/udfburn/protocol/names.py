@@ -2,6 +2,7 @@
 
 from __future__ import annotations
 
+import os
 from enum import Enum
 from functools import lru_cache
 from typing import Optional, Sequence, Tuple, Union
@@ -29,6 +30,11 @@ class NameFault(Enum):
 def is_bytes(name: str) -> bool:
     """Whether the system gave bytes that are not UTF-8, which Python writes as low surrogates."""
     return not name.isascii() and any("\udc80" <= character <= "\udcff" for character in name)
+
+
+def shown(local: str) -> str:
+    """A path of the system that can be printed whatever bytes it has."""
+    return os.fsencode(local).decode(errors="backslashreplace")
 
 
 class InvalidName(ValueError):
