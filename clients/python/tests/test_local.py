@@ -5,6 +5,7 @@ from __future__ import annotations
 import os
 import socket
 import struct
+import time
 import unittest
 from typing import List, Optional, Tuple
 from unittest import mock
@@ -288,6 +289,12 @@ class Changes(Local):
             os.utime(self.write(name), (moment, moment))
             self.put()
             self.assertEqual(self.client().stat(f"/x/{name}").moment, wanted)
+
+    def test_the_moment_of_now(self) -> None:
+        os.utime(self.write("a"), (5, 5))
+        before = time.time_ns() // 1000
+        self.put(moment="now")
+        self.assertTrue(before <= self.client().stat("/x/a").moment <= time.time_ns() // 1000)
 
 
 class Fetch(Local):
