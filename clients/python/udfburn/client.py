@@ -3,18 +3,19 @@
 from __future__ import annotations
 
 from contextlib import contextmanager
-from typing import Iterable, Iterator, List, Optional, Tuple, Type
+from typing import TYPE_CHECKING, Iterable, Iterator, List, Optional, Tuple, Type
 
 from .connection import Way
 from .errors import MISSES, REFUSALS, Exists, IsDirectory, NotDirectory, NotFound, Refused, UdfburnError, UsageError
-from .ledger import Ledger, default_path
 from .line import Line
 from .operations import Operation, Outcome, now
 from .protocol import (
     Answer, AnyRequest, Bare, Code, Create, Data, Get, List as ListQuery, MakeDir, Name, Names, Node, NodeKind, Path, PathLike, Query,
     Remove, Rename, Replace, Stat, path_of, show,
 )
-from .session import Session
+
+if TYPE_CHECKING:
+    from .session import Session
 
 
 class Client:
@@ -42,7 +43,7 @@ class Client:
         self.way = Way(connect, program)
         self.line = Line(self.way, patience, timeout)
         self._wanted = client
-        self._ledger_path = ledger or default_path()
+        self._ledger_path = ledger
         self._patience = patience
         self._session: Optional[Session] = None
         self._held = 0
@@ -72,9 +73,12 @@ class Client:
                 self.line.drop()
 
     def session(self) -> Session:
-        """The requests of this client, with its ledger."""
+        """The requests of this client, with its ledger. Who only reads does not load what they take."""
         if self._session is None:
-            self._session = Session(self.line, Ledger(self._ledger_path, self._wanted, self._patience))
+            from .ledger import Ledger, default_path
+            from .session import Session
+
+            self._session = Session(self.line, Ledger(self._ledger_path or default_path(), self._wanted, self._patience))
         return self._session
 
     # ---- requests

@@ -43,8 +43,6 @@ def writer(arguments: argparse.Namespace) -> Client:
 def reader(arguments: argparse.Namespace) -> Iterator[Client]:
     """A client for queries. An image that is kept by another program, or cannot be written, or is wanted as it was, is
     read by a copy of its front."""
-    from . import past
-
     commit: Optional[int] = getattr(arguments, "as_of", None)
     connect = way_of(arguments)
     if commit is not None and not arguments.image:
@@ -54,6 +52,8 @@ def reader(arguments: argparse.Namespace) -> Iterator[Client]:
             if connect.startswith("unix:") or not taken(client):
                 yield client
                 return
+    from . import past
+
     program = find_program(arguments.program)
     with past.front(arguments.image, program, commit) as copy:
         with Client(f"image:{copy}", program=program, patience=arguments.wait) as client:

@@ -3,7 +3,6 @@
 from __future__ import annotations
 
 import os
-import tempfile
 from itertools import islice
 from typing import Dict, Iterator, List, NamedTuple, Optional, Tuple
 
@@ -73,6 +72,8 @@ def parts_of(client: Client, files: List[Stored]) -> Iterator[Tuple[Stored, Iter
 
 def save(local: str, parts: Iterator[bytes], moment: Optional[int], force: bool) -> int:
     """Writes a file whole: it has its name once all its bytes are on the disk. Gives their count."""
+    import tempfile
+
     folder = os.path.dirname(local) or "."
     if not force and os.path.lexists(local):
         raise SourceError(f"{shown(local)}: is there already (--force replaces it)")
