@@ -1,6 +1,5 @@
 -- The commits of a chain, as they are found one by one.
-use Rattle.std.proofs.Common.{◌≡◌, ℕ, ◌+◌, ◌<◌, ◌≤◌, List, [], ◌∷◌, ◌++◌, Option, Some, None, IsNone, IfSome, All, ◌↔◌, refl, sym, ap, subst, ◌∙◌, arith, append-nil, append_assoc, eq-or-lt_of_le, slice_index_or, length, inl, inr}
-use Rattle.std.proofs.lemmas.List.{get_or_default}
+use Rattle.std.proofs.Common.{◌≡◌, ℕ, ◌+◌, ◌<◌, ◌≤◌, List, [], ◌∷◌, ◌++◌, Option, Some, None, IsNone, IfSome, All, ◌↔◌, refl, sym, ap, subst, ◌∙◌, arith, append-nil, append_assoc}
 use Rattle.std.proofs.lemmas.List.Elements.{All-append, All-cons, All-nil}
 use Rattle.vat.specs.Table.{Table}
 use Rattle.recover.specs.Tables.{HasTable, IsBefore}
@@ -63,12 +62,3 @@ one_before M at number t u has link before fewer = (t, has, number, link, refl, 
 pub no_link : (link : Option ℕ) → ((n : ℕ) → link ≡ Some n → ⊥) → link ≡ None
 no_link None never = refl
 no_link (Some n) never = absurd (never n refl)
-
--- what holds of the first elements, and of the one behind them
-pub one_more : (P : Commit → Type 0) (found : List Commit) (i : ℕ) (e : Commit) → ((k : ℕ) (d : Commit) → k < i → P (slice_index_or found k d)) → i < length found → P (slice_index_or found i e)
-    → (k : ℕ) (d : Commit) → k < i + 1 → P (slice_index_or found k d)
-one_more P found i e before there here k d less =
-    let low : k ≤ i = omega (arith, less) in elim (eq-or-lt_of_le low) [
-      | inr earlier ↦ before k d earlier
-      | inl same ↦ subst (λ (j : ℕ). P (slice_index_or found j d)) (sym same) (subst P (get_or_default found i e d there) here)
-    ]

@@ -1,5 +1,6 @@
 pub mod Applying
 pub mod Chains
+pub mod Checks
 pub mod Commits
 pub mod Histories
 pub mod Keeping

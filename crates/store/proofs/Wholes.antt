@@ -1,6 +1,5 @@
 -- All commits of a chain, and the states that stood after each.
 use Rattle.std.proofs.Common.{◌≡◌, ℕ, zero, suc, ◌+◌, ◌-◌, ◌<◌, ◌≤◌, inl, inr, List, [], ◌∷◌, length, Option, Some, None, IsNone, refl, sym, ap, subst, ◌∙◌, arith, slice_index_or}
-use Rattle.std.proofs.lemmas.List.{get_or_default}
 use Rattle.std.proofs.lemmas.Option.{none-some, same_Some}
 use Rattle.drive.specs.Journal.{Event, held}
 use Rattle.medium.specs.Formats.{Table_}
@@ -11,7 +10,7 @@ use Rattle.vat.specs.Table.{Table}
 use Rattle.recover.specs.declared.fault.StoreFault.{StoreFault}
 use Rattle.recover.specs.declared.fault.StoreFault.TheVariants.{Device, Memory, Damaged}
 use Rattle.recover.specs.declared.state.State.{State}
-use Rattle.recover.specs.State.{IsShown, IsStateRefused, IsUntold}
+use Rattle.recover.specs.State.{IsShown, IsUntold}
 use Rattle.recover.specs.Tables.{HasTable, IsAtRefused, IsLinkRefused}
 use Rattle.recover.proofs.Told.{is_read, one_read}
 use Rattle.store.specs.declared.history.Commit.{Commit}
@@ -67,14 +66,6 @@ module _ (M : Medium) where
   history_link at number t link goes (Damaged b c) r = λ all is. none_left number t link b c r (goes all is)
   history_link at number t link goes _ r =
       elim r [ inl none ↦ elim none [ inl entry ↦ absurd entry | inr table ↦ absurd table.3 ] | inr other ↦ (let is = other.0 in cc) ]
-
-  -- ---- a state that was not shown
-
-  pub unshown_at : (capacity : ℕ) (all : List Commit) (i : ℕ) (d : Commit) → i < length all → (fault : StoreFault) → IsStateRefused capacity M (slice_index_or all i d).at fault → AreUnshown capacity M all fault
-  unshown_at capacity all i d less Device r = tt
-  unshown_at capacity all i d less Memory r = tt
-  unshown_at capacity all i d less (Damaged b c) r = (i, less, λ e. subst (λ (x : Commit). IsUntold capacity M x.at) (get_or_default all i d e less) r)
-  unshown_at capacity all i d less _ r = absurd r
 
   -- ---- how many there are
 
@@ -175,13 +166,11 @@ module _ (capacity volume : ℕ) (J : List Event) (T : model.State) (store : Sto
       not_in (held J) capacity volume store.at all is r.0 r.1 past.0 (held J) (ends_here capacity volume J T store knows) (subst (λ (n : ℕ). StoodBefore udf n capacity volume (held J) past.0) steps past.1.3) r.2
   unshown all is _ r = absurd r
 
-  pub no_history : (fault : StoreFault) → IsHistoryRefused (held J) store.at fault → IsCheckRefused capacity volume (held J) T.commits fault
-  no_history Device r = tt
-  no_history Memory r = tt
-  no_history (Damaged b c) r = λ whole.
+  -- a state that stood after each commit stands on a table of the chain
+  pub history_stood : AllStood capacity volume (held J) T.commits → (all : List Commit) × IsHistory (held J) store.at all
+  history_stood whole =
       let here = table_here capacity volume J T store knows in
       let past = whole 0 (omega arith) in
       let count : here.0.commits ≡ past.1.1 = omega (arith, commits_here capacity volume J T store knows, steps_past capacity volume J T store knows 0 past.0 past.1) in
       let rest = chain_of (held J) capacity volume past.1.1 store.at here.0 past.0 (held J) here.1 count (ends_here capacity volume J T store knows) past.1.3 in
-      r (told_of store.at here.0 ∷ rest.0) (here.0, here.1, rest.0, refl, rest.1)
-  no_history _ r = absurd r
+      (told_of store.at here.0 ∷ rest.0, (here.0, here.1, rest.0, refl, rest.1))

@@ -77,3 +77,10 @@ AreUnshown capacity medium commits Device = ⊤
 AreUnshown capacity medium commits Memory = ⊤
 AreUnshown capacity medium commits (Damaged block cause) = (i : ℕ) × (i < length commits) × ((c : Commit) → IsUntold capacity medium (slice_index_or commits i c).at)
 AreUnshown capacity medium commits _ = ⊥
+
+-- why not each state was shown: the drive failed, memory was short, or no list is all commits of which a state is told
+abbrev pub IsUnchecked : ℕ → List (List ℕ) → ℕ → StoreFault → Type 0
+IsUnchecked capacity medium at Device = ⊤
+IsUnchecked capacity medium at Memory = ⊤
+IsUnchecked capacity medium at (Damaged block cause) = (commits : List Commit) → IsHistory medium at commits → AreUnshown capacity medium commits (Damaged block cause)
+IsUnchecked capacity medium at _ = ⊥

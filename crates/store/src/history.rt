@@ -13,7 +13,7 @@ ghost use Rattle.std.proofs.Props.{props};
 ghost use Rattle.store.specs.Agrees.{Agrees};
 ghost use Rattle.table.specs.Below.{AreBelow};
 ghost use Rattle.store.specs.Calls.{Knows};
-ghost use Rattle.store.specs.History.{AreShown, AreUnshown, IsChecked, IsHistory, IsHistoryRefused, IsTableOf, IsWayRefused, told_of};
+ghost use Rattle.store.specs.History.{IsChecked, IsHistory, IsHistoryRefused, IsTableOf, IsUnchecked, IsWayRefused, told_of};
 ghost use Rattle.store.specs.Past.{AllStood, IsCheckRefused, IsPast, IsPastRefused};
 
 use crate::store::Store;
@@ -277,26 +277,34 @@ impl Store {
         ensures history { OnOk result (IsTrue (D.honest drive.new) → IsChecked (D.capacity drive.old) (held (D.journal drive.old)) self.now.at) }
         ensures reads { Reads D.Drive (devices result) drive.old drive.new }
     {
-        let commits = self.history(alloc, drive)?;
-        check_states(alloc, drive, &commits)?;
+        if self.is_stopped {
+            return Err(StoreFault::Stopped);
+        }
+        check_states(alloc, drive, self.at)?;
         Ok(self.vat.sessions.commits)
     }
 }
 
-/// The state after each of the commits stands. What two commits that follow one another have alike is read once.
-fn check_states<D: Drive>(
-    alloc: Global,
-    drive: &mut D,
-    commits: &[Commit],
-) -> Result<(), StoreFault>
-    requires within { All (λ c. (257 ≤ c.at) × (c.at < next_of (D.journal drive.old))) commits.now }
-    ensures shown { OnOk result (IsTrue (D.honest drive.new) → AreShown (D.capacity drive.old) (held (D.journal drive.old)) commits.now) }
-    ensures refused { IfErr result (λ fault. IsTrue (D.honest drive.new) → AreUnshown (D.capacity drive.old) (held (D.journal drive.old)) commits.now fault) }
+/// The state after each commit stands, from the one whose table's entry stands at `at` back to the format. The chain is walked
+/// once: each table is that of a state, and what two states that follow one another have alike is read once.
+fn check_states<D: Drive>(alloc: Global, drive: &mut D, at: u32) -> Result<(), StoreFault>
+    requires low { 257 ≤ at }
+    requires within { at < next_of (D.journal drive.old) }
+    ensures checked { OnOk result (IsTrue (D.honest drive.new) → IsChecked (D.capacity drive.old) (held (D.journal drive.old)) at) }
+    // Where it is refused no list is the history, or of one of its commits no state is told, or the drive failed or memory was short.
+    ensures refused { IfErr result (λ fault. IsTrue (D.honest drive.new) → IsUnchecked (D.capacity drive.old) (held (D.journal drive.old)) at fault) }
     ensures reads { Reads D.Drive (devices result) drive.old drive.new }
 {
     let mut known = Known::new(alloc);
-    for i in 0..commits.len() {
-        state_sharing(alloc, drive, &mut known, commits[i].at)?;
+    let State { vat: newest, .. } = state_sharing(alloc, drive, &mut known, at)?;
+    let mut vat = newest;
+    while let Some(number) = vat.previous {
+        let there = number + PARTITION_START;
+        let State { vat: before, .. } = state_sharing(alloc, drive, &mut known, there)?;
+        if u64::from(before.sessions.commits) + 1 != u64::from(vat.sessions.commits) {
+            return Err(damaged(there, cause::CHAIN));
+        }
+        vat = before;
     }
     Ok(())
 }

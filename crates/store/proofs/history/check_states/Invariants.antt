@@ -1,16 +1,20 @@
-use Rattle.std.proofs.Common.{◌<◌, ℕ, IsTrue, slice_index_or}
+use Rattle.std.proofs.Common.{◌≡◌, ◌+◌, ◌<◌, ◌^◌, ◌↔◌, IsTrue, IsNone, IfSome}
 use Rattle.drive.specs.Journal.{held}
 use Rattle.drive.specs.Reads.{Reads}
+use Rattle.vat.specs.Table.{view}
 use Rattle.recover.specs.Known.{IsKnown}
-use Rattle.recover.specs.State.{IsShown}
-use Rattle.recover.specs.declared.state.State.{State}
-use Rattle.store.specs.declared.history.Commit.{Commit}
+use Rattle.store.proofs.Checks.{Seen}
 use Rattle.store.proofs.history.check_states.Given as goal
 
-abbrev pub invariant-loop-i : goal.invariant-loop-i
-invariant-loop-i g l = record {
-  shown : IsTrue (g.D.Drive.honest l.drive) → (k : ℕ) (d : Commit) → k < l.i
-      → (state : State) × IsShown (g.D.Drive.capacity l.fn.drive) (held (g.D.Drive.journal l.fn.drive)) (slice_index_or l.fn.commits k d).at state;
+abbrev pub invariant-loop-vat : goal.invariant-loop-vat
+invariant-loop-vat g l = record {
+  seen : IsTrue (g.D.Drive.honest l.drive) → Seen (held (g.D.Drive.journal l.fn.drive)) (g.D.Drive.capacity l.fn.drive) l.fn.at (view l.vat);
   known : IsTrue (g.D.Drive.honest l.drive) → IsKnown (held (g.D.Drive.journal l.drive)) l.known;
+  fits : l.fn.at < 2 ^ 32;
+  link : IfSome l.vat.previous (λ number. number + 257 < l.fn.at);
+  first : IsNone l.vat.previous ↔ (l.vat.sessions.commits ≡ 0);
   reads : Reads g.D.Drive 0 l.fn.drive l.drive;
 }
+
+abbrev pub decreases-loop-vat : goal.decreases-loop-vat
+decreases-loop-vat g l = l.vat.sessions.commits

@@ -1,0 +1,130 @@
+-- The states of a chain, as they are shown one by one from the newest back.
+use Rattle.std.proofs.Common.{◌≡◌, ℕ, ◌+◌, ◌-◌, ◌<◌, ◌≤◌, List, [], ◌∷◌, ◌++◌, length, Option, Some, None, IsNone, IfSome, ◌↔◌, refl, sym, ap, subst, ◌∙◌, arith, append_assoc, slice_index_or}
+use Rattle.std.proofs.Math.Seq.{get_or-append_seam}
+use Rattle.std.proofs.lemmas.List.{length-append}
+use Rattle.std.proofs.lemmas.List.Elements.{All-append, All-cons, All-nil}
+use Rattle.std.proofs.lemmas.Option.{none-some, same_Some}
+use Rattle.drive.specs.Journal.{Event, held}
+use Rattle.medium.specs.Formats.{Table_}
+use Rattle.model.specs.Session as model
+use Rattle.vat.specs.Table.{Table}
+use Rattle.recover.specs.declared.fault.StoreFault.{StoreFault}
+use Rattle.recover.specs.declared.fault.StoreFault.TheVariants.{Device, Memory, Damaged}
+use Rattle.recover.specs.declared.state.State.{State}
+use Rattle.recover.specs.State.{IsShown, IsStateRefused, IsUntold}
+use Rattle.recover.specs.Tables.{HasTable}
+use Rattle.recover.proofs.Told.{one_read}
+use Rattle.store.specs.declared.history.Commit.{Commit}
+use Rattle.store.specs.declared.store.Store.{Store}
+use Rattle.store.specs.Calls.{Knows}
+use Rattle.store.specs.History.{AreShown, IsChain, IsChecked, IsHistory, IsUnchecked, told_of}
+use Rattle.store.specs.Past.{IsCheckRefused}
+use Rattle.store.proofs.Histories.{GoesOn, ends, goes_on}
+use Rattle.store.proofs.Wholes.{history_stood, unshown}
+
+-- a list ends with all that the chain of a table goes on to
+abbrev pub IsLeft : List (List ℕ) → Table → List Commit → Type 0
+IsLeft M t all = (before : List Commit) × (rest : List Commit) × (all ≡ before ++ rest) × IsChain M t.previous t.commits rest
+
+-- Of these commits the states were shown, the last of them that of this table: with those that its chain goes on to they are
+-- all, and whatever list is all ends with those.
+pub record Seen (M : List (List ℕ)) (capacity at : ℕ) (t : Table) : Type 0 where
+  pub seen : List Commit
+  pub goes : GoesOn M at t seen
+  pub shown : AreShown capacity M seen
+  pub left : (all : List Commit) → IsHistory M at all → IsLeft M t all
+
+-- what a link leads to, below the address of its table's entry
+pub link_within : (link : Option ℕ) (at : ℕ) → 257 ≤ at → IfSome link (λ n. n < at - 257) → IfSome link (λ n. n + 257 < at)
+link_within None at low below = tt
+link_within (Some n) at low below = omega (arith, low, below)
+
+pub link_under : (link : Option ℕ) (number at : ℕ) → IfSome link (λ n. n < number + 257 - 257) → number + 257 < at → IfSome link (λ n. n + 257 < at)
+link_under None number at less below = tt
+link_under (Some n) number at less below = omega (arith, less, below)
+
+module _ (M : List (List ℕ)) (capacity at : ℕ) where
+  abbrev IsAt : Commit → Type 0
+  IsAt c = (state : State) × IsShown capacity M c.at state
+
+  -- ---- the states that were shown
+
+  pub first_seen : (t : Table) → HasTable M at t → (state : State) → IsShown capacity M at state → Seen M capacity at t
+  first_seen t has state shown = record {
+    seen = told_of at t ∷ [];
+    goes = λ rest chain. (t, has, rest, refl, chain);
+    shown = All-cons IsAt (told_of at t) [] (state, shown) (All-nil IsAt);
+    left = λ all (u, there, earlier, is, chain). (told_of at u ∷ [], earlier, is, subst (λ (x : Table_). IsChain M x.previous x.commits earlier) (one_read M at u t there has) chain);
+  }
+
+  next_left : (number : ℕ) (t u : Table) → t.previous ≡ Some number → HasTable M (number + 257) u → (all : List Commit) → IsLeft M t all → IsLeft M u all
+  next_left number t u link has all (before, rest, same, left) = by rest same left
+    where
+      by : (rest : List Commit) → all ≡ before ++ rest → IsChain M t.previous t.commits rest → IsLeft M u all
+      by [] same (none, count) = absurd (none-some number (sym none ∙ link))
+      by (c ∷ earlier) same (n, is, v, there, fewer, says, chain) =
+          let place : n ≡ number = same_Some n number (sym is ∙ link) in
+          let one = one_read M (number + 257) v u (subst (λ (k : ℕ). HasTable M (k + 257) v) place there) has in
+          (before ++ c ∷ [], earlier, same ∙ sym (append_assoc before (c ∷ []) earlier), subst (λ (x : Table_). IsChain M x.previous x.commits earlier) one chain)
+
+  pub next_seen : (number : ℕ) (t u : Table) → Seen M capacity at t → t.previous ≡ Some number → HasTable M (number + 257) u → u.commits + 1 ≡ t.commits → (state : State) → IsShown capacity M (number + 257) state
+      → Seen M capacity at u
+  next_seen number t u so_far link has fewer state shown =
+      let c = told_of (number + 257) u in record {
+        seen = so_far.seen ++ c ∷ [];
+        goes = goes_on M at number t u so_far.seen (so_far.seen ++ c ∷ []) c so_far.goes link has fewer refl refl;
+        shown = All-append IsAt so_far.seen (c ∷ []) so_far.shown (All-cons IsAt c [] (state, shown) (All-nil IsAt));
+        left = λ all is. next_left number t u link has all (so_far.left all is);
+      }
+
+  pub all_seen : (t : Table) → Seen M capacity at t → t.previous ≡ None → (IsNone t.previous ↔ (t.commits ≡ 0)) → IsChecked capacity M at
+  all_seen t so_far none first = record { commits = so_far.seen; history = ends M at t so_far.seen so_far.goes none first; shown = so_far.shown }
+
+  -- ---- one that was not
+
+  pub first_unseen : (fault : StoreFault) → IsStateRefused capacity M at fault → IsUnchecked capacity M at fault
+  first_unseen Device r = tt
+  first_unseen Memory r = tt
+  first_unseen (Damaged b c) r = λ all (t, has, earlier, is, chain). (
+    0,
+    (let some : 0 < length all = omega (arith, ap (λ (cs : List Commit). length cs) is) in some),
+    λ d. subst (λ (cs : List Commit). IsUntold capacity M (slice_index_or cs 0 d).at) (sym is) r,
+  )
+  first_unseen _ r = absurd r
+
+  pub next_unseen : (number : ℕ) (t : Table) → Seen M capacity at t → t.previous ≡ Some number → (fault : StoreFault) → IsStateRefused capacity M (number + 257) fault → IsUnchecked capacity M at fault
+  next_unseen number t so_far link Device r = tt
+  next_unseen number t so_far link Memory r = tt
+  next_unseen number t so_far link (Damaged b cause) r = λ all is. by all (so_far.left all is)
+    where
+      by : (all : List Commit) → IsLeft M t all → (i : ℕ) × (i < length all) × ((d : Commit) → IsUntold capacity M (slice_index_or all i d).at)
+      by all (before, [], same, (none, count)) = absurd (none-some number (sym none ∙ link))
+      by all (before, (c ∷ earlier), same, (n, is, v, there, fewer, says, chain)) =
+          let place : number + 257 ≡ c.at = ap (λ (k : ℕ). k + 257) (sym (same_Some n number (sym is ∙ link))) ∙ sym (ap (λ (e : Commit). e.at) says) in (
+            length before,
+            (let less : length before < length all = omega (arith, length-append before (c ∷ earlier), ap (λ (cs : List Commit). length cs) same) in less),
+            λ d. subst (λ (cs : List Commit). IsUntold capacity M (slice_index_or cs (length before) d).at) (sym same)
+                (subst (λ (e : Commit). IsUntold capacity M e.at) (sym (get_or-append_seam before c earlier d)) (subst (IsUntold capacity M) place r)),
+          )
+  next_unseen number t so_far link _ r = absurd r
+
+  -- a link that leads to no table of one commit less
+  pub link_unseen : (number : ℕ) (t u : Table) → Seen M capacity at t → t.previous ≡ Some number → HasTable M (number + 257) u → (u.commits + 1 ≡ t.commits → ⊥) → (b c : ℕ) → IsUnchecked capacity M at (Damaged b c)
+  link_unseen number t u so_far link has other b c = λ all is. by (so_far.left all is)
+    where
+      by : {all : List Commit} → IsLeft M t all → (i : ℕ) × (i < length all) × ((d : Commit) → IsUntold capacity M (slice_index_or all i d).at)
+      by (before, [], same, (none, count)) = absurd (none-some number (sym none ∙ link))
+      by (before, (d ∷ earlier), same, (n, is, v, there, fewer, says, chain)) =
+          let place : n ≡ number = same_Some n number (sym is ∙ link) in
+          let one = one_read M (number + 257) u v has (subst (λ (k : ℕ). HasTable M (k + 257) v) place there) in
+          absurd (other (ap (λ (x : Table_). x.commits + 1) one ∙ fewer))
+
+-- where a state stood after each commit, each is shown
+pub unchecked : (capacity volume : ℕ) (J : List Event) (T : model.State) (store : Store) → Knows capacity volume J T store → (fault : StoreFault) → IsUnchecked capacity (held J) store.at fault
+    → IsCheckRefused capacity volume (held J) T.commits fault
+unchecked capacity volume J T store knows Device r = tt
+unchecked capacity volume J T store knows Memory r = tt
+unchecked capacity volume J T store knows (Damaged b c) r = λ whole.
+    let all = history_stood capacity volume J T store knows whole in
+    unshown capacity volume J T store knows all.0 all.1 (Damaged b c) (r all.0 all.1) whole
+unchecked capacity volume J T store knows _ r = absurd r
