@@ -265,11 +265,13 @@ def measure_full(tools: Tools, stream: Stream) -> None:
         ("`log`", [tools.udfburn, "log", image],
          lambda told: told.splitlines()[0] == newest and len(told.splitlines()) == stream.commits + 1),
         ("`check`", [tools.udfburn, "check", image], lambda told: told == "sound %d\n" % stream.commits)]
+    if tools.before:
+        looks.append(("`check` before", [tools.before, "check", image], looks[-1][2]))
     series: list[list[Taken]] = [[] for _ in looks]
     for turn in range(tools.rounds):
         for number, (what, words, holds) in enumerate(looks):
             # It takes so long that three rounds have to do.
-            if what == "`check`" and turn >= 3:
+            if what.startswith("`check`") and turn >= 3:
                 continue
             ended = run(words, os.devnull, output)
             series[number].append(ended.taken)
