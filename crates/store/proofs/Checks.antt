@@ -17,7 +17,7 @@ use Rattle.recover.proofs.Told.{one_read}
 use Rattle.store.specs.declared.history.Commit.{Commit}
 use Rattle.store.specs.declared.store.Store.{Store}
 use Rattle.store.specs.Calls.{Knows}
-use Rattle.store.specs.History.{AreShown, IsChain, IsChecked, IsHistory, IsUnchecked, told_of}
+use Rattle.store.specs.History.{AreShown, HasUntold, IsChain, IsChecked, IsHistory, IsUnchecked, told_of}
 use Rattle.store.specs.Past.{IsCheckRefused}
 use Rattle.store.proofs.Histories.{GoesOn, ends, goes_on}
 use Rattle.store.proofs.Wholes.{history_stood, unshown}
@@ -97,7 +97,7 @@ module _ (M : List (List ℕ)) (capacity at : ℕ) where
   next_unseen number t so_far link Memory r = tt
   next_unseen number t so_far link (Damaged b cause) r = λ all is. by all (so_far.left all is)
     where
-      by : (all : List Commit) → IsLeft M t all → (i : ℕ) × (i < length all) × ((d : Commit) → IsUntold capacity M (slice_index_or all i d).at)
+      by : (all : List Commit) → IsLeft M t all → HasUntold capacity M all
       by all (before, [], same, (none, count)) = absurd (none-some number (sym none ∙ link))
       by all (before, (c ∷ earlier), same, (n, is, v, there, fewer, says, chain)) =
           let place : number + 257 ≡ c.at = ap (λ (k : ℕ). k + 257) (sym (same_Some n number (sym is ∙ link))) ∙ sym (ap (λ (e : Commit). e.at) says) in (
@@ -112,19 +112,19 @@ module _ (M : List (List ℕ)) (capacity at : ℕ) where
   pub link_unseen : (number : ℕ) (t u : Table) → Seen M capacity at t → t.previous ≡ Some number → HasTable M (number + 257) u → (u.commits + 1 ≡ t.commits → ⊥) → (b c : ℕ) → IsUnchecked capacity M at (Damaged b c)
   link_unseen number t u so_far link has other b c = λ all is. by (so_far.left all is)
     where
-      by : {all : List Commit} → IsLeft M t all → (i : ℕ) × (i < length all) × ((d : Commit) → IsUntold capacity M (slice_index_or all i d).at)
+      by : {all : List Commit} → IsLeft M t all → HasUntold capacity M all
       by (before, [], same, (none, count)) = absurd (none-some number (sym none ∙ link))
       by (before, (d ∷ earlier), same, (n, is, v, there, fewer, says, chain)) =
           let place : n ≡ number = same_Some n number (sym is ∙ link) in
           let one = one_read M (number + 257) u v has (subst (λ (k : ℕ). HasTable M (k + 257) v) place there) in
           absurd (other (ap (λ (x : Table_). x.commits + 1) one ∙ fewer))
 
--- where a state stood after each commit, each is shown
+-- where one of them is not, no state stood after some commit
 pub unchecked : (capacity volume : ℕ) (J : List Event) (T : model.State) (store : Store) → Knows capacity volume J T store → (fault : StoreFault) → IsUnchecked capacity (held J) store.at fault
     → IsCheckRefused capacity volume (held J) T.commits fault
 unchecked capacity volume J T store knows Device r = tt
 unchecked capacity volume J T store knows Memory r = tt
 unchecked capacity volume J T store knows (Damaged b c) r = λ whole.
     let all = history_stood capacity volume J T store knows whole in
-    unshown capacity volume J T store knows all.0 all.1 (Damaged b c) (r all.0 all.1) whole
+    unshown capacity volume J T store knows all.0 all.1 (r all.0 all.1) whole
 unchecked capacity volume J T store knows _ r = absurd r

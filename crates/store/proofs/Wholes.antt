@@ -16,8 +16,8 @@ use Rattle.recover.proofs.Told.{is_read, one_read}
 use Rattle.store.specs.declared.history.Commit.{Commit}
 use Rattle.store.specs.declared.store.Store.{Store}
 use Rattle.store.specs.Calls.{Knows}
-use Rattle.store.specs.History.{AreShown, AreUnshown, IsChain, IsHistory, IsHistoryRefused, told_of}
-use Rattle.store.specs.Past.{AllStood, IsCheckRefused}
+use Rattle.store.specs.History.{AreShown, HasUntold, IsChain, IsHistory, IsHistoryRefused, told_of}
+use Rattle.store.specs.Past.{AllStood}
 use Rattle.store.proofs.Chains.{EndsAt, goes_back, shown_stood, step_back, step_on, stood_told}
 use Rattle.store.proofs.Chains as chains
 use Rattle.store.proofs.Histories.{one_before}
@@ -156,21 +156,19 @@ module _ (capacity volume : ℕ) (J : List Event) (T : model.State) (store : Sto
       let stood = stood_in (held J) capacity volume (volume_told capacity volume J T store knows) store.at all low is shown (T.commits - k) i in
       (stood.0, past_of capacity volume J T store knows k (T.commits - k) stood.0 (omega (arith, le)) (stood.1 (held J) (ends_here capacity volume J T store knows)))
 
-  pub unshown : (all : List Commit) → IsHistory (held J) store.at all → (fault : StoreFault) → AreUnshown capacity (held J) all fault → IsCheckRefused capacity volume (held J) T.commits fault
-  unshown all is Device r = tt
-  unshown all is Memory r = tt
-  unshown all is (Damaged b c) r = λ whole.
+  -- where none is told of one of them, none stood after it
+  pub unshown : (all : List Commit) → IsHistory (held J) store.at all → HasUntold capacity (held J) all → AllStood capacity volume (held J) T.commits → ⊥
+  unshown all is r stood =
       let few : r.0 ≤ T.commits = omega (arith, r.1, history_known all is) in
-      let past = whole (T.commits - r.0) (omega arith) in
+      let past = stood (T.commits - r.0) (omega arith) in
       let steps : past.1.1 ≡ r.0 = omega (arith, few, steps_past capacity volume J T store knows (T.commits - r.0) past.0 past.1) in
       not_in (held J) capacity volume store.at all is r.0 r.1 past.0 (held J) (ends_here capacity volume J T store knows) (subst (λ (n : ℕ). StoodBefore udf n capacity volume (held J) past.0) steps past.1.3) r.2
-  unshown all is _ r = absurd r
 
-  -- a state that stood after each commit stands on a table of the chain
+  -- a state stood after each commit only where a list is all of them
   pub history_stood : AllStood capacity volume (held J) T.commits → (all : List Commit) × IsHistory (held J) store.at all
-  history_stood whole =
+  history_stood stood =
       let here = table_here capacity volume J T store knows in
-      let past = whole 0 (omega arith) in
+      let past = stood 0 (omega arith) in
       let count : here.0.commits ≡ past.1.1 = omega (arith, commits_here capacity volume J T store knows, steps_past capacity volume J T store knows 0 past.0 past.1) in
       let rest = chain_of (held J) capacity volume past.1.1 store.at here.0 past.0 (held J) here.1 count (ends_here capacity volume J T store knows) past.1.3 in
       (told_of store.at here.0 ∷ rest.0, (here.0, here.1, rest.0, refl, rest.1))

@@ -71,16 +71,13 @@ IsWayRefused medium from commits Memory = ⊤
 IsWayRefused medium from commits (Damaged block cause) = (table : Table) → HasTable medium from table → commits ≤ table.commits → BreaksOff medium from commits
 IsWayRefused medium from commits _ = ⊥
 
--- why the states after some commits were not shown: the drive failed, memory was short, or none is told at the address of one
-abbrev pub AreUnshown : ℕ → List (List ℕ) → List Commit → StoreFault → Type 0
-AreUnshown capacity medium commits Device = ⊤
-AreUnshown capacity medium commits Memory = ⊤
-AreUnshown capacity medium commits (Damaged block cause) = (i : ℕ) × (i < length commits) × ((c : Commit) → IsUntold capacity medium (slice_index_or commits i c).at)
-AreUnshown capacity medium commits _ = ⊥
+-- at the address of one of the commits no state is told
+abbrev pub HasUntold : ℕ → List (List ℕ) → List Commit → Type 0
+HasUntold capacity medium commits = (i : ℕ) × (i < length commits) × ((c : Commit) → IsUntold capacity medium (slice_index_or commits i c).at)
 
--- why not each state was shown: the drive failed, memory was short, or no list is all commits of which a state is told
+-- why not each state was shown: the drive failed, memory was short, or in no list that is all commits is each of them told
 abbrev pub IsUnchecked : ℕ → List (List ℕ) → ℕ → StoreFault → Type 0
 IsUnchecked capacity medium at Device = ⊤
 IsUnchecked capacity medium at Memory = ⊤
-IsUnchecked capacity medium at (Damaged block cause) = (commits : List Commit) → IsHistory medium at commits → AreUnshown capacity medium commits (Damaged block cause)
+IsUnchecked capacity medium at (Damaged block cause) = (commits : List Commit) → IsHistory medium at commits → HasUntold capacity medium commits
 IsUnchecked capacity medium at _ = ⊥
