@@ -1,5 +1,6 @@
 -- What a commit says of a plan that it writes.
-use Rattle.std.proofs.Common.{◌≡◌, ℕ, ◌+◌, ◌++◌, List, Bool, false, Result, Ok, Err, inr, ap, subst, ◌∙◌}
+use Rattle.std.proofs.Common.{◌≡◌, ℕ, ◌+◌, ◌++◌, List, Bool, false, true, Result, Ok, Err, inr, ap, sym, subst, ◌∙◌}
+use Rattle.std.proofs.lemmas.Bool.{false≢true}
 use Rattle.std.specs.Prelude.{is_err, IfOk, IfErr, OnOk, OnErr, Option, Some}
 use Rattle.std.specs.Option.{SomeIff}
 use Rattle.drive.specs.Journal.{Event, next_of, written, AddsFront}
@@ -65,6 +66,11 @@ has_failed (Err e) K J J' before request capacity change plan store same makes i
 pub goes_on : {T E : Type 0} (r : Result T E) (b : Bool) → b ≡ is_err r → OnOk r (b ≡ false)
 goes_on (Ok x) b h = h
 goes_on (Err e) b h = tt
+
+-- a store that is open behind this was not refused
+pub open_is_ok : {T E : Type 0} (r : Result T E) (b : Bool) (P : Type 0) → b ≡ is_err r → OnErr r (b ≡ false → P)
+open_is_ok (Ok x) b P h = tt
+open_is_ok (Err e) b P h = λ going. absurd (false≢true (sym going ∙ h))
 
 -- what was unwrapped
 pub some_is : (o : Option ℕ) (x m : ℕ) (P : Type 0) → o ≡ Some x → SomeIff o P m → x ≡ m

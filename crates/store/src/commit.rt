@@ -44,6 +44,8 @@ impl Store {
         ensures written { IfOk result (λ reply. WritesPlan self.old request.now (D.capacity drive.old) (D.journal drive.old) (D.journal drive.new) self.new reply) }
         // On any drive a refusal leaves store and journal as they were, unless a write failed: then the store is stopped.
         ensures refused { IfErr result (IsRefused self.old request.now (D.capacity drive.old) (D.journal drive.old) (D.journal drive.new) self.new) }
+        // A store that a refusal leaves open gave the drive no write, so behind a failed write it is stopped, whatever that left.
+        ensures unwritten { OnErr result (self.new.is_stopped ≡ false → D.writes drive.new ≡ D.writes drive.old) }
         ensures stopped { self.old.is_stopped ≡ true → (result ≡ Err Stopped) × (self.new ≡ self.old) × (drive.new ≡ drive.old) }
         ensures goes_on { OnOk result (self.new.is_stopped ≡ false) }
         ensures follows { Follows D.Drive (devices result) drive.old drive.new }

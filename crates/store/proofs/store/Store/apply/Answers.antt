@@ -18,7 +18,7 @@ use Rattle.table.specs.NextTable.{begun}
 use Rattle.planning.specs.Plan.{IsPlan}
 use Rattle.store.specs.Putting.{Makes}
 use Rattle.table.specs.TableChange.{committed}
-use Rattle.store.proofs.Commits.{if_ok, makes_plan, plan_is, writes_plan, has_failed, goes_on, some_is}
+use Rattle.store.proofs.Commits.{if_ok, makes_plan, plan_is, writes_plan, has_failed, goes_on, open_is_ok, some_is}
 use Rattle.store.proofs.Applying.{applies, full, short, unwritten, withstands}
 use Rattle.store.proofs.Knowing.{does_lent, few, knows_again, nodes, shows_lent, takes}
 use Rattle.planning.proofs.Taking.{IsTakenBy}
@@ -89,6 +89,9 @@ returns-clause-refused g c =
     let of_moment : c.unwrap-moment.result ≡ c.args.request.now.moment = some_is c.of.result c.unwrap-moment.result c.args.request.now.moment _ (search rules) c.of.ensures in
     let makes : Makes c.args.self.now c.args.request.now change plan = makes_plan c.args.self.now c.args.request.now change plan c.unwrap-moment.result of_moment c.in_ok-plan.ensures.moment c.in_ok-plan.ensures.code c.in_ok-plan.ensures.commit c.in_ok-plan.ensures.writings c.in_ok-plan.ensures.table in
     has_failed c.commit.result K J (g.D.Drive.journal c.commit.new.drive) c.args.self.now c.args.request.now capacity change plan c.commit.new.self (c.plan.ensures.reads.journal ∙ c.change.ensures.reads.journal) makes is c.commit.ensures.front c.commit.ensures.device c.commit.ensures.stopped
+
+pub returns-clause-unwritten : goal.returns-clause-unwritten
+returns-clause-unwritten g c = open_is_ok c.commit.result c.commit.new.self.is_stopped _ c.commit.ensures.stopped
 
 pub returns-clause-stopped : goal.returns-clause-stopped
 returns-clause-stopped g c h = absurd (false≢true (sym c.if-self.false ∙ h))
