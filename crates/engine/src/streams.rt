@@ -1,8 +1,9 @@
 //! Reads and writes of whole pieces, by which it is known what was read and written wherever they fail.
 
-ghost use Rattle.std.specs.Prelude.{◌≡◌, ◌≤◌, ◌<◌, ℕ, length, take, IfOk, OnOk, OnErr};
+ghost use Rattle.std.specs.Prelude.{◌≡◌, ◌≤◌, ◌<◌, ℕ, length, take, IfOk, IfErr, OnOk, OnErr};
 ghost use Rattle.std.specs.Io.KnownBytes.{Appends, Consumes, IsAtEnd, Keeps};
 ghost use Rattle.engine.specs.Streams.{TakesPiece, PutsFront};
+ghost use Rattle.engine.specs.declared.serving.ServeFault.TheVariants as faults;
 
 use crate::serving::ServeFault;
 use std::io::{ErrorKind, Read, Write};
@@ -13,6 +14,7 @@ pub fn read_piece<R: Read>(reader: &mut R, piece: &mut [u8]) -> Result<usize, Se
     ensures bound { IfOk result (λ n. n ≤ length piece.new) }
     ensures ok { IfOk result (λ n. TakesPiece (R.remaining reader.old) (R.remaining reader.new) (take n piece.new)) }
     ensures err { OnErr result (Keeps (R.remaining reader.old) (R.remaining reader.new)) }
+    ensures fault { IfErr result (λ fault. fault ≡ faults.Read) }
 {
     for _ in 0..u64::MAX {
         match reader.read(piece) {
@@ -28,6 +30,7 @@ pub fn read_piece<R: Read>(reader: &mut R, piece: &mut [u8]) -> Result<usize, Se
 pub fn put_all<W: Write>(writer: &mut W, bytes: &[u8]) -> Result<(), ServeFault>
     ensures ok { OnOk result (Appends (W.contents writer.old) (W.contents writer.new) bytes.now) }
     ensures err { OnErr result (PutsFront (W.contents writer.old) (W.contents writer.new) bytes.now) }
+    ensures fault { IfErr result (λ fault. fault ≡ faults.Write) }
 {
     let mut rest = bytes;
     for _ in 0..u64::MAX {

@@ -1,8 +1,11 @@
 -- What a copy from one stream to another does, where their bytes are known.
-use Rattle.std.specs.Prelude.{ℕ, List, Option, Result, Ok, Err}
+use Rattle.std.specs.Prelude.{◌≡◌, ℕ, Bool, true, false, List, Option, Result, Ok, Err}
 use Rattle.std.specs.Io.KnownBytes.{Appends, Consumes, IsAtEnd}
 use Rattle.engine.specs.Streams.{PutsFront}
+use Rattle.engine.specs.declared.serving.ServeFault.TheVariants as stream
+use Rattle.recover.specs.declared.fault.StoreFault.TheVariants as store
 use Rattle.programs.specs.declared.fault.Fault.{Fault}
+use Rattle.programs.specs.declared.fault.Fault.TheVariants.{Store, Stream}
 
 -- all that was left to read was written
 pub record CopiesAll (input left output written : Option (List ℕ)) : Type 0 where
@@ -16,6 +19,16 @@ pub record CopiesSome (input left output written : Option (List ℕ)) : Type 0 w
   pub bytes : List ℕ
   pub consumed : Consumes input left bytes
   pub front : PutsFront output written bytes
+
+-- what ends a copy early: a stream that is not read or not written, or want of memory
+abbrev pub ends_copy : Fault → Bool
+ends_copy (Stream stream.Read) = true
+ends_copy (Stream stream.Write) = true
+ends_copy (Store store.Memory) = true
+ends_copy _ = false
+
+abbrev pub EndsCopy : Fault → Type 0
+EndsCopy fault = ends_copy fault ≡ true
 
 -- All that was left to read was sent, and all that came back was written.
 pub record SendsAll (input left output written : Option (List ℕ)) : Type 0 where

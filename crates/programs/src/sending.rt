@@ -2,7 +2,7 @@
 
 ghost use Rattle.std.specs.Prelude.{IfErr, OnOk, OnErr};
 ghost use Rattle.programs.specs.Status.{IsRefusal};
-ghost use Rattle.programs.specs.Copies.{CopiesAll, CopiesSome, Sends};
+ghost use Rattle.programs.specs.Copies.{CopiesAll, CopiesSome, EndsCopy, Sends};
 
 use crate::counting::FrameCount;
 use crate::fault::Fault;
@@ -48,6 +48,7 @@ pub fn send_frames<I: Read>(
     reader: &mut I,
 ) -> Result<u64, Fault>
     ensures refusal { IfErr result IsRefusal }
+    ensures fault { IfErr result EndsCopy }
     ensures all { OnOk result (CopiesAll (I.remaining reader.old) (I.remaining reader.new) (⟦<UnixStream as Write>⟧.contents stream.old) (⟦<UnixStream as Write>⟧.contents stream.new)) }
     ensures some { OnErr result (CopiesSome (I.remaining reader.old) (I.remaining reader.new) (⟦<UnixStream as Write>⟧.contents stream.old) (⟦<UnixStream as Write>⟧.contents stream.new)) }
 {
@@ -67,6 +68,7 @@ pub fn copy_answers<O: Write>(
     writer: &mut O,
 ) -> Result<u64, Fault>
     ensures refusal { IfErr result IsRefusal }
+    ensures fault { IfErr result EndsCopy }
     ensures all { OnOk result (CopiesAll (⟦<UnixStream as Read>⟧.remaining stream.old) (⟦<UnixStream as Read>⟧.remaining stream.new) (O.contents writer.old) (O.contents writer.new)) }
     ensures some { OnErr result (CopiesSome (⟦<UnixStream as Read>⟧.remaining stream.old) (⟦<UnixStream as Read>⟧.remaining stream.new) (O.contents writer.old) (O.contents writer.new)) }
 {
@@ -76,6 +78,7 @@ pub fn copy_answers<O: Write>(
 /// Copies what the reader has, in pieces. It answers how many frames ended in it.
 fn copy<I: Read, O: Write>(alloc: Global, reader: &mut I, writer: &mut O) -> Result<u64, Fault>
     ensures refusal { IfErr result IsRefusal }
+    ensures fault { IfErr result EndsCopy }
     ensures ok { OnOk result (CopiesAll (I.remaining reader.old) (I.remaining reader.new) (O.contents writer.old) (O.contents writer.new)) }
     ensures err { OnErr result (CopiesSome (I.remaining reader.old) (I.remaining reader.new) (O.contents writer.old) (O.contents writer.new)) }
 {
