@@ -88,6 +88,23 @@ enum Thing<'r> {
 }
 
 impl<'r> Change<'r> {
+    /// A change with the code `Done` that does nothing yet.
+    fn new(alloc: Global) -> Change<'r>
+        ensures code { result.code ≡ Done }
+        ensures file { result.file ≡ None }
+        ensures directories { result.directories.items ≡ [] }
+        ensures made { result.made ≡ None }
+        ensures removed { result.removed ≡ None }
+    {
+        Change {
+            code: Code::Done,
+            file: None,
+            directories: Vec::new(alloc),
+            made: None,
+            removed: None,
+        }
+    }
+
     /// Nothing is done.
     fn refused(alloc: Global, code: Code) -> Change<'r>
         ensures { IsRefusal code result }
@@ -183,7 +200,7 @@ impl Before<'_> {
             return Ok(Change::refused(alloc, code));
         }
         let address = self.nodes.free_address();
-        let mut change = Change::refused(alloc, Code::Done);
+        let mut change = Change::new(alloc);
         let kind = change.put_new(alloc, self, parent, address, thing, moment)?;
         content.add(
             name.clone()?,
@@ -222,7 +239,7 @@ impl Before<'_> {
         if node.is_directory() {
             return Ok(Change::refused(alloc, Code::IsDirectory));
         }
-        let mut change = Change::refused(alloc, Code::Done);
+        let mut change = Change::new(alloc);
         change.file = Some(NewFile {
             address: node.address,
             unique: node.unique,
@@ -261,7 +278,7 @@ impl Before<'_> {
         };
         let (_, mut content) = self.nodes.open(alloc, drive, directories, parent.address)?;
         content.remove(name);
-        let mut change = Change::refused(alloc, Code::Done);
+        let mut change = Change::new(alloc);
         change.directories.push(written(parent, moment, content))?;
         change.removed = Some(node);
         Ok(change)
@@ -379,7 +396,7 @@ impl Before<'_> {
         ensures reads { Reads D.Drive (devices result) drive.old drive.new }
     {
         let (_, mut content) = self.nodes.open(alloc, drive, directories, parent.address)?;
-        let mut change = Change::refused(alloc, Code::Done);
+        let mut change = Change::new(alloc);
         let Some(entry) = content.remove(old_name) else {
             return Err(self.nodes.damaged());
         };
@@ -412,7 +429,7 @@ impl Before<'_> {
             directories.keep(target.extent, gaining);
             return Ok(Change::refused(alloc, Code::DirectoryFull));
         }
-        let mut change = Change::refused(alloc, Code::Done);
+        let mut change = Change::new(alloc);
         self.set_parent(
             alloc,
             drive,

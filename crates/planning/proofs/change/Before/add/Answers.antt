@@ -139,12 +139,12 @@ returns-clause-does g c tree s few =
     let change : Change = record { code = c.put_new.new.self.code; file = c.put_new.new.self.file; directories = c.push.new.self; made = c.put_new.new.self.made; removed = c.put_new.new.self.removed } in
     let free_is = c.free_address-address.ensures in
     let node : ℕ → List Writing = λ a. record { address = a; stored = whole identity moment (new_body parent.address (content_of_thing what)) } ∷ [] in
-    let first = c.in_ok-kind.ensures.put c.refused-change.ensures.file c.refused-change.ensures.directories ∙ ap node free_is in
+    let first = c.in_ok-kind.ensures.put c.new-change.ensures.file c.new-change.ensures.directories ∙ ap node free_is in
     let entries_are = ap (λ (x : Content). x.dir.entries.entries) c.written.ensures.content
     ∙ (c.in_ok-add.ensures.added missing_too ∙ ap (λ (n : Name). listed ++ (n, entry) ∷ []) named) in
     adds graph (free_address entries) moment identity path above name c.in-Some.ensures.cases.0 what tree parent here.0 c.in_ok-placed.placed content shown c.put_new.new.self change entry c.written.result
-    (code_there ∙ zero_there) (c.in_ok-kind.ensures.code ∙ c.refused-change.ensures.code_is) (c.in_ok-kind.ensures.made path ∙ ap (λ (a : ℕ). made_by (addition path what) a) free_is)
-    (c.in_ok-kind.ensures.removed ∙ c.refused-change.ensures.removed) first refl c.in_ok-push.ensures.items c.written.ensures.address c.written.ensures.unique c.written.ensures.moment
+    (code_there ∙ zero_there) (c.in_ok-kind.ensures.code ∙ c.new-change.ensures.code) (c.in_ok-kind.ensures.made path ∙ ap (λ (a : ℕ). made_by (addition path what) a) free_is)
+    (c.in_ok-kind.ensures.removed ∙ c.new-change.ensures.removed) first refl c.in_ok-push.ensures.items c.written.ensures.address c.written.ensures.unique c.written.ensures.moment
     (ap (λ (x : Content). x.dir.parent) c.written.ensures.content ∙ c.in_ok-add.ensures.parent) entries_are c.in_ok-kind.ensures.kind free_is refl
 
 pub returns-clause-kept : goal.returns-clause-kept

@@ -191,7 +191,7 @@ returns-clause-does g c tree from to identity s b =
     let shown_lost = c.in_ok-losing.ensures.opened s.honest (kept_behind J J2 c.args.directories.now c.set_parent.new.directories (g.D.Drive.honest c.args.drive.now) (g.D.Drive.honest c.set_parent.new.drive) b2 (c.in_ok-losing.ensures.reads.honest s.honest) s.kept) b.loses_at.found.stored lost_there (sym b.loses_at.kind ∙ b.loses_directory) in
     let zero_code = gained_room (graph_below at entries J) tree (one_on at entries J) s.tree s.makes from to c.args.node c.args.loses.0 c.args.gains.0 c.args.loses.1.now c.args.gains.1.now b c.in_ok-target.target c.in_ok-target.gaining shown_gained (omega (arith, c.if-len-ge-DIRECTORY_NAMES.false, c.len.ensures.len)) in
     let none = not_listed (graph_below at entries J) tree (one_on at entries J) s.tree s.makes b.beyond c.args.gains.0 b.gains_at c.in_ok-target.target c.in_ok-target.gaining shown_gained c.args.gains.1.now (subst (λ (p : Path). get tree p ≡ None) b.to_is b.new_there) in
-    let turned = c.in_ok-set_parent.ensures.set c.refused-change.ensures.directories (c.in_ok-losing.ensures.reads.honest s.honest)
+    let turned = c.in_ok-set_parent.ensures.set c.new-change.ensures.directories (c.in_ok-losing.ensures.reads.honest s.honest)
     (kept_behind J J1 c.args.directories.now c.open.new.directories (g.D.Drive.honest c.args.drive.now) (g.D.Drive.honest c.open.new.drive) b1 (c.in_ok-set_parent.ensures.reads.honest (c.in_ok-losing.ensures.reads.honest s.honest)) s.kept)
     b.node_at.found.stored (stored_on at entries J tree s.tree s.makes J1 b1.journal c.args.node.address from c.args.node b.node_at refl) b.node_at.kind b.node_at.identity in
     let done = c.set_parent.new.change in
@@ -201,7 +201,7 @@ returns-clause-does g c tree from to identity s b =
     let listed = entries_gained c.args.gains.1.now c.in_ok-clone.field-0 c.in_ok-target.gaining.dir.entries.entries c.add.new.self.dir.entries.entries c.in-Some.entry none c.in_ok-clone.ensures.cases c.in_ok-add.ensures.added in
     moves_between (graph_below at entries J) tree (one_on at entries J) s.tree s.makes (free_address entries) c.args.moment identity from to c.args.node c.args.loses.0 c.args.gains.0 c.args.loses.1.now c.args.gains.1.now b zero_code
     c.in_ok-losing.field-0-0 c.in_ok-target.target c.in_ok-losing.losing c.in_ok-target.gaining shown_lost shown_gained c.in-Some.entry (sym c.remove.ensures.said ∙ c.in-Some.is) change done.directories.items l gd turned
-    (c.in_ok-set_parent.ensures.code ∙ c.refused-change.ensures.code_is) (c.in_ok-set_parent.ensures.file ∙ c.refused-change.ensures.file) (c.in_ok-set_parent.ensures.made ∙ c.refused-change.ensures.made) (c.in_ok-set_parent.ensures.removed ∙ c.refused-change.ensures.removed)
+    (c.in_ok-set_parent.ensures.code ∙ c.new-change.ensures.code) (c.in_ok-set_parent.ensures.file ∙ c.new-change.ensures.file) (c.in_ok-set_parent.ensures.made ∙ c.new-change.ensures.made) (c.in_ok-set_parent.ensures.removed ∙ c.new-change.ensures.removed)
     (c.in_ok-push-2.ensures.items ∙ ap (λ (ds : List NewDirectory). ds ++ gd ∷ []) c.in_ok-push.ensures.items)
     c.written.ensures.address c.written.ensures.unique c.written.ensures.moment
     (ap (λ (x : Content). x.dir.parent) c.written.ensures.content ∙ c.remove.ensures.parent)

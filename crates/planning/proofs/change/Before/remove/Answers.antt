@@ -181,11 +181,11 @@ returns-clause-does g c tree identity s =
     let up_there = there_too at entries J tree s.tree s.makes at entries J3 refl refl same3 above parent up in
     let shown = c.in_ok-content.ensures.opened s.honest kept3_on up.found.stored up_there (stored_directory graph above c.in-Some-3.parent up up2.1) in
     let lies = c.in_ok-content.ensures.lies s.honest kept3_on in
-    let done = c.refused-change in
+    let done = c.new-change in
     let change : Change = record { code = done.result.code; file = done.result.file; directories = c.push.new.self; made = done.result.made; removed = Some node } in
     let items = c.in_ok-push.ensures.items ∙ ap (λ (ds : List NewDirectory). ds ++ c.written.result ∷ []) done.ensures.directories in
     removes graph one (free_address entries) c.args.moment identity path above name split tree s.tree s.makes parent up c.in_ok-content.field-0-0 content shown lies.is.distinct node here change c.written.result zero_code
-    done.ensures.code_is done.ensures.made refl done.ensures.file items c.written.ensures.address c.written.ensures.unique c.written.ensures.moment
+    done.ensures.code done.ensures.made refl done.ensures.file items c.written.ensures.address c.written.ensures.unique c.written.ensures.moment
     (ap (λ (x : Content). x.dir.parent) c.written.ensures.content ∙ c.remove.ensures.parent) (ap (λ (x : Content). x.dir.entries.entries) c.written.ensures.content ∙ c.remove.ensures.entries)
 
 pub returns-clause-kept : goal.returns-clause-kept

@@ -42,14 +42,14 @@ returns-clause-does g c tree from to identity s w =
     let shown = c.in_ok-content.ensures.opened s.honest s.kept w.parent_at.found.stored there (sym w.parent_at.kind ∙ w.directory) in
     let distinct = distinct_opened (graph_below at entries J) tree (one_on at entries J) s.tree s.makes w.above c.args.parent w.parent_at placed content shown in
     let none = not_listed (graph_below at entries J) tree (one_on at entries J) s.tree s.makes w.above c.args.parent w.parent_at placed content shown c.args.new_name.now (subst (λ (p : Path). get tree p ≡ None) w.to_is w.new_there) in
-    let done = c.refused-change.result in
+    let done = c.new-change.result in
     let change : Change = record { code = done.code; file = done.file; directories = c.push.new.self; made = done.made; removed = done.removed } in
     let d = c.written.result in
     let listed = entries_renamed c.args.old_name.now c.args.new_name.now c.in_ok-clone.field-0 content.dir.entries.entries c.remove.new.self.dir.entries.entries c.add.new.self.dir.entries.entries c.in-Some.entry distinct none
     c.in_ok-clone.ensures.cases c.remove.ensures.entries c.in_ok-add.ensures.added in
     renames_within (graph_below at entries J) tree (one_on at entries J) s.tree s.makes (free_address entries) c.args.moment identity from to c.args.parent c.args.old_name.now c.args.new_name.now w placed content shown c.in-Some.entry
-    (sym c.remove.ensures.said ∙ c.in-Some.is) change d c.refused-change.ensures.code_is c.refused-change.ensures.file c.refused-change.ensures.made c.refused-change.ensures.removed
-    (c.in_ok-push.ensures.items ∙ ap (λ (ds : List NewDirectory). ds ++ d ∷ []) c.refused-change.ensures.directories)
+    (sym c.remove.ensures.said ∙ c.in-Some.is) change d c.new-change.ensures.code c.new-change.ensures.file c.new-change.ensures.made c.new-change.ensures.removed
+    (c.in_ok-push.ensures.items ∙ ap (λ (ds : List NewDirectory). ds ++ d ∷ []) c.new-change.ensures.directories)
     c.written.ensures.address c.written.ensures.unique c.written.ensures.moment
     (ap (λ (x : Content). x.dir.parent) c.written.ensures.content ∙ (c.in_ok-add.ensures.parent ∙ c.remove.ensures.parent))
     (ap (λ (x : Content). x.dir.entries.entries) c.written.ensures.content ∙ listed)

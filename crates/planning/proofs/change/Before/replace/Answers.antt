@@ -40,8 +40,8 @@ returns-clause-does g c tree moment identity s =
     let at = c.args.self.now.nodes.at in
     let entries = c.args.self.now.nodes.entries.now in
     let here = subst (λ (o : Option Node). IsFound (graph_below at entries J) tree c.args.names.now o) c.in-Some.is (c.in_ok-node.ensures.found tree s) in
-    let done = c.refused-change.result in
+    let done = c.new-change.result in
     let file : NewFile = record { address = c.in-Some.node.address; unique = c.in-Some.node.unique; bytes = c.args.bytes } in
     let change : Change = record { code = done.code; file = Some file; directories = done.directories; made = done.made; removed = done.removed } in
     replaces at entries J tree s.tree s.makes (free_address entries) moment identity c.args.names.now c.in-Some.node file done change (sym c.is_empty.ensures ∙ c.if-is_empty.false) here (sym c.is_directory.ensures ∙ c.if-is_directory.false)
-    c.refused-change.ensures refl refl refl refl refl refl refl
+    (record { code_is = c.new-change.ensures.code; file = c.new-change.ensures.file; directories = c.new-change.ensures.directories; made = c.new-change.ensures.made; removed = c.new-change.ensures.removed }) refl refl refl refl refl refl refl
