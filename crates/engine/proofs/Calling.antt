@@ -27,7 +27,6 @@ use Rattle.medium.specs.Runs.AnswersNew.{committed, failed as fails, full, no_me
 use Rattle.medium.proofs.Commits.{moves_front}
 use Rattle.udf.specs.Udf.{udf, spelled}
 use Rattle.udf.specs.Said.{said_record}
-use Rattle.vat.specs.declared.record.Record.{Record}
 use Rattle.store.specs.declared.store.Store.{Store}
 use Rattle.store.specs.Asked.{said_request, said_query}
 use Rattle.store.specs.Calls.{Knows, StillKnows, Applies, IsDone, IsFailed, IsLeft, Gets, Lists, Stats}

@@ -13,15 +13,7 @@ use Rattle.request.proofs.FrameLaws.{feeding, taking}
 use Rattle.engine.specs.Situation.{Situation}
 use Rattle.engine.specs.Streams.{PutsFront, TakesPiece}
 use Rattle.engine.specs.Served.{AllAnswered, IsAnswered, AllTaken, frames_of, Answering, AnswersSome, Serving, ServesSome, ServesAll}
-use Rattle.engine.proofs.Served.{served_holds}
-
--- one message more was answered
-pub answered_more : (messages : List Message) (answers : List Answer) (s t u : Situation) (m : Message) (a : Answer)
-    → AllAnswered messages s answers t → IsAnswered m t a u → AllAnswered (messages ++ m ∷ []) s (answers ++ a ∷ []) u
-answered_more [] [] s t u m a h k = (u, subst (λ (x : Situation). IsAnswered m x a u) h k, refl)
-answered_more [] (b ∷ answers) s t u m a h k = absurd h
-answered_more (n ∷ messages) [] s t u m a h k = absurd h
-answered_more (n ∷ messages) (b ∷ answers) s t u m a h k = (h.0, h.1, answered_more messages answers h.0 t u m a h.2 k)
+use Rattle.engine.proofs.Served.{answered_more, served_holds, served_withstand}
 
 -- and then others
 pub answered_append : (messages : List Message) (answers : List Answer) (more : List Message) (others : List Answer) (s t u : Situation)
@@ -182,6 +174,7 @@ serving_some reader between after s t u i l n o v w piece h takes e more =
           (subst (λ (r : Option (List ℕ)). MessagesAre (h.bytes ++ piece) h.messages r) (sym e) (feeding h.messages h.bytes piece reader h.messages_are)) more.taken;
       answered = answered;
       holds = served_holds (h.messages ++ more.messages) s (h.answers ++ more.answers) u answered;
+      withstands = served_withstand (h.messages ++ more.messages) s (h.answers ++ more.answers) u answered;
       front = subst (λ (x : List ℕ). PutsFront o w x) (sym (frames_append h.answers more.answers)) (front_more o v w (frames_of h.answers) (frames_of more.answers) h.told more.front);
     }
 
@@ -200,6 +193,7 @@ serving_read reader s t i l n o v piece h takes = record {
   messages_are = feeding h.messages h.bytes piece reader h.messages_are;
   answered = h.answered;
   holds = served_holds h.messages s h.answers t h.answered;
+  withstands = served_withstand h.messages s h.answers t h.answered;
   front = whole_front o v (frames_of h.answers) h.told;
 }
 
@@ -220,6 +214,7 @@ serving_kept reader s t i l n o v h k = record {
   messages_are = h.messages_are;
   answered = h.answered;
   holds = served_holds h.messages s h.answers t h.answered;
+  withstands = served_withstand h.messages s h.answers t h.answered;
   front = whole_front o v (frames_of h.answers) h.told;
 }
 
@@ -247,13 +242,14 @@ serving_ends reader s t i l n o v piece h idle takes none = record {
     told = h.told;
   };
   holds = served_holds h.messages s h.answers t h.answered;
+  withstands = served_withstand h.messages s h.answers t h.answered;
   idle = idle;
   ends = inl (takes.end none);
 }
 
 -- a frame was too long
 pub serving_over : (reader : Option (List ℕ)) (s t : Situation) (i l o v : Option (List ℕ)) → Serving reader s t i l o v → IsIdle reader → reader ≡ None → ServesAll s t i l o v
-serving_over reader s t i l o v h idle none = record { reader = reader; serving = h; holds = served_holds h.messages s h.answers t h.answered; idle = idle; ends = inr none }
+serving_over reader s t i l o v h idle none = record { reader = reader; serving = h; holds = served_holds h.messages s h.answers t h.answered; withstands = served_withstand h.messages s h.answers t h.answered; idle = idle; ends = inr none }
 
 -- what holds of an `Err` may be shown of any
 pub on_err : {T E : Type 0} (r : Result T E) (X : Type 0) → X → OnErr r X

@@ -16,10 +16,10 @@ use Rattle.engine.specs.Answered.{Answered, due_of, IsCommitted, IsDue, Opens, R
 use Rattle.engine.specs.Called.{Calls, IsApplied, IsDealt, IsRead, IsShort, Uses}
 
 -- the same store beside a drive that was not called
-pub same_situation : {X : Type 0} (j : X → List Event) (f c : X → ℕ) (h : X → Bool) (s t : Option Store) (d e : X)
-    → s ≡ t → d ≡ e → situation s (j d) (f d) (c d) (h d) ≡ situation t (j e) (f e) (c e) (h e)
-same_situation j f c h s t d e p q =
-    ap (λ (x : Option Store). situation x (j d) (f d) (c d) (h d)) p ∙ ap (λ x. situation t (j x) (f x) (c x) (h x)) q
+pub same_situation : {X : Type 0} (j : X → List Event) (f c : X → ℕ) (h : X → Bool) (w : X → List (List (List ℕ))) (s t : Option Store) (d e : X)
+    → s ≡ t → d ≡ e → situation s (j d) (f d) (c d) (h d) (w d) ≡ situation t (j e) (f e) (c e) (h e) (w e)
+same_situation j f c h w s t d e p q =
+    ap (λ (x : Option Store). situation x (j d) (f d) (c d) (h d) (w d)) p ∙ ap (λ x. situation t (j x) (f x) (c x) (h x) (w x)) q
 
 -- The store was opened, and did not change the medium.
 pub record Opened (before during : Situation) (store : Store) : Type 0 where

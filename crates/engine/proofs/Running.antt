@@ -74,8 +74,8 @@ all_said_more (x ∷ deliveries) [] one d all is = absurd all
 all_said_more (x ∷ deliveries) (e ∷ ds) one d all is = (all.0, all_said_more deliveries ds one d all.1 is)
 
 pub runs_begin : RunsBegin
-runs_begin volume S journal failures capacity honest once stands = (
-  record { once = once; stands = stands; knows = none_knows volume S (situation None journal failures capacity honest) refl },
+runs_begin volume S journal failures capacity honest writes once stands = (
+  record { once = once; stands = stands; knows = none_knows volume S (situation None journal failures capacity honest writes) refl },
   record { said = []; are_said = tt; state = S; steps = (refl, refl, refl) },
 )
 
@@ -104,22 +104,22 @@ delivers_honest (Frame payload) before None behind is honest = absurd is
 delivers_honest (Frame payload) before (Some a) behind (m, tells, answered) honest = answered.follows.honest honest
 
 -- no delivery was made yet
-pub begun_run : (volume : ℕ) (S : State) (journal : List Event) (failures capacity : ℕ) (honest : Bool) (store : Option Store) (answers : List Answer) → Once journal → Stands udf capacity volume (held journal) S
-    → store ≡ None → answers ≡ [] → IsRun volume [] S (situation None journal failures capacity honest) answers (situation store journal failures capacity honest)
-begun_run volume S journal failures capacity honest store answers once stands none no_answer =
-    let before : Situation = situation None journal failures capacity honest in
-    let begun : IsRun volume [] S before [] before = (runs_begin volume S journal failures capacity honest once stands).1 in
-    subst (λ (o : Option Store). IsRun volume [] S before answers (situation o journal failures capacity honest)) (sym none) (subst (λ (xs : List Answer). IsRun volume [] S before xs before) (sym no_answer) begun)
+pub begun_run : (volume : ℕ) (S : State) (journal : List Event) (failures capacity : ℕ) (honest : Bool) (writes : List (List (List ℕ))) (store : Option Store) (answers : List Answer) → Once journal → Stands udf capacity volume (held journal) S
+    → store ≡ None → answers ≡ [] → IsRun volume [] S (situation None journal failures capacity honest writes) answers (situation store journal failures capacity honest writes)
+begun_run volume S journal failures capacity honest writes store answers once stands none no_answer =
+    let before : Situation = situation None journal failures capacity honest writes in
+    let begun : IsRun volume [] S before [] before = (runs_begin volume S journal failures capacity honest writes once stands).1 in
+    subst (λ (o : Option Store). IsRun volume [] S before answers (situation o journal failures capacity honest writes)) (sym none) (subst (λ (xs : List Answer). IsRun volume [] S before xs before) (sym no_answer) begun)
 
 -- and then the next of them
-pub next_run : (volume : ℕ) (deliveries : List delivered.Delivery) (i : ℕ) (d : delivered.Delivery) (S : State) (journal : List Event) (failures capacity : ℕ) (honest : Bool) (answers later : List Answer)
+pub next_run : (volume : ℕ) (deliveries : List delivered.Delivery) (i : ℕ) (d : delivered.Delivery) (S : State) (journal : List Event) (failures capacity : ℕ) (honest : Bool) (writes : List (List (List ℕ))) (answers later : List Answer)
     (during : Situation) (told : Option Answer) (behind : Situation) → i < length deliveries → d ≡ get_or deliveries i d → Delivers d during told behind → later ≡ answers ++ option_to_list told
-    → (IsTrue during.honest → Once journal → Stands udf capacity volume (held journal) S → IsRun volume (take i deliveries) S (situation None journal failures capacity honest) answers during)
+    → (IsTrue during.honest → Once journal → Stands udf capacity volume (held journal) S → IsRun volume (take i deliveries) S (situation None journal failures capacity honest writes) answers during)
     → ((T : State) → IsTrue behind.honest → IsAt volume T during → DeliversBy volume d T during told behind)
-    → IsTrue behind.honest → Once journal → Stands udf capacity volume (held journal) S → IsRun volume (take (i + 1) deliveries) S (situation None journal failures capacity honest) later behind
-next_run volume deliveries i d S journal failures capacity honest answers later during told behind lt is delivers e before by so once stands =
-    let start : Situation = situation None journal failures capacity honest in
-    let at : IsAt volume S start = (runs_begin volume S journal failures capacity honest once stands).0 in
+    → IsTrue behind.honest → Once journal → Stands udf capacity volume (held journal) S → IsRun volume (take (i + 1) deliveries) S (situation None journal failures capacity honest writes) later behind
+next_run volume deliveries i d S journal failures capacity honest writes answers later during told behind lt is delivers e before by so once stands =
+    let start : Situation = situation None journal failures capacity honest writes in
+    let at : IsAt volume S start = (runs_begin volume S journal failures capacity honest writes once stands).0 in
     let run : IsRun volume (take i deliveries) S start answers during = before (delivers_honest d during told behind delivers so) once stands in
     let one : take (i + 1) deliveries ≡ take i deliveries ++ d ∷ [] =
     take_more deliveries i d lt ∙ ap (λ (x : delivered.Delivery). take i deliveries ++ x ∷ []) (sym is) in
@@ -128,10 +128,10 @@ next_run volume deliveries i d S journal failures capacity honest answers later 
     (subst (λ (xs : List Answer). IsRun volume (take i deliveries ++ d ∷ []) S start xs behind) (sym e) next)
 
 -- until all are made
-pub ended_run : (volume : ℕ) (deliveries : List delivered.Delivery) (i : ℕ) (S : State) (journal : List Event) (failures capacity : ℕ) (honest : Bool) (answers : List Answer) (behind : Situation)
-    → length deliveries ≤ i → Once journal → Stands udf capacity volume (held journal) S → IsRun volume (take i deliveries) S (situation None journal failures capacity honest) answers behind
+pub ended_run : (volume : ℕ) (deliveries : List delivered.Delivery) (i : ℕ) (S : State) (journal : List Event) (failures capacity : ℕ) (honest : Bool) (writes : List (List (List ℕ))) (answers : List Answer) (behind : Situation)
+    → length deliveries ≤ i → Once journal → Stands udf capacity volume (held journal) S → IsRun volume (take i deliveries) S (situation None journal failures capacity honest writes) answers behind
     → RunHolds volume capacity deliveries S journal answers behind.journal
-ended_run volume deliveries i S journal failures capacity honest answers behind all once stands run =
-    let start : Situation = situation None journal failures capacity honest in
-    runs_are_held volume deliveries S start answers behind (runs_begin volume S journal failures capacity honest once stands).0
+ended_run volume deliveries i S journal failures capacity honest writes answers behind all once stands run =
+    let start : Situation = situation None journal failures capacity honest writes in
+    runs_are_held volume deliveries S start answers behind (runs_begin volume S journal failures capacity honest writes once stands).0
     (subst (λ (ds : List delivered.Delivery). IsRun volume ds S start answers behind) (take_all i deliveries all) run)

@@ -1,18 +1,18 @@
 -- What a loss of power leaves, one call more at a time.
-use Rattle.std.proofs.Common.{◌≡◌, ◌⊎◌, inl, inr, ℕ, zero, suc, ◌+◌, ◌<◌, ◌≤◌, Bool, IsTrue, List, [], ◌∷◌, ◌++◌, length, take, get_or, Option, Some, None, refl, sym, ap, ◌∙◌, subst, arith, append-nil}
+use Rattle.std.proofs.Common.{◌≡◌, inl, inr, ℕ, suc, ◌+◌, ◌<◌, Bool, IsTrue, List, [], ◌++◌, length, take, get_or, Option, None, sym, ap, ◌∙◌, subst, arith, append-nil}
 use Rattle.std.specs.Option.{option_to_list}
 use Rattle.std.proofs.Math.Seq.{take-length}
 use Rattle.drive.specs.Journal.{Event, held, written, Once}
-use Rattle.drive.specs.Writes.{IsLeft}
 use Rattle.request.specs.declared.answer.Answer.{Answer}
 use Rattle.model.specs.Session.{State, Request, after, after_one}
 use Rattle.medium.specs.Formats.{Block}
-use Rattle.medium.specs.Journal.{Advances}
+use Rattle.medium.specs.Commit.{need}
+use Rattle.medium.specs.Journal.{Advances, HoldsOnJournal}
+use Rattle.medium.specs.Runs as medium
 use Rattle.medium.specs.Volume.{Stands}
-use Rattle.udf.specs.Udf.{udf}
+use Rattle.udf.specs.Udf.{udf, spelled}
 use Rattle.store.specs.Calls as store
 use Rattle.engine.specs.declared.runs.Delivery.{Delivery}
-use Rattle.engine.specs.declared.runs.Delivery.TheVariants.{Frame, Restart}
 use Rattle.engine.specs.Situation.{Situation, situation}
 use Rattle.engine.specs.Steps.{IsAt}
 use Rattle.engine.specs.Headline.{IsRun, RunHolds, said_answers}
@@ -58,34 +58,34 @@ withstands_from capacity capacity' volume J K S asked W V W' size journal writes
     subst (λ (c : ℕ). Withstands c volume J S asked W W') size (subst (λ (L : List Event). Withstands capacity' volume L S asked W W') journal (subst (λ (X : List (List Block)). Withstands capacity' volume K S asked X W') writes w))
 
 -- where a run ended the state after all its commits stands
-pub run_ended : (volume capacity : ℕ) (deliveries : List Delivery) (S : State) (before : List Event) (answers : List Answer) (behind : List Event) (T : State) (run : RunHolds volume capacity deliveries S before answers behind)
-    → Stands udf capacity volume (held behind) T → T ≡ after S run.holds.holds.committed
-run_ended volume capacity deliveries S before answers behind T run stands =
-    let committed = run.holds.holds.committed in
-    let size : length (held behind) ≡ length behind = ap (λ (bs : List Block). length bs) (held_once behind run.holds.once) ∙ length-blocks_of behind in
-    let there = (run.holds.stands (length behind) (front_grows before behind run.holds.front) (omega arith)).1 in
-    let all : take (run.holds.holds.c (length behind)) committed ≡ committed =
-    ap (λ (n : ℕ). take (run.holds.holds.c n) committed) (sym size) ∙ ap (λ (n : ℕ). take n committed) run.holds.holds.at_end ∙ take-length committed in
+pub held_ended : (volume capacity : ℕ) (deliveries : List medium.Delivery) (S : State) (before behind : List Event) (answers : List medium.Answer) (T : State)
+    (run : HoldsOnJournal udf (need spelled) capacity volume S before behind deliveries answers) → Stands udf capacity volume (held behind) T → T ≡ after S run.holds.committed
+held_ended volume capacity deliveries S before behind answers T run stands =
+    let committed = run.holds.committed in
+    let size : length (held behind) ≡ length behind = ap (λ (bs : List Block). length bs) (held_once behind run.once) ∙ length-blocks_of behind in
+    let there = (run.stands (length behind) (front_grows before behind run.front) (omega arith)).1 in
+    let all : take (run.holds.c (length behind)) committed ≡ committed =
+    ap (λ (n : ℕ). take (run.holds.c n) committed) (sym size) ∙ ap (λ (n : ℕ). take n committed) run.holds.at_end ∙ take-length committed in
     stands_one udf exact capacity volume capacity volume (held behind) T (after S committed) stands
     (subst (λ (rs : List Request). Stands udf capacity volume (held behind) (after S rs)) all
-    (subst (λ (L : List Event). Stands udf capacity volume (held L) (after S (take (run.holds.holds.c (length behind)) committed))) (take-length behind) there))
+    (subst (λ (L : List Event). Stands udf capacity volume (held L) (after S (take (run.holds.c (length behind)) committed))) (take-length behind) there))
 
 -- in a list's deliveries, one more
 pub withstand_run : (volume : ℕ) (deliveries : List Delivery) (i : ℕ) (d : Delivery) (S : State) (journal : List Event) (failures capacity : ℕ) (honest : Bool) (answers more : List Answer) (during : Situation) (told : Option Answer)
     (writes between : List (List Block)) (behind : List Event) (later : List (List Block)) → i < length deliveries → d ≡ get_or deliveries i d → more ≡ answers ++ option_to_list told → IsTrue during.honest → Once journal
     → Stands udf capacity volume (held journal) S → during.capacity ≡ capacity
-    → (IsTrue during.honest → Once journal → Stands udf capacity volume (held journal) S → IsRun volume (take i deliveries) S (situation None journal failures capacity honest) answers during)
+    → (IsTrue during.honest → Once journal → Stands udf capacity volume (held journal) S → IsRun volume (take i deliveries) S (situation None journal failures capacity honest writes) answers during)
     → (IsTrue during.honest → Once journal → Stands udf capacity volume (held journal) S → AllWithstand volume capacity deliveries S journal writes i answers during.journal between)
     → ((T : State) → IsAt volume T during → Withstands during.capacity volume during.journal T (Brings d) between later)
     → AllWithstand volume capacity deliveries S journal writes (i + 1) more behind later
 withstand_run volume deliveries i d S journal failures capacity honest answers more during told writes between behind later lt is answered so once stands size run all one =
-    let start : Situation = situation None journal failures capacity honest in
-    let at : IsAt volume S start = (runs_begin volume S journal failures capacity honest once stands).0 in
+    let start : Situation = situation None journal failures capacity honest writes in
+    let at : IsAt volume S start = (runs_begin volume S journal failures capacity honest writes once stands).0 in
     let sofar : IsRun volume (take i deliveries) S start answers during = run so once stands in
     let there : IsAt volume sofar.state during = at_end volume sofar.said S start (said_answers answers) sofar.state during at sofar.steps in
     let stood : Stands udf capacity volume (held during.journal) sofar.state = subst (λ (c : ℕ). Stands udf c volume (held during.journal) sofar.state) size there.stands in
     let holds : RunHolds volume capacity (take i deliveries) S journal answers during.journal = runs_are_held volume (take i deliveries) S start answers during at sofar in
-    let state : sofar.state ≡ after S holds.holds.holds.committed = run_ended volume capacity (take i deliveries) S journal answers during.journal sofar.state holds stood in
+    let state : sofar.state ≡ after S holds.holds.holds.committed = held_ended volume capacity holds.said S journal during.journal (said_answers answers) sofar.state holds.holds stood in
     let asks : Withstands during.capacity volume during.journal sofar.state (BringsAt deliveries i) between later =
     withstands_more during.capacity volume during.journal sofar.state (Brings d) (BringsAt deliveries i) between later (λ r brings. (d, lt, sym is, brings)) (one sofar.state there) in
     let now : Withstands capacity volume during.journal (after S holds.holds.holds.committed) (BringsAt deliveries i) between later =

@@ -40,9 +40,9 @@ pub record IsRun (volume : ℕ) (deliveries : List delivered.Delivery) (S : Stat
 -- a run begins where a state stands and no store is kept
 abbrev pub RunsBegin : Type 0
 RunsBegin =
-    (volume : ℕ) (S : State) (journal : List Event) (failures capacity : ℕ) (honest : Bool) → Once journal → Stands udf capacity volume (held journal) S
-    → IsAt volume S (situation None journal failures capacity honest)
-    × IsRun volume [] S (situation None journal failures capacity honest) [] (situation None journal failures capacity honest)
+    (volume : ℕ) (S : State) (journal : List Event) (failures capacity : ℕ) (honest : Bool) (writes : List (List (List ℕ))) → Once journal → Stands udf capacity volume (held journal) S
+    → IsAt volume S (situation None journal failures capacity honest writes)
+    × IsRun volume [] S (situation None journal failures capacity honest writes) [] (situation None journal failures capacity honest writes)
 
 -- and goes on with each delivery
 abbrev pub RunsGoOn : Type 0

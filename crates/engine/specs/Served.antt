@@ -1,12 +1,12 @@
 -- What became of the messages of a stream, one after another.
-use Rattle.std.specs.Prelude.{◌≡◌, ◌⊎◌, ℕ, List, [], ◌∷◌, map, Option, None, IsTrue}
+use Rattle.std.specs.Prelude.{◌≡◌, ◌⊎◌, ℕ, List, [], ◌∷◌, ◌++◌, map, Option, None, IsTrue}
 use Rattle.std.specs.List.{flat_map}
 use Rattle.std.specs.Io.KnownBytes.{Appends, Consumes, IsAtEnd}
 use Rattle.request.specs.declared.answer.Answer.{Answer}
 use Rattle.request.specs.declared.message.Message.{Message}
 use Rattle.request.specs.Answers.{answer_frame}
 use Rattle.request.specs.Frames.{Takes, IsIdle, MessagesAre}
-use Rattle.model.specs.Session.{State}
+use Rattle.model.specs.Session.{State, after}
 use Rattle.medium.specs.Commit.{need}
 use Rattle.medium.specs.Journal.{HoldsOnJournal}
 use Rattle.medium.specs.Runs.{Delivery}
@@ -19,11 +19,14 @@ use Rattle.engine.specs.Headline.{said_answers}
 use Rattle.engine.specs.Said.{said_message}
 use Rattle.engine.specs.Steps.{IsAt}
 use Rattle.engine.specs.Streams.{PutsFront}
+use Rattle.engine.specs.Withstanding.{AsksFor, Withstands}
 
--- A message got its answer: on an honest drive, where a state stands that an open store knows, by that store's calls.
+-- A message got its answer: on an honest drive, where a state stands that an open store knows, by that store's calls, and
+-- whatever a loss of power leaves of what was written for it, that state stands or the one after the request.
 pub record IsAnswered (asked : Message) (before : Situation) (a : Answer) (behind : Situation) : Type 0 where
   pub answered : Answered asked before a behind
   pub calls : (volume : ℕ) (S : State) → IsTrue behind.honest → IsAt volume S before → Calls volume asked S before a behind
+  pub withstands : (volume : ℕ) (S : State) → IsTrue behind.honest → IsAt volume S before → Withstands before.capacity volume before.journal S (AsksFor asked) before.writes behind.writes
 
 -- each message got its answer, in order
 abbrev pub AllAnswered : List Message → Situation → List Answer → Situation → Type 0
@@ -41,6 +44,23 @@ abbrev pub ServedHolds : List Message → Situation → List Answer → Situatio
 ServedHolds messages before answers behind =
     (volume : ℕ) (S : State) → IsTrue behind.honest → IsAt volume S before
     → HoldsOnJournal udf (need spelled) before.capacity volume S before.journal behind.journal (brought messages) (said_answers answers)
+
+-- The messages that were answered so far, and then the others, one after another. As each of these comes, those before it
+-- have been a run that holds its commits, with the answers that they got; and whatever a loss of power leaves of the writes
+-- that are made for it, the state after all these commits stands, or the one after the request that it asks for.
+abbrev pub EachWithstands : ℕ → State → Situation → List Message → List Answer → Situation → List Message → List Answer → Situation → Type 0
+EachWithstands volume S before done told during [] [] behind = behind ≡ during
+EachWithstands volume S before done told during [] (a ∷ answers) behind = ⊥
+EachWithstands volume S before done told during (m ∷ messages) [] behind = ⊥
+EachWithstands volume S before done told during (m ∷ messages) (a ∷ answers) behind =
+    (next : Situation) × (run : HoldsOnJournal udf (need spelled) before.capacity volume S before.journal during.journal (brought done) (said_answers told))
+    × Withstands before.capacity volume during.journal (after S run.holds.committed) (AsksFor m) during.writes next.writes
+    × EachWithstands volume S before (done ++ m ∷ []) (told ++ a ∷ []) next messages answers behind
+
+-- so it is of all messages, on an honest drive, where a state stands that an open store knows
+abbrev pub ServedWithstands : List Message → Situation → List Answer → Situation → Type 0
+ServedWithstands messages before answers behind =
+    (volume : ℕ) (S : State) → IsTrue behind.honest → IsAt volume S before → EachWithstands volume S before [] [] before messages answers behind
 
 -- a reader of frames gave these messages, in order
 abbrev pub AllTaken : Option (List ℕ) → List Message → Option (List ℕ) → Type 0
@@ -82,6 +102,7 @@ pub record ServesAll (before behind : Situation) (input left output written : Op
   pub reader : Option (List ℕ)
   pub serving : Serving reader before behind input left output written
   pub holds : ServedHolds serving.messages before serving.answers behind
+  pub withstands : ServedWithstands serving.messages before serving.answers behind
   pub idle : IsIdle reader
   pub ends : IsAtEnd left ⊎ (reader ≡ None)
 
@@ -95,4 +116,5 @@ pub record ServesSome (before behind : Situation) (input left output written : O
   pub messages_are : MessagesAre bytes messages reader
   pub answered : AllAnswered messages before answers behind
   pub holds : ServedHolds messages before answers behind
+  pub withstands : ServedWithstands messages before answers behind
   pub front : PutsFront output written (frames_of answers)

@@ -13,6 +13,7 @@ pub record Situation : Type 0 where
   pub failures : ℕ
   pub capacity : ℕ
   pub honest : Bool
+  pub writes : List (List (List ℕ))
 
 -- a store that is kept agrees with the drive
 abbrev pub IsReady : Situation → Type 0
@@ -30,12 +31,13 @@ pub record Follows (before after : Situation) : Type 0 where
   pub honest : IsTrue after.honest → IsTrue before.honest
 
 -- a store, if one is kept, and what a drive shows
-abbrev pub situation : Option Store → List Event → ℕ → ℕ → Bool → Situation
-situation store journal failures capacity honest = record { store = store; journal = journal; failures = failures; capacity = capacity; honest = honest }
+abbrev pub situation : Option Store → List Event → ℕ → ℕ → Bool → List (List (List ℕ)) → Situation
+situation store journal failures capacity honest writes =
+    record { store = store; journal = journal; failures = failures; capacity = capacity; honest = honest; writes = writes }
 
 -- a store, or an engine, beside a drive
 abbrev pub situation_on : {D : Type 0} → Ghosts D → Option Store → D → Situation
-situation_on drive store d = situation store (drive.journal d) (drive.failures d) (drive.capacity d) (drive.honest d)
+situation_on drive store d = situation store (drive.journal d) (drive.failures d) (drive.capacity d) (drive.honest d) (drive.writes d)
 
 abbrev pub seen_on : {D : Type 0} → Ghosts D → Engine → D → Situation
 seen_on drive engine d = situation_on drive engine.store d

@@ -70,6 +70,7 @@ module _ (i l o v w : Option (List ℕ)) (kept : Keeps v w) where
       told = keeps_on o v w (frames_of h.serving.answers) h.serving.told kept;
     };
     holds = h.holds;
+    withstands = h.withstands;
     idle = h.idle;
     ends = h.ends;
   }
@@ -87,6 +88,7 @@ module _ (i l o v w : Option (List ℕ)) (kept : Keeps v w) where
       messages_are = h.messages_are;
       answered = h.answered;
       holds = h.holds;
+      withstands = h.withstands;
       front = front_kept o v w (frames_of h.answers) h.front kept;
     },
   )
@@ -216,6 +218,7 @@ serves_part before behind i l o w h = record {
   messages_are = h.serving.messages_are;
   answered = h.serving.answered;
   holds = h.holds;
+  withstands = h.withstands;
   front = whole_front o w (frames_of h.serving.answers) h.serving.told;
 }
 

@@ -6,11 +6,11 @@ use Rattle.store.specs.declared.store.Store.{Store}
 use Rattle.engine.specs.Situation.{Situation, situation}
 use Rattle.engine.specs.Served.{AllAnswered, ServesAll, ServesSome}
 use Rattle.engine.proofs.Messages.{answered_append}
-use Rattle.engine.proofs.Served.{served_holds}
+use Rattle.engine.proofs.Served.{served_holds, served_withstand}
 use Rattle.programs.specs.Connections.{GoesOn}
 
 pub goes_none : (s : Situation) → GoesOn s s
-goes_none s = record { messages = []; answers = []; answered = refl; holds = served_holds [] s [] s refl }
+goes_none s = record { messages = []; answers = []; answered = refl; holds = served_holds [] s [] s refl; withstands = served_withstand [] s [] s refl }
 
 pub goes_more : (s t u : Situation) → GoesOn s t → GoesOn t u → GoesOn s u
 goes_more s t u h k =
@@ -20,12 +20,13 @@ goes_more s t u h k =
       answers = h.answers ++ k.answers;
       answered = answered;
       holds = served_holds (h.messages ++ k.messages) s (h.answers ++ k.answers) u answered;
+      withstands = served_withstand (h.messages ++ k.messages) s (h.answers ++ k.answers) u answered;
     }
 
 pub goes_served : {T E : Type 0} (r : Result T E) (s t : Situation) (i l o w : Option (List ℕ)) → OnOk r (ServesAll s t i l o w) → OnErr r (ServesSome s t i l o w) → GoesOn s t
-goes_served (Ok x) s t i l o w all some = record { messages = all.serving.messages; answers = all.serving.answers; answered = all.serving.answered; holds = all.holds }
-goes_served (Err e) s t i l o w all some = record { messages = some.messages; answers = some.answers; answered = some.answered; holds = some.holds }
+goes_served (Ok x) s t i l o w all some = record { messages = all.serving.messages; answers = all.serving.answers; answered = all.serving.answered; holds = all.holds; withstands = all.withstands }
+goes_served (Err e) s t i l o w all some = record { messages = some.messages; answers = some.answers; answered = some.answered; holds = some.holds; withstands = some.withstands }
 
-pub goes_new : (store : Option Store) (J : List Event) (failures capacity : ℕ) (honest : Bool) → store ≡ None → GoesOn (situation None J failures capacity honest) (situation store J failures capacity honest)
-goes_new store J failures capacity honest e =
-    subst (λ (s : Option Store). GoesOn (situation s J failures capacity honest) (situation store J failures capacity honest)) e (goes_none (situation store J failures capacity honest))
+pub goes_new : (store : Option Store) (J : List Event) (failures capacity : ℕ) (honest : Bool) (writes : List (List (List ℕ))) → store ≡ None → GoesOn (situation None J failures capacity honest writes) (situation store J failures capacity honest writes)
+goes_new store J failures capacity honest writes e =
+    subst (λ (s : Option Store). GoesOn (situation s J failures capacity honest writes) (situation store J failures capacity honest writes)) e (goes_none (situation store J failures capacity honest writes))

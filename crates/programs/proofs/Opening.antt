@@ -3,7 +3,7 @@ use Rattle.std.proofs.Common.{◌≡◌, ◌==◌, ℕ, ◌≤◌, true, List, O
 use Rattle.std.specs.Prelude.{IsErrAnd}
 use Rattle.std.specs.Io.KnownBytes.{Keeps}
 use Rattle.drive.specs.Note.{fitted}
-use Rattle.drive.specs.FileDrive.{journal_of, failures_of, capacity_of, honest_of, BeginsWith}
+use Rattle.drive.specs.FileDrive.{journal_of, writes_of, failures_of, capacity_of, honest_of, BeginsWith}
 use Rattle.drive.specs.declared.file.FileDrive.{FileDrive}
 use Rattle.drive.proofs.Once.{once-written}
 use Rattle.recover.specs.declared.fault.StoreFault.TheVariants.{Device}
@@ -17,12 +17,12 @@ keeps_self None = tt
 keeps_self (Some xs) = refl
 
 pub begins_on : (capacity : ℕ) (Did : Situation → Situation → Type 0) (d : FileDrive) (behind : Situation) → (image : List (List ℕ)) × BeginsWith image d → capacity_of d ≡ capacity
-    → Did (situation None (journal_of d) (failures_of d) (capacity_of d) (honest_of d)) behind → OnImage capacity Did
+    → Did (situation None (journal_of d) (failures_of d) (capacity_of d) (honest_of d) (writes_of d)) behind → OnImage capacity Did
 begins_on capacity Did d behind (image, begins) size did =
     let count : ℕ = begins.journal.0 in
     let honest : honest_of d ≡ true = ap (λ (n : ℕ). n == 0) begins.misreads in
-    let same : situation None (journal_of d) (failures_of d) (capacity_of d) (honest_of d) ≡ opened capacity count image =
-    λ i. situation None (begins.journal.2 i) (begins.failures i) (size i) (honest i) in
+    let same : situation None (journal_of d) (failures_of d) (capacity_of d) (honest_of d) (writes_of d) ≡ opened capacity count image =
+    λ i. situation None (begins.journal.2 i) (begins.failures i) (size i) (honest i) (begins.writes i) in
     record {
       image = image;
       count = count;

@@ -2,7 +2,7 @@
 
 ghost use Rattle.std.specs.Prelude.{◌≡◌, ◌≤◌, map, codes, IfErr, OnOk, OnErr, IfSome, IsSomeAnd};
 ghost use Rattle.drive.specs.Reads.{Follows};
-ghost use Rattle.engine.specs.Situation.{IsReady, seen_on, situation};
+ghost use Rattle.engine.specs.Situation.{IsReady, seen_on, situation_on};
 ghost use Rattle.engine.specs.Served.{ServesAll};
 ghost use Rattle.words.specs.Daemon.{AsksDaemon};
 ghost use Rattle.programs.specs.Connections.{GoesOn, AreOneRun, ServesFront};
@@ -87,8 +87,8 @@ where
     R: Clock + AllocGlobal,
     D: Drive,
     E: Write,
-    ensures { AreOneRun (situation None (D.journal drive.old) (D.failures drive.old) (D.capacity drive.old) (D.honest drive.old))
-        (situation None (D.journal drive.new) (D.failures drive.new) (D.capacity drive.new) (D.honest drive.new)) }
+    ensures { AreOneRun (situation_on D.Drive None drive.old)
+        (situation_on D.Drive None drive.new) }
 {
     let mut engine = Engine::new();
     let mut left = connections;

@@ -1,7 +1,7 @@
 //! The messages of the input, answered in turn on a volume.
 
 ghost use Rattle.std.specs.Prelude.{◌≤◌, IfErr};
-ghost use Rattle.engine.specs.Situation.{situation};
+ghost use Rattle.engine.specs.Situation.{situation_on};
 ghost use Rattle.programs.specs.Applied.{Applies, AppliesToImage, AnswersInMemory};
 ghost use Rattle.programs.specs.Status.{IsRefusal};
 
@@ -59,8 +59,8 @@ fn apply<D: Drive, I: Read, O: Write>(
     output: &mut O,
 ) -> Result<(), Fault>
     ensures refusal { IfErr result IsRefusal }
-    ensures applies { Applies result (situation None (D.journal drive.old) (D.failures drive.old) (D.capacity drive.old) (D.honest drive.old))
-        (situation None (D.journal drive.new) (D.failures drive.new) (D.capacity drive.new) (D.honest drive.new))
+    ensures applies { Applies result (situation_on D.Drive None drive.old)
+        (situation_on D.Drive None drive.new)
         (I.remaining input.old) (I.remaining input.new) (O.contents output.old) (O.contents output.new) }
 {
     let mut engine = Engine::new();

@@ -1,6 +1,6 @@
 //! An engine, or a store by itself, beside the drive in memory that it is lent.
 
-ghost use Rattle.std.specs.Prelude.{◌≡◌, ◌≤◌, ℕ, true, length, IfSome};
+ghost use Rattle.std.specs.Prelude.{◌≡◌, ◌≤◌, ℕ, true, [], length, IfSome};
 ghost use Rattle.drive.specs.MemDrive.{journal_of, capacity_of};
 ghost use Rattle.store.specs.Agrees.{Agrees};
 ghost use Rattle.engine.specs.Situation.{IsReady, situation};
@@ -31,7 +31,7 @@ impl Model for Machine {
 
     ghost view = { λ m. length (journal_of m.drive) };
 
-    ghost invariant = { λ m. IsReady (situation m.engine.store (journal_of m.drive) 0 (capacity_of m.drive) true) × IfSome m.store (Agrees (journal_of m.drive) (capacity_of m.drive)) };
+    ghost invariant = { λ m. IsReady (situation m.engine.store (journal_of m.drive) 0 (capacity_of m.drive) true []) × IfSome m.store (Agrees (journal_of m.drive) (capacity_of m.drive)) };
 }
 
 impl Machine {

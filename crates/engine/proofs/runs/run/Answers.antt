@@ -10,7 +10,7 @@ use Rattle.engine.proofs.runs.run.Goals.{in-Some, in_default}
 pub loop-delivery-init : goal.loop-delivery-init
 loop-delivery-init g c = record {
   delivered = search rules;
-  held = λ volume S honest once stands. begun_run volume S _ _ _ _ _ _ once stands (search rules) (search rules);
+  held = λ volume S honest once stands. begun_run volume S _ _ _ _ _ _ _ once stands (search rules) (search rules);
   ready = search rules;
   withstand = λ volume S honest once stands. (search rules, refl, refl);
   lent = follows_none _ _;
@@ -28,7 +28,7 @@ loop-delivery-preserved g c =
             delivered = next_delivered c.args.deliveries.now c.loop-delivery.delivery-index c.delivery-item.result c.loop-delivery.answers.items _ _ _ _
                 c.deliver.result (omega arith) c.delivery-item.is inv.delivered c.deliver.ensures.delivers more;
             held = λ volume S.
-                next_run volume c.args.deliveries.now c.loop-delivery.delivery-index c.delivery-item.result S _ _ _ _ c.loop-delivery.answers.items c.match-deliver.answers.items _
+                next_run volume c.args.deliveries.now c.loop-delivery.delivery-index c.delivery-item.result S _ _ _ _ _ c.loop-delivery.answers.items c.match-deliver.answers.items _
                 c.deliver.result _ (omega arith) c.delivery-item.is c.deliver.ensures.delivers more (inv.held volume S) (c.deliver.ensures.by volume);
             ready = c.deliver.ensures.ready;
             withstand = λ volume S honest once stands.
@@ -44,7 +44,7 @@ loop-delivery-preserved g c =
             delivered = next_delivered c.args.deliveries.now c.loop-delivery.delivery-index c.delivery-item.result c.loop-delivery.answers.items _ _ _ _
                 c.deliver.result (omega arith) c.delivery-item.is inv.delivered c.deliver.ensures.delivers more;
             held = λ volume S.
-                next_run volume c.args.deliveries.now c.loop-delivery.delivery-index c.delivery-item.result S _ _ _ _ c.loop-delivery.answers.items c.match-deliver.answers.items _
+                next_run volume c.args.deliveries.now c.loop-delivery.delivery-index c.delivery-item.result S _ _ _ _ _ c.loop-delivery.answers.items c.match-deliver.answers.items _
                 c.deliver.result _ (omega arith) c.delivery-item.is c.deliver.ensures.delivers more (inv.held volume S) (c.deliver.ensures.by volume);
             ready = c.deliver.ensures.ready;
             withstand = λ volume S honest once stands.
@@ -58,7 +58,7 @@ loop-delivery-preserved g c =
 
 pub returns-clause-holds : goal.returns-clause-holds
 returns-clause-holds g c volume S honest once stands =
-    ended_run volume c.args.deliveries.now c.loop-delivery.delivery-index S _ _ _ _ _ _ (omega arith) once stands (c.loop-delivery.invariant.held volume S honest once stands)
+    ended_run volume c.args.deliveries.now c.loop-delivery.delivery-index S _ _ _ _ _ _ _ (omega arith) once stands (c.loop-delivery.invariant.held volume S honest once stands)
 
 pub returns-clause-withstands : goal.returns-clause-withstands
 returns-clause-withstands g c volume S honest once stands =

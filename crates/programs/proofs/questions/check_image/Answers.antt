@@ -10,4 +10,4 @@ returns-in_err-drive-clause-shows g c = inl (unopened c.from_residual.result _ _
 
 pub returns-clause-shows : goal.returns-clause-shows
 returns-clause-shows g c =
-    shows_image Soundness c.check.result c.in_ok-drive.drive (situation None c.check.new.drive.contents.journal c.check.new.drive.failures c.check.new.drive.capacity (c.check.new.drive.contents.misreads == 0)) _ _ c.in_ok-drive.ensures.image c.in_ok-drive.ensures.capacity c.check.ensures.journal c.check.ensures.shows
+    shows_image Soundness c.check.result c.in_ok-drive.drive (situation None c.check.new.drive.contents.journal c.check.new.drive.failures c.check.new.drive.capacity (c.check.new.drive.contents.misreads == 0) c.check.new.drive.contents.writes) _ _ c.in_ok-drive.ensures.image c.in_ok-drive.ensures.capacity c.check.ensures.journal c.check.ensures.shows

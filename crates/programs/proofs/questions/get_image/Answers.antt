@@ -16,4 +16,4 @@ returns-in_err-drive-clause-shows g c =
 pub returns-clause-shows : goal.returns-clause-shows
 returns-clause-shows g c =
     shows_path Bytes_at c.args.path.now c.in_ok-path.path c.get.result _ _ c.in_ok-path.ensures.found
-    (shows_image (Bytes_at c.in_ok-path.path) c.get.result c.in_ok-drive.drive (situation None c.get.new.drive.contents.journal c.get.new.drive.failures c.get.new.drive.capacity (c.get.new.drive.contents.misreads == 0)) _ _ c.in_ok-drive.ensures.image c.in_ok-drive.ensures.capacity c.get.ensures.journal c.get.ensures.shows)
+    (shows_image (Bytes_at c.in_ok-path.path) c.get.result c.in_ok-drive.drive (situation None c.get.new.drive.contents.journal c.get.new.drive.failures c.get.new.drive.capacity (c.get.new.drive.contents.misreads == 0) c.get.new.drive.contents.writes) _ _ c.in_ok-drive.ensures.image c.in_ok-drive.ensures.capacity c.get.ensures.journal c.get.ensures.shows)

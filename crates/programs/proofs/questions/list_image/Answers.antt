@@ -16,4 +16,4 @@ returns-in_err-drive-clause-shows g c =
 pub returns-clause-shows : goal.returns-clause-shows
 returns-clause-shows g c =
     shows_path Names_at c.args.path.now c.in_ok-path.path c.list.result _ _ c.in_ok-path.ensures.found
-    (shows_image (Names_at c.in_ok-path.path) c.list.result c.in_ok-drive.drive (situation None c.list.new.drive.contents.journal c.list.new.drive.failures c.list.new.drive.capacity (c.list.new.drive.contents.misreads == 0)) _ _ c.in_ok-drive.ensures.image c.in_ok-drive.ensures.capacity c.list.ensures.journal c.list.ensures.shows)
+    (shows_image (Names_at c.in_ok-path.path) c.list.result c.in_ok-drive.drive (situation None c.list.new.drive.contents.journal c.list.new.drive.failures c.list.new.drive.capacity (c.list.new.drive.contents.misreads == 0) c.list.new.drive.contents.writes) _ _ c.in_ok-drive.ensures.image c.in_ok-drive.ensures.capacity c.list.ensures.journal c.list.ensures.shows)

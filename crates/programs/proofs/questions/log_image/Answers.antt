@@ -10,4 +10,4 @@ returns-in_err-drive-clause-shows g c = inl (unopened c.from_residual.result _ _
 
 pub returns-clause-shows : goal.returns-clause-shows
 returns-clause-shows g c =
-    shows_image Commits c.log.result c.in_ok-drive.drive (situation None c.log.new.drive.contents.journal c.log.new.drive.failures c.log.new.drive.capacity (c.log.new.drive.contents.misreads == 0)) _ _ c.in_ok-drive.ensures.image c.in_ok-drive.ensures.capacity c.log.ensures.journal c.log.ensures.shows
+    shows_image Commits c.log.result c.in_ok-drive.drive (situation None c.log.new.drive.contents.journal c.log.new.drive.failures c.log.new.drive.capacity (c.log.new.drive.contents.misreads == 0) c.log.new.drive.contents.writes) _ _ c.in_ok-drive.ensures.image c.in_ok-drive.ensures.capacity c.log.ensures.journal c.log.ensures.shows

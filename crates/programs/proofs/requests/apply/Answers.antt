@@ -1,14 +1,14 @@
 use Rattle.std.proofs.Common.{None}
-use Rattle.engine.specs.Situation.{situation}
+use Rattle.engine.specs.Situation.{situation_on}
 use Rattle.programs.proofs.Applying.{applied_all, applied_some}
 use Rattle.programs.proofs.requests.apply.Goals as goal
 
 pub returns-in_err-serve-clause-applies : goal.returns-in_err-serve-clause-applies
 returns-in_err-serve-clause-applies g c =
     let d = c.serve.new.drive in
-    applied_some c.from_residual.result _ _ _ _ _ _ (situation None (g.D.Drive.journal d) (g.D.Drive.failures d) (g.D.Drive.capacity d) (g.D.Drive.honest d)) _ _ _ _ c.from_residual.ensures.0 c.new-engine.ensures c.in_err-serve.ensures.err
+    applied_some c.from_residual.result _ _ _ _ _ _ _ (situation_on g.D.Drive None d) _ _ _ _ c.from_residual.ensures.0 c.new-engine.ensures c.in_err-serve.ensures.err
 
 pub returns-clause-applies : goal.returns-clause-applies
 returns-clause-applies g c =
     let d = c.serve.new.drive in
-    applied_all _ _ _ _ _ _ (situation None (g.D.Drive.journal d) (g.D.Drive.failures d) (g.D.Drive.capacity d) (g.D.Drive.honest d)) _ _ _ _ c.new-engine.ensures c.in_ok-serve.ensures.ok
+    applied_all _ _ _ _ _ _ _ (situation_on g.D.Drive None d) _ _ _ _ c.new-engine.ensures c.in_ok-serve.ensures.ok

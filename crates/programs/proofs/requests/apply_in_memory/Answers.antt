@@ -8,6 +8,6 @@ returns-in_err-format-clause-answers g c = refused_answers c.from_residual.resul
 
 pub returns-clause-answers : goal.returns-clause-answers
 returns-clause-answers g c =
-    memory_answers c.apply.result c.args.capacity c.new-drive.result.capacity c.format.new.drive.capacity _ c.new-drive.result.events.list.items _ _
-    (situation None c.apply.new.drive.events.list.items c.apply.new.drive.failures c.apply.new.drive.capacity true) _ _ _ _
+    memory_answers c.apply.result c.args.capacity c.new-drive.result.capacity c.format.new.drive.capacity _ c.new-drive.result.events.list.items _ _ _
+    (situation None c.apply.new.drive.events.list.items c.apply.new.drive.failures c.apply.new.drive.capacity true c.apply.new.drive.given.writes) _ _ _ _
     c.requires c.new-drive.ensures.capacity c.format.ensures.follows.capacity c.new-drive.ensures.journal c.in_ok-format.ensures.ok refl c.apply.ensures.applies

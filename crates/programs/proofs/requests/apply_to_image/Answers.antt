@@ -9,5 +9,5 @@ returns-in_err-drive-clause-applies g c = inl (unopened c.from_residual.result _
 
 pub returns-clause-applies : goal.returns-clause-applies
 returns-clause-applies g c =
-    applied_to_image c.apply.result c.in_ok-drive.drive (situation None c.apply.new.drive.contents.journal c.apply.new.drive.failures c.apply.new.drive.capacity (c.apply.new.drive.contents.misreads == 0)) _ _ _ _
+    applied_to_image c.apply.result c.in_ok-drive.drive (situation None c.apply.new.drive.contents.journal c.apply.new.drive.failures c.apply.new.drive.capacity (c.apply.new.drive.contents.misreads == 0) c.apply.new.drive.contents.writes) _ _ _ _
     c.in_ok-drive.ensures.image c.in_ok-drive.ensures.capacity c.apply.ensures.applies

@@ -18,7 +18,7 @@ returns-in-Ok-clause-answered g c =
         journal = c.in-Ok.ensures.reads.journal;
         stays = λ kept o.
             let same = c.in-Ok.ensures.stays kept o.0 o.1 in
-            same_situation d.journal d.failures d.capacity d.honest (Some store) _ drive c.args.drive.now (search rules) same.1;
+            same_situation d.journal d.failures d.capacity d.honest d.writes (Some store) _ drive c.args.drive.now (search rules) same.1;
       };
       capacity = c.in-Ok.ensures.reads.capacity;
       honest = c.in-Ok.ensures.reads.honest;
