@@ -16,8 +16,8 @@ ghost use Rattle.store.specs.Calls.{Knows};
 ghost use Rattle.store.specs.History.{IsChecked, IsHistory, IsHistoryRefused, IsTableOf, IsUnchecked, IsWayRefused, told_of};
 ghost use Rattle.store.specs.Past.{AllStood, IsCheckRefused, IsPast, IsPastRefused};
 
+use crate::query::nodes_of;
 use crate::store::Store;
-use directories::Nodes;
 use drive::Drive;
 use recover::{
     Known, PARTITION_START, State, StoreFault, cause, damaged, linked, state_at, state_sharing,
@@ -112,18 +112,12 @@ impl Snapshot {
         ensures told { (tree : Tree) → Shows (D.honest drive.new) (D.journal drive.old) store.old.directories self.now.at self.now.vat.entries.items tree → IfOk result (λ bytes. runs.told tree (runs.Query.Get path.now) ≡ runs.Answer.Data bytes) }
         ensures refused { (tree : Tree) → Shows (D.honest drive.new) (D.journal drive.old) store.old.directories self.now.at self.now.vat.entries.items tree → store.old.is_stopped ≡ false → IfErr result (IsRefused (runs.told tree (runs.Query.Get path.now))) }
         ensures kept { IsTrue (D.honest drive.new) → AreKept (D.journal drive.old) store.old.directories → AreKept (D.journal drive.old) store.new.directories }
-        ensures stopped { IsTrue store.old.is_stopped → result ≡ Err Stopped }
+        ensures stopped { IsTrue store.old.is_stopped → (result ≡ Err Stopped) × (store.new ≡ store.old) × (drive.new ≡ drive.old) }
         ensures same { SameVolume store.old store.new }
         ensures agrees { Agrees (D.journal drive.new) (D.capacity drive.new) store.new }
         ensures reads { Reads D.Drive (devices result) drive.old drive.new }
     {
-        if store.is_stopped {
-            return Err(StoreFault::Stopped);
-        }
-        let nodes = Nodes {
-            at: self.at,
-            entries: &self.vat.entries,
-        };
+        let nodes = nodes_of(store.is_stopped, self.at, &self.vat.entries)?;
         nodes.get(alloc, drive, &mut store.directories, path)
     }
 
@@ -140,18 +134,12 @@ impl Snapshot {
         ensures told { (tree : Tree) → Shows (D.honest drive.new) (D.journal drive.old) store.old.directories self.now.at self.now.vat.entries.items tree → IfOk result (λ listing. runs.told tree (runs.Query.List_ path.now) ≡ runs.Answer.Names (said_names listing)) }
         ensures refused { (tree : Tree) → Shows (D.honest drive.new) (D.journal drive.old) store.old.directories self.now.at self.now.vat.entries.items tree → store.old.is_stopped ≡ false → IfErr result (IsRefused (runs.told tree (runs.Query.List_ path.now))) }
         ensures kept { IsTrue (D.honest drive.new) → AreKept (D.journal drive.old) store.old.directories → AreKept (D.journal drive.old) store.new.directories }
-        ensures stopped { IsTrue store.old.is_stopped → result ≡ Err Stopped }
+        ensures stopped { IsTrue store.old.is_stopped → (result ≡ Err Stopped) × (store.new ≡ store.old) × (drive.new ≡ drive.old) }
         ensures same { SameVolume store.old store.new }
         ensures agrees { Agrees (D.journal drive.new) (D.capacity drive.new) store.new }
         ensures reads { Reads D.Drive (devices result) drive.old drive.new }
     {
-        if store.is_stopped {
-            return Err(StoreFault::Stopped);
-        }
-        let nodes = Nodes {
-            at: self.at,
-            entries: &self.vat.entries,
-        };
+        let nodes = nodes_of(store.is_stopped, self.at, &self.vat.entries)?;
         nodes.list(alloc, drive, &mut store.directories, path)
     }
 
@@ -168,18 +156,12 @@ impl Snapshot {
         ensures told { (tree : Tree) → Once (D.journal drive.old) → Shows (D.honest drive.new) (D.journal drive.old) store.old.directories self.now.at self.now.vat.entries.items tree → IfOk result (λ status. runs.told tree (runs.Query.Stat path.now) ≡ runs.Answer.NodeIs (asked.is_directory status.kind) status.moment status.size) }
         ensures refused { (tree : Tree) → Shows (D.honest drive.new) (D.journal drive.old) store.old.directories self.now.at self.now.vat.entries.items tree → store.old.is_stopped ≡ false → IfErr result (IsRefused (runs.told tree (runs.Query.Stat path.now))) }
         ensures kept { IsTrue (D.honest drive.new) → AreKept (D.journal drive.old) store.old.directories → AreKept (D.journal drive.old) store.new.directories }
-        ensures stopped { IsTrue store.old.is_stopped → result ≡ Err Stopped }
+        ensures stopped { IsTrue store.old.is_stopped → (result ≡ Err Stopped) × (store.new ≡ store.old) × (drive.new ≡ drive.old) }
         ensures same { SameVolume store.old store.new }
         ensures agrees { Agrees (D.journal drive.new) (D.capacity drive.new) store.new }
         ensures reads { Reads D.Drive (devices result) drive.old drive.new }
     {
-        if store.is_stopped {
-            return Err(StoreFault::Stopped);
-        }
-        let nodes = Nodes {
-            at: self.at,
-            entries: &self.vat.entries,
-        };
+        let nodes = nodes_of(store.is_stopped, self.at, &self.vat.entries)?;
         nodes.stat(alloc, drive, &mut store.directories, path)
     }
 }

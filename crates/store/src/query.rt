@@ -1,6 +1,6 @@
 //! Questions about the tree.
 
-ghost use Rattle.std.specs.Prelude.{◌≡◌, IsTrue, IfOk, IfErr, Err, false};
+ghost use Rattle.std.specs.Prelude.{◌≡◌, ◌≤◌, IsTrue, IfOk, IfErr, OnOk, Err, false, length};
 ghost use Rattle.drive.specs.Journal.{Once};
 ghost use Rattle.drive.specs.Reads.{Reads};
 ghost use Rattle.medium.specs.Runs as runs;
@@ -34,18 +34,12 @@ impl Store {
         ensures told { (tree : Tree) → Shows (D.honest drive.new) (D.journal drive.old) self.old.directories self.old.at self.old.vat.entries.items tree → IfOk result (λ bytes. runs.told tree (runs.Query.Get path.now) ≡ runs.Answer.Data bytes) }
         ensures refused { (tree : Tree) → Shows (D.honest drive.new) (D.journal drive.old) self.old.directories self.old.at self.old.vat.entries.items tree → self.old.is_stopped ≡ false → IfErr result (IsRefused (runs.told tree (runs.Query.Get path.now))) }
         ensures kept { IsTrue (D.honest drive.new) → AreKept (D.journal drive.old) self.old.directories → AreKept (D.journal drive.old) self.new.directories }
-        ensures stopped { IsTrue self.old.is_stopped → result ≡ Err Stopped }
+        ensures stopped { IsTrue self.old.is_stopped → (result ≡ Err Stopped) × (self.new ≡ self.old) × (drive.new ≡ drive.old) }
         ensures same { SameVolume self.old self.new }
         ensures agrees { Agrees (D.journal drive.new) (D.capacity drive.new) self.new }
         ensures reads { Reads D.Drive (devices result) drive.old drive.new }
     {
-        if self.is_stopped {
-            return Err(StoreFault::Stopped);
-        }
-        let nodes = Nodes {
-            at: self.at,
-            entries: &self.vat.entries,
-        };
+        let nodes = nodes_of(self.is_stopped, self.at, &self.vat.entries)?;
         nodes.get(alloc, drive, &mut self.directories, path)
     }
 
@@ -60,18 +54,12 @@ impl Store {
         ensures told { (tree : Tree) → Shows (D.honest drive.new) (D.journal drive.old) self.old.directories self.old.at self.old.vat.entries.items tree → IfOk result (λ listing. runs.told tree (runs.Query.List_ path.now) ≡ runs.Answer.Names (said_names listing)) }
         ensures refused { (tree : Tree) → Shows (D.honest drive.new) (D.journal drive.old) self.old.directories self.old.at self.old.vat.entries.items tree → self.old.is_stopped ≡ false → IfErr result (IsRefused (runs.told tree (runs.Query.List_ path.now))) }
         ensures kept { IsTrue (D.honest drive.new) → AreKept (D.journal drive.old) self.old.directories → AreKept (D.journal drive.old) self.new.directories }
-        ensures stopped { IsTrue self.old.is_stopped → result ≡ Err Stopped }
+        ensures stopped { IsTrue self.old.is_stopped → (result ≡ Err Stopped) × (self.new ≡ self.old) × (drive.new ≡ drive.old) }
         ensures same { SameVolume self.old self.new }
         ensures agrees { Agrees (D.journal drive.new) (D.capacity drive.new) self.new }
         ensures reads { Reads D.Drive (devices result) drive.old drive.new }
     {
-        if self.is_stopped {
-            return Err(StoreFault::Stopped);
-        }
-        let nodes = Nodes {
-            at: self.at,
-            entries: &self.vat.entries,
-        };
+        let nodes = nodes_of(self.is_stopped, self.at, &self.vat.entries)?;
         nodes.list(alloc, drive, &mut self.directories, path)
     }
 
@@ -86,18 +74,29 @@ impl Store {
         ensures told { (tree : Tree) → Once (D.journal drive.old) → Shows (D.honest drive.new) (D.journal drive.old) self.old.directories self.old.at self.old.vat.entries.items tree → IfOk result (λ status. runs.told tree (runs.Query.Stat path.now) ≡ runs.Answer.NodeIs (asked.is_directory status.kind) status.moment status.size) }
         ensures refused { (tree : Tree) → Shows (D.honest drive.new) (D.journal drive.old) self.old.directories self.old.at self.old.vat.entries.items tree → self.old.is_stopped ≡ false → IfErr result (IsRefused (runs.told tree (runs.Query.Stat path.now))) }
         ensures kept { IsTrue (D.honest drive.new) → AreKept (D.journal drive.old) self.old.directories → AreKept (D.journal drive.old) self.new.directories }
-        ensures stopped { IsTrue self.old.is_stopped → result ≡ Err Stopped }
+        ensures stopped { IsTrue self.old.is_stopped → (result ≡ Err Stopped) × (self.new ≡ self.old) × (drive.new ≡ drive.old) }
         ensures same { SameVolume self.old self.new }
         ensures agrees { Agrees (D.journal drive.new) (D.capacity drive.new) self.new }
         ensures reads { Reads D.Drive (devices result) drive.old drive.new }
     {
-        if self.is_stopped {
-            return Err(StoreFault::Stopped);
-        }
-        let nodes = Nodes {
-            at: self.at,
-            entries: &self.vat.entries,
-        };
+        let nodes = nodes_of(self.is_stopped, self.at, &self.vat.entries)?;
         nodes.stat(alloc, drive, &mut self.directories, path)
     }
+}
+
+/// The nodes of a state, where the store goes on.
+pub(crate) fn nodes_of(
+    is_stopped: bool,
+    at: u32,
+    entries: &[Option<u32>],
+) -> Result<Nodes<'_>, StoreFault>
+    requires few { length entries.now ≤ 4097 }
+    ensures nodes { IfOk result (λ nodes. (nodes.at ≡ at) × (nodes.entries.now ≡ entries.now)) }
+    ensures goes_on { OnOk result (is_stopped ≡ false) }
+    ensures stopped { IfErr result (λ fault. IsTrue is_stopped × (fault ≡ Stopped)) }
+{
+    if is_stopped {
+        return Err(StoreFault::Stopped);
+    }
+    Ok(Nodes { at, entries })
 }
