@@ -138,7 +138,7 @@ module _ (volume : ℕ) where
 
   -- ---- what is due
 
-  same_due : (S : State) (s : Situation) (store : Store) (client number : ℕ) → Knows s.capacity volume s.journal S store → due_of store client number ≡ due S client number
+  pub same_due : (S : State) (s : Situation) (store : Store) (client number : ℕ) → Knows s.capacity volume s.journal S store → due_of store client number ≡ due S client number
   same_due S s store client number knows =
       let records : map said_record store.vat.sessions.records.items ≡ S.records = ap (λ (b : Table_). b.records) knows.table ∙ knows.stands.tells.records in
       let count : length store.vat.sessions.records.items ≡ length S.records = sym (length-map store.vat.sessions.records.items said_record) ∙ ap (λ (xs : List ClientRecord). length xs) records in

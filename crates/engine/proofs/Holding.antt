@@ -22,7 +22,7 @@ record Made (volume capacity : ℕ) (ds : List Delivery) (S : State) (before : S
   grows : length before.journal ≤ length behind.journal
 
 -- a front of a front
-front_on : (J K L : List Event) → take (length J) K ≡ J → length J ≤ length K → take (length K) L ≡ K → take (length J) L ≡ J
+pub front_on : (J K L : List Event) → take (length J) K ≡ J → length J ≤ length K → take (length K) L ≡ K → take (length J) L ≡ J
 front_on J K L first le second = shorter ∙ ap (λ (M : List Event). take (length J) M) second ∙ first
   where
     shorter : take (length J) L ≡ take (length J) (take (length K) L)

@@ -4,6 +4,7 @@ pub mod Calling
 pub mod Running
 pub mod Withstanding
 pub mod Served
+pub mod Losses
 pub mod Messages
 pub mod Delivering
 pub mod Pieces

@@ -1,10 +1,11 @@
 -- What a loss of power leaves, one call more at a time.
-use Rattle.std.proofs.Common.{◌≡◌, inl, inr, ℕ, suc, ◌+◌, ◌<◌, Bool, IsTrue, List, [], ◌++◌, length, take, get_or, Option, None, sym, ap, ◌∙◌, subst, arith, append-nil}
+use Rattle.std.proofs.Common.{◌≡◌, inl, inr, ℕ, suc, ◌+◌, ◌<◌, Bool, true, IsTrue, List, [], ◌++◌, length, take, get_or, Option, Some, None, sym, ap, ◌∙◌, subst, arith, append-nil}
 use Rattle.std.specs.Option.{option_to_list}
 use Rattle.std.proofs.Math.Seq.{take-length}
 use Rattle.drive.specs.Journal.{Event, held, written, Once}
 use Rattle.request.specs.declared.answer.Answer.{Answer}
-use Rattle.model.specs.Session.{State, Request, after, after_one}
+use Rattle.model.specs.Session.{State, Request, due, after, after_one}
+use Rattle.model.specs.Session.Due.{New}
 use Rattle.medium.specs.Formats.{Block}
 use Rattle.medium.specs.Commit.{need}
 use Rattle.medium.specs.Journal.{Advances, HoldsOnJournal}
@@ -12,6 +13,9 @@ use Rattle.medium.specs.Runs as medium
 use Rattle.medium.specs.Volume.{Stands}
 use Rattle.udf.specs.Udf.{udf, spelled}
 use Rattle.store.specs.Calls as store
+use Rattle.store.specs.Calls.{Knows}
+use Rattle.store.specs.declared.store.Store.{Store}
+use Rattle.engine.specs.Answered.{due_of}
 use Rattle.engine.specs.declared.runs.Delivery.{Delivery}
 use Rattle.engine.specs.Situation.{Situation, situation}
 use Rattle.engine.specs.Steps.{IsAt}
@@ -21,7 +25,7 @@ use Rattle.engine.specs.Withstanding.{Withstands, Brings, BringsAt, AllWithstand
 use Rattle.medium.proofs.One.{stands_one}
 use Rattle.udf.proofs.Formats.{exact}
 use Rattle.drive.proofs.Once.{held_once, length-blocks_of}
-use Rattle.engine.proofs.Calling.{front_grows, stay}
+use Rattle.engine.proofs.Calling.{front_grows, same_due, stay}
 
 -- nothing was written
 pub unwritten : (capacity volume : ℕ) (J : List Event) (S : State) (asked : Request → Type 0) (W W' : List (List Block)) → Once J → Stands udf capacity volume (held J) S → W' ≡ W → Withstands capacity volume J S asked W W'
@@ -37,19 +41,23 @@ pub withstands_more : (capacity volume : ℕ) (J : List Event) (S : State) (aske
 withstands_more capacity volume J S asked more W W' f w = record {
   added = w.added;
   writes_are = w.writes_are;
-  torn = λ left behind cut there. elim (w.torn left behind cut there) [ inl stood ↦ inl stood | inr done ↦ inr (done.0, f done.0 done.1, done.2) ];
+  torn = λ left behind cut there. elim (w.torn left behind cut there) [ inl stood ↦ inl stood | inr done ↦ inr (done.0, f done.0 done.1, done.2, done.3) ];
 }
 
+-- what is due by the store that knows the state is due by the state
+pub new_there : (capacity volume : ℕ) (J : List Event) (S : State) (store : Store) (client number : ℕ) → Knows capacity volume J S store → New ≡ due_of store client number → due S client number ≡ New
+new_there capacity volume J S store client number knows new = sym (new ∙ same_due volume S (situation (Some store) J 0 capacity true []) store client number knows)
+
 -- a store's commit, from where nothing was written since
-pub applied_withstands : (capacity capacity' volume : ℕ) (J K : List Event) (S : State) (r : Request) (asked : Request → Type 0) (W V W' : List (List Block)) → capacity' ≡ capacity → K ≡ J → V ≡ W → asked r
+pub applied_withstands : (capacity capacity' volume : ℕ) (J K : List Event) (S : State) (r : Request) (asked : Request → Type 0) (W V W' : List (List Block)) → capacity' ≡ capacity → K ≡ J → V ≡ W → asked r → due S r.client r.number ≡ New
     → store.Withstands capacity' volume K S r V W' → Withstands capacity volume J S asked W W'
-applied_withstands capacity capacity' volume J K S r asked W V W' size journal writes asks w = record {
+applied_withstands capacity capacity' volume J K S r asked W V W' size journal writes asks new w = record {
   added = w.added;
   writes_are = w.writes_are ∙ ap (λ (ws : List (List Block)). ws ++ w.added) writes;
   torn = λ left behind cut there.
       let back : (T : State) → Advances udf capacity' volume K S behind T → Advances udf capacity volume J S behind T =
       λ T h. subst (λ (c : ℕ). Advances udf c volume J S behind T) size (subst (λ (L : List Event). Advances udf capacity' volume L S behind T) journal h) in
-      elim (w.torn left behind cut (there ∙ ap (λ (L : List Event). L ++ written (length L) left) (sym journal))) [ inl stood ↦ inl (back S stood) | inr done ↦ inr (r, asks, back (after_one S r) done) ];
+      elim (w.torn left behind cut (there ∙ ap (λ (L : List Event). L ++ written (length L) left) (sym journal))) [ inl stood ↦ inl (back S stood) | inr done ↦ inr (r, asks, new, back (after_one S r) done) ];
 }
 
 -- from where nothing was written since
@@ -58,17 +66,22 @@ withstands_from capacity capacity' volume J K S asked W V W' size journal writes
     subst (λ (c : ℕ). Withstands c volume J S asked W W') size (subst (λ (L : List Event). Withstands capacity' volume L S asked W W') journal (subst (λ (X : List (List Block)). Withstands capacity' volume K S asked X W') writes w))
 
 -- where a run ended the state after all its commits stands
-pub held_ended : (volume capacity : ℕ) (deliveries : List medium.Delivery) (S : State) (before behind : List Event) (answers : List medium.Answer) (T : State)
-    (run : HoldsOnJournal udf (need spelled) capacity volume S before behind deliveries answers) → Stands udf capacity volume (held behind) T → T ≡ after S run.holds.committed
-held_ended volume capacity deliveries S before behind answers T run stands =
+pub held_stands : (volume capacity : ℕ) (deliveries : List medium.Delivery) (S : State) (before behind : List Event) (answers : List medium.Answer)
+    (run : HoldsOnJournal udf (need spelled) capacity volume S before behind deliveries answers) → Stands udf capacity volume (held behind) (after S run.holds.committed)
+held_stands volume capacity deliveries S before behind answers run =
     let committed = run.holds.committed in
     let size : length (held behind) ≡ length behind = ap (λ (bs : List Block). length bs) (held_once behind run.once) ∙ length-blocks_of behind in
     let there = (run.stands (length behind) (front_grows before behind run.front) (omega arith)).1 in
     let all : take (run.holds.c (length behind)) committed ≡ committed =
     ap (λ (n : ℕ). take (run.holds.c n) committed) (sym size) ∙ ap (λ (n : ℕ). take n committed) run.holds.at_end ∙ take-length committed in
-    stands_one udf exact capacity volume capacity volume (held behind) T (after S committed) stands
-    (subst (λ (rs : List Request). Stands udf capacity volume (held behind) (after S rs)) all
-    (subst (λ (L : List Event). Stands udf capacity volume (held L) (after S (take (run.holds.c (length behind)) committed))) (take-length behind) there))
+    subst (λ (rs : List Request). Stands udf capacity volume (held behind) (after S rs)) all
+    (subst (λ (L : List Event). Stands udf capacity volume (held L) (after S (take (run.holds.c (length behind)) committed))) (take-length behind) there)
+
+-- and no other
+pub held_ended : (volume capacity : ℕ) (deliveries : List medium.Delivery) (S : State) (before behind : List Event) (answers : List medium.Answer) (T : State)
+    (run : HoldsOnJournal udf (need spelled) capacity volume S before behind deliveries answers) → Stands udf capacity volume (held behind) T → T ≡ after S run.holds.committed
+held_ended volume capacity deliveries S before behind answers T run stands =
+    stands_one udf exact capacity volume capacity volume (held behind) T (after S run.holds.committed) stands (held_stands volume capacity deliveries S before behind answers run)
 
 -- in a list's deliveries, one more
 pub withstand_run : (volume : ℕ) (deliveries : List Delivery) (i : ℕ) (d : Delivery) (S : State) (journal : List Event) (failures capacity : ℕ) (honest : Bool) (answers more : List Answer) (during : Situation) (told : Option Answer)

@@ -8,3 +8,4 @@ pub mod Called
 pub mod Headline
 pub mod Withstanding
 pub mod Served
+pub mod Losses

@@ -47,7 +47,7 @@ ServedHolds messages before answers behind =
 
 -- The messages that were answered so far, and then the others, one after another. As each of these comes, those before it
 -- have been a run that holds its commits, with the answers that they got; and whatever a loss of power leaves of the writes
--- that are made for it, the state after all these commits stands, or the one after the request that it asks for.
+-- that are made for it, the state after all these commits stands, or the one after the new request that it asks for.
 abbrev pub EachWithstands : ℕ → State → Situation → List Message → List Answer → Situation → List Message → List Answer → Situation → Type 0
 EachWithstands volume S before done told during [] [] behind = behind ≡ during
 EachWithstands volume S before done told during [] (a ∷ answers) behind = ⊥

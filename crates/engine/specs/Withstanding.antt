@@ -5,7 +5,8 @@ use Rattle.drive.specs.Writes.{IsLeft}
 use Rattle.request.specs.declared.message.Message.{Message}
 use Rattle.request.specs.declared.message.Message.TheVariants as message
 use Rattle.request.specs.Payload.{Tells}
-use Rattle.model.specs.Session.{State, Request, after, after_one}
+use Rattle.model.specs.Session.{State, Request, due, after, after_one}
+use Rattle.model.specs.Session.Due.{New}
 use Rattle.medium.specs.Formats.{Block}
 use Rattle.medium.specs.Journal.{Advances}
 use Rattle.udf.specs.Udf.{udf}
@@ -15,12 +16,12 @@ use Rattle.engine.specs.Headline.{RunHolds}
 use Rattle.engine.specs.declared.runs.Delivery.{Delivery}
 use Rattle.engine.specs.declared.runs.Delivery.TheVariants.{Frame, Restart}
 
--- The writes that a call added. Whatever a loss of power leaves of them behind what was there, the state stands as before, or the one after a request that was asked for.
+-- The writes that a call added. Whatever a loss of power leaves of them behind what was there, the state stands as before, or the one after a request that was asked for and is new.
 pub record Withstands (capacity volume : ℕ) (before : List Event) (S : State) (asked : Request → Type 0) (writes behind : List (List Block)) : Type 0 where
   pub added : List (List Block)
   pub writes_are : behind ≡ writes ++ added
   pub torn : (left : List Block) (journal : List Event) → IsLeft added left → journal ≡ before ++ written (length before) left
-      → Advances udf capacity volume before S journal S ⊎ ((request : Request) × asked request × Advances udf capacity volume before S journal (after_one S request))
+      → Advances udf capacity volume before S journal S ⊎ ((request : Request) × asked request × (due S request.client request.number ≡ New) × Advances udf capacity volume before S journal (after_one S request))
 
 -- a message asks for this request
 abbrev pub AsksFor : Message → Request → Type 0
@@ -39,7 +40,7 @@ abbrev pub BringsAt : List Delivery → ℕ → Request → Type 0
 BringsAt deliveries n request = (d : Delivery) × (n < length deliveries) × (slice_index_or deliveries n d ≡ d) × Brings d request
 
 -- The first so many deliveries, one after another. As each began, those before it had been a run that holds its commits, with the answers that they got; and whatever a loss of power leaves of the writes that were made for it,
--- the state after all these commits stands, or the one after the request that it brought.
+-- the state after all these commits stands, or the one after the new request that it brought.
 abbrev pub AllWithstand : (volume capacity : ℕ) → List Delivery → State → List Event → List (List Block) → ℕ → List Answer → List Event → List (List Block) → Type 0
 AllWithstand volume capacity deliveries S before writes zero answers behind later = (answers ≡ []) × (behind ≡ before) × (later ≡ writes)
 AllWithstand volume capacity deliveries S before writes (suc n) answers behind later =

@@ -2,6 +2,7 @@
 
 ghost use Rattle.engine.specs.Called.{CallsAreSteps, RestartsAreSteps};
 ghost use Rattle.engine.specs.Headline.{RunsAreHeld, RunsBegin, RunsGoOn};
+ghost use Rattle.engine.specs.Losses.{LossesReach, RunsReach, ServedReach};
 ghost use Rattle.engine.specs.Steps.{StepsHold};
 
 /// On an honest drive what an engine makes of its store's calls is a step that the medium's runs allow.
@@ -20,4 +21,13 @@ pub fn runs_hold()
     ensures begin { RunsBegin }
     ensures more { RunsGoOn }
     ensures held { RunsAreHeld }
+{}
+
+/// Whatever a loss of power leaves of a delivery of a run, or of a message of a stream, what came before it is cut off behind
+/// all its commits, and perhaps the new request under way; and of runs that are so cut off one after another, however many,
+/// the state after all that was committed stands, from which the next one goes on.
+pub fn losses_are_survived()
+    ensures runs { RunsReach }
+    ensures streams { ServedReach }
+    ensures losses { LossesReach }
 {}

@@ -11,7 +11,7 @@ mod serving;
 mod streams;
 
 pub use engine::Engine;
-pub use laws::{calls_are_steps, runs_hold, steps_hold};
+pub use laws::{calls_are_steps, losses_are_survived, runs_hold, steps_hold};
 pub use runs::{Delivery, run};
 pub use serving::{ServeFault, serve};
 pub use streams::{put_all, read_piece};

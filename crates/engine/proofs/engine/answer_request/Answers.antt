@@ -2,7 +2,7 @@ use Rattle.std.proofs.Common.{Ok, Err, refl, sym, inl, inr}
 use Rattle.engine.proofs.Fronts.{behind_refused, open_unwritten}
 use Rattle.engine.proofs.Next.{is_next}
 use Rattle.engine.proofs.Rows.{committed_due, dealt_new}
-use Rattle.engine.proofs.Withstanding.{applied_withstands, unwritten}
+use Rattle.engine.proofs.Withstanding.{applied_withstands, new_there, unwritten}
 use Rattle.engine.proofs.engine.answer_request.Goals as goal
 
 pub apply-requires-clause-next : goal.apply-requires-clause-next
@@ -39,12 +39,12 @@ returns-in-Err g c = record {
     applies = c.in-Err.ensures.applies volume S honest knows going;
     capacity = c.in-Err.ensures.follows.capacity;
   });
-  withstands = λ volume S honest knows. applied_withstands _ _ volume _ _ S _ _ _ _ _ refl refl refl refl (c.in-Err.ensures.withstands volume S honest knows);
+  withstands = λ volume S honest knows. applied_withstands _ _ volume _ _ S _ _ _ _ _ refl refl refl refl (new_there _ volume _ S c.args.store.now c.args.request.now.client c.args.request.now.number knows c.in-New.ensures) (c.in-Err.ensures.withstands volume S honest knows);
   lent = rw c.refusal.ensures.device c.in-Err.ensures.follows;
 }
 
 pub returns-in-Ok-clause-withstands : goal.returns-in-Ok-clause-withstands
-returns-in-Ok-clause-withstands g c volume S honest knows = applied_withstands _ _ volume _ _ S _ _ _ _ _ refl refl refl refl (c.in-Ok.ensures.withstands volume S honest knows)
+returns-in-Ok-clause-withstands g c volume S honest knows = applied_withstands _ _ volume _ _ S _ _ _ _ _ refl refl refl refl (new_there _ volume _ S c.args.store.now c.args.request.now.client c.args.request.now.number knows c.in-New.ensures) (c.in-Ok.ensures.withstands volume S honest knows)
 
 pub returns-in-Repeat-clause-withstands : goal.returns-in-Repeat-clause-withstands
 returns-in-Repeat-clause-withstands g c volume S honest knows = unwritten _ volume _ S _ _ _ knows.once knows.stands refl
