@@ -1,5 +1,5 @@
 -- What a commit says of a plan that it writes.
-use Rattle.std.proofs.Common.{◌≡◌, ℕ, ◌+◌, ◌++◌, List, Bool, false, true, Result, Ok, Err, inr, ap, sym, subst, ◌∙◌}
+use Rattle.std.proofs.Common.{◌≡◌, ℕ, ◌+◌, ◌++◌, List, Bool, false, Result, Ok, Err, inr, ap, sym, subst, ◌∙◌}
 use Rattle.std.proofs.lemmas.Bool.{false≢true}
 use Rattle.std.specs.Prelude.{is_err, IfOk, IfErr, OnOk, OnErr, Option, Some}
 use Rattle.std.specs.Option.{SomeIff}
