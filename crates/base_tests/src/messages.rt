@@ -214,123 +214,82 @@ fn the_first_fault_is_told(rt: HostRuntime) -> Result<(), Fail> {
     Ok(())
 }
 
-/// Requests of each kind but the create: the kind, and what stands behind the number and the moment.
-const KINDS: [(u8, &[u8]); 4] = [
-    (
-        2,
-        &[1, 1, 0, b'a', 5, 0, 0, 0, b'h', b'e', b'l', b'l', b'o'],
-    ),
-    (3, &[1, 1, 0, b'd']),
-    (4, &[1, 1, 0, b'd', 2, 1, 0, b'e', 1, 0, b'd']),
-    (5, &[0]),
-];
-
-/// Client 7, number 2, moment 9.
-const HEAD: [u8; 24] = [
-    7, 0, 0, 0, 0, 0, 0, 0, 2, 0, 0, 0, 0, 0, 0, 0, 9, 0, 0, 0, 0, 0, 0, 0,
-];
-
-/// Whether the operation is that of a row of `KINDS`.
-fn is_of_kind(kind: u8, op: &Op) -> bool {
-    match op {
-        Op::Replace { path, bytes } => {
-            kind == 2 && is_one_name(path, "a") && bytes.as_slice() == b"hello".as_slice()
-        }
-        Op::MakeDir { path } => kind == 3 && is_one_name(path, "d"),
-        Op::Rename { from, to } => kind == 4 && is_one_name(from, "d") && to.names().len() == 2,
-        Op::Remove { path } => kind == 5 && path.names().is_empty(),
-        Op::Create { .. } => false,
-    }
-}
-
 #[test]
 fn every_kind(rt: HostRuntime) -> Result<(), Fail> {
-    for (kind, fields) in KINDS {
-        let mut payload = vec![in rt.alloc(); kind]?;
-        payload.extend_from_slice(&HEAD)?;
-        payload.extend_from_slice(fields)?;
-        let Message::Request(request) = read_payload(rt.alloc(), &payload) else {
-            return Err(Fail::from("a request"));
-        };
-        assert_eq!(rt; (request.client, request.number, request.moment), (7, 2, 9));
-        assert!(rt; is_of_kind(kind, &request.op), "kind {kind}");
-    }
+    let replace = edited(rt.alloc(), 0, &[2], &[])?;
+    let Message::Request(request) = read_payload(rt.alloc(), &replace) else {
+        return Err(Fail::from("a replace"));
+    };
+    assert!(rt; matches!(request.op, Op::Replace { .. }));
+    let head = [
+        7, 0, 0, 0, 0, 0, 0, 0, 2, 0, 0, 0, 0, 0, 0, 0, 9, 0, 0, 0, 0, 0, 0, 0,
+    ];
+    let mut make = vec![in rt.alloc(); 3]?;
+    make.extend_from_slice(&head)?;
+    make.extend_from_slice(&[1, 1, 0, 0x64])?;
+    let Message::Request(request) = read_payload(rt.alloc(), &make) else {
+        return Err(Fail::from("a directory"));
+    };
+    assert_eq!(rt; (request.client, request.number, request.moment), (7, 2, 9));
+    assert!(rt; matches!(&request.op, Op::MakeDir { path } if is_one_name(path, "d")));
+    let mut rename = vec![in rt.alloc(); 4]?;
+    rename.extend_from_slice(&head)?;
+    rename.extend_from_slice(&[1, 1, 0, 0x64, 2, 1, 0, 0x65, 1, 0, 0x64])?;
+    let Message::Request(request) = read_payload(rt.alloc(), &rename) else {
+        return Err(Fail::from("a rename"));
+    };
+    let Op::Rename { from, to } = &request.op else {
+        return Err(Fail::from("a rename"));
+    };
+    assert!(rt; is_one_name(from, "d"));
+    assert_eq!(rt; to.names().len(), 2);
+    let mut remove = vec![in rt.alloc(); 5]?;
+    remove.extend_from_slice(&head)?;
+    remove.extend_from_slice(&[0])?;
+    let Message::Request(request) = read_payload(rt.alloc(), &remove) else {
+        return Err(Fail::from("a removal"));
+    };
+    assert!(rt; matches!(&request.op, Op::Remove { path } if path.names().is_empty()));
     Ok(())
-}
-
-/// Frames of queries: `/a` is got, the root listed, and the status of `/a` asked for.
-const QUERIES: [(u8, &[u8]); 3] = [
-    (16, &[5, 0, 0, 0, 16, 1, 1, 0, b'a']),
-    (17, &[2, 0, 0, 0, 17, 0]),
-    (18, &[5, 0, 0, 0, 18, 1, 1, 0, b'a']),
-];
-
-/// Whether the message is that of a row of `QUERIES`.
-fn is_query(kind: u8, message: &Message) -> bool {
-    match message {
-        Message::Query(Query::Get(path)) => kind == 16 && is_one_name(path, "a"),
-        Message::Query(Query::List(path)) => kind == 17 && path.names().is_empty(),
-        Message::Query(Query::Stat(path)) => kind == 18 && is_one_name(path, "a"),
-        _ => false,
-    }
 }
 
 #[test]
 fn queries(rt: HostRuntime) -> Result<(), Fail> {
     let mut frames = Frames::new(rt.alloc());
-    for (_, frame) in QUERIES {
-        frames.feed(frame)?;
-    }
-    for (kind, _) in QUERIES {
-        let message = frames.take().ok_or("a query")?;
-        assert!(rt; is_query(kind, &message), "kind {kind}");
-    }
+    frames.feed(&[5, 0, 0, 0, 0x10, 1, 1, 0, 0x61])?;
+    frames.feed(&[2, 0, 0, 0, 0x11, 0])?;
+    frames.feed(&[5, 0, 0, 0, 0x12, 1, 1, 0, 0x61])?;
+    let get = frames.take().ok_or("a query")?;
+    assert!(rt; matches!(&get, Message::Query(Query::Get(path)) if is_one_name(path, "a")));
+    let list = frames.take().ok_or("a query")?;
+    assert!(rt; matches!(&list, Message::Query(Query::List(path)) if path.names().is_empty()));
+    let stat = frames.take().ok_or("a query")?;
+    assert!(rt; matches!(&stat, Message::Query(Query::Stat(path)) if is_one_name(path, "a")));
     Ok(())
 }
 
-/// What a path's text gives: how many names, or the number of its fault.
-fn read_as(alloc: Global, text: &str) -> Result<usize, u16> {
-    match Path::parse(alloc, text) {
-        Ok(path) => Ok(path.names().len()),
-        Err(fault) => Err(fault.number()),
-    }
-}
-
-/// What `PathFault::Path` is to a client.
-const NO_PATH: Result<usize, u16> = Err(55);
-
-const PATH_TEXTS: [(&str, Result<usize, u16>); 11] = [
-    ("/", Ok(0)),
-    ("/d/x", Ok(2)),
-    ("", NO_PATH),
-    ("a", NO_PATH),
-    ("a/b", NO_PATH),
-    ("//", NO_PATH),
-    ("/a/", NO_PATH),
-    ("/a//b", NO_PATH),
-    ("/.", NO_PATH),
-    ("/..", NO_PATH),
-    ("/a/\0", NO_PATH),
-];
-
 #[test]
 fn path_texts(rt: HostRuntime) -> Result<(), Fail> {
-    for (text, read) in PATH_TEXTS {
-        assert_eq!(rt; read_as(rt.alloc(), text), read, "at {text:?}");
-    }
+    let root = Path::parse(rt.alloc(), "/").ok().ok_or("the root")?;
+    assert_eq!(rt; root.names().len(), 0);
     let path = Path::parse(rt.alloc(), "/d/x").ok().ok_or("a path")?;
     assert!(rt; matches!(path.names(), [d, x] if d.as_str() == "d" && x.as_str() == "x"));
+    for text in ["", "a", "a/b", "//", "/a/", "/a//b", "/.", "/..", "/a/\0"] {
+        let fault = Path::parse(rt.alloc(), text).err();
+        assert_eq!(rt; fault.map(PathFault::number), Some(55), "at {text:?}");
+    }
     let mut text = String::new(rt.alloc());
     for _ in 0..255u8 {
         text.push_str("/n")?;
     }
-    assert_eq!(rt; read_as(rt.alloc(), text.as_str()), Ok(255));
+    let path = Path::parse(rt.alloc(), text.as_str())
+        .ok()
+        .ok_or("255 names")?;
+    assert_eq!(rt; path.names().len(), 255);
     text.push_str("/n")?;
-    assert_eq!(rt; read_as(rt.alloc(), text.as_str()), NO_PATH);
-    assert_eq!(rt;
-        (PathFault::Path.number(), PathFault::Memory.number()),
-        (55, 65)
-    );
+    let fault = Path::parse(rt.alloc(), text.as_str()).err();
+    assert_eq!(rt; fault, Some(PathFault::Path));
+    assert_eq!(rt; PathFault::Memory.number(), 65);
     Ok(())
 }
 
@@ -363,56 +322,33 @@ fn replies(rt: HostRuntime) -> Result<(), Fail> {
 
 #[test]
 fn answers_without_a_field(rt: HostRuntime) -> Result<(), Fail> {
-    for (answer, number) in [
-        (Answer::ClientsFull, 34),
-        (Answer::Full, 35),
-        (Answer::Fault, 36),
-        (Answer::Memory, 37),
-        (Answer::Damaged, 39),
-        (Answer::NotFound, 96),
-        (Answer::IsDirectory, 97),
-        (Answer::NotDirectory, 98),
-    ] {
-        check_answer(&rt, &answer, &[2, 0, 0, 0, number, 0])?;
-    }
-    Ok(())
+    check_answer(&rt, &Answer::ClientsFull, &[2, 0, 0, 0, 34, 0])?;
+    check_answer(&rt, &Answer::Full, &[2, 0, 0, 0, 35, 0])?;
+    check_answer(&rt, &Answer::Fault, &[2, 0, 0, 0, 36, 0])?;
+    check_answer(&rt, &Answer::Memory, &[2, 0, 0, 0, 37, 0])?;
+    check_answer(&rt, &Answer::Damaged, &[2, 0, 0, 0, 39, 0])?;
+    check_answer(&rt, &Answer::NotFound, &[2, 0, 0, 0, 96, 0])?;
+    check_answer(&rt, &Answer::IsDirectory, &[2, 0, 0, 0, 97, 0])?;
+    check_answer(&rt, &Answer::NotDirectory, &[2, 0, 0, 0, 98, 0])
 }
 
 #[test]
-fn answers_with_numbers(rt: HostRuntime) -> Result<(), Fail> {
-    let status = NodeStatus {
-        kind: NodeKind::File,
-        moment: 0,
-        size: 5,
-    };
-    let rows: [(Answer, &[u8]); 4] = [
-        (
-            Answer::Stale(6),
-            &[10, 0, 0, 0, 32, 0, 6, 0, 0, 0, 0, 0, 0, 0],
-        ),
-        (
-            Answer::Gap(2),
-            &[10, 0, 0, 0, 33, 0, 2, 0, 0, 0, 0, 0, 0, 0],
-        ),
-        (
-            Answer::Malformed(Cause::TooLong),
-            &[4, 0, 0, 0, 0x26, 0, 0x33, 0],
-        ),
-        (
-            Answer::Node(status),
-            &[
-                0x13, 0, 0, 0, 0x42, 0, 0, 0, 0, 0, 0, 0, 0, 0, 0, 5, 0, 0, 0, 0, 0, 0, 0,
-            ],
-        ),
-    ];
-    for (answer, wanted) in rows {
-        check_answer(&rt, &answer, wanted)?;
-    }
-    Ok(())
-}
-
-#[test]
-fn an_answer_with_data(rt: HostRuntime) -> Result<(), Fail> {
+fn answers_with_fields(rt: HostRuntime) -> Result<(), Fail> {
+    check_answer(
+        &rt,
+        &Answer::Stale(6),
+        &[10, 0, 0, 0, 32, 0, 6, 0, 0, 0, 0, 0, 0, 0],
+    )?;
+    check_answer(
+        &rt,
+        &Answer::Gap(2),
+        &[10, 0, 0, 0, 33, 0, 2, 0, 0, 0, 0, 0, 0, 0],
+    )?;
+    check_answer(
+        &rt,
+        &Answer::Malformed(Cause::TooLong),
+        &[4, 0, 0, 0, 0x26, 0, 0x33, 0],
+    )?;
     let hello = FileData::new(Vec::from_slice(rt.alloc(), b"hello")?);
     check_answer(
         &rt,
@@ -420,11 +356,7 @@ fn an_answer_with_data(rt: HostRuntime) -> Result<(), Fail> {
         &[
             0x0B, 0, 0, 0, 0x40, 0, 5, 0, 0, 0, 0x68, 0x65, 0x6C, 0x6C, 0x6F,
         ],
-    )
-}
-
-#[test]
-fn an_answer_with_names(rt: HostRuntime) -> Result<(), Fail> {
+    )?;
     let mut names = Listing::new(rt.alloc());
     let name = Name::read(rt.alloc(), "a").ok().ok_or("a name")?;
     let kind = NodeKind::File;
@@ -433,5 +365,17 @@ fn an_answer_with_names(rt: HostRuntime) -> Result<(), Fail> {
         &rt,
         &Answer::Names(names),
         &[8, 0, 0, 0, 0x41, 0, 1, 0, 0, 1, 0, 0x61],
+    )?;
+    let status = NodeStatus {
+        kind,
+        moment: 0,
+        size: 5,
+    };
+    check_answer(
+        &rt,
+        &Answer::Node(status),
+        &[
+            0x13, 0, 0, 0, 0x42, 0, 0, 0, 0, 0, 0, 0, 0, 0, 0, 5, 0, 0, 0, 0, 0, 0, 0,
+        ],
     )
 }

@@ -7,7 +7,6 @@ use model::plain::{
     ClientRecord, Code, Content, Due, Node, Operation, Refusal, Reply, Request, State,
 };
 use std::alloc::{AllocError, Global};
-use std::process::Abort;
 use std::test::Fail;
 
 /// The path of these names, written as `d/x`; the root's is empty.
@@ -21,20 +20,17 @@ fn path(alloc: Global, text: &str) -> Result<Vec<String>, AllocError> {
     Ok(names)
 }
 
-/// What a request asks for, its paths written as `d/x`.
-#[derive(Clone, Copy)]
-enum Asked {
-    Create(&'static str),
-    Replace(&'static str),
-    Make(&'static str),
-    Rename(&'static str, &'static str),
-    Remove(&'static str),
-}
-
 fn create(alloc: Global, at: &str) -> Result<Operation, AllocError> {
     Ok(Operation::Create {
         path: path(alloc, at)?,
         bytes: b"hello".to_vec(alloc)?,
+    })
+}
+
+fn replace(alloc: Global, at: &str) -> Result<Operation, AllocError> {
+    Ok(Operation::Replace {
+        path: path(alloc, at)?,
+        bytes: b"other".to_vec(alloc)?,
     })
 }
 
@@ -51,27 +47,10 @@ fn rename(alloc: Global, from: &str, to: &str) -> Result<Operation, AllocError> 
     })
 }
 
-fn operation(alloc: Global, asked: Asked) -> Result<Operation, AllocError> {
-    match asked {
-        Asked::Create(at) => create(alloc, at),
-        Asked::Replace(at) => Ok(Operation::Replace {
-            path: path(alloc, at)?,
-            bytes: b"other".to_vec(alloc)?,
-        }),
-        Asked::Make(at) => make(alloc, at),
-        Asked::Rename(from, to) => rename(alloc, from, to),
-        Asked::Remove(at) => Ok(Operation::Remove {
-            path: path(alloc, at)?,
-        }),
-    }
-}
-
-fn operations(alloc: Global, rows: &[Asked]) -> Result<Vec<Operation>, AllocError> {
-    let mut operations = Vec::new(alloc);
-    for asked in rows {
-        operations.push(operation(alloc, *asked)?)?;
-    }
-    Ok(operations)
+fn remove(alloc: Global, at: &str) -> Result<Operation, AllocError> {
+    Ok(Operation::Remove {
+        path: path(alloc, at)?,
+    })
 }
 
 fn ask(
@@ -109,28 +88,6 @@ fn after(alloc: Global, operations: Vec<Operation>) -> Result<(State, Vec<Code>)
     Ok((state, codes))
 }
 
-/// The codes of these requests of client 7 to a new volume are these, one after another. What they leave.
-fn answered(
-    rt: &(impl Abort + AllocGlobal),
-    rows: &[Asked],
-    codes: &[Code],
-) -> Result<State, Refusal> {
-    let (state, told) = after(rt.alloc(), operations(rt.alloc(), rows)?)?;
-    assert_eq!(rt; told.as_slice(), codes);
-    Ok(state)
-}
-
-/// What is due to requests: a client, a number, and what.
-fn check_due(rt: &impl Abort, state: &State, rows: &[(u64, u64, Due)]) {
-    for (client, number, due) in rows {
-        assert_eq!(rt;
-            state.due(*client, *number),
-            *due,
-            "client {client}, number {number}"
-        );
-    }
-}
-
 fn is_directory_of(node: Option<&Node>, names: &[&str]) -> bool {
     match node {
         Some(
@@ -143,18 +100,6 @@ fn is_directory_of(node: Option<&Node>, names: &[&str]) -> bool {
     }
 }
 
-fn is_file_of(node: Option<&Node>, bytes: &[u8]) -> bool {
-    match node {
-        Some(
-            Node {
-                content: Content::File(found),
-                ..
-            },
-        ) => found.as_slice() == bytes,
-        _ => false,
-    }
-}
-
 fn moment_of(node: Option<&Node>) -> Option<u64> {
     node.map(|node| node.moment)
 }
@@ -163,201 +108,184 @@ fn identity_of(node: Option<&Node>) -> Option<u64> {
     node.map(|node| node.identity)
 }
 
-/// Requests: a client, its number, what it asks for, and the code.
-const REPEATED: [(u64, u64, Asked, Code); 4] = [
-    (7, 1, Asked::Create("a"), Code::Done),
-    (7, 2, Asked::Create("a"), Code::Exists),
-    (8, 1, Asked::Remove("a"), Code::Done),
-    (7, 3, Asked::Remove("q"), Code::NotFound),
-];
-
-/// Behind each request, it and those before it have their replies.
 #[test]
 fn a_repeat_gets_its_own_reply(rt: HostRuntime) -> Result<(), Fail> {
     let alloc = rt.alloc();
-    let mut state = State::formatted(alloc, 0)?;
-    let mut replies = Vec::new(alloc);
-    for (client, number, asked, code) in REPEATED {
-        let (next, reply) = ask(alloc, state, client, number, operation(alloc, asked)?)?;
-        state = next;
-        replies.push((client, number, Due::Repeat(reply)))?;
-        assert_eq!(rt; reply.code, code);
-        assert_eq!(rt; reply.commit as usize, replies.len());
-        check_due(&rt, &state, &replies);
-    }
+    let state = State::formatted(alloc, 0)?;
+    let (state, first) = ask(alloc, state, 7, 1, create(alloc, "a")?)?;
+    let (state, second) = ask(alloc, state, 7, 2, create(alloc, "a")?)?;
+    let (state, other) = ask(alloc, state, 8, 1, remove(alloc, "a")?)?;
+    assert_eq!(rt; (first.code, first.commit), (Code::Done, 1));
+    assert_eq!(rt; (second.code, second.commit), (Code::Exists, 2));
+    assert_eq!(rt; (other.code, other.commit), (Code::Done, 3));
+    assert_eq!(rt; state.due(7, 2), Due::Repeat(second));
+    let (state, third) = ask(alloc, state, 7, 3, remove(alloc, "q")?)?;
+    assert_eq!(rt; (third.code, third.commit), (Code::NotFound, 4));
+    assert_eq!(rt; state.due(7, 1), Due::Repeat(first));
+    assert_eq!(rt; state.due(7, 2), Due::Repeat(second));
+    assert_eq!(rt; state.due(7, 3), Due::Repeat(third));
+    assert_eq!(rt; state.due(8, 1), Due::Repeat(other));
     Ok(())
 }
-
-/// A directory and its names.
-const LISTED: [(&str, &[&str]); 3] = [("", &["e"]), ("e", &["d"]), ("e/d", &["x"])];
-
-/// A path and the moment of its node.
-const MOMENTS: [(&str, Option<u64>); 6] = [
-    ("", Some(4)),
-    ("e", Some(4)),
-    ("e/d", Some(3)),
-    ("e/d/x", Some(3)),
-    ("d", None),
-    ("d/x", None),
-];
 
 #[test]
 fn a_directory_moves_with_all_below_it(rt: HostRuntime) -> Result<(), Fail> {
     let alloc = rt.alloc();
-    let rows = [
-        Asked::Make("d"),
-        Asked::Make("e"),
-        Asked::Create("d/x"),
-        Asked::Rename("d", "e/d"),
-    ];
-    let state = answered(&rt, &rows, &[Code::Done; 4])?;
-    for (at, names) in LISTED {
-        assert!(rt;
-            is_directory_of(state.node(&path(alloc, at)?), names),
-            "{at}"
-        );
+    let operations = vec![in alloc;
+        make(alloc, "d")?,
+        make(alloc, "e")?,
+        create(alloc, "d/x")?,
+        rename(alloc, "d", "e/d")?,
+    ]?;
+    let (state, codes) = after(alloc, operations)?;
+    assert_eq!(rt;
+        codes.as_slice(),
+        [Code::Done, Code::Done, Code::Done, Code::Done].as_slice()
+    );
+    assert!(rt; is_directory_of(state.node(&path(alloc, "")?), &["e"]));
+    assert!(rt; is_directory_of(state.node(&path(alloc, "e")?), &["d"]));
+    assert!(rt; is_directory_of(state.node(&path(alloc, "e/d")?), &["x"]));
+    assert!(rt; state.node(&path(alloc, "d")?).is_none());
+    assert!(rt; state.node(&path(alloc, "d/x")?).is_none());
+    assert_eq!(rt; moment_of(state.node(&path(alloc, "")?)), Some(4));
+    assert_eq!(rt; moment_of(state.node(&path(alloc, "e")?)), Some(4));
+    assert_eq!(rt; moment_of(state.node(&path(alloc, "e/d")?)), Some(3));
+    assert_eq!(rt; moment_of(state.node(&path(alloc, "e/d/x")?)), Some(3));
+    assert_eq!(rt; identity_of(state.node(&path(alloc, "e/d/x")?)), Some(18));
+    match state.node(&path(alloc, "e/d/x")?) {
+        Some(
+            Node {
+                content: Content::File(bytes),
+                ..
+            },
+        ) => assert_eq!(rt; bytes.as_slice(), b"hello".as_slice()),
+        _ => assert!(rt; false, "the file has moved"),
     }
-    for (at, moment) in MOMENTS {
-        assert_eq!(rt; moment_of(state.node(&path(alloc, at)?)), moment, "{at}");
-    }
-    let file = path(alloc, "e/d/x")?;
-    assert_eq!(rt; identity_of(state.node(&file)), Some(18));
-    assert!(rt; is_file_of(state.node(&file), b"hello"));
     Ok(())
 }
 
 #[test]
 fn a_renamed_name_goes_last(rt: HostRuntime) -> Result<(), Fail> {
-    let rows = [
-        Asked::Make("d"),
-        Asked::Make("b"),
-        Asked::Make("c"),
-        Asked::Rename("d", "a"),
-    ];
-    let state = answered(&rt, &rows, &[Code::Done; 4])?;
-    assert!(rt; is_directory_of(state.node(&[]), &["b", "c", "a"]));
+    let alloc = rt.alloc();
+    let operations = vec![in alloc;
+        make(alloc, "d")?,
+        make(alloc, "b")?,
+        make(alloc, "c")?,
+        rename(alloc, "d", "a")?,
+    ]?;
+    let (state, _codes) = after(alloc, operations)?;
+    assert!(rt; is_directory_of(state.node(&path(alloc, "")?), &["b", "c", "a"]));
     Ok(())
 }
 
 #[test]
 fn refused_moves_removals_and_depths(rt: HostRuntime) -> Result<(), Fail> {
-    let rows = [
-        Asked::Make("d"),
-        Asked::Rename("d", "d/x/y"),
-        Asked::Remove(""),
-        Asked::Create("a/a/a/a/a/a/a/a/a/a/a/a/a/a/a/a/a"),
-    ];
-    let codes = [Code::Done, Code::IntoItself, Code::Root, Code::TooDeep];
-    let state = answered(&rt, &rows, &codes)?;
+    let alloc = rt.alloc();
+    let deep = "a/a/a/a/a/a/a/a/a/a/a/a/a/a/a/a/a";
+    let operations = vec![in alloc;
+        make(alloc, "d")?,
+        rename(alloc, "d", "d/x/y")?,
+        remove(alloc, "")?,
+        create(alloc, deep)?,
+    ]?;
+    let (state, codes) = after(alloc, operations)?;
+    assert_eq!(rt;
+        codes.as_slice(),
+        [Code::Done, Code::IntoItself, Code::Root, Code::TooDeep].as_slice()
+    );
     assert_eq!(rt; state.commits, 4);
     Ok(())
 }
 
-/// What is asked of a volume with the directory `d` alone, and the code.
-const OF_ONE_DIRECTORY: [(Asked, Code); 4] = [
-    (Asked::Rename("d", "d"), Code::Exists),
-    (Asked::Rename("x", "d/y"), Code::NotFound),
-    (Asked::Create("d/x/y"), Code::NoParent),
-    (Asked::Replace("d"), Code::IsDirectory),
-];
-
 #[test]
 fn replies_after_one_directory(rt: HostRuntime) -> Result<(), Fail> {
-    for (asked, want) in OF_ONE_DIRECTORY {
-        let state = answered(&rt, &[Asked::Make("d"), asked], &[Code::Done, want])?;
+    let alloc = rt.alloc();
+    for (operation, want) in [
+        (rename(alloc, "d", "d")?, Code::Exists),
+        (rename(alloc, "x", "d/y")?, Code::NotFound),
+        (create(alloc, "d/x/y")?, Code::NoParent),
+        (replace(alloc, "d")?, Code::IsDirectory),
+    ] {
+        let (state, codes) = after(alloc, vec![in alloc; make(alloc, "d")?, operation]?)?;
+        assert_eq!(rt; codes.as_slice(), [Code::Done, want].as_slice());
         assert_eq!(rt; state.commits, 2);
     }
-    let rows = [Asked::Make("d"), Asked::Create("d/x"), Asked::Remove("d")];
-    let _state = answered(&rt, &rows, &[Code::Done, Code::Done, Code::NotEmpty])?;
-    Ok(())
-}
-
-#[test]
-fn a_new_file_has_an_identity_of_its_own(rt: HostRuntime) -> Result<(), Fail> {
-    let rows = [
-        Asked::Make("d"),
-        Asked::Create("d/x"),
-        Asked::Remove("d/x"),
-        Asked::Create("d/z"),
-    ];
-    let state = answered(&rt, &rows, &[Code::Done; 4])?;
+    let (_state, codes) = after(
+        alloc,
+        vec![in alloc;
+            make(alloc, "d")?,
+            create(alloc, "d/x")?,
+            remove(alloc, "d")?,
+        ]?,
+    )?;
     assert_eq!(rt;
-        identity_of(state.node(&path(rt.alloc(), "d/z")?)),
-        Some(18)
+        codes.as_slice(),
+        [Code::Done, Code::Done, Code::NotEmpty].as_slice()
     );
+    let (state, _codes) = after(
+        alloc,
+        vec![in alloc;
+            make(alloc, "d")?,
+            create(alloc, "d/x")?,
+            remove(alloc, "d/x")?,
+            create(alloc, "d/z")?,
+        ]?,
+    )?;
+    assert_eq!(rt; identity_of(state.node(&path(alloc, "d/z")?)), Some(18));
     assert_eq!(rt; state.table_length, 4);
     Ok(())
 }
 
-/// What is asked of a volume with the directory `d`, the file `f` and the file `d/x`, and the code.
-const FIRST_CHECKS: [(Asked, Code); 22] = [
-    (Asked::Create(""), Code::Root),
-    (Asked::Create(DEEP), Code::TooDeep),
-    (Asked::Create("q/x"), Code::NoParent),
-    (Asked::Create("f/x"), Code::NoParent),
-    (Asked::Make("d"), Code::Exists),
-    (Asked::Make("g"), Code::Done),
-    (Asked::Replace(""), Code::Root),
-    (Asked::Replace(DEEP), Code::NotFound),
-    (Asked::Replace("d"), Code::IsDirectory),
-    (Asked::Replace("f"), Code::Done),
-    (Asked::Rename("q", ""), Code::Root),
-    (Asked::Rename("", "q"), Code::Root),
-    (Asked::Rename("q", "q/x"), Code::NotFound),
-    (Asked::Rename("f", "f/x"), Code::IntoItself),
-    (Asked::Rename("d", "d/q/x"), Code::IntoItself),
-    (Asked::Rename("f", DEEP), Code::NoParent),
-    (Asked::Rename("d/x", "d"), Code::Exists),
-    (Asked::Rename("d", "g"), Code::Done),
-    (Asked::Remove(""), Code::Root),
-    (Asked::Remove(DEEP), Code::NotFound),
-    (Asked::Remove("d"), Code::NotEmpty),
-    (Asked::Remove("d/x"), Code::Done),
-];
-
-/// Seventeen names below one that is not there.
-const DEEP: &str = "q/a/a/a/a/a/a/a/a/a/a/a/a/a/a/a/a";
-
 #[test]
 fn the_first_check_that_holds_gives_the_code(rt: HostRuntime) -> Result<(), Fail> {
-    for (asked, want) in FIRST_CHECKS {
-        let rows = [
-            Asked::Make("d"),
-            Asked::Create("f"),
-            Asked::Create("d/x"),
-            asked,
-        ];
-        let _state = answered(&rt, &rows, &[Code::Done, Code::Done, Code::Done, want])?;
+    let alloc = rt.alloc();
+    let deep = "q/a/a/a/a/a/a/a/a/a/a/a/a/a/a/a/a";
+    for (operation, want) in [
+        (create(alloc, "")?, Code::Root),
+        (create(alloc, deep)?, Code::TooDeep),
+        (create(alloc, "q/x")?, Code::NoParent),
+        (create(alloc, "f/x")?, Code::NoParent),
+        (make(alloc, "d")?, Code::Exists),
+        (make(alloc, "g")?, Code::Done),
+        (replace(alloc, "")?, Code::Root),
+        (replace(alloc, deep)?, Code::NotFound),
+        (replace(alloc, "d")?, Code::IsDirectory),
+        (replace(alloc, "f")?, Code::Done),
+        (rename(alloc, "q", "")?, Code::Root),
+        (rename(alloc, "", "q")?, Code::Root),
+        (rename(alloc, "q", "q/x")?, Code::NotFound),
+        (rename(alloc, "f", "f/x")?, Code::IntoItself),
+        (rename(alloc, "d", "d/q/x")?, Code::IntoItself),
+        (rename(alloc, "f", deep)?, Code::NoParent),
+        (rename(alloc, "d/x", "d")?, Code::Exists),
+        (rename(alloc, "d", "g")?, Code::Done),
+        (remove(alloc, "")?, Code::Root),
+        (remove(alloc, deep)?, Code::NotFound),
+        (remove(alloc, "d")?, Code::NotEmpty),
+        (remove(alloc, "d/x")?, Code::Done),
+    ] {
+        let (_state, codes) = after(
+            alloc,
+            vec![in alloc;
+                make(alloc, "d")?,
+                create(alloc, "f")?,
+                create(alloc, "d/x")?,
+                operation,
+            ]?,
+        )?;
+        assert_eq!(rt;
+            codes.as_slice(),
+            [Code::Done, Code::Done, Code::Done, want].as_slice()
+        );
     }
     Ok(())
 }
 
-/// The numbers of requests, counted from 0, and their codes.
-fn check_codes(rt: &impl Abort, codes: &[Code], rows: &[(usize, Code)]) {
-    for (number, code) in rows {
-        assert_eq!(rt;
-            codes.get(*number).copied(),
-            Some(*code),
-            "request {number}"
-        );
-    }
-}
-
-const OF_DEEP_NAMES: [(usize, Code); 7] = [
-    (18, Code::TooDeep),
-    (19, Code::Done),
-    (20, Code::TooDeep),
-    (21, Code::Exists),
-    (532, Code::Done),
-    (533, Code::TooDeep),
-    (534, Code::DirectoryFull),
-];
-
 #[test]
 fn sixteen_names_are_the_most(rt: HostRuntime) -> Result<(), Fail> {
     let alloc = rt.alloc();
-    let mut at = String::new(alloc);
     let mut operations = Vec::new(alloc);
+    let mut at = String::new(alloc);
     for _ in 0..15 {
         at.push_str("/a")?;
         operations.push(make(alloc, &at)?)?;
@@ -366,27 +294,32 @@ fn sixteen_names_are_the_most(rt: HostRuntime) -> Result<(), Fail> {
     operations.push(make(alloc, "e")?)?;
     operations.push(create(alloc, "e/x")?)?;
     let deepest = format!(in alloc; "{at}/b")?;
-    for name in ["e", "d"] {
-        operations.push(rename(alloc, name, &deepest)?)?;
-    }
+    operations.push(rename(alloc, "e", &deepest)?)?;
+    operations.push(rename(alloc, "d", &deepest)?)?;
     operations.push(make(alloc, &format!(in alloc; "{deepest}/c")?)?)?;
     operations.push(rename(alloc, "e", &deepest)?)?;
     for i in 0..511u16 {
         operations.push(create(alloc, &format!(in alloc; "{at}/{i}")?)?)?;
     }
-    let beside = format!(in alloc; "{at}/x")?;
-    for name in ["e", "e/x"] {
-        operations.push(rename(alloc, name, &beside)?)?;
-    }
+    operations.push(rename(alloc, "e", &format!(in alloc; "{at}/x")?)?)?;
+    operations.push(rename(alloc, "e/x", &format!(in alloc; "{at}/x")?)?)?;
     let (_state, codes) = after(alloc, operations)?;
     assert_eq!(rt; codes.len(), 535);
-    check_codes(&rt, &codes, &OF_DEEP_NAMES);
+    assert_eq!(rt; codes.get(18).copied(), Some(Code::TooDeep));
+    assert_eq!(rt; codes.get(19).copied(), Some(Code::Done));
+    assert_eq!(rt; codes.get(20).copied(), Some(Code::TooDeep));
+    assert_eq!(rt; codes.get(21).copied(), Some(Code::Exists));
+    assert_eq!(rt; codes.get(532).copied(), Some(Code::Done));
+    assert_eq!(rt; codes.get(533).copied(), Some(Code::TooDeep));
+    assert_eq!(rt; codes.get(534).copied(), Some(Code::DirectoryFull));
     Ok(())
 }
 
-/// Seven full directories and one with 503 files: with it and the root there are 4,096 nodes.
-fn full_tree(alloc: Global) -> Result<Vec<Operation>, Fail> {
+#[test]
+fn a_directory_and_a_tree_are_full(rt: HostRuntime) -> Result<(), Fail> {
+    let alloc = rt.alloc();
     let mut operations = Vec::new(alloc);
+    // Seven full directories and one with 503 files: with it and the root there are 4,096 nodes.
     for i in 0..8u16 {
         operations.push(make(alloc, &format!(in alloc; "{i}")?)?)?;
     }
@@ -397,89 +330,47 @@ fn full_tree(alloc: Global) -> Result<Vec<Operation>, Fail> {
             }
         }
     }
-    Ok(operations)
-}
-
-/// What is asked of the full tree.
-const OF_A_FULL_TREE: [Asked; 5] = [
-    Asked::Create("0/0"),
-    Asked::Create("0/x"),
-    Asked::Create("7/x"),
-    Asked::Rename("7/0", "0/x"),
-    Asked::Rename("0/0", "0/x"),
-];
-
-const CODES_OF_A_FULL_TREE: [(usize, Code); 5] = [
-    (4_095, Code::Exists),
-    (4_096, Code::DirectoryFull),
-    (4_097, Code::TooMany),
-    (4_098, Code::DirectoryFull),
-    (4_099, Code::Done),
-];
-
-#[test]
-fn a_directory_and_a_tree_are_full(rt: HostRuntime) -> Result<(), Fail> {
-    let alloc = rt.alloc();
-    let mut operations = full_tree(alloc)?;
-    for asked in OF_A_FULL_TREE {
-        operations.push(operation(alloc, asked)?)?;
-    }
+    operations.push(create(alloc, "0/0")?)?;
+    operations.push(create(alloc, "0/x")?)?;
+    operations.push(create(alloc, "7/x")?)?;
+    operations.push(rename(alloc, "7/0", "0/x")?)?;
+    operations.push(rename(alloc, "0/0", "0/x")?)?;
     let (state, codes) = after(alloc, operations)?;
-    assert_eq!(rt; (state.nodes.len(), state.table_length), (4_096, 4_097));
+    assert_eq!(rt; state.nodes.len(), 4_096);
+    assert_eq!(rt; state.table_length, 4_097);
     assert_eq!(rt; codes.iter().filter(|code| **code != Code::Done).count(), 4);
     assert_eq!(rt; codes.len(), 4_100);
-    check_codes(&rt, &codes, &CODES_OF_A_FULL_TREE);
+    assert_eq!(rt; codes.get(4_095).copied(), Some(Code::Exists));
+    assert_eq!(rt; codes.get(4_096).copied(), Some(Code::DirectoryFull));
+    assert_eq!(rt; codes.get(4_097).copied(), Some(Code::TooMany));
+    assert_eq!(rt; codes.get(4_098).copied(), Some(Code::DirectoryFull));
+    assert_eq!(rt; codes.get(4_099).copied(), Some(Code::Done));
     Ok(())
 }
 
-/// What is due to clients of which one has sent six requests.
-const DUE: [(u64, u64, Due); 12] = [
-    (7, 0, Due::Stale(6)),
-    (7, 2, Due::Stale(6)),
-    (
-        7,
-        3,
-        Due::Repeat(Reply {
-            code: Code::NotFound,
-            commit: 3,
-        }),
-    ),
-    (
-        7,
-        4,
-        Due::Repeat(Reply {
-            code: Code::NotFound,
-            commit: 4,
-        }),
-    ),
-    (
-        7,
-        5,
-        Due::Repeat(Reply {
-            code: Code::NotFound,
-            commit: 5,
-        }),
-    ),
-    (
-        7,
-        6,
-        Due::Repeat(Reply {
-            code: Code::NotFound,
-            commit: 6,
-        }),
-    ),
-    (7, 7, Due::New),
-    (7, 8, Due::Gap(6)),
-    (8, 0, Due::Stale(0)),
-    (8, 1, Due::New),
-    (9, 2, Due::Gap(0)),
-    (9, u64::MAX, Due::Gap(0)),
-];
-
 #[test]
 fn four_replies_are_kept(rt: HostRuntime) -> Result<(), Fail> {
-    let state = answered(&rt, &[Asked::Remove("z"); 6], &[Code::NotFound; 6])?;
-    check_due(&rt, &state, &DUE);
+    let alloc = rt.alloc();
+    let mut operations = Vec::new(alloc);
+    for _ in 0..6 {
+        operations.push(remove(alloc, "z")?)?;
+    }
+    let (state, _codes) = after(alloc, operations)?;
+    assert_eq!(rt; state.due(7, 0), Due::Stale(6));
+    assert_eq!(rt; state.due(7, 2), Due::Stale(6));
+    for number in 3..7u64 {
+        let reply = Reply {
+            code: Code::NotFound,
+            commit: number,
+        };
+        assert_eq!(rt; state.due(7, number), Due::Repeat(reply));
+    }
+    assert_eq!(rt; state.due(7, 7), Due::New);
+    assert_eq!(rt; state.due(7, 8), Due::Gap(6));
+    assert_eq!(rt; state.due(8, 0), Due::Stale(0));
+    assert_eq!(rt; state.due(8, 1), Due::New);
+    assert_eq!(rt; state.due(9, 2), Due::Gap(0));
+    assert_eq!(rt; state.due(9, u64::MAX), Due::Gap(0));
     Ok(())
 }
 
@@ -497,14 +388,10 @@ fn a_record_may_keep_one_reply(rt: HostRuntime) -> Result<(), Fail> {
             latest,
             replies: vec![in alloc; reply]?,
         })?;
-        let rows = [
-            (7, latest, Due::Repeat(reply)),
-            (7, 0, Due::Stale(latest)),
-            (7, 1, Due::Stale(latest)),
-            (7, 5, Due::Stale(latest)),
-            (7, latest.saturating_sub(1), Due::Stale(latest)),
-        ];
-        check_due(&rt, &state, &rows);
+        assert_eq!(rt; state.due(7, latest), Due::Repeat(reply));
+        for number in [0, 1, 5, latest.saturating_sub(1)] {
+            assert_eq!(rt; state.due(7, number), Due::Stale(latest));
+        }
     }
     Ok(())
 }
@@ -515,35 +402,22 @@ fn with_all_clients(alloc: Global) -> Result<State, Refusal>
 {
     let mut state = State::formatted(alloc, 0)?;
     for client in 1..65u64 {
-        let (next, _reply) = ask(
-            alloc,
-            state,
-            client,
-            1,
-            operation(alloc, Asked::Remove("z"))?,
-        )?;
+        let (next, _reply) = ask(alloc, state, client, 1, remove(alloc, "z")?)?;
         state = next;
     }
     Ok(state)
 }
 
-const DUE_TO_ALL: [(u64, u64, Due); 4] = [
-    (65, 1, Due::ClientsFull),
-    (65, 2, Due::Gap(0)),
-    (
-        1,
-        1,
-        Due::Repeat(Reply {
-            code: Code::NotFound,
-            commit: 1,
-        }),
-    ),
-    (64, 2, Due::New),
-];
-
 #[test]
 fn a_client_too_many(rt: HostRuntime) -> Result<(), Fail> {
     let state = with_all_clients(rt.alloc())?;
-    check_due(&rt, &state, &DUE_TO_ALL);
+    let reply = Reply {
+        code: Code::NotFound,
+        commit: 1,
+    };
+    assert_eq!(rt; state.due(65, 1), Due::ClientsFull);
+    assert_eq!(rt; state.due(65, 2), Due::Gap(0));
+    assert_eq!(rt; state.due(1, 1), Due::Repeat(reply));
+    assert_eq!(rt; state.due(64, 2), Due::New);
     Ok(())
 }

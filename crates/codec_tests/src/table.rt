@@ -216,171 +216,153 @@ fn first_version(rt: HostRuntime) -> Result<(), Fail> {
     Ok(())
 }
 
-/// A byte of the used table that is changed, and what is told then.
-const CHANGED: [(usize, u8, VatFault); 14] = [
-    (0, 0xF8, VatFault::Header),
-    (2, 0x60, VatFault::Header),
-    (186, 2, VatFault::Header),
-    (150, 1, VatFault::Header),
-    // the entry before stands at the table's own, or there is one before the first
-    (132, 9, VatFault::Header),
-    (192, 0, VatFault::Header),
-    // the lengths of another version are those of the first
-    (184, 3, VatFault::Header),
-    (131, 128, VatFault::Label),
-    (100, 1, VatFault::Label),
-    (144, 0, VatFault::Version),
-    (146, 0, VatFault::Version),
-    (148, 0, VatFault::Version),
-    (153, 0, VatFault::Record),
-    (183, 1, VatFault::Record),
-];
-
 #[test]
-fn faults_of_a_byte(rt: HostRuntime) {
+fn head_faults(rt: HostRuntime) -> Result<(), Fail> {
     let alloc = rt.alloc();
     assert_eq!(rt; fault(alloc, &USED), None);
-    for end in [195, 255] {
-        assert_eq!(rt; fault(alloc, &USED[..end]), Some(VatFault::Header));
-    }
-    for (at, to, told) in CHANGED {
-        assert!(rt; at < 256);
-        assert_eq!(rt; fault(alloc, &changed(at, to)), Some(told), "byte {at}");
-    }
-}
-
-const ONE: Slot = (0, 0, 1);
-
-const TWO: Slot = (3, 0, 2);
-
-const THREE: Slot = (10, 0, 3);
-
-const FOUR: Slot = (0, 0, 4);
-
-/// A client, its latest number, and its replies. They are a record of a root.
-const RECORDS: [(u8, u8, [Slot; 4]); 4] = [
-    (7, 4, [ONE, NO_REPLY, NO_REPLY, NO_REPLY]),
-    (7, 4, [TWO, ONE, NO_REPLY, NO_REPLY]),
-    (7, 4, [FOUR, TWO, ONE, NO_REPLY]),
-    (7, 4, [FOUR, THREE, TWO, ONE]),
-];
-
-/// They are none.
-const NO_RECORDS: [(u8, u8, [Slot; 4]); 13] = [
-    (0, 4, [ONE, NO_REPLY, NO_REPLY, NO_REPLY]),
-    (7, 0, [ONE, NO_REPLY, NO_REPLY, NO_REPLY]),
-    // two replies to one number
-    (7, 1, [TWO, ONE, NO_REPLY, NO_REPLY]),
-    (7, 4, [NO_REPLY, NO_REPLY, NO_REPLY, NO_REPLY]),
-    (7, 4, [(11, 0, 1), NO_REPLY, NO_REPLY, NO_REPLY]),
-    (7, 4, [(0, 1, 1), NO_REPLY, NO_REPLY, NO_REPLY]),
-    (7, 4, [(0, 0, 5), NO_REPLY, NO_REPLY, NO_REPLY]),
-    (7, 4, [ONE, TWO, NO_REPLY, NO_REPLY]),
-    (7, 4, [TWO, TWO, NO_REPLY, NO_REPLY]),
-    (7, 4, [THREE, NO_REPLY, ONE, NO_REPLY]),
-    (7, 4, [THREE, TWO, NO_REPLY, ONE]),
-    (7, 4, [THREE, (1, 0, 0), NO_REPLY, NO_REPLY]),
-    (7, 4, [THREE, (0, 1, 0), NO_REPLY, NO_REPLY]),
-];
-
-#[test]
-fn record_faults(rt: HostRuntime) -> Result<(), Fail> {
-    let alloc = rt.alloc();
-    for (i, (client, latest, slots)) in RECORDS.iter().enumerate() {
-        let told = record_fault(alloc, *client, *latest, *slots)?;
-        assert_eq!(rt; told, None, "record {i}");
-    }
-    for (i, (client, latest, slots)) in NO_RECORDS.iter().enumerate() {
-        let told = record_fault(alloc, *client, *latest, *slots)?;
-        assert_eq!(rt;
-            told,
-            Some(VatFault::Record),
-            "record {i} of those that are none"
-        );
+    let header = Some(VatFault::Header);
+    assert_eq!(rt; fault(alloc, &USED[..195]), header);
+    assert_eq!(rt; fault(alloc, &USED[..255]), header);
+    assert_eq!(rt; fault(alloc, &changed(0, 0xF8)), header);
+    assert_eq!(rt; fault(alloc, &changed(2, 0x60)), header);
+    assert_eq!(rt; fault(alloc, &changed(186, 2)), header);
+    assert_eq!(rt; fault(alloc, &changed(150, 1)), header);
+    // the entry before stands at the table's own, or there is one before the first
+    assert_eq!(rt; fault(alloc, &changed(132, 9)), header);
+    assert_eq!(rt; fault(alloc, &changed(192, 0)), header);
+    let none_before = Numbers {
+        previous: u32::MAX,
+        ..ROOT
+    };
+    assert_eq!(rt;
+        fault(alloc, &table(alloc, none_before, &[], &[0, 2])?),
+        header
+    );
+    // the lengths of another version are those of the first
+    assert_eq!(rt; fault(alloc, &changed(184, 3)), header);
+    assert_eq!(rt; fault(alloc, &changed(131, 128)), Some(VatFault::Label));
+    assert_eq!(rt; fault(alloc, &changed(100, 1)), Some(VatFault::Label));
+    for at in [144, 146, 148] {
+        assert_eq!(rt; fault(alloc, &changed(at, 0)), Some(VatFault::Version));
     }
     Ok(())
 }
 
-/// The fault of a root with a record of one reply for each of these: a client, its latest number, and the reply's commit.
-fn fault_of_clients(alloc: Global, rows: &[(u8, u8, u8)]) -> Result<Option<VatFault>, AllocError> {
-    let mut records = Vec::new(alloc);
-    for (client, latest, commit) in rows {
-        let slots = [(0, 0, *commit), NO_REPLY, NO_REPLY, NO_REPLY];
-        records.extend_from_slice(&record_text(*client, *latest, slots))?;
+#[test]
+fn record_faults(rt: HostRuntime) -> Result<(), Fail> {
+    let alloc = rt.alloc();
+    let record = Some(VatFault::Record);
+    assert_eq!(rt; fault(alloc, &changed(153, 0)), record);
+    assert_eq!(rt; fault(alloc, &changed(183, 1)), record);
+    let unknown = Numbers { version: 3, ..ROOT };
+    assert_eq!(rt; fault(alloc, &table(alloc, unknown, &[], &[0, 2])?), record);
+    let one = (0, 0, 1);
+    let two = (3, 0, 2);
+    let three = (10, 0, 3);
+    let four = (0, 0, 4);
+    for slots in [
+        [one, NO_REPLY, NO_REPLY, NO_REPLY],
+        [two, one, NO_REPLY, NO_REPLY],
+        [four, two, one, NO_REPLY],
+        [four, three, two, one],
+    ] {
+        assert_eq!(rt; record_fault(alloc, 7, 4, slots)?, None);
     }
-    let numbers = Numbers {
-        clients: rows.len().min(100) as u16,
-        ..ROOT
-    };
-    let bytes = table(alloc, numbers, &records, &[0, 2])?;
-    Ok(fault(alloc, &bytes))
+    assert_eq!(rt;
+        record_fault(alloc, 0, 4, [one, NO_REPLY, NO_REPLY, NO_REPLY])?,
+        record
+    );
+    assert_eq!(rt;
+        record_fault(alloc, 7, 0, [one, NO_REPLY, NO_REPLY, NO_REPLY])?,
+        record
+    );
+    // two replies to one number
+    assert_eq!(rt;
+        record_fault(alloc, 7, 1, [two, one, NO_REPLY, NO_REPLY])?,
+        record
+    );
+    for slots in [
+        [NO_REPLY, NO_REPLY, NO_REPLY, NO_REPLY],
+        [(11, 0, 1), NO_REPLY, NO_REPLY, NO_REPLY],
+        [(0, 1, 1), NO_REPLY, NO_REPLY, NO_REPLY],
+        [(0, 0, 5), NO_REPLY, NO_REPLY, NO_REPLY],
+        [one, two, NO_REPLY, NO_REPLY],
+        [two, two, NO_REPLY, NO_REPLY],
+        [three, NO_REPLY, one, NO_REPLY],
+        [three, two, NO_REPLY, one],
+        [three, (1, 0, 0), NO_REPLY, NO_REPLY],
+        [three, (0, 1, 0), NO_REPLY, NO_REPLY],
+    ] {
+        assert_eq!(rt; record_fault(alloc, 7, 4, slots)?, record);
+    }
+    Ok(())
 }
 
 #[test]
 fn clients(rt: HostRuntime) -> Result<(), Fail> {
     let alloc = rt.alloc();
-    let mut rows = Vec::new(alloc);
+    let mut records = Vec::new(alloc);
     for client in 1..65u8 {
-        rows.push((client, 1, 1))?;
+        records.extend_from_slice(&record_text(
+            client,
+            1,
+            [(0, 0, 1), NO_REPLY, NO_REPLY, NO_REPLY],
+        ))?;
     }
-    assert_eq!(rt; fault_of_clients(alloc, &rows)?, None);
-    rows.push((65, 1, 1))?;
-    let told = fault_of_clients(alloc, &rows)?;
-    assert_eq!(rt; told, Some(VatFault::Record));
-    let told = fault_of_clients(alloc, &[(7, 1, 1), (8, 1, 2), (7, 2, 3)])?;
-    assert_eq!(rt; told, Some(VatFault::ClientTwice));
-    Ok(())
-}
-
-const NONE: u32 = u32::MAX;
-
-/// The numbers of a table without a client, its entries, and what is told of it.
-const TABLES: [(Numbers, &[u32], Option<VatFault>); 10] = [
-    (ROOT, &[0, 2, NONE], None),
-    (ROOT, &[0, 9], Some(VatFault::Entry)),
-    (ROOT, &[NONE, 2], Some(VatFault::Entry)),
-    (ROOT, &[0, NONE], Some(VatFault::Entry)),
-    (ROOT, &[], Some(VatFault::Count)),
-    (ROOT, &[0], Some(VatFault::Count)),
-    (ROOT, &[0, 2, 3], Some(VatFault::Count)),
-    (YOUNG, &[0, 2], Some(VatFault::Count)),
-    (NONE_BEFORE, &[0, 2], Some(VatFault::Header)),
-    (UNKNOWN, &[0, 2], Some(VatFault::Record)),
-];
-
-const YOUNG: Numbers = Numbers {
-    next_unique: 15,
-    ..ROOT
-};
-
-const NONE_BEFORE: Numbers = Numbers {
-    previous: NONE,
-    ..ROOT
-};
-
-const UNKNOWN: Numbers = Numbers { version: 3, ..ROOT };
-
-#[test]
-fn faults_of_a_table(rt: HostRuntime) -> Result<(), Fail> {
-    let alloc = rt.alloc();
-    for (i, (numbers, entries, told)) in TABLES.iter().enumerate() {
-        let bytes = table(alloc, *numbers, &[], entries)?;
-        assert_eq!(rt; fault(alloc, &bytes), *told, "table {i}");
-    }
+    let full = Numbers {
+        clients: 64,
+        ..ROOT
+    };
+    assert_eq!(rt; fault(alloc, &table(alloc, full, &records, &[0, 2])?), None);
+    records.extend_from_slice(&record_text(65, 1, [(0, 0, 1), NO_REPLY, NO_REPLY, NO_REPLY]))?;
+    let more = Numbers {
+        clients: 65,
+        ..ROOT
+    };
+    assert_eq!(rt;
+        fault(alloc, &table(alloc, more, &records, &[0, 2])?),
+        Some(VatFault::Record)
+    );
+    let mut twice = Vec::new(alloc);
+    twice.extend_from_slice(&record_text(7, 1, [(0, 0, 1), NO_REPLY, NO_REPLY, NO_REPLY]))?;
+    twice.extend_from_slice(&record_text(8, 1, [(0, 0, 2), NO_REPLY, NO_REPLY, NO_REPLY]))?;
+    twice.extend_from_slice(&record_text(7, 2, [(0, 0, 3), NO_REPLY, NO_REPLY, NO_REPLY]))?;
+    let three = Numbers { clients: 3, ..ROOT };
+    assert_eq!(rt;
+        fault(alloc, &table(alloc, three, &twice, &[0, 2])?),
+        Some(VatFault::ClientTwice)
+    );
     Ok(())
 }
 
 #[test]
-fn as_many_entries_as_there_can_be(rt: HostRuntime) -> Result<(), Fail> {
+fn entry_faults(rt: HostRuntime) -> Result<(), Fail> {
     let alloc = rt.alloc();
-    let mut entries = vec![in alloc; NONE; 4097]?;
+    let none = u32::MAX;
+    let entry = Some(VatFault::Entry);
+    let count = Some(VatFault::Count);
+    assert_eq!(rt;
+        fault(alloc, &table(alloc, ROOT, &[], &[0, 2, none])?),
+        None
+    );
+    assert_eq!(rt; fault(alloc, &table(alloc, ROOT, &[], &[0, 9])?), entry);
+    assert_eq!(rt; fault(alloc, &table(alloc, ROOT, &[], &[none, 2])?), entry);
+    assert_eq!(rt; fault(alloc, &table(alloc, ROOT, &[], &[0, none])?), entry);
+    assert_eq!(rt; fault(alloc, &table(alloc, ROOT, &[], &[])?), count);
+    assert_eq!(rt; fault(alloc, &table(alloc, ROOT, &[], &[0])?), count);
+    assert_eq!(rt; fault(alloc, &table(alloc, ROOT, &[], &[0, 2, 3])?), count);
+    let young = Numbers {
+        next_unique: 15,
+        ..ROOT
+    };
+    assert_eq!(rt; fault(alloc, &table(alloc, young, &[], &[0, 2])?), count);
+    let mut entries = vec![in alloc; none; 4097]?;
     assert_eq!(rt; entries.len(), 4097);
     entries[0] = 0;
     entries[1] = 2;
     assert_eq!(rt; fault(alloc, &table(alloc, ROOT, &[], &entries)?), None);
-    entries.push(NONE)?;
-    let more = table(alloc, ROOT, &[], &entries)?;
-    assert_eq!(rt; fault(alloc, &more), Some(VatFault::Count));
+    entries.push(none)?;
+    assert_eq!(rt; fault(alloc, &table(alloc, ROOT, &[], &entries)?), count);
     Ok(())
 }
 
