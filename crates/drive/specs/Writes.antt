@@ -1,10 +1,11 @@
 -- Blocks that go out in writes, each synced before the next begins, and what a loss of power leaves of them where a disk keeps the blocks of a write that is not yet synced in any order.
 use Rattle.std.specs.Prelude.{◌≡◌, ◌⊎◌, ℕ, suc, ◌<◌, ◌≤◌, Bool, if◌then◌else◌, List, [], ◌∷◌, ◌++◌, length, replicate, slice_get, Some}
 use Rattle.std.specs.List.{flat_map}
+use Rattle.limits.specs.declared.TheConstants.{BLOCK_BYTES}
 
 -- what is read where a block did not reach the medium and one behind it did
 abbrev pub unwritten : List ℕ
-unwritten = replicate 2048 0
+unwritten = replicate BLOCK_BYTES 0
 
 -- the blocks of all writes
 abbrev pub joined : List (List (List ℕ)) → List (List ℕ)
