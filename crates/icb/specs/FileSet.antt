@@ -1,7 +1,8 @@
 -- The file set descriptor (ECMA-167 4/14.1, UDF 2.01 2.3.2): its label and moment, and the bytes that say them.
-use Rattle.std.specs.Prelude.{◌≡◌, ℕ, List, [], ◌∷◌, codes, take, drop, replicate}
+use Rattle.std.specs.Prelude.{◌≡◌, ℕ, ◌-◌, List, [], ◌∷◌, codes, take, drop, replicate}
 use Rattle.std.specs.Int.{w16, w32, to_le_bytes}
 use Rattle.std.specs.List.{concat}
+use Rattle.limits.specs.declared.TheConstants.{BLOCK_BYTES}
 use Rattle.ecma.specs.Charspec.{cs0}
 use Rattle.ecma.specs.Descriptor.{IsDescriptor}
 use Rattle.ecma.specs.Tag.{Sealed}
@@ -27,7 +28,7 @@ set_parts label stamp =
     ∷ cs0  -- 240 file set character set
     ∷ dstring 32 label  -- 304 file set identifier
     ∷ replicate 64 0  -- 336 copyright file identifier, 368 abstract file identifier
-    ∷ to_le_bytes w32 2048 ∷ to_le_bytes w32 1 ∷ to_le_bytes w16 1 ∷ replicate 6 0  -- 400 root directory ICB: virtual address 1
+    ∷ to_le_bytes w32 BLOCK_BYTES ∷ to_le_bytes w32 1 ∷ to_le_bytes w16 1 ∷ replicate 6 0  -- 400 root directory ICB: virtual address 1
     ∷ (0 ∷ codes "*OSTA UDF Compliant") ∷ replicate 4 0 ∷ to_le_bytes w16 0x0201 ∷ replicate 6 0  -- 416 domain identifier
     ∷ replicate 64 0  -- 448 next extent, 464 system stream directory ICB, 480 reserved
     ∷ []
@@ -50,5 +51,5 @@ abbrev pub set_rules : List ℕ → List (IcbFault × Type 0)
 set_rules block =
     (faults.Tag, Sealed 256 0 (take 512 block))
     ∷ (faults.Fixed, (set : FileSet) × HasFields set (take 496 (drop 16 block)))
-    ∷ (faults.Tail, drop 512 block ≡ replicate 1536 0)
+    ∷ (faults.Tail, drop 512 block ≡ replicate (BLOCK_BYTES - 512) 0)
     ∷ []
