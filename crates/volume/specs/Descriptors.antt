@@ -2,6 +2,7 @@
 use Rattle.std.specs.Prelude.{ℕ, ◌+◌, ◌-◌, ◌/◌, ◌%◌, ◌^◌, nat_lt, if◌then◌else◌, List, [], ◌∷◌, codes, replicate}
 use Rattle.std.specs.Int.{w16, w32, w64, to_le_bytes}
 use Rattle.std.specs.List.{concat}
+use Rattle.limits.specs.declared.TheConstants.{BLOCK_BYTES, PARTITION_START, FORMAT_BLOCKS, FIRST_UNIQUE}
 use Rattle.ecma.specs.Charspec.{cs0}
 use Rattle.ecma.specs.EntityId.{developer, domain, entity, udf_suffix}
 
@@ -68,8 +69,8 @@ partition_fields capacity = concat (
     ∷ entity (codes "+NSR03") (replicate 8 0)  -- 24 partition contents
     ∷ replicate 128 0  -- 56 partition contents use
     ∷ to_le_bytes w32 2  -- 184 access type: write once
-    ∷ to_le_bytes w32 257  -- 188 partition starting location
-    ∷ to_le_bytes w32 (capacity - 257)  -- 192 partition length
+    ∷ to_le_bytes w32 PARTITION_START  -- 188 partition starting location
+    ∷ to_le_bytes w32 (capacity - PARTITION_START)  -- 192 partition length
     ∷ developer  -- 196 implementation identifier
     ∷ replicate 284 0  -- 228 implementation use, 356 reserved
     ∷ [])
@@ -80,9 +81,9 @@ logical_fields volume = concat (
     to_le_bytes w32 4  -- 16 volume descriptor sequence number
     ∷ cs0  -- 20 descriptor character set
     ∷ volume  -- 84 logical volume identifier
-    ∷ to_le_bytes w32 2048  -- 212 logical block size
+    ∷ to_le_bytes w32 BLOCK_BYTES  -- 212 logical block size
     ∷ domain  -- 216 domain identifier
-    ∷ to_le_bytes w32 2048 ∷ to_le_bytes w32 0 ∷ to_le_bytes w16 1 ∷ replicate 6 0  -- 248 logical volume contents use: the file set descriptor
+    ∷ to_le_bytes w32 BLOCK_BYTES ∷ to_le_bytes w32 0 ∷ to_le_bytes w16 1 ∷ replicate 6 0  -- 248 logical volume contents use: the file set descriptor
     ∷ to_le_bytes w32 70  -- 264 map table length
     ∷ to_le_bytes w32 2  -- 268 number of partition maps
     ∷ developer  -- 272 implementation identifier
@@ -118,11 +119,11 @@ integrity_fields stamp capacity = concat (
     stamp  -- 16 recording date and time
     ∷ to_le_bytes w32 0  -- 28 integrity type: open
     ∷ replicate 8 0  -- 32 next integrity extent
-    ∷ to_le_bytes w64 16 ∷ replicate 24 0  -- 40 logical volume contents use: the next unique ID, 48 reserved
+    ∷ to_le_bytes w64 FIRST_UNIQUE ∷ replicate 24 0  -- 40 logical volume contents use: the next unique ID, 48 reserved
     ∷ to_le_bytes w32 2  -- 72 number of partitions
     ∷ to_le_bytes w32 46  -- 76 length of implementation use
-    ∷ to_le_bytes w32 (capacity - 262) ∷ to_le_bytes w32 0xFFFF_FFFF  -- 80 free space table: the physical and the virtual partition
-    ∷ to_le_bytes w32 (capacity - 257) ∷ to_le_bytes w32 0xFFFF_FFFF  -- 88 size table: the physical and the virtual partition
+    ∷ to_le_bytes w32 (capacity - FORMAT_BLOCKS) ∷ to_le_bytes w32 0xFFFF_FFFF  -- 80 free space table: the physical and the virtual partition
+    ∷ to_le_bytes w32 (capacity - PARTITION_START) ∷ to_le_bytes w32 0xFFFF_FFFF  -- 88 size table: the physical and the virtual partition
     ∷ developer  -- 96 implementation ID
     ∷ to_le_bytes w32 0  -- 128 number of files
     ∷ to_le_bytes w32 1  -- 132 number of directories

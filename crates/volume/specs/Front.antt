@@ -1,5 +1,6 @@
 -- The blocks of a volume before its partition: those at the addresses 0 to 256.
 use Rattle.std.specs.Prelude.{◌≡◌, ◌≢◌, ℕ, ◌%◌, ◌<◌, ◌≤◌, ◌==◌, nat_lt, if◌then◌else◌, List, [], ◌∷◌, ◌++◌, length, codes, replicate, slice_index, slice_index_or}
+use Rattle.limits.specs.declared.TheConstants.{BLOCK_BYTES, LEAST_CAPACITY, GREATEST_CAPACITY, PARTITION_START}
 use Rattle.osta.specs.Dstring.{dstring}
 use Rattle.osta.specs.Label.{IsLabel}
 use Rattle.ecma.specs.Descriptor.{IsDescriptor, padded}
@@ -45,7 +46,7 @@ front_content label moment stamp capacity n =
 
 -- the block at an address holds this
 abbrev pub Holds : ℕ → Content → List ℕ → Type 0
-Holds n Nothing block = block ≡ replicate 2048 0
+Holds n Nothing block = block ≡ replicate BLOCK_BYTES 0
 Holds n (Recognition identifier) block = block ≡ padded (0 ∷ (identifier ++ (1 ∷ [])))
 Holds n (Descriptor identifier fields) block = IsDescriptor identifier n fields block
 
@@ -58,10 +59,10 @@ pub record IsFrontBlock (label : List ℕ) (moment capacity n : ℕ) (block : Li
 
 -- the blocks are the front
 pub record IsFront (label : List ℕ) (moment capacity : ℕ) (blocks : List (List ℕ)) : Type 0 where
-  pub low : 512 ≤ capacity
-  pub high : capacity ≤ 450_000
-  pub count : length blocks ≡ 257
-  pub each : (n : ℕ) → n < 257 → IsFrontBlock label moment capacity n (slice_index_or blocks n [])
+  pub low : LEAST_CAPACITY ≤ capacity
+  pub high : capacity ≤ GREATEST_CAPACITY
+  pub count : length blocks ≡ PARTITION_START
+  pub each : (n : ℕ) → n < PARTITION_START → IsFrontBlock label moment capacity n (slice_index_or blocks n [])
 
 -- no block of the front begins as a file entry does
 abbrev pub FrontIsNoEntry : Type 0

@@ -1,5 +1,6 @@
 -- What blocks tell that should be a front, and where they first fail to be one.
-use Rattle.std.specs.Prelude.{◌≡◌, ◌≢◌, ℕ, ◌+◌, ◌<◌, ◌≤◌, List, [], ◌∷◌, ◌⊎◌, take, drop, slice_index, slice_index_or}
+use Rattle.std.specs.Prelude.{◌≡◌, ◌≢◌, ℕ, ◌+◌, ◌-◌, ◌<◌, ◌≤◌, List, [], ◌∷◌, ◌⊎◌, take, drop, slice_index, slice_index_or}
+use Rattle.limits.specs.declared.TheConstants.{BLOCK_BYTES, LEAST_CAPACITY, PARTITION_START, PARTITION_BLOCKS}
 use Rattle.ecma.specs.FirstFault.{IsFirst, AllHold}
 use Rattle.ecma.specs.Numbers.{u32_at}
 use Rattle.ecma.specs.Tag.{Sealed}
@@ -24,7 +25,7 @@ word_rules primary partition =
     ∷ (Field 32 24, (label : List ℕ) × IsLabelDstring label (label_field primary))
     ∷ (Field 32 376, (m : ℕ) × IsMoment m (stamp_field primary))
     ∷ (Field 34 0, Sealed 5 34 (take 512 partition))
-    ∷ (Field 34 192, (255 ≤ u32_at 192 partition) × (u32_at 192 partition ≤ 449_743))
+    ∷ (Field 34 192, (LEAST_CAPACITY - PARTITION_START ≤ u32_at 192 partition) × (u32_at 192 partition ≤ PARTITION_BLOCKS))
     ∷ []
 
 -- what the two descriptors tell
@@ -32,11 +33,11 @@ pub record Tells (front : Front) (primary partition : List ℕ) : Type 0 where
   pub rules : AllHold (word_rules primary partition)
   pub label : IsLabelDstring front.label (label_field primary)
   pub moment : IsMoment front.moment (stamp_field primary)
-  pub capacity : front.capacity ≡ u32_at 192 partition + 257
+  pub capacity : front.capacity ≡ u32_at 192 partition + PARTITION_START
 
 -- the first byte in which a block differs from the one that is expected
 pub record DiffersFirst (block expected : List ℕ) (at : ℕ) : Type 0 where
-  pub there : at < 2048
+  pub there : at < BLOCK_BYTES
   pub same : (i : ℕ) → i < at → slice_index block i ≡ slice_index expected i
   pub other : slice_index block at ≢ slice_index expected at
 
@@ -54,7 +55,7 @@ pub record FirstDifference (blocks : List (List ℕ)) (primary partition : List 
   pub n : ℕ
   pub at : ℕ
   pub told : fault ≡ Field n at
-  pub there : n < 257
+  pub there : n < PARTITION_START
   pub below : (k : ℕ) → k < n → IsFrontBlock front.label front.moment front.capacity k (slice_index_or blocks k [])
   pub differs : DiffersAt front n (slice_index_or blocks n []) at
 
