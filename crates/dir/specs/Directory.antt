@@ -3,6 +3,7 @@ use Rattle.std.specs.Prelude.{◌≡◌, ℕ, ◌*◌, ◌-◌, ◌^◌, ◌<◌
 use Rattle.std.specs.Cmp.Lexicographic.{pointwise}
 use Rattle.std.specs.List.{All, IsDistinct, concat}
 use Rattle.std.specs.Map.{keys_of}
+use Rattle.limits.specs.declared.TheConstants.{BLOCK_BYTES, PARTITION_BLOCKS, DIRECTORY_NAMES}
 use Rattle.ecma.specs.Numbers.{u16_at}
 use Rattle.osta.specs.Compressed.{compressed}
 use Rattle.osta.specs.Name.{IsName}
@@ -52,27 +53,27 @@ pub record IsEntry (e : List ℕ × Entry) : Type 0 where
 -- first block's number on, and zeros behind them
 pub record IsDirectory (parent : ℕ) (entries : List (List ℕ × Entry)) (first size : ℕ) (blocks : List (List ℕ)) : Type 0 where
   pub parent_fits : parent < 2 ^ 32
-  pub few : length entries ≤ 512
+  pub few : length entries ≤ DIRECTORY_NAMES
   pub named : All IsEntry entries
   pub distinct : IsDistinct (pointwise nat_eq) (keys_of entries)
   pub size_is : size ≡ length (laid first 0 (identifiers parent entries))
-  pub bytes : concat blocks ≡ laid first 0 (identifiers parent entries) ++ replicate (2048 * blocks_of size - size) 0
+  pub bytes : concat blocks ≡ laid first 0 (identifiers parent entries) ++ replicate (BLOCK_BYTES * blocks_of size - size) 0
 
 -- blocks are the data of one directory at most
 abbrev pub OneDirectory : Type 0
 OneDirectory =
-    (first size p q : ℕ) (es fs : List (List ℕ × Entry)) (blocks : List (List ℕ)) → first ≤ 449_743 → AreBytes (concat blocks)
+    (first size p q : ℕ) (es fs : List (List ℕ × Entry)) (blocks : List (List ℕ)) → first ≤ PARTITION_BLOCKS → AreBytes (concat blocks)
     → IsDirectory p es first size blocks → IsDirectory q fs first size blocks → (p ≡ q) × (es ≡ fs)
 
 -- the blocks of identifiers are the data of their directory
 abbrev pub LaidIsDirectory : Type 0
 LaidIsDirectory =
-    (parent first : ℕ) (entries : List (List ℕ × Entry)) → parent < 2 ^ 32 → length entries ≤ 512 → All IsEntry entries
+    (parent first : ℕ) (entries : List (List ℕ × Entry)) → parent < 2 ^ 32 → length entries ≤ DIRECTORY_NAMES → All IsEntry entries
     → IsDistinct (pointwise nat_eq) (keys_of entries)
     → IsDirectory parent entries first (length (laid first 0 (identifiers parent entries))) (identifier_blocks first (identifiers parent entries))
 
 -- a directory's data takes as many blocks as its size says, and each begins with the tag of an identifier
 abbrev pub BlocksBegin : Type 0
 BlocksBegin =
-    (parent first size : ℕ) (entries : List (List ℕ × Entry)) (blocks : List (List ℕ)) → All (λ block. length block ≡ 2048) blocks
+    (parent first size : ℕ) (entries : List (List ℕ × Entry)) (blocks : List (List ℕ)) → All (λ block. length block ≡ BLOCK_BYTES) blocks
     → IsDirectory parent entries first size blocks → (length blocks ≡ blocks_of size) × All (λ block. u16_at 0 block ≡ 257) blocks

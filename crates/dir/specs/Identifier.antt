@@ -2,6 +2,7 @@
 use Rattle.std.specs.Prelude.{ℕ, ◌+◌, ◌-◌, ◌*◌, ◌/◌, min, List, [], ◌∷◌, ◌++◌, length, take, replicate}
 use Rattle.std.specs.Int.{w16, w32, to_le_bytes}
 use Rattle.std.specs.List.{concat}
+use Rattle.limits.specs.declared.TheConstants.{BLOCK_BYTES}
 use Rattle.ecma.specs.Crc.{crc_of}
 use Rattle.ecma.specs.EntityId.{developer}
 use Rattle.ecma.specs.Tag.{tag_cells}
@@ -30,7 +31,7 @@ abbrev pub head_of : ℕ → ℕ → ℕ → ℕ → ℕ → List ℕ
 head_of characteristics len icb unique more = concat (
     to_le_bytes w16 1  -- 16 file version number
     ∷ (characteristics ∷ len ∷ [])  -- 18 file characteristics, 19 length of file identifier
-    ∷ to_le_bytes w32 2048 ∷ to_le_bytes w32 icb ∷ to_le_bytes w16 1  -- 20 ICB: extent length, extent location and its partition
+    ∷ to_le_bytes w32 BLOCK_BYTES ∷ to_le_bytes w32 icb ∷ to_le_bytes w16 1  -- 20 ICB: extent length, extent location and its partition
     ∷ to_le_bytes w16 0 ∷ to_le_bytes w32 unique  -- 30 its implementation use: flags and unique ID
     ∷ to_le_bytes w16 more  -- 36 length of implementation use
     ∷ [])

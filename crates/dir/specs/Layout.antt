@@ -1,5 +1,6 @@
 -- How the identifiers of a directory stand in its blocks.
 use Rattle.std.specs.Prelude.{◌≡◌, ◌⊎◌, ℕ, zero, suc, ◌+◌, ◌-◌, ◌/◌, ◌==◌, ◌||◌, nat_le, Bool, true, IsTrue, if◌then◌else◌, List, [], ◌∷◌, ◌++◌, length, take, drop}
+use Rattle.limits.specs.declared.TheConstants.{BLOCK_BYTES}
 use Rattle.ecma.specs.Descriptor.{padded}
 use Rattle.dir.specs.Identifier.{Identifier, plain_size, identifier}
 
@@ -18,19 +19,19 @@ unfoldable pub laid : ℕ → ℕ → List Identifier → List ℕ
 laid number at [] = []
 laid number at (x ∷ rest) =
     let end = at + plain_size (length x.name) in
-    let left = 2048 - end in
+    let left = BLOCK_BYTES - end in
     if stays rest left
     then identifier number x 0 ++ laid number end rest
     else identifier number x left ++ laid (number + 1) 0 rest
 
 -- the blocks that so many bytes take
 abbrev pub blocks_of : ℕ → ℕ
-blocks_of size = (size + 2047) / 2048
+blocks_of size = (size + (BLOCK_BYTES - 1)) / BLOCK_BYTES
 
 -- bytes as so many blocks, zeros behind them
 abbrev pub blocked : ℕ → List ℕ → List (List ℕ)
 blocked zero bytes = []
-blocked (suc count) bytes = padded (take 2048 bytes) ∷ blocked count (drop 2048 bytes)
+blocked (suc count) bytes = padded (take BLOCK_BYTES bytes) ∷ blocked count (drop BLOCK_BYTES bytes)
 
 -- the blocks of identifiers, the first block having this number
 abbrev pub identifier_blocks : ℕ → List Identifier → List (List ℕ)
@@ -38,12 +39,12 @@ identifier_blocks number xs = let bytes = laid number 0 xs in blocked (blocks_of
 
 -- the bytes of identifiers of which the first may be in this block from a place on, or in the next where the block is full
 abbrev pub onward : ℕ → ℕ → List Identifier → List ℕ
-onward number at xs = if at == 2048 then laid (number + 1) 0 xs else laid number at xs
+onward number at xs = if at == BLOCK_BYTES then laid (number + 1) 0 xs else laid number at xs
 
 -- the first identifier may be put at a place of a block
 abbrev pub Stands : ℕ → List Identifier → Type 0
-Stands at xs = (at ≡ 0) ⊎ IsTrue (stays xs (2048 - at))
+Stands at xs = (at ≡ 0) ⊎ IsTrue (stays xs (BLOCK_BYTES - at))
 
 -- where an identifier at a place ends, lengthened or not
 abbrev pub end_of : ℕ → Identifier → List Identifier → ℕ
-end_of at x rest = let end = at + plain_size (length x.name) in if stays rest (2048 - end) then end else 2048
+end_of at x rest = let end = at + plain_size (length x.name) in if stays rest (BLOCK_BYTES - end) then end else BLOCK_BYTES

@@ -1,5 +1,6 @@
 -- What reading one identifier of the data tells.
 use Rattle.std.specs.Prelude.{◌≡◌, ◌≢◌, ℕ, ◌+◌, ◌==◌, if◌then◌else◌, Bool, true, false, List, [], ◌∷◌, ◌≤◌, length, take, drop}
+use Rattle.limits.specs.declared.TheConstants.{BLOCK_BYTES}
 use Rattle.dir.specs.declared.fids.Fids.{Fids}
 use Rattle.dir.specs.Identifier.{Identifier}
 use Rattle.dir.specs.Split.{size_of, said_by, IsSplit, HasHead, IsPadded}
@@ -21,5 +22,5 @@ pub record Reads (is_first : Bool) (first : ℕ) (old new : Fids) (x : Identifie
   pub place : IsInPlace is_first x
   pub padded : IsPadded old.at (take (size_of old.«data».now) old.«data».now) (drop (size_of old.«data».now) old.«data».now)
   pub rest : new.«data».now ≡ drop (size_of old.«data».now) old.«data».now
-  pub at : new.at ≡ (if old.at + size_of old.«data».now == 2048 then 0 else old.at + size_of old.«data».now)
-  pub index : new.index ≡ (if old.at + size_of old.«data».now == 2048 then old.index + 1 else old.index)
+  pub at : new.at ≡ (if old.at + size_of old.«data».now == BLOCK_BYTES then 0 else old.at + size_of old.«data».now)
+  pub index : new.index ≡ (if old.at + size_of old.«data».now == BLOCK_BYTES then old.index + 1 else old.index)

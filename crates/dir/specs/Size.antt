@@ -1,6 +1,7 @@
 -- The size of a directory's data, from the lengths of its names.
 use Rattle.std.specs.Prelude.{◌≡◌, ℕ, ◌+◌, ◌-◌, ◌*◌, ◌/◌, ◌≤◌, if◌then◌else◌, List, [], ◌∷◌, fold, length, map}
 use Rattle.std.specs.List.{All}
+use Rattle.limits.specs.declared.TheConstants.{BLOCK_BYTES}
 use Rattle.osta.specs.Compressed.{compressed}
 use Rattle.dir.specs.declared.entry.Entry.{Entry}
 use Rattle.dir.specs.declared.size.DataSize.{DataSize}
@@ -24,7 +25,7 @@ parent_end = record { full = 0; used = 40 }
 abbrev pub next_end : End → ℕ → End
 next_end e len =
     let size = plain_size len in
-    if fits size (2048 - e.used) then record { full = e.full; used = e.used + size }
+    if fits size (BLOCK_BYTES - e.used) then record { full = e.full; used = e.used + size }
     else record { full = e.full + 1; used = size }
 
 -- the end of the last of names of these lengths, behind the parent
@@ -32,7 +33,7 @@ abbrev pub data_end : List ℕ → End
 data_end lens = fold next_end parent_end lens
 
 abbrev pub end_bytes : End → ℕ
-end_bytes e = e.full * 2048 + e.used
+end_bytes e = e.full * BLOCK_BYTES + e.used
 
 -- the lengths of the names of entries
 abbrev pub name_sizes : List (List ℕ × Entry) → List ℕ
@@ -56,5 +57,5 @@ BlocksAreFew = (lens : List ℕ) → All (λ len. len ≤ 255) lens → (data_en
 -- so a directory takes no more
 abbrev pub DirectoriesAreShort : Type 0
 DirectoriesAreShort =
-    (parent first size : ℕ) (entries : List (List ℕ × Entry)) (blocks : List (List ℕ)) → All (λ block. length block ≡ 2048) blocks
+    (parent first size : ℕ) (entries : List (List ℕ × Entry)) (blocks : List (List ℕ)) → All (λ block. length block ≡ BLOCK_BYTES) blocks
     → IsDirectory parent entries first size blocks → length blocks ≤ 1 + (40 + plain_sizes (name_sizes entries)) / 1720

@@ -1,5 +1,6 @@
 -- How the data of a directory splits into identifiers, by their lengths alone.
 use Rattle.std.specs.Prelude.{◌≡◌, ◌⊎◌, ℕ, ◌+◌, ◌-◌, ◌%◌, ◌^◌, ◌<◌, ◌≤◌, ◌==◌, if◌then◌else◌, IsTrue, false, Option, MatchOption, List, length, take, drop, replicate, slice_index}
+use Rattle.limits.specs.declared.TheConstants.{BLOCK_BYTES}
 use Rattle.ecma.specs.Field.{IsAt}
 use Rattle.ecma.specs.Numbers.{u16_at, u32_at}
 use Rattle.ecma.specs.Tag.{Sealed}
@@ -27,7 +28,7 @@ size_of bytes = rounded (38 + use_size bytes + name_size bytes)
 pub record IsSplit (at : ℕ) (bytes : List ℕ) : Type 0 where
   pub long : 38 ≤ length bytes
   pub whole : size_of bytes ≤ length bytes
-  pub within : IsTrue (fits (size_of bytes) (2048 - at))
+  pub within : IsTrue (fits (size_of bytes) (BLOCK_BYTES - at))
 
 -- the slices are those of the identifier at the front
 pub record Shows (fid : Fid) (bytes : List ℕ) : Type 0 where
@@ -62,7 +63,7 @@ pub record HasHead (number : ℕ) (bytes : List ℕ) : Type 0 where
 pub record IsLengthened (at : ℕ) (bytes behind : List ℕ) : Type 0 where
   pub some : 32 ≤ use_size bytes
   pub whole : use_size bytes % 4 ≡ 0
-  pub full : at + length bytes ≡ 2048
+  pub full : at + length bytes ≡ BLOCK_BYTES
   pub next : 38 ≤ length behind
   pub left : fits (plain_size (name_size behind)) (use_size bytes) ≡ false
 
@@ -93,4 +94,4 @@ pub record Fits (x : Identifier) : Type 0 where
 abbrev pub GivesNext : Fids → Option Fid → Fids → Type 0
 GivesNext old given new = MatchOption given (¬ IsSplit old.at old.«data».now × (new ≡ old)) (λ fid.
     IsSplit old.at old.«data».now × Shows fid old.«data».now × (new.«data».now ≡ drop (size_of old.«data».now) old.«data».now)
-    × (new.at ≡ (if old.at + size_of old.«data».now == 2048 then 0 else old.at + size_of old.«data».now)))
+    × (new.at ≡ (if old.at + size_of old.«data».now == BLOCK_BYTES then 0 else old.at + size_of old.«data».now)))
