@@ -1,6 +1,7 @@
 -- Up to four replies in four places.
 use Rattle.std.specs.Prelude.{◌≡◌, ℕ, ◌<◌, ◌≤◌, List, length, take}
 use Rattle.std.proofs.Common.{sym, ap, ◌∙◌, arith, length-take}
+use Rattle.limits.specs.declared.TheConstants.{KEPT_REPLIES}
 use Rattle.vat.specs.declared.record.Reply.{Reply}
 use Rattle.vat.specs.declared.record.Replies.TheInside.{Inside}
 use Rattle.vat.specs.Reply.{filled}
@@ -11,12 +12,12 @@ shown r = take r.count r.kept
 -- one to four, and nothing behind them
 pub record IsFilled (r : Inside) : Type 0 where
   pub some : 0 < r.count
-  pub bound : r.count ≤ 4
-  pub whole : r.kept ≡ filled 4 (take r.count r.kept)
-  pub places : length r.kept ≡ 4
+  pub bound : r.count ≤ KEPT_REPLIES
+  pub whole : r.kept ≡ filled KEPT_REPLIES (take r.count r.kept)
+  pub places : length r.kept ≡ KEPT_REPLIES
 
 abbrev pub filled_again : List Reply → Inside
-filled_again replies = record { kept = filled 4 replies; count = length replies }
+filled_again replies = record { kept = filled KEPT_REPLIES replies; count = length replies }
 
 pub inverse_again : (r : Inside) → IsFilled r → filled_again (shown r) ≡ r
 inverse_again r h =

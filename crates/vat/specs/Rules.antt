@@ -2,6 +2,7 @@
 use Rattle.std.specs.Prelude.{◌≡◌, ◌≢◌, ℕ, ◌+◌, ◌-◌, ◌*◌, ◌%◌, ◌<◌, ◌≤◌, ◌==◌, ◌⊎◌, not, List, [], ◌∷◌, length, take, drop, map, codes, replicate, slice_index, IsSome, unwrap_or, count_by}
 use Rattle.std.specs.Int.{w16, to_le_bytes}
 use Rattle.std.specs.List.{concat, flat_map, AllByRecursion}
+use Rattle.limits.specs.declared.TheConstants.{ADDRESSES, CLIENTS, FIRST_UNIQUE}
 use Rattle.ecma.specs.Field.{IsAt}
 use Rattle.ecma.specs.Numbers.{u16_at, u32_at, u64_at}
 use Rattle.osta.specs.Label.{IsLabelDstring}
@@ -78,7 +79,7 @@ record_text bytes i = take (record_size_at bytes) (drop (record_place bytes i) b
 pub record HasRecords (bytes : List ℕ) : Type 0 where
   pub identifier : IsAt 152 (concat ((0 ∷ codes "*udfburn sessions") ∷ replicate 14 0 ∷ [])) bytes
   pub version : IsSome (version_of (u16_at 184 bytes))
-  pub clients : count_at bytes ≤ 64
+  pub clients : count_at bytes ≤ CLIENTS
   pub each : (i : ℕ) → i < count_at bytes → SpellsRecord (version_at bytes) (commits_at bytes) (record_text bytes i)
 
 -- what stands in the four places of replies, where the version has them
@@ -101,9 +102,9 @@ used_of numbers = count_by (λ n. not (n == unused)) numbers
 
 pub record HasCounts (bytes : List ℕ) : Type 0 where
   pub few : 2 ≤ length (numbers_at bytes)
-  pub many : length (numbers_at bytes) ≤ 4097
+  pub many : length (numbers_at bytes) ≤ ADDRESSES
   pub used : used_of (numbers_at bytes) ≡ 1 + (u32_at 136 bytes + u32_at 140 bytes)
-  pub next_unique : 16 ≤ u32_at 188 bytes
+  pub next_unique : FIRST_UNIQUE ≤ u32_at 188 bytes
 
 abbrev pub table_rules : ℕ → List ℕ → List (VatFault × Type 0)
 table_rules icb bytes =

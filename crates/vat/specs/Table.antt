@@ -2,6 +2,7 @@
 use Rattle.std.specs.Prelude.{◌≡◌, ℕ, ◌+◌, ◌*◌, ◌^◌, ◌<◌, ◌≤◌, ◌≢◌, ◌↔◌, List, [], ◌∷◌, ◌++◌, length, codes, replicate, slice_get, Option, Some, is_some, IfSome, IsNone, All, AllPairs, count_by}
 use Rattle.std.specs.Int.{w16, w32, to_le_bytes}
 use Rattle.std.specs.List.{concat, flat_map}
+use Rattle.limits.specs.declared.TheConstants.{ADDRESSES, CLIENTS, FIRST_UNIQUE}
 use Rattle.osta.specs.Dstring.{dstring}
 use Rattle.osta.specs.Label.{IsLabel}
 use Rattle.vat.specs.declared.record.Record.{Record}
@@ -81,13 +82,13 @@ pub record Fits (t : Table) : Type 0 where
   pub first : IsNone t.previous ↔ (t.commits ≡ 0)
   pub previous : IfSome t.previous (λ p. p < unused)
   pub commits : t.commits < 2 ^ 32
-  pub next_unique : 16 ≤ t.next_unique
+  pub next_unique : FIRST_UNIQUE ≤ t.next_unique
   pub next_unique_fits : t.next_unique < 2 ^ 32
-  pub clients : length t.records ≤ 64
+  pub clients : length t.records ≤ CLIENTS
   pub records : All (IsKept t.version t.commits) t.records
   pub distinct : AllPairs (λ a b. a.client ≢ b.client) t.records
   pub few : 2 ≤ length t.entries
-  pub many : length t.entries ≤ 4097
+  pub many : length t.entries ≤ ADDRESSES
   pub numbers : All (λ e. IfSome e (λ n. n < unused)) t.entries
   -- the file set and the root are there
   pub file_set : (number : ℕ) × (slice_get t.entries 0 ≡ Some (Some number))
