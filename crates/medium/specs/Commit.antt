@@ -1,5 +1,6 @@
 -- How many blocks a commit may take, from sizes alone.
 use Rattle.std.specs.Prelude.{ℕ, ◌+◌, ◌*◌, ◌/◌, if◌then◌else◌, ◌==◌, nat_lt, List, [], length}
+use Rattle.limits.specs.declared.TheConstants.{INSIDE_BYTES}
 use Rattle.model.specs.Tree.{Name, Tree, names_at, parent_of, is_directory_at, paths_eq}
 use Rattle.model.specs.Operation.{Operation, code_of}
 use Rattle.model.specs.Operation.Operation.{Create, Replace, MakeDir, Rename, Remove}
@@ -9,7 +10,7 @@ use Rattle.medium.specs.Volume.{blocks_for}
 
 -- the most bytes of a file that stand in its entry
 abbrev pub most_inside : ℕ
-most_inside = 1872
+most_inside = INSIDE_BYTES
 
 -- the blocks of a file's bytes outside its entry
 abbrev pub file_blocks : ℕ → ℕ

@@ -1,5 +1,6 @@
 -- Small formats by which a volume is formatted and a request is refused and committed, so that what the laws ask can be met.
 use Rattle.std.specs.Prelude.{◌≡◌, ◌⊎◌, ℕ, ◌-◌, List, [], ◌∷◌, ◌++◌, replicate, Option, Some, None}
+use Rattle.limits.specs.declared.TheConstants.{FIRST_UNIQUE}
 use Rattle.model.specs.Operation.Operation.{Remove}
 use Rattle.model.specs.Session.{Request, ClientRecord, after_one, formatted}
 use Rattle.medium.specs.Formats.{Block, Fields, Table_, Formats, AreExact, AreBounded}
@@ -19,7 +20,7 @@ refusal = record { client = 7; number = 1; moment = 0; operation = Remove [] }
 
 abbrev pub table_with : Option ℕ → ℕ → List ClientRecord → Table_
 table_with previous commits records =
-    record { label = []; previous = previous; files = 0; directories = 1; next_identity = 16; commits = commits; records = records; entries = Some 0 ∷ Some 2 ∷ [] }
+    record { label = []; previous = previous; files = 0; directories = 1; next_identity = FIRST_UNIQUE; commits = commits; records = records; entries = Some 0 ∷ Some 2 ∷ [] }
 
 abbrev pub first_table : Table_
 first_table = table_with None 0 []

@@ -1,5 +1,6 @@
 -- The blocks that a request writes: which nodes, in which order and where, and the table behind them.
 use Rattle.std.specs.Prelude.{◌≡◌, ℕ, zero, suc, ◌+◌, ◌*◌, ◌-◌, ◌<◌, ◌≤◌, ◌==◌, if◌then◌else◌, List, [], ◌∷◌, ◌++◌, ◌⊎◌, length, take, drop, replicate, slice_set, Contains, Option, Some, None}
+use Rattle.limits.specs.declared.TheConstants.{BLOCK_BYTES}
 use Rattle.model.specs.Tree.{Name, Path, Content, parent_of, last_of, has_names, files_of, directories_of}
 use Rattle.model.specs.Tree.Content.{File, Directory}
 use Rattle.model.specs.Operation.{Operation, code_of}
@@ -16,12 +17,12 @@ use Rattle.medium.specs.Volume.{Medium, partition_start, blocks_for, NoneImitate
 use Rattle.medium.specs.Commit.{most_inside, table_size}
 
 abbrev pub zeros : Block
-zeros = replicate 2048 0
+zeros = replicate BLOCK_BYTES 0
 
 -- so many blocks of the bytes, zeros behind them
 abbrev pub blocks_from : ℕ → List ℕ → List Block
 blocks_from zero bytes = []
-blocks_from (suc n) bytes = (take 2048 bytes ++ replicate (2048 - length (take 2048 bytes)) 0) ∷ blocks_from n (drop 2048 bytes)
+blocks_from (suc n) bytes = (take BLOCK_BYTES bytes ++ replicate (BLOCK_BYTES - length (take BLOCK_BYTES bytes)) 0) ∷ blocks_from n (drop BLOCK_BYTES bytes)
 
 -- the bytes in blocks, zeros behind them in the last
 abbrev pub packed : List ℕ → List Block

@@ -1,5 +1,6 @@
 -- What a commit adds to a medium, and what stands on its fronts.
 use Rattle.std.specs.Prelude.{◌≡◌, ℕ, ◌+◌, ◌-◌, ◌<◌, ◌≤◌, List, [], ◌++◌, length, take, slice_get, Some}
+use Rattle.limits.specs.declared.TheConstants.{FORMAT_BLOCKS, FIRST_UNIQUE}
 use Rattle.model.specs.Tree.{files_of, directories_of}
 use Rattle.model.specs.Operation.{code_of}
 use Rattle.model.specs.Session.{State, Request, after_one}
@@ -42,15 +43,15 @@ module _ (formats : Formats) where
 
   -- The blocks of a format, and its table entry behind them.
   pub record IsFormat (capacity volume : ℕ) (label : List ℕ) (moment : ℕ) (blocks : List Block) (mark : Block) : Type 0 where
-    pub long : length blocks ≡ 261
+    pub long : length blocks ≡ FORMAT_BLOCKS - 1
     pub none : NoneImitates formats 0 blocks
     pub front : formats.IsFront label moment volume (take partition_start blocks)
     pub fits : volume ≤ capacity
     pub table : Table_
-    pub has : HasTable formats blocks 261 mark table moment
+    pub has : HasTable formats blocks (FORMAT_BLOCKS - 1) mark table moment
     pub label_is : table.label ≡ label
     pub commits : table.commits ≡ 0
-    pub next_identity : table.next_identity ≡ 16
+    pub next_identity : table.next_identity ≡ FIRST_UNIQUE
     pub records : table.records ≡ []
     pub table_length : length table.entries ≡ 2
     pub files : table.files ≡ 0

@@ -2,6 +2,7 @@
 use Rattle.std.specs.Prelude.{◌≡◌, ℕ, zero, suc, ◌+◌, ◌*◌, ◌-◌, ◌<◌, ◌≤◌, List, [], ◌∷◌, length, take, drop, slice_get, Option, Some}
 use Rattle.std.specs.List.{flat_map}
 use Rattle.std.specs.Int.{div_ceil}
+use Rattle.limits.specs.declared.TheConstants.{BLOCK_BYTES, PARTITION_START, FORMAT_BLOCKS, FIRST_UNIQUE}
 use Rattle.model.specs.Tree.{IsTree, files_of, directories_of}
 use Rattle.model.specs.Session.{State}
 use Rattle.model.specs.Graph.{Graph, Stored, Body, Entry, MakesTree}
@@ -17,10 +18,10 @@ Medium = List Block
 
 -- where the partition begins: a block number is an address less this
 abbrev pub partition_start : ℕ
-partition_start = 257
+partition_start = PARTITION_START
 
 abbrev pub blocks_for : ℕ → ℕ
-blocks_for size = div_ceil size 2048
+blocks_for size = div_ceil size BLOCK_BYTES
 
 -- so many bytes from this block number on are on the medium
 abbrev pub IsWithin : Medium → ℕ → ℕ → Type 0
@@ -67,7 +68,7 @@ module _ (formats : Formats) where
 
   -- The block imitates where it would stand at this address: it is the entry of a table there.
   abbrev pub IsTableEntry : Block → ℕ → Type 0
-  IsTableEntry block address = (257 ≤ address) × (fields : Fields) × (fields.kind ≡ Table) × formats.IsEntry fields block (address - partition_start)
+  IsTableEntry block address = (partition_start ≤ address) × (fields : Fields) × (fields.kind ≡ Table) × formats.IsEntry fields block (address - partition_start)
 
   -- none of the blocks, which lie from this address on, imitates
   abbrev pub NoneImitates : ℕ → List Block → Type 0
@@ -112,8 +113,8 @@ module _ (formats : Formats) where
     pub identities : HasIdentities state.tree state.next_identity
     pub files : table.files ≡ files_of state.tree
     pub directories : table.directories ≡ directories_of state.tree
-    pub few_commits : 2 * state.commits + 261 ≤ at
-    pub few_identities : state.next_identity ≤ 16 + state.commits
+    pub few_commits : 2 * state.commits + (FORMAT_BLOCKS - 1) ≤ at
+    pub few_identities : state.next_identity ≤ FIRST_UNIQUE + state.commits
 
   -- The state stands on the medium: the last table entry says it.
   pub record Stands (capacity volume : ℕ) (medium : Medium) (state : State) : Type 0 where
@@ -136,8 +137,8 @@ module _ (formats : Formats) where
   StoodBefore zero capacity volume medium state = Stands capacity volume medium state
   StoodBefore (suc steps) capacity volume medium state =
       (last : LastTable medium) × (previous : ℕ) × (last.table.previous ≡ Some previous)
-      × (before : LastTable (take (previous + 258) medium)) × (before.at ≡ previous + partition_start) × (before.table.commits + 1 ≡ last.table.commits)
-      × StoodBefore steps capacity volume (take (previous + 258) medium) state
+      × (before : LastTable (take (previous + (partition_start + 1)) medium)) × (before.at ≡ previous + partition_start) × (before.table.commits + 1 ≡ last.table.commits)
+      × StoodBefore steps capacity volume (take (previous + (partition_start + 1)) medium) state
 
   -- the state after the first `commits` commits
   abbrev pub Past : ℕ → ℕ → Medium → ℕ → State → Type 0
