@@ -1,5 +1,6 @@
 -- What the laws of the medium say by these formats, each the contract of a public function.
-use Rattle.std.specs.Prelude.{◌≡◌, ◌↔◌, ◌⊎◌, ℕ, ◌+◌, ◌≤◌, List, [], ◌∷◌, ◌++◌, length, take}
+use Rattle.std.specs.Prelude.{◌≡◌, ◌↔◌, ◌⊎◌, ℕ, ◌+◌, ◌-◌, ◌≤◌, List, [], ◌∷◌, ◌++◌, length, take}
+use Rattle.limits.specs.declared.TheConstants.{FORMAT_BLOCKS}
 use Rattle.drive.specs.Journal.{Event, held, Once, AddsFront}
 use Rattle.model.specs.Session.{State, Request, after_one, formatted}
 use Rattle.model.specs.Laws.{IsSound}
@@ -75,7 +76,7 @@ CommitAdvances =
 abbrev pub NothingBefore : Type 0
 NothingBefore =
     (capacity volume : ℕ) (label : List ℕ) (moment : ℕ) (blocks : List Block) (mark : Block) → IsFormat udf capacity volume label moment blocks mark
-    → (k : ℕ) (S : State) → k ≤ 261 → Stands udf capacity volume (take k (blocks ++ mark ∷ [])) S → ⊥
+    → (k : ℕ) (S : State) → k ≤ FORMAT_BLOCKS - 1 → Stands udf capacity volume (take k (blocks ++ mark ∷ [])) S → ⊥
 
 abbrev pub FormatStands : Type 0
 FormatStands =

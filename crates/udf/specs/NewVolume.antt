@@ -1,5 +1,6 @@
 -- The blocks of a format, as the encoders of the codecs give them.
 use Rattle.std.specs.Prelude.{◌≡◌, ℕ, ◌≤◌, List, [], ◌∷◌, ◌++◌, Some, None}
+use Rattle.limits.specs.declared.TheConstants.{FIRST_UNIQUE}
 use Rattle.ecma.specs.Descriptor.{padded}
 use Rattle.medium.specs.Formats.{Block}
 use Rattle.medium.specs.Step.{IsFormat}
@@ -25,7 +26,7 @@ first_table label = record {
   files = 0;
   directories = 1;
   version = Two;
-  next_unique = 16;
+  next_unique = FIRST_UNIQUE;
   commits = 0;
   records = [];
   entries = Some 0 ∷ Some 2 ∷ [];

@@ -1,5 +1,6 @@
 -- What the codecs read, in the words of the medium; nothing of it is lost but a table's version.
 use Rattle.std.specs.Prelude.{◌≡◌, ◌↔◌, ℕ, ◌+◌, ◌-◌, ◌<◌, ◌≤◌, Bool, true, false, List, map, length, slice_get, Some, All}
+use Rattle.limits.specs.declared.TheConstants.{PARTITION_BLOCKS}
 use Rattle.model.specs.Graph.{Entry}
 use Rattle.model.specs.Session.{Reply, ClientRecord}
 use Rattle.medium.specs.Formats.{Block, Kind, Place, Fields, Table_}
@@ -76,7 +77,7 @@ EntriesAgree = (fields : IcbFields) (block : Block) (location : ℕ) → IsEntry
 
 abbrev pub DirectoriesAgree : Type 0
 DirectoriesAgree =
-    (parent first size : ℕ) (entries : List (List ℕ × DirEntry)) (blocks : List Block) → All IsBlock blocks → first ≤ 449_743
+    (parent first size : ℕ) (entries : List (List ℕ × DirEntry)) (blocks : List Block) → All IsBlock blocks → first ≤ PARTITION_BLOCKS
     → IsDirectory parent entries first size blocks ↔ udf.IsDirectory parent (said_entries entries) first size blocks
 
 abbrev pub TablesAgree : Type 0
@@ -90,7 +91,7 @@ SizesAgree = (size : ℕ) → blocks_for size ≡ blocks_of size
 
 -- a block imitates where it is the entry of a table at its block number
 abbrev pub ImitationAgrees : Type 0
-ImitationAgrees = (block : Block) (address : ℕ) → IsTableEntry udf block address ↔ ((257 ≤ address) × IsVatIcb block (address - partition_start))
+ImitationAgrees = (block : Block) (address : ℕ) → IsTableEntry udf block address ↔ ((partition_start ≤ address) × IsVatIcb block (address - partition_start))
 
 -- the blocks of data are those that are looked at
 abbrev pub DataAgrees : Type 0

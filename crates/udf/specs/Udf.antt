@@ -1,5 +1,6 @@
 -- The byte formats of this profile: what blocks and bytes stand for by the codecs.
 use Rattle.std.specs.Prelude.{◌≡◌, ℕ, ◌<◌, ◌≤◌, List, length, slice_index, All}
+use Rattle.limits.specs.declared.TheConstants.{BLOCK_BYTES, PARTITION_BLOCKS}
 use Rattle.osta.specs.Compressed.{compressed}
 use Rattle.model.specs.Tree.{Name}
 use Rattle.model.specs.Graph.{Entry}
@@ -14,13 +15,13 @@ use Rattle.udf.specs.Words.{fields_of, entries_of, table_of}
 
 -- what a medium has at each address: 2,048 bytes
 pub record IsBlock (block : Block) : Type 0 where
-  pub size : length block ≡ 2048
+  pub size : length block ≡ BLOCK_BYTES
   pub bytes : (i : ℕ) → slice_index block i < 256
 
 -- the blocks hold a directory, from a block number on that an extent can begin at
 pub record HoldsDirectory (parent : ℕ) (entries : List Entry) (first size : ℕ) (blocks : List Block) : Type 0 where
   pub blocks_are : All IsBlock blocks
-  pub low : first ≤ 449_743
+  pub low : first ≤ PARTITION_BLOCKS
   pub is : IsDirectory parent (entries_of entries) first size blocks
 
 -- A table may have its sessions in either version: what it says is the same.
