@@ -2,6 +2,7 @@
 use Rattle.std.specs.Prelude.{◌≡◌, ◌⊎◌, ⊤, ℕ, ◌+◌, ◌<◌, ◌≤◌, ◌==◌, max, Bool, true, false, if◌then◌else◌, List, [], ◌∷◌, map}
 use Rattle.std.specs.List.{IsDistinct}
 use Rattle.std.specs.Str.{bytes_eq}
+use Rattle.limits.specs.declared.TheConstants.{PATH_NAMES, FIRST_UNIQUE}
 use Rattle.model.specs.Tree.{Name, Path}
 use Rattle.model.specs.Graph.{Graph, Stored, Entry, entries_of, is_directory, links_in, HasParent}
 
@@ -50,7 +51,7 @@ directories_in (Seen name address stored below rest) = (if is_directory stored t
 
 -- the identity of a node with this address that is below the next one
 abbrev pub IsDrawn : ℕ → ℕ → ℕ → Type 0
-IsDrawn next address identity = (address ≡ 1 → identity ≡ 0) × ((address ≡ 1 → ⊥) → (16 ≤ identity) × (identity < next))
+IsDrawn next address identity = (address ≡ 1 → identity ≡ 0) × ((address ≡ 1 → ⊥) → (FIRST_UNIQUE ≤ identity) × (identity < next))
 
 abbrev pub AreDrawn : ℕ → Forest → Type 0
 AreDrawn next End = ⊤
@@ -84,7 +85,7 @@ whole root below = Seen [] 1 root below End
 pub record IsWhole (graph : Graph) (next : ℕ) (root : Stored) (below : Forest) : Type 0 where
   pub walked : IsWalked graph 1 (whole root below)
   pub is_root : is_directory root ≡ true
-  pub shallow : height (whole root below) ≤ 17
+  pub shallow : height (whole root below) ≤ PATH_NAMES + 1
   pub drawn : AreDrawn next (whole root below)
   pub addresses : (after : Numbers) × Adds by_address (λ x. false) (whole root below) after
   pub identities : (after : Numbers) × Adds by_identity (λ x. false) (whole root below) after

@@ -1,6 +1,7 @@
 -- What was read of a medium, and is not read again.
 use Rattle.std.specs.Prelude.{◌≡◌, ◌==◌, ◌&&◌, ℕ, ⊤, Bool, List, take, Some, None, IfSome, get_or, slice_get, All}
 use Rattle.std.specs.HashMap.{get}
+use Rattle.limits.specs.declared.TheConstants.{PARTITION_START}
 use Rattle.icb.specs.Entry.{Fields, IsEntry}
 use Rattle.dir.specs.Directory.{IsDirectory}
 use Rattle.udf.specs.Udf.{IsBlock}
@@ -54,7 +55,7 @@ AreDirectories medium directories = (extent : Extent) → IfSome (get same_exten
 
 -- and so is the front
 pub record IsKnown (medium : List (List ℕ)) (known : Known) : Type 0 where
-  pub front : IfSome known.front (λ f. IsFront f.label f.moment f.capacity (take 257 medium))
+  pub front : IfSome known.front (λ f. IsFront f.label f.moment f.capacity (take PARTITION_START medium))
   pub entries : AreEntries medium known.entries
   pub before : AreDirectories medium known.before
   pub met : AreDirectories medium known.met

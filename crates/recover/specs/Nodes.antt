@@ -2,6 +2,7 @@
 use Rattle.std.specs.Prelude.{◌≡◌, ℕ, ◌+◌, ⊤, Bool, true, false, List, count_by}
 use Rattle.std.specs.Int.{div_ceil}
 use Rattle.std.specs.Map.{values_of}
+use Rattle.limits.specs.declared.TheConstants.{BLOCK_BYTES, PARTITION_START}
 use Rattle.dir.specs.declared.entry.Entry.{Entry}
 use Rattle.dir.specs.declared.entry.Kind.{Kind}
 use Rattle.dir.specs.declared.entry.Kind.TheVariants.{File, Directory}
@@ -21,12 +22,12 @@ links_of entries = 1 + count_by (λ (entry : Entry). is_directory entry.kind) (v
 
 -- the blocks of a node's bytes
 abbrev pub data_of : List (List ℕ) → Extent → List (List ℕ)
-data_of medium extent = blocks_at medium (extent.first + 257) (div_ceil extent.size 2048)
+data_of medium extent = blocks_at medium (extent.first + PARTITION_START) (div_ceil extent.size BLOCK_BYTES)
 
 -- why no directory was read from these blocks
 abbrev pub IsDirectoryRefused : Extent → List (List ℕ) → StoreFault → Type 0
 IsDirectoryRefused extent blocks Device = ⊤
 IsDirectoryRefused extent blocks Memory = ⊤
 IsDirectoryRefused extent blocks (Damaged block cause) =
-    (block ≡ extent.first + 257) × ((parent : ℕ) (entries : List (List ℕ × Entry)) → IsDirectory parent entries extent.first extent.size blocks → ⊥)
+    (block ≡ extent.first + PARTITION_START) × ((parent : ℕ) (entries : List (List ℕ × Entry)) → IsDirectory parent entries extent.first extent.size blocks → ⊥)
 IsDirectoryRefused extent blocks _ = ⊥

@@ -1,5 +1,6 @@
 -- Why a walk through the nodes of a tree ends: no tree has what it expects.
 use Rattle.std.specs.Prelude.{◌≡◌, ℕ, ◌<◌, ◌≤◌, ⊤, true, false, List, ◌++◌, length, IfSome, All}
+use Rattle.limits.specs.declared.TheConstants.{PATH_NAMES}
 use Rattle.dir.specs.declared.entry.Entry.{Entry as DirEntry}
 use Rattle.dir.specs.Directory.{IsDirectory}
 use Rattle.model.specs.Graph.{Graph, HasParent, MakesTree, Reach, Stored, is_directory as stored_is_directory}
@@ -20,7 +21,7 @@ use Rattle.recover.specs.Walk.{HasEntry, LeadsTo, LiesBelow, reached_in, uniques
 abbrev pub IsReachRefused : Walk → Named → StoreFault → Type 0
 IsReachRefused before node Memory = ⊤
 IsReachRefused before node (Damaged block cause) =
-    (entry_at : ℕ) → LeadsTo before.entries.now node.address entry_at → entry_at < before.at → reached_in before node.address ≡ false → node.depth ≤ 16 → ⊥
+    (entry_at : ℕ) → LeadsTo before.entries.now node.address entry_at → entry_at < before.at → reached_in before node.address ≡ false → node.depth ≤ PATH_NAMES → ⊥
 IsReachRefused before node _ = ⊥
 
 -- the node has no entry there with bytes that lie below, or its unique ID is not its own

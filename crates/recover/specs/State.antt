@@ -1,5 +1,6 @@
 -- What is kept by a state that was read back from a medium, and what it says.
 use Rattle.std.specs.Prelude.{◌≡◌, ℕ, ◌+◌, ◌-◌, ◌*◌, ◌≤◌, ⊤, List, length, take, Option, Some, slice_get}
+use Rattle.limits.specs.declared.TheConstants.{LEAST_CAPACITY, GREATEST_CAPACITY, PARTITION_START, FORMAT_BLOCKS, FIRST_UNIQUE}
 use Rattle.icb.specs.FileSet.{IsFileSet}
 use Rattle.model.specs.Graph.{MakesTree}
 use Rattle.model.specs.Identities.{HasIdentities}
@@ -20,16 +21,16 @@ use Rattle.recover.specs.Tables.{HasDataBelow, IsEntryAt, data_of}
 -- the table counts the root, and no more commits and unique IDs than the blocks below its entry leave room for
 pub record IsCounted (at : ℕ) (vat : Vat) : Type 0 where
   pub root : 1 ≤ vat.directories
-  pub few_commits : 2 * vat.sessions.commits + 261 ≤ at
-  pub few_unique : vat.sessions.next_unique ≤ 16 + vat.sessions.commits
+  pub few_commits : 2 * vat.sessions.commits + (FORMAT_BLOCKS - 1) ≤ at
+  pub few_unique : vat.sessions.next_unique ≤ FIRST_UNIQUE + vat.sessions.commits
 
 -- the state of a table whose entry stands at this address, on a drive of this capacity
 pub record IsSound (at capacity : ℕ) (state : State) : Type 0 where
-  pub low : 512 ≤ state.capacity
-  pub high : state.capacity ≤ 450_000
+  pub low : LEAST_CAPACITY ≤ state.capacity
+  pub high : state.capacity ≤ GREATEST_CAPACITY
   pub fits : state.capacity ≤ capacity
   pub bytes : List ℕ
-  pub table : IsTableAt (at - 257) (view state.vat) bytes
+  pub table : IsTableAt (at - PARTITION_START) (view state.vat) bytes
   pub counted : IsCounted at state.vat
   -- each node has an entry beside that of the file set
   pub nodes : 1 + (state.vat.files + state.vat.directories) ≤ length state.vat.entries.items
@@ -45,7 +46,7 @@ pub record HasFileSet (medium : List (List ℕ)) (entries : List (Option ℕ)) (
   pub number : ℕ
   pub used : slice_get entries 0 ≡ Some (Some number)
   pub block : List ℕ
-  pub there : slice_get medium (number + 257) ≡ Some block
+  pub there : slice_get medium (number + PARTITION_START) ≡ Some block
   pub is : IsFileSet (record { label = label; moment = moment }) block
 
 -- why the file set was not read: there is none with this label and moment
@@ -59,11 +60,11 @@ pub record IsDescribed (capacity : ℕ) (medium : List (List ℕ)) (at : ℕ) (s
   pub entry : TableEntry
   pub is_entry : IsEntryAt medium at entry
   pub below : HasDataBelow at entry
-  pub table : IsTableAt (at - 257) (view state.vat) (data_of medium entry)
+  pub table : IsTableAt (at - PARTITION_START) (view state.vat) (data_of medium entry)
   pub moment : entry.moment ≡ state.moment
   pub label : state.vat.label ≡ state.label
   pub formatted : ℕ  -- the moment of the format
-  pub front : IsFront state.label formatted state.capacity (take 257 medium)
+  pub front : IsFront state.label formatted state.capacity (take PARTITION_START medium)
   pub fits : state.capacity ≤ capacity
   pub set : HasFileSet (take at medium) state.vat.entries.items state.label formatted
 
@@ -80,7 +81,7 @@ pub record HasTree (medium : List (List ℕ)) (vat : Vat) : Type 0 where
 abbrev pub IsTreeRefused : List (List ℕ) → ℕ → Vat → StoreFault → Type 0
 IsTreeRefused medium at vat Device = ⊤
 IsTreeRefused medium at vat Memory = ⊤
-IsTreeRefused medium at vat (Damaged block cause) = HasTree medium vat → 2 * vat.sessions.commits + 261 ≤ at → vat.sessions.next_unique ≤ 16 + vat.sessions.commits → ⊥
+IsTreeRefused medium at vat (Damaged block cause) = HasTree medium vat → 2 * vat.sessions.commits + (FORMAT_BLOCKS - 1) ≤ at → vat.sessions.next_unique ≤ FIRST_UNIQUE + vat.sessions.commits → ⊥
 IsTreeRefused medium at vat _ = ⊥
 
 -- What was read is what stands where a table's entry does: the state that the blocks below it tell, on a drive of this

@@ -1,6 +1,7 @@
 -- The tables of a medium, and why none is read.
 use Rattle.std.specs.Prelude.{◌≡◌, ℕ, ◌+◌, ◌-◌, ◌≤◌, ◌⊎◌, ⊤, List, Option, Some, None, slice_get}
 use Rattle.std.specs.Int.{div_ceil}
+use Rattle.limits.specs.declared.TheConstants.{BLOCK_BYTES, PARTITION_START}
 use Rattle.ecma.specs.FirstFault.{IsFirst}
 use Rattle.icb.specs.declared.entry.Kind.TheVariants as kinds
 use Rattle.icb.specs.Entry.{Fields, IsEntry}
@@ -18,7 +19,7 @@ use Rattle.recover.specs.Blocks.{bytes_at}
 pub record HasEntry (medium : List (List ℕ)) (at : ℕ) : Type 0 where
   pub block : List ℕ
   pub there : slice_get medium at ≡ Some block
-  pub is : IsVatIcb block (at - 257)
+  pub is : IsVatIcb block (at - PARTITION_START)
 
 -- none is, from this address on
 abbrev pub HasNoneFrom : List (List ℕ) → ℕ → Type 0
@@ -26,8 +27,8 @@ HasNoneFrom medium from = (at : ℕ) → from ≤ at → HasEntry medium at → 
 
 -- the address of the last entry of a table, if there is one
 abbrev pub IsLast : List (List ℕ) → Option ℕ → Type 0
-IsLast medium None = HasNoneFrom medium 257
-IsLast medium (Some at) = (257 ≤ at) × HasEntry medium at × HasNoneFrom medium (at + 1)
+IsLast medium None = HasNoneFrom medium PARTITION_START
+IsLast medium (Some at) = (PARTITION_START ≤ at) × HasEntry medium at × HasNoneFrom medium (at + 1)
 
 -- what the entry of a table says
 abbrev pub table_fields : TableEntry → Fields
@@ -37,14 +38,14 @@ table_fields e = record { kind = kinds.Vat; moment = e.moment; links = 0; unique
 pub record IsEntryAt (medium : List (List ℕ)) (at : ℕ) (entry : TableEntry) : Type 0 where
   pub block : List ℕ
   pub there : slice_get medium at ≡ Some block
-  pub is : IsEntry (table_fields entry) (at - 257) block
+  pub is : IsEntry (table_fields entry) (at - PARTITION_START) block
 
 -- the data of the table lie below an address
 abbrev pub HasDataBelow : ℕ → TableEntry → Type 0
-HasDataBelow at e = e.first + 257 + div_ceil e.size 2048 ≤ at
+HasDataBelow at e = e.first + PARTITION_START + div_ceil e.size BLOCK_BYTES ≤ at
 
 abbrev pub data_of : List (List ℕ) → TableEntry → List ℕ
-data_of medium e = bytes_at medium (e.first + 257) e.size
+data_of medium e = bytes_at medium (e.first + PARTITION_START) e.size
 
 -- why an entry was not read: there is none, or its data do not lie below it
 abbrev pub IsEntryRefused : List (List ℕ) → ℕ → StoreFault → Type 0
@@ -58,7 +59,7 @@ abbrev pub IsTableRefused : ℕ → TableEntry → List ℕ → StoreFault → T
 IsTableRefused icb e bytes Device = ⊤
 IsTableRefused icb e bytes Memory = ⊤
 IsTableRefused icb e bytes (Damaged block cause) =
-    (block ≡ e.first + 257) × (fault : VatFault) × (cause ≡ number_of_fault fault) × IsFirst (table_rules icb bytes) fault
+    (block ≡ e.first + PARTITION_START) × (fault : VatFault) × (cause ≡ number_of_fault fault) × IsFirst (table_rules icb bytes) fault
 IsTableRefused icb e bytes _ = ⊥
 
 -- the table whose entry stands at this address
@@ -66,13 +67,13 @@ pub record HasTable (medium : List (List ℕ)) (at : ℕ) (table : Table) : Type
   pub entry : TableEntry
   pub is_entry : IsEntryAt medium at entry
   pub below : HasDataBelow at entry
-  pub is : IsTableAt (at - 257) table (data_of medium entry)
+  pub is : IsTableAt (at - PARTITION_START) table (data_of medium entry)
 
 -- why no table was read whose entry stands at this address
 abbrev pub IsAtRefused : List (List ℕ) → ℕ → StoreFault → Type 0
 IsAtRefused medium at fault =
     IsEntryRefused medium at fault
-    ⊎ ((e : TableEntry) × IsEntryAt medium at e × HasDataBelow at e × IsTableRefused (at - 257) e (data_of medium e) fault)
+    ⊎ ((e : TableEntry) × IsEntryAt medium at e × HasDataBelow at e × IsTableRefused (at - PARTITION_START) e (data_of medium e) fault)
 
 -- why a link to this address, from a table of so many commits, leads to no table: none is there, or not that of one commit less
 abbrev pub IsLinkRefused : List (List ℕ) → ℕ → ℕ → StoreFault → Type 0
@@ -84,11 +85,11 @@ IsLinkRefused medium at commits fault =
 abbrev pub IsBefore : List (List ℕ) → ℕ → Option ℕ → Type 0
 IsBefore medium at None = (table : Table) × HasTable medium at table × (table.previous ≡ None)
 IsBefore medium at (Some earlier) =
-    (table : Table) × HasTable medium at table × (number : ℕ) × (table.previous ≡ Some number) × (earlier ≡ number + 257)
+    (table : Table) × HasTable medium at table × (number : ℕ) × (table.previous ≡ Some number) × (earlier ≡ number + PARTITION_START)
     × (before : Table) × HasTable medium earlier before × (before.commits + 1 ≡ table.commits)
 
 -- why no step of the chain was taken: no table is at this address, or its link leads to none of one commit less
 abbrev pub IsBeforeRefused : List (List ℕ) → ℕ → StoreFault → Type 0
 IsBeforeRefused medium at fault =
     IsAtRefused medium at fault
-    ⊎ ((table : Table) × HasTable medium at table × (number : ℕ) × (table.previous ≡ Some number) × IsLinkRefused medium (number + 257) table.commits fault)
+    ⊎ ((table : Table) × HasTable medium at table × (number : ℕ) × (table.previous ≡ Some number) × IsLinkRefused medium (number + PARTITION_START) table.commits fault)

@@ -1,6 +1,7 @@
 -- What the walk through the nodes of a tree sees, and what it keeps.
 use Rattle.std.specs.Prelude.{◌≡◌, ℕ, ◌+◌, ◌<◌, ◌≤◌, ◌^◌, ◌-◌, nat_eq, List, [], Option, Some, None, take, slice_get, All}
 use Rattle.std.specs.Int.{div_ceil}
+use Rattle.limits.specs.declared.TheConstants.{BLOCK_BYTES, PARTITION_START, PARTITION_BLOCKS, PATH_NAMES}
 use Rattle.drive.specs.Journal.{Event, held}
 use Rattle.icb.specs.declared.entry.Kind.{Kind as IcbKind}
 use Rattle.icb.specs.declared.entry.Kind.TheVariants as icb_kinds
@@ -25,8 +26,8 @@ use Rattle.recover.specs.Nodes.{data_of, is_directory, links_of}
 -- there are bytes, and they lie within the largest partition and below an address
 pub record LiesBelow (at : ℕ) (extent : Extent) : Type 0 where
   pub some : 0 < extent.size
-  pub first : extent.first ≤ 449_743
-  pub below : extent.first + 257 + div_ceil extent.size 2048 ≤ at
+  pub first : extent.first ≤ PARTITION_BLOCKS
+  pub below : extent.first + PARTITION_START + div_ceil extent.size BLOCK_BYTES ≤ at
 
 abbrev pub icb_kind : Kind → IcbKind
 icb_kind File = icb_kinds.File
@@ -61,7 +62,7 @@ pub record HasNames (medium : List (List ℕ)) (above count : ℕ) (extent : Ext
 pub record LeadsTo (table : List (Option ℕ)) (address entry_at : ℕ) : Type 0 where
   pub number : ℕ
   pub used : slice_get table address ≡ Some (Some number)
-  pub is : entry_at ≡ number + 257
+  pub is : entry_at ≡ number + PARTITION_START
 
 -- the virtual addresses that were reached, and the unique IDs that were seen
 abbrev pub reached_in : Walk → Numbers
@@ -80,7 +81,7 @@ Tallied before n after = (before ≤ after) × (after < 2 ^ 32 - 1 → after ≡
 
 -- what the walk keeps of the nodes that it saw between two states, at a depth
 pub record Counts (before after : Walk) (depth : ℕ) (forest : Forest) : Type 0 where
-  pub shallow : depth + height forest ≤ 17
+  pub shallow : depth + height forest ≤ PATH_NAMES + 1
   pub drawn : AreDrawn before.next_unique forest
   pub reached : Adds by_address (reached_in before) forest (reached_in after)
   pub uniques : Adds by_identity (uniques_in before) forest (uniques_in after)
