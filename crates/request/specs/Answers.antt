@@ -2,6 +2,7 @@
 use Rattle.std.specs.Prelude.{ℕ, ◌<◌, ◌≤◌, ◌^◌, List, [], ◌∷◌, ◌++◌, length}
 use Rattle.std.specs.List.{flat_map}
 use Rattle.std.specs.Int.{w16, w32, w64, to_le_bytes}
+use Rattle.limits.specs.declared.TheConstants.{FILE_BYTES}
 use Rattle.request.specs.declared.answer.Listed.{Listed}
 use Rattle.request.specs.declared.answer.NodeStatus.{NodeStatus}
 use Rattle.request.specs.declared.answer.Answer.{Answer}
@@ -79,6 +80,6 @@ IsAnswer answer.Damaged = Unit {0}
 IsAnswer answer.NotFound = Unit {0}
 IsAnswer answer.IsDirectory = Unit {0}
 IsAnswer answer.NotDirectory = Unit {0}
-IsAnswer (answer.Data bytes) = length bytes ≤ 1048576
+IsAnswer (answer.Data bytes) = length bytes ≤ FILE_BYTES
 IsAnswer (answer.Names names) = IsListing names
 IsAnswer (answer.Node status) = (status.moment < 2 ^ 64) × (status.size < 2 ^ 64)

@@ -1,12 +1,13 @@
 -- The names in a directory.
 use Rattle.std.specs.Prelude.{◌≤◌, List, length, All}
+use Rattle.limits.specs.declared.TheConstants.{DIRECTORY_NAMES}
 use Rattle.osta.specs.Name.{IsName}
 use Rattle.request.specs.declared.answer.Listed.{Listed}
 
 abbrev pub IsNamed : Listed → Type 0
 IsNamed listed = IsName listed.name
 
--- at most 512 names, of which each may stand in a directory
+-- no more names than a directory has at most, of which each may stand in a directory
 pub record IsListing (names : List Listed) : Type 0 where
-  pub few : length names ≤ 512
+  pub few : length names ≤ DIRECTORY_NAMES
   pub named : All IsNamed names

@@ -1,11 +1,12 @@
 -- Paths, and their texts.
 use Rattle.std.specs.Prelude.{ℕ, ◌≤◌, List, [], ◌∷◌, length, All}
 use Rattle.std.specs.List.{flat_map}
+use Rattle.limits.specs.declared.TheConstants.{MESSAGE_PATH_NAMES}
 use Rattle.osta.specs.Name.{IsName}
 
--- at most 255 names, of which each may stand in a directory
+-- no more names than a path of a message has at most, of which each may stand in a directory
 pub record IsPath (path : List (List ℕ)) : Type 0 where
-  pub few : length path ≤ 255
+  pub few : length path ≤ MESSAGE_PATH_NAMES
   pub names : All IsName path
 
 -- a name behind a slash

@@ -2,6 +2,7 @@
 use Rattle.std.specs.Prelude.{◌≡◌, ℕ, ◌&&◌, zero, suc, List, [], ◌∷◌, length, take, drop, Result, Ok, Err, Bool, nat_lt, ◌==◌, is_none, if◌then◌else◌}
 use Rattle.std.specs.Int.{Width, w16, w32, w64, byte_len, from_le_bytes}
 use Rattle.std.specs.Str.{is_utf8}
+use Rattle.limits.specs.declared.TheConstants.{FILE_BYTES, MOMENT_LIMIT}
 use Rattle.osta.specs.FirstFault.{first_fault}
 use Rattle.osta.specs.Name.{name_faults}
 use Rattle.request.specs.declared.message.Cause.{Cause}
@@ -52,7 +53,7 @@ number_above_zero_at bytes = do
 unfoldable pub moment_at : List ℕ → Result (ℕ × List ℕ) Cause
 moment_at bytes = do
   n ← number_at w64 bytes
-  if nat_lt n.0 4102444800000000 then Ok n else Err cause.Moment
+  if nat_lt n.0 MOMENT_LIMIT then Ok n else Err cause.Moment
 
 -- UTF-8 that has none of the faults of a name
 unfoldable pub is_name : List ℕ → Bool
@@ -81,7 +82,7 @@ path_at (count ∷ bytes) = names_at count bytes
 unfoldable pub data_at : List ℕ → Result (List ℕ × List ℕ) Cause
 data_at bytes = do
   n ← number_at w32 bytes
-  if nat_lt 1048576 n.0 then Err cause.Extra else (if nat_lt (length n.1) n.0 then Err cause.Short else Ok (take n.0 n.1, drop n.0 n.1))
+  if nat_lt FILE_BYTES n.0 then Err cause.Extra else (if nat_lt (length n.1) n.0 then Err cause.Short else Ok (take n.0 n.1, drop n.0 n.1))
 
 unfoldable pub op_at : Change → List ℕ → Result (Op × List ℕ) Cause
 op_at change.Create bytes = do

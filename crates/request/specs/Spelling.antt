@@ -2,6 +2,7 @@
 use Rattle.std.specs.Prelude.{ℕ, ◌<◌, ◌≤◌, ◌^◌, List, ◌∷◌, ◌++◌, length}
 use Rattle.std.specs.List.{flat_map}
 use Rattle.std.specs.Int.{w16, w32, w64, to_le_bytes}
+use Rattle.limits.specs.declared.TheConstants.{FILE_BYTES, MOMENT_LIMIT}
 use Rattle.request.specs.Path.{IsPath}
 use Rattle.request.specs.declared.message.Op.{Op}
 use Rattle.request.specs.declared.message.Op.TheVariants.{Create, Replace, MakeDir, Rename, Remove}
@@ -56,8 +57,8 @@ payload_of (Changes client number moment op) =
 payload_of (Asks query) = query_kind query ∷ path_field (query_path query)
 
 abbrev pub IsOp : Op → Type 0
-IsOp (Create path bytes) = IsPath path × (length bytes ≤ 1048576)
-IsOp (Replace path bytes) = IsPath path × (length bytes ≤ 1048576)
+IsOp (Create path bytes) = IsPath path × (length bytes ≤ FILE_BYTES)
+IsOp (Replace path bytes) = IsPath path × (length bytes ≤ FILE_BYTES)
 IsOp (MakeDir path) = IsPath path
 IsOp (Rename from to) = IsPath from × IsPath to
 IsOp (Remove path) = IsPath path
@@ -67,7 +68,7 @@ pub record IsChange (client number moment : ℕ) (op : Op) : Type 0 where
   pub client_fits : client < 2 ^ 64
   pub number_above_zero : 0 < number
   pub number_fits : number < 2 ^ 64
-  pub moment_in_range : moment < 4102444800000000
+  pub moment_in_range : moment < MOMENT_LIMIT
   pub op_in_range : IsOp op
 
 -- what can be said
