@@ -1,5 +1,6 @@
 -- The words of each command of `udfburn`.
 use Rattle.std.specs.Prelude.{◌≡◌, ℕ, ◌≤◌, ◌<◌, List, [], ◌∷◌, ◌++◌, codes}
+use Rattle.limits.specs.declared.TheConstants.{LEAST_CAPACITY, GREATEST_CAPACITY, MOMENT_LIMIT}
 use Rattle.words.specs.Number.{Says}
 use Rattle.words.specs.declared.command.Command.{Command}
 use Rattle.words.specs.declared.command.Command.TheVariants.{Format, Apply, List as Listing, Get, Log, Check, Send}
@@ -8,7 +9,7 @@ use Rattle.words.specs.declared.command.Medium.TheVariants.{Image, Memory}
 
 -- a capacity that a volume may have, in blocks
 abbrev pub IsCapacity : ℕ → Type 0
-IsCapacity n = (512 ≤ n) × (n ≤ 450000)
+IsCapacity n = (LEAST_CAPACITY ≤ n) × (n ≤ GREATEST_CAPACITY)
 
 -- `IMAGE`, or `mem:` and a capacity
 abbrev pub Names : List ℕ → Medium → Type 0
@@ -28,7 +29,7 @@ AsksApply words (Send socket) = ⊥
 -- what stands behind `format`
 abbrev pub AsksFormat : List (List ℕ) → Command → Type 0
 AsksFormat words (Format image label moment capacity) = (first second : List ℕ) × (words ≡ image.now ∷ label.now ∷ first ∷ second ∷ [])
-    × Says first moment × (moment < 4102444800000000) × Says second capacity × IsCapacity capacity
+    × Says first moment × (moment < MOMENT_LIMIT) × Says second capacity × IsCapacity capacity
 AsksFormat words (Apply medium) = ⊥
 AsksFormat words (Listing image path) = ⊥
 AsksFormat words (Get image path) = ⊥
