@@ -1,6 +1,7 @@
 -- How many blocks a commit may take, reckoned from the sizes of what it writes.
 use Rattle.std.specs.Prelude.{◌≡◌, ℕ, ◌+◌, ◌*◌, ◌<◌, ◌≤◌, List, [], ◌∷◌, length, map, take, slice_index_or, Option, Some, None, All}
 use Rattle.std.specs.Int.{div_ceil}
+use Rattle.limits.specs.declared.TheConstants.{BLOCK_BYTES}
 use Rattle.model.specs.Tree.{Name}
 use Rattle.model.specs.Operation.{code_of}
 use Rattle.model.specs.Session.{State, Request}
@@ -69,4 +70,4 @@ NamesAreShort = (names : List Name) → All (λ name. spelled name ≤ 255) name
 
 -- a file's bytes, where they are outside its entry, and the entry
 abbrev pub FilesAreCounted : Type 0
-FilesAreCounted = (bytes : List ℕ) → 2 * div_ceil (length (outside bytes)) 2048 + 1 ≡ most_for_file bytes
+FilesAreCounted = (bytes : List ℕ) → 2 * div_ceil (length (outside bytes)) BLOCK_BYTES + 1 ≡ most_for_file bytes

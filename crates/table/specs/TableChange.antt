@@ -1,6 +1,7 @@
 -- What a table becomes: by a reply that is kept, and by a node that is made, moved or removed.
 use Rattle.std.specs.Prelude.{◌≡◌, ◌≢◌, ℕ, ◌+◌, ◌-◌, ◌<◌, ◌≤◌, ◌==◌, if◌then◌else◌, List, [], ◌∷◌, ◌++◌, length, take, drop, map, slice_get, Option, Some, None, All, ◌⊎◌}
 use Rattle.std.specs.List.{list_any}
+use Rattle.limits.specs.declared.TheConstants.{PARTITION_START, ADDRESSES, CLIENTS, KEPT_REPLIES}
 use Rattle.dir.specs.declared.entry.Kind.{Kind}
 use Rattle.dir.specs.declared.entry.Kind.TheVariants.{File, Directory}
 use Rattle.vat.specs.declared.record.Record.{Record}
@@ -11,7 +12,7 @@ use Rattle.table.specs.Below.{IsUsed}
 
 -- the record of a client that was answered once more
 abbrev pub answered : ℕ → Reply → Record → Record
-answered number reply kept = record { client = kept.client; latest = number; replies = take 4 (reply ∷ kept.replies) }
+answered number reply kept = record { client = kept.client; latest = number; replies = take KEPT_REPLIES (reply ∷ kept.replies) }
 
 -- and any other client's record as it was
 abbrev pub answered_if : ℕ → ℕ → Reply → Record → Record
@@ -30,13 +31,13 @@ with_reply client number reply records =
 -- the number is the client's next one, and a client with no record finds room for one
 pub record IsNext (client number : ℕ) (records : List Record) : Type 0 where
   pub known : All (λ r. r.client ≡ client → number ≡ r.latest + 1) records
-  pub unknown : All (λ r. r.client ≢ client) records → (number ≡ 1) × (length records < 64)
+  pub unknown : All (λ r. r.client ≢ client) records → (number ≡ 1) × (length records < CLIENTS)
 
 -- the table of the next commit, which answered a client's request, where the entry of the table before is at an address
 abbrev pub committed : ℕ → ℕ → ℕ → ℕ → Table → Table
 committed at client number code t = record {
   label = t.label;
-  previous = Some (at - 257);
+  previous = Some (at - PARTITION_START);
   files = t.files;
   directories = t.directories;
   version = Two;
@@ -65,7 +66,7 @@ with_nodes files directories next_unique entries t = record {
 
 -- an entry is there and unused, or the next behind the last may be
 abbrev pub IsFree : ℕ → List (Option ℕ) → Type 0
-IsFree address entries = (slice_get entries address ≡ Some None) ⊎ ((address ≡ length entries) × (address < 4097))
+IsFree address entries = (slice_get entries address ≡ Some None) ⊎ ((address ≡ length entries) × (address < ADDRESSES))
 
 -- a node was made
 abbrev pub added : Kind → ℕ → ℕ → Table → Table
