@@ -1,5 +1,6 @@
 -- The blocks of a format, one by one and all together, and what a call of `format` leaves of them on a drive.
-use Rattle.std.specs.Prelude.{◌≡◌, ◌⊎◌, ℕ, ◌+◌, ◌<◌, ◌≤◌, min, Bool, IsTrue, List, [], ◌∷◌, ◌++◌, All, length, take, drop, slice_index_or, Some}
+use Rattle.std.specs.Prelude.{◌≡◌, ◌⊎◌, ℕ, ◌+◌, ◌-◌, ◌<◌, ◌≤◌, min, Bool, IsTrue, List, [], ◌∷◌, ◌++◌, All, length, take, drop, slice_index_or, Some}
+use Rattle.limits.specs.declared.TheConstants.{GREATEST_CAPACITY, PARTITION_START, FORMAT_BLOCKS}
 use Rattle.ecma.specs.Descriptor.{padded}
 use Rattle.icb.specs.Entry.{IsEntry}
 use Rattle.icb.specs.FileSet.{IsFileSet}
@@ -26,7 +27,7 @@ pub record Words : Type 0 where
 
 -- those of a format with this label and moment on a drive of this capacity
 abbrev pub words_on : ℕ → List ℕ → ℕ → Words
-words_on capacity label moment = record { volume = min capacity 450_000; label = label; moment = moment }
+words_on capacity label moment = record { volume = min capacity GREATEST_CAPACITY; label = label; moment = moment }
 
 abbrev pub words_of : Parts → Words
 words_of parts = record { volume = parts.capacity; label = parts.label; moment = parts.moment }
@@ -38,14 +39,14 @@ IsFirstTable label block = (bytes : List ℕ) × IsTable (first_table label) byt
 
 -- the block stands at this address of a volume that is formatted with these words
 pub record IsBlockAt (words : Words) (at : ℕ) (block : Block) : Type 0 where
-  pub front : at < 257 → IsFrontBlock words.label words.moment words.volume at block
-  pub set : at ≡ 257 → IsFileSet (record { label = words.label; moment = words.moment }) block
-  pub names : at ≡ 258 → IsDirectory 1 [] 1 40 (block ∷ [])
-  pub root : at ≡ 259 → IsEntry (root_fields words.moment) 1 block
-  pub table : at ≡ 260 → IsFirstTable words.label block
-  pub mark : at ≡ 261 → IsEntry (table_fields words.moment) 4 block
+  pub front : at < PARTITION_START → IsFrontBlock words.label words.moment words.volume at block
+  pub set : at ≡ PARTITION_START → IsFileSet (record { label = words.label; moment = words.moment }) block
+  pub names : at ≡ PARTITION_START + 1 → IsDirectory 1 [] 1 40 (block ∷ [])
+  pub root : at ≡ PARTITION_START + 2 → IsEntry (root_fields words.moment) 1 block
+  pub table : at ≡ PARTITION_START + 3 → IsFirstTable words.label block
+  pub mark : at ≡ FORMAT_BLOCKS - 1 → IsEntry (table_fields words.moment) 4 block
 
--- the blocks are those of a format with these words, all 262
+-- the blocks are those of a format with these words, all of them
 pub record IsFormatOf (words : Words) (blocks : List Block) : Type 0 where
   pub bytes : All IsBlock blocks
   pub front : List Block
@@ -85,18 +86,18 @@ pub record AreBlocks (words : Words) (from to : ℕ) (blocks : List Block) : Typ
 -- ---- what a call leaves
 
 -- On the fronts of a journal from the one before on there is what was there, and behind it the blocks that were missing.
--- Before the last of the 262 nothing stands, whatever drive and volume it is read in, and with it the new volume does.
+-- Before the last of them nothing stands, whatever drive and volume it is read in, and with it the new volume does.
 pub record HoldsFronts (capacity : ℕ) (words : Words) (blocks : List Block) (before behind : List Event) : Type 0 where
   pub began : held before ≡ take (next_of before) blocks
   pub each : (k : ℕ) → length before ≤ k → held (take k behind) ≡ take (next_of (take k behind)) blocks
-  pub nothing : (k other_capacity other_volume : ℕ) (state : State) → length before ≤ k → next_of (take k behind) < 262 → Stands udf other_capacity other_volume (held (take k behind)) state → ⊥
-  pub new : (k : ℕ) → length before ≤ k → next_of (take k behind) ≡ 262 → Stands udf capacity words.volume (held (take k behind)) (formatted words.moment)
+  pub nothing : (k other_capacity other_volume : ℕ) (state : State) → length before ≤ k → next_of (take k behind) < FORMAT_BLOCKS → Stands udf other_capacity other_volume (held (take k behind)) state → ⊥
+  pub new : (k : ℕ) → length before ≤ k → next_of (take k behind) ≡ FORMAT_BLOCKS → Stands udf capacity words.volume (held (take k behind)) (formatted words.moment)
 
 -- The format was finished: the blocks that were missing are written, and on an honest drive the new volume stands.
 pub record IsFormatted (capacity : ℕ) (words : Words) (before behind : List Event) (honest : Bool) : Type 0 where
   pub blocks : List Block
   pub is : IsFormatOf words blocks
-  pub short : next_of before ≤ 262
+  pub short : next_of before ≤ FORMAT_BLOCKS
   pub journal : behind ≡ before ++ written (next_of before) (drop (next_of before) blocks)
   pub fronts : IsTrue honest → HoldsFronts capacity words blocks before behind
   pub holds : IsTrue honest → held behind ≡ blocks
@@ -106,7 +107,7 @@ pub record IsFormatted (capacity : ℕ) (words : Words) (before behind : List Ev
 pub record IsCut (capacity : ℕ) (words : Words) (before behind : List Event) (honest : Bool) : Type 0 where
   pub blocks : List Block
   pub is : IsFormatOf words blocks
-  pub short : next_of before ≤ 262
+  pub short : next_of before ≤ FORMAT_BLOCKS
   pub journal : AddsFront before (next_of before) (drop (next_of before) blocks) behind
   pub fronts : IsTrue honest → HoldsFronts capacity words blocks before behind
 
