@@ -1,5 +1,6 @@
 -- What a request does to the nodes, in the model's words.
 use Rattle.std.specs.Prelude.{◌≡◌, ℕ, Bool, List, [], ◌∷◌, Option, Some, None, if◌then◌else◌, nat_le}
+use Rattle.limits.specs.declared.TheConstants.{NODES, DIRECTORY_NAMES}
 use Rattle.model.specs.Tree.{Path, Tree, Content}
 use Rattle.model.specs.Tree.Content.{File as FileContent, Directory as DirectoryContent}
 use Rattle.model.specs.Graph.{Graph}
@@ -26,7 +27,7 @@ content_of_thing thing.Directory = DirectoryContent []
 
 -- the code of an addition, by whether the directory has the name, how many names it has, and how many nodes there are
 abbrev pub code_by_names : Bool → ℕ → ℕ → ℕ
-code_by_names has names nodes = if has then 3 else (if nat_le 512 names then 9 else (if nat_le 4096 nodes then 10 else 0))
+code_by_names has names nodes = if has then 3 else (if nat_le DIRECTORY_NAMES names then 9 else (if nat_le NODES nodes then 10 else 0))
 
 abbrev pub addresses_in : Option Node → List ℕ
 addresses_in None = []

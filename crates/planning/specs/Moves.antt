@@ -1,6 +1,7 @@
 -- What is asked of a node that gets another path.
 use Rattle.std.specs.Prelude.{◌≡◌, ℕ, true, List, [], ◌∷◌, ◌++◌, length, nat_le, if◌then◌else◌, None}
 use Rattle.std.specs.FinMap.{get}
+use Rattle.limits.specs.declared.TheConstants.{DIRECTORY_NAMES}
 use Rattle.model.specs.Tree.{Name, Path, Tree, Has, names_at}
 use Rattle.model.specs.Graph.{Graph, Stored, Entry}
 use Rattle.model.specs.Operation.{code_of}
@@ -34,7 +35,7 @@ pub record IsBetween (graph : Graph) (tree : Tree) (from to : Path) (node loses 
   pub loses_directory : names_directory loses.kind ≡ true
   pub gains_at : IsAt graph beyond gains
   pub gains_directory : names_directory gains.kind ≡ true
-  pub code_is : code_of (Rename from to) tree ≡ (if nat_le 512 (length (names_at tree beyond)) then 9 else 0)
+  pub code_is : code_of (Rename from to) tree ≡ (if nat_le DIRECTORY_NAMES (length (names_at tree beyond)) then 9 else 0)
 
 -- what is written of the node at this address, which gets another parent
 abbrev pub Turns : ℕ → Stored → ℕ → List Writing → Type 0

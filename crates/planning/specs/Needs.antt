@@ -1,6 +1,7 @@
 -- The most blocks that a commit may take, from sizes alone.
 use Rattle.std.specs.Prelude.{ℕ, ◌+◌, ◌*◌, ◌/◌, List, [], ◌∷◌, length, Option, Some, None}
 use Rattle.std.specs.Int.{div_ceil}
+use Rattle.limits.specs.declared.TheConstants.{BLOCK_BYTES}
 use Rattle.dir.specs.Size.{name_sizes, plain_sizes}
 use Rattle.vat.specs.Table.{Table}
 pub use Rattle.table.specs.Needs.{table_need}
@@ -12,7 +13,7 @@ use Rattle.planning.specs.declared.change.NewDirectory.{NewDirectory}
 -- before data there may be as many blocks of zeros
 abbrev pub file_need : Option NewFile → ℕ
 file_need None = 0
-file_need (Some f) = 2 * div_ceil (length (outside f.bytes.now)) 2048 + 1
+file_need (Some f) = 2 * div_ceil (length (outside f.bytes.now)) BLOCK_BYTES + 1
 
 -- a block of a directory that another one follows is used up to byte 1,720 at least
 abbrev pub directory_need : NewDirectory → ℕ

@@ -1,6 +1,7 @@
 -- The blocks that a planned commit writes.
 use Rattle.std.specs.Prelude.{◌≡◌, ℕ, ◌+◌, ◌-◌, ◌<◌, ◌≤◌, ⊤, List, [], ◌∷◌, ◌++◌, length, replicate, Option, Some, None}
 use Rattle.std.specs.Int.{div_ceil}
+use Rattle.limits.specs.declared.TheConstants.{BLOCK_BYTES, PARTITION_START}
 use Rattle.dir.specs.Directory.{directory_blocks, IsDirectory}
 use Rattle.medium.specs.Formats.{Fields}
 use Rattle.medium.specs.Formats.Kind.{Table}
@@ -38,7 +39,7 @@ directories_list (p ∷ ps) = directory_list p ++ directories_list ps
 -- the directory's data lie in its extent, which begins at a block number
 pub record IsLaid (from : ℕ) (p : PlacedDirectory) : Type 0 where
   pub first : p.extent.first ≡ from
-  pub blocks : length (directory_data p) ≡ div_ceil p.extent.size 2048
+  pub blocks : length (directory_data p) ≡ div_ceil p.extent.size BLOCK_BYTES
   pub is : IsDirectory p.directory.content.dir.parent p.directory.content.dir.entries.entries p.extent.first p.extent.size (directory_data p)
 
 -- the directories lie one behind the other
@@ -87,16 +88,16 @@ table_fields moment t = record { kind = Table; moment = moment; links = 0; ident
 -- The table, its bytes behind block numbers from one on, and its entry.
 pub record IsTablePlaced (from moment : ℕ) (t : PlacedTable) : Type 0 where
   pub placed : IsPlaced udf t.bytes.items from t.first (table_data t)
-  pub number : t.at ≡ from + 257 + length (table_data t)
-  pub spelled : IsTableAt (t.at - 257) (view t.vat) t.bytes.items
-  pub mark : udf.IsEntry (table_fields moment t) t.entry (t.at - 257)
+  pub number : t.at ≡ from + PARTITION_START + length (table_data t)
+  pub spelled : IsTableAt (t.at - PARTITION_START) (view t.vat) t.bytes.items
+  pub mark : udf.IsEntry (table_fields moment t) t.entry (t.at - PARTITION_START)
 
 -- the blocks lie behind each other from an address on, on a drive with room for so many
 pub record IsPlan (next capacity : ℕ) (p : Plan) : Type 0 where
   pub begins : p.writer.packets ≡ record { at = next; blocks = [] }
-  pub low : 257 ≤ next
-  pub nodes : WritesNodes udf (plan_writings p) (next - 257) (node_list p) (plan_written p)
-  pub laid : AreLaid (next - 257 + length (file_list p.file)) p.directories.items
-  pub table : IsTablePlaced (next - 257 + length (node_list p)) p.moment p.table
+  pub low : PARTITION_START ≤ next
+  pub nodes : WritesNodes udf (plan_writings p) (next - PARTITION_START) (node_list p) (plan_written p)
+  pub laid : AreLaid (next - PARTITION_START + length (file_list p.file)) p.directories.items
+  pub table : IsTablePlaced (next - PARTITION_START + length (node_list p)) p.moment p.table
   pub fits : p.table.at < capacity
   pub keeps : Keeps p.table.at p.table.vat
