@@ -1,5 +1,6 @@
 -- What a store keeps, the drive that it is lent, and what a query leaves as it was.
 use Rattle.std.specs.Prelude.{◌≡◌, ℕ, ◌<◌, ◌≤◌, List}
+use Rattle.limits.specs.declared.TheConstants.{LEAST_CAPACITY, GREATEST_CAPACITY}
 use Rattle.drive.specs.Journal.{Event, next_of}
 use Rattle.store.specs.declared.store.Store.{Store}
 use Rattle.planning.specs.Last.{Keeps}
@@ -8,8 +9,8 @@ use Rattle.planning.specs.Last.{Keeps}
 pub record Agrees (journal : List Event) (capacity : ℕ) (store : Store) : Type 0 where
   pub keeps : Keeps store.at store.vat
   pub on : store.at < next_of journal
-  pub least : 512 ≤ store.capacity
-  pub most : store.capacity ≤ 450_000
+  pub least : LEAST_CAPACITY ≤ store.capacity
+  pub most : store.capacity ≤ GREATEST_CAPACITY
   pub fits : store.capacity ≤ capacity
 
 -- all but the directories that are kept

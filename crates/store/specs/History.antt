@@ -1,5 +1,6 @@
 -- The commits of a volume, as its chain of tables tells of them.
 use Rattle.std.specs.Prelude.{◌≡◌, ⊤, ℕ, zero, suc, ◌+◌, ◌<◌, ◌≤◌, List, [], ◌∷◌, length, slice_index_or, All, Option, Some, None}
+use Rattle.limits.specs.declared.TheConstants.{PARTITION_START}
 use Rattle.vat.specs.Table.{Table, view}
 use Rattle.vat.specs.declared.table.Vat.{Vat}
 use Rattle.recover.specs.declared.fault.StoreFault.{StoreFault}
@@ -17,8 +18,8 @@ told_of at table = record { commit = table.commits; at = at; files = table.files
 abbrev pub IsChain : List (List ℕ) → Option ℕ → ℕ → List Commit → Type 0
 IsChain medium link commits [] = (link ≡ None) × (commits ≡ 0)
 IsChain medium link commits (c ∷ earlier) =
-    (number : ℕ) × (link ≡ Some number) × (table : Table) × HasTable medium (number + 257) table × (table.commits + 1 ≡ commits)
-    × (c ≡ told_of (number + 257) table) × IsChain medium table.previous table.commits earlier
+    (number : ℕ) × (link ≡ Some number) × (table : Table) × HasTable medium (number + PARTITION_START) table × (table.commits + 1 ≡ commits)
+    × (c ≡ told_of (number + PARTITION_START) table) × IsChain medium table.previous table.commits earlier
 
 -- all commits from the one whose table's entry stands at an address down to the format
 abbrev pub IsHistory : List (List ℕ) → ℕ → List Commit → Type 0

@@ -1,5 +1,6 @@
 -- Why a medium is not opened.
 use Rattle.std.specs.Prelude.{⊤, ℕ, ◌≤◌, List}
+use Rattle.limits.specs.declared.TheConstants.{PARTITION_START}
 use Rattle.model.specs.Session.{State}
 use Rattle.medium.specs.Volume.{Stands}
 use Rattle.recover.specs.declared.fault.StoreFault.{StoreFault}
@@ -13,12 +14,12 @@ NothingStands capacity medium = (volume : ℕ) (S : State) → Stands udf capaci
 
 -- the entry of a table is on the medium
 abbrev pub HasSomeEntry : List (List ℕ) → Type 0
-HasSomeEntry medium = (at : ℕ) × (257 ≤ at) × HasEntry medium at
+HasSomeEntry medium = (at : ℕ) × (PARTITION_START ≤ at) × HasEntry medium at
 
 -- the drive failed, memory was short, no table's entry is there, or one is and nothing stands
 abbrev pub IsOpenRefused : ℕ → List (List ℕ) → StoreFault → Type 0
 IsOpenRefused capacity medium Device = ⊤
 IsOpenRefused capacity medium Memory = ⊤
-IsOpenRefused capacity medium NotFormatted = HasNoneFrom medium 257
+IsOpenRefused capacity medium NotFormatted = HasNoneFrom medium PARTITION_START
 IsOpenRefused capacity medium (Damaged block cause) = HasSomeEntry medium × NothingStands capacity medium
 IsOpenRefused capacity medium _ = ⊥
