@@ -1,6 +1,7 @@
 -- What the messages of the input became, and what a user sees of it who gave them a volume in memory.
 use Rattle.std.specs.Prelude.{◌≡◌, ◌⊎◌, ℕ, List, Option, None, Result, Ok, Err}
 use Rattle.std.specs.Io.KnownBytes.{Appends, Consumes, IsAtEnd}
+use Rattle.limits.specs.declared.TheConstants.{GREATEST_CAPACITY, FORMAT_BLOCKS}
 use Rattle.request.specs.declared.answer.Answer.{Answer}
 use Rattle.request.specs.declared.message.Message.{Message}
 use Rattle.request.specs.Frames.{IsIdle, MessagesAre}
@@ -33,18 +34,18 @@ Applies (Err fault) before behind input left output written = AppliesSome before
 -- the same on an image
 abbrev pub AppliesToImage : {T : Type 0} → Result T Fault → Option (List ℕ) → Option (List ℕ) → Option (List ℕ) → Option (List ℕ) → Type 0
 AppliesToImage outcome input left output written =
-    (Unopened outcome output written × (left ≡ input)) ⊎ OnImage 450000 (λ before behind. Applies outcome before behind input left output written)
+    (Unopened outcome output written × (left ≡ input)) ⊎ OnImage GREATEST_CAPACITY (λ before behind. Applies outcome before behind input left output written)
 
 -- ---- a volume in memory, whose drive is honest: no premise is left
 
 -- A run from a new volume of this capacity, formatted at moment 0, may give these messages these answers: each by a row, from
--- the state after the requests that were committed before it. A new volume is its root alone, in 262 blocks.
+-- the state after the requests that were committed before it. A new volume is its root alone, in the blocks of a format.
 pub record IsRunOfNew (capacity : ℕ) (messages : List Message) (answers : List Answer) : Type 0 where
   pub end : ℕ
   pub marks : List ℕ
   pub counts : List ℕ
   pub committed : List Request
-  pub fits : Fits (need spelled) capacity end (formatted 0) 262 0 (brought messages) (said_answers answers) marks counts committed
+  pub fits : Fits (need spelled) capacity end (formatted 0) FORMAT_BLOCKS 0 (brought messages) (said_answers answers) marks counts committed
   pub new : AllNew (formatted 0) committed
   pub once : EachOnce committed
 

@@ -1,6 +1,7 @@
 -- What a command leaves that makes a volume.
 use Rattle.std.specs.Prelude.{◌≡◌, ◌⊎◌, ℕ, ◌<◌, ◌++◌, Bool, IsSome, IfErr, List, [], length, slice_index_or, Option, Result, Ok, Err, IsErr}
 use Rattle.std.specs.Io.KnownBytes.{Appends, Keeps}
+use Rattle.limits.specs.declared.TheConstants.{BLOCK_BYTES, LEAST_CAPACITY}
 use Rattle.drive.specs.Journal.{Event, next_of}
 use Rattle.osta.specs.FirstFault.{first_fault}
 use Rattle.osta.specs.Label.{label_faults}
@@ -43,14 +44,14 @@ abbrev pub IsNoPart : ℕ → List ℕ → ℕ → ℕ → List ℕ → Fault �
 IsNoPart capacity label moment at part fault =
     ((fault ≡ Store stores.NotBlank) × BeginsNot (words_on capacity label moment) at part)
     ⊎ (((fault ≡ Store stores.Label) × IsSome (first_fault (label_faults label)))
-    ⊎ (((fault ≡ Store stores.Small) × (capacity < 512))
+    ⊎ (((fault ≡ Store stores.Small) × (capacity < LEAST_CAPACITY))
     ⊎ (fault ≡ Store stores.Memory)))
 
 -- why what is left behind the last whole block of an image is refused: it could not be read, or it begins no next block of the format
 abbrev pub IsUnbegun : ℕ → List ℕ → ℕ → List Event → Fault → Type 0
 IsUnbegun capacity label moment journal fault =
     (fault ≡ Store stores.Device)
-    ⊎ ((part : List ℕ) × (0 < length part) × (length part < 2048) × IsNoPart capacity label moment (next_of journal) part fault)
+    ⊎ ((part : List ℕ) × (0 < length part) × (length part < BLOCK_BYTES) × IsNoPart capacity label moment (next_of journal) part fault)
 
 -- what is left behind the last whole block of an image was refused, and nothing was done
 pub record Unbegun {T : Type 0} (label : List ℕ) (moment capacity : ℕ) (outcome : Result T Fault) (before behind : Situation) (output written : Option (List ℕ)) : Type 0 where

@@ -1,6 +1,7 @@
 -- What the commands that read print of the state that stands, and why they do not.
 use Rattle.std.specs.Prelude.{◌≡◌, ◌⊎◌, ℕ, ◌+◌, Bool, IsTrue, List, length, Option, Result, Ok, Err}
 use Rattle.std.specs.Io.KnownBytes.{Appends, Keeps}
+use Rattle.limits.specs.declared.TheConstants.{GREATEST_CAPACITY}
 use Rattle.drive.specs.Journal.{Event, Once, held}
 use Rattle.model.specs.Session.{State}
 use Rattle.model.specs.Tree.{Name, Path}
@@ -87,7 +88,7 @@ Shows question (Err (faults.Stream fault)) capacity journal honest output writte
 abbrev pub ShowsImage : {T : Type 0} → Question → Result T Fault → Option (List ℕ) → Option (List ℕ) → Type 0
 ShowsImage question outcome output written =
     Unopened outcome output written
-    ⊎ OnImage 450000 (λ before behind. (behind.journal ≡ before.journal) × Shows question outcome before.capacity before.journal behind.honest output written)
+    ⊎ OnImage GREATEST_CAPACITY (λ before behind. (behind.journal ≡ before.journal) × Shows question outcome before.capacity before.journal behind.honest output written)
 
 -- The text is that of no path, or there was no memory for it.
 abbrev pub IsUnread : {T : Type 0} → List ℕ → Result T Fault → Type 0
