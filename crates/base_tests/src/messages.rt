@@ -52,47 +52,78 @@ fn payload() -> &'static [u8] {
     payload
 }
 
+fn gives_nothing(frames: &mut Frames) -> bool {
+    frames.take().is_none()
+}
+
+fn gives_the_create(frames: &mut Frames) -> bool {
+    match frames.take() {
+        Some(message) => is_the_create(&message),
+        None => false,
+    }
+}
+
+fn gives_the_cause(frames: &mut Frames, cause: u16) -> bool {
+    match frames.take() {
+        Some(message) => cause_of(&message) == Some(cause),
+        None => false,
+    }
+}
+
+/// Whether the create comes out when its second piece has come, and not before.
+fn comes_in_two(frames: &mut Frames, front: &[u8], back: &[u8]) -> Result<bool, AllocError> {
+    frames.feed(front)?;
+    if !back.is_empty() {
+        if !gives_nothing(frames) {
+            return Ok(false);
+        }
+        frames.feed(back)?;
+    }
+    Ok(gives_the_create(frames) && gives_nothing(frames))
+}
+
+/// Whether nothing comes out behind a length that no payload has, but its cause.
+fn ends_with_51(frames: &mut Frames) -> Result<bool, AllocError> {
+    frames.feed(&OVERLONG)?;
+    if !gives_the_cause(frames, 51) {
+        return Ok(false);
+    }
+    frames.feed(&CREATE)?;
+    Ok(gives_nothing(frames) && gives_nothing(frames))
+}
+
 #[test]
 fn a_frame_in_any_two_pieces(rt: HostRuntime) -> Result<(), Fail> {
     for cut in 0..=CREATE.len() {
         let (front, back) = CREATE.as_slice().split_at(cut);
         let mut frames = Frames::new(rt.alloc());
-        frames.feed(front)?;
-        if !back.is_empty() {
-            assert!(rt; frames.take().is_none(), "at {cut}");
-            frames.feed(back)?;
-        }
-        let message = frames.take().ok_or("the frame is whole")?;
-        assert!(rt; is_the_create(&message), "at {cut}");
-        assert!(rt; frames.take().is_none());
-        frames.feed(&OVERLONG)?;
-        let message = frames.take().ok_or("the length is there")?;
-        assert_eq!(rt; cause_of(&message), Some(51));
-        frames.feed(&CREATE)?;
-        assert!(rt; frames.take().is_none());
-        assert!(rt; frames.take().is_none());
+        assert!(rt; comes_in_two(&mut frames, front, back)?, "at {cut}");
+        assert!(rt; ends_with_51(&mut frames)?, "at {cut}");
     }
     Ok(())
+}
+
+/// Whether nothing comes out before the last of the bytes, which are fed one by one.
+fn waits_for_the_last(frames: &mut Frames, bytes: &[u8]) -> Result<bool, AllocError> {
+    for byte in bytes {
+        if !gives_nothing(frames) {
+            return Ok(false);
+        }
+        frames.feed(&[*byte])?;
+    }
+    Ok(true)
 }
 
 #[test]
 fn a_frame_byte_by_byte(rt: HostRuntime) -> Result<(), Fail> {
     let mut frames = Frames::new(rt.alloc());
     for turn in 0..3u8 {
-        for (i, byte) in CREATE.iter().enumerate() {
-            assert!(rt; frames.take().is_none(), "in {turn} at {i}");
-            frames.feed(&[*byte])?;
-        }
-        let message = frames.take().ok_or("the frame is whole")?;
-        assert!(rt; is_the_create(&message));
+        assert!(rt; waits_for_the_last(&mut frames, &CREATE)?, "in {turn}");
+        assert!(rt; gives_the_create(&mut frames), "in {turn}");
     }
-    for byte in &OVERLONG {
-        assert!(rt; frames.take().is_none());
-        frames.feed(&[*byte])?;
-    }
-    let message = frames.take().ok_or("the length is there")?;
-    assert_eq!(rt; cause_of(&message), Some(51));
-    assert!(rt; frames.take().is_none());
+    assert!(rt; waits_for_the_last(&mut frames, &OVERLONG)?);
+    assert!(rt; gives_the_cause(&mut frames, 51));
+    assert!(rt; gives_nothing(&mut frames));
     Ok(())
 }
 
@@ -100,11 +131,10 @@ fn a_frame_byte_by_byte(rt: HostRuntime) -> Result<(), Fail> {
 fn the_longest_payload(rt: HostRuntime) -> Result<(), Fail> {
     let mut frames = Frames::new(rt.alloc());
     frames.feed(&1_114_112u32.to_le_bytes())?;
-    assert!(rt; frames.take().is_none());
+    assert!(rt; gives_nothing(&mut frames));
     let mut frames = Frames::new(rt.alloc());
     frames.feed(&1_114_113u32.to_le_bytes())?;
-    let message = frames.take().ok_or("the length is there")?;
-    assert_eq!(rt; cause_of(&message), Some(51));
+    assert!(rt; gives_the_cause(&mut frames, 51));
     Ok(())
 }
 
@@ -118,12 +148,10 @@ fn several_frames_in_one_piece(rt: HostRuntime) -> Result<(), Fail> {
     let mut frames = Frames::new(rt.alloc());
     frames.feed(&bytes)?;
     for _ in 0..5u8 {
-        let message = frames.take().ok_or("a request")?;
-        assert!(rt; is_the_create(&message));
-        let message = frames.take().ok_or("a fault")?;
-        assert_eq!(rt; cause_of(&message), Some(52));
+        assert!(rt; gives_the_create(&mut frames));
+        assert!(rt; gives_the_cause(&mut frames, 52));
     }
-    assert!(rt; frames.take().is_none());
+    assert!(rt; gives_nothing(&mut frames));
     Ok(())
 }
 

@@ -281,37 +281,64 @@ fn the_first_check_that_holds_gives_the_code(rt: HostRuntime) -> Result<(), Fail
     Ok(())
 }
 
+/// Makes so many directories inside each other, and tells the path of the last.
+fn make_nested(alloc: Global, operations: &mut Vec<Operation>, count: u8) -> Result<String, Fail> {
+    let mut at = String::new(alloc);
+    for _ in 0..count {
+        at.push_str("/a")?;
+        operations.push(make(alloc, &at)?)?;
+    }
+    Ok(at)
+}
+
+/// Moves a directory with a file, and one without, to the deepest place that there is.
+fn move_deepest(alloc: Global, operations: &mut Vec<Operation>, deepest: &str) -> Result<(), Fail> {
+    operations.push(make(alloc, "d")?)?;
+    operations.push(make(alloc, "e")?)?;
+    operations.push(create(alloc, "e/x")?)?;
+    operations.push(rename(alloc, "e", deepest)?)?;
+    operations.push(rename(alloc, "d", deepest)?)?;
+    operations.push(make(alloc, &format!(in alloc; "{deepest}/c")?)?)?;
+    operations.push(rename(alloc, "e", deepest)?)?;
+    Ok(())
+}
+
+/// Creates so many files in one directory.
+fn create_files(
+    alloc: Global,
+    operations: &mut Vec<Operation>,
+    at: &str,
+    count: u16,
+) -> Result<(), Fail> {
+    for i in 0..count {
+        operations.push(create(alloc, &format!(in alloc; "{at}/{i}")?)?)?;
+    }
+    Ok(())
+}
+
 #[test]
 fn sixteen_names_are_the_most(rt: HostRuntime) -> Result<(), Fail> {
     let alloc = rt.alloc();
     let mut operations = Vec::new(alloc);
-    let mut at = String::new(alloc);
-    for _ in 0..15 {
-        at.push_str("/a")?;
-        operations.push(make(alloc, &at)?)?;
-    }
-    operations.push(make(alloc, "d")?)?;
-    operations.push(make(alloc, "e")?)?;
-    operations.push(create(alloc, "e/x")?)?;
-    let deepest = format!(in alloc; "{at}/b")?;
-    operations.push(rename(alloc, "e", &deepest)?)?;
-    operations.push(rename(alloc, "d", &deepest)?)?;
-    operations.push(make(alloc, &format!(in alloc; "{deepest}/c")?)?)?;
-    operations.push(rename(alloc, "e", &deepest)?)?;
-    for i in 0..511u16 {
-        operations.push(create(alloc, &format!(in alloc; "{at}/{i}")?)?)?;
-    }
-    operations.push(rename(alloc, "e", &format!(in alloc; "{at}/x")?)?)?;
-    operations.push(rename(alloc, "e/x", &format!(in alloc; "{at}/x")?)?)?;
+    let at = make_nested(alloc, &mut operations, 15)?;
+    move_deepest(alloc, &mut operations, &format!(in alloc; "{at}/b")?)?;
+    create_files(alloc, &mut operations, &at, 511)?;
+    let behind = format!(in alloc; "{at}/x")?;
+    operations.push(rename(alloc, "e", &behind)?)?;
+    operations.push(rename(alloc, "e/x", &behind)?)?;
     let (_state, codes) = after(alloc, operations)?;
     assert_eq!(rt; codes.len(), 535);
-    assert_eq!(rt; codes.get(18).copied(), Some(Code::TooDeep));
-    assert_eq!(rt; codes.get(19).copied(), Some(Code::Done));
-    assert_eq!(rt; codes.get(20).copied(), Some(Code::TooDeep));
-    assert_eq!(rt; codes.get(21).copied(), Some(Code::Exists));
-    assert_eq!(rt; codes.get(532).copied(), Some(Code::Done));
-    assert_eq!(rt; codes.get(533).copied(), Some(Code::TooDeep));
-    assert_eq!(rt; codes.get(534).copied(), Some(Code::DirectoryFull));
+    for (at, want) in [
+        (18, Code::TooDeep),
+        (19, Code::Done),
+        (20, Code::TooDeep),
+        (21, Code::Exists),
+        (532, Code::Done),
+        (533, Code::TooDeep),
+        (534, Code::DirectoryFull),
+    ] {
+        assert_eq!(rt; codes.get(at).copied(), Some(want), "of operation {at}");
+    }
     Ok(())
 }
 
