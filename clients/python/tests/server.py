@@ -29,6 +29,8 @@ class Server:
         self.say: Say = honestly
         self.before: Callable[[bytes], Optional[Answer]] = lambda payload: None
         self.lost_behind: Optional[int] = None
+        # As the daemon does, all answers to what was read go out together; else each by itself.
+        self.together = True
         self.requests: List[bytes] = []
         self.payloads: List[bytes] = []
         self.conversations = 0
@@ -52,10 +54,12 @@ class Server:
                     pass
 
     def serve(self, connection: socket.socket) -> None:
-        frames = Frames()
+        frames, unsent = Frames(), b""
         while True:
             payload = frames.take()
             while payload is None:
+                connection.sendall(unsent)
+                unsent = b""
                 piece = connection.recv(1 << 16)
                 if not piece:
                     return
@@ -67,15 +71,19 @@ class Server:
                 answer = self.volume.answer_payload(payload)
             said = self.say(payload, answer)
             if said is None:
+                connection.sendall(unsent)
                 return
+            unsent += said
             if self.lost_behind is not None:
                 # Behind so many bytes of answers the conversation is lost.
-                said, self.lost_behind = said[: self.lost_behind], self.lost_behind - len(said)
+                kept, self.lost_behind = said[: self.lost_behind], self.lost_behind - len(said)
                 if self.lost_behind <= 0:
                     self.lost_behind = None
-                    connection.sendall(said)
+                    connection.sendall(unsent[: len(unsent) - len(said)] + kept)
                     return
-            connection.sendall(said)
+            if not self.together:
+                connection.sendall(unsent)
+                unsent = b""
 
     def close(self) -> None:
         self.listener.close()

@@ -11,11 +11,13 @@ import tempfile
 import threading
 import time
 import unittest
-from typing import Iterator, List, Optional
+from contextlib import closing
+from typing import Iterator, List, Optional, Tuple
 from unittest import mock
 
 from udfburn import Client, errors as e
 from udfburn import protocol as p
+from udfburn.ledger import Ledger, Pending, Reply
 from udfburn.operations import Operation
 
 from .model import Volume
@@ -143,11 +145,18 @@ class Lost(WithServer):
     """Conversations that are lost behind each byte."""
 
     def test_behind_each_byte(self) -> None:
+        self.behind_each_byte(True)
+
+    def test_behind_each_byte_of_answers_that_come_one_by_one(self) -> None:
+        self.behind_each_byte(False)
+
+    def behind_each_byte(self, together: bool) -> None:
         for lost in range(0, 150, 3):
             self.server.close()
             shutil.rmtree(self.room)
             os.mkdir(self.room)
             self.server = Server(self.room)
+            self.server.together = together
             client = self.client()
             self.server.lost_behind = lost
             outcomes = list(client.run(creates(9)))
@@ -412,6 +421,69 @@ class Ahead(WithServer):
         self.assertEqual([outcome.code for outcome in outcomes], [p.Code.DONE] * 7)
         self.assertEqual([outcome.number for outcome in outcomes], [1, 2, 3, 4, 1, 2, 3])
         self.assertEqual(len(self.volume.files()), 3)
+
+
+class Foreseen(WithServer):
+    """Transactions that are begun before the answers come, and what comes in place of what was foreseen."""
+
+    def done(self, operations: List[Operation], together: bool = True) -> Tuple[List[p.Code], int]:
+        """The codes of operations, and how many transactions were as foreseen."""
+        self.server.together = together
+        client, ends = self.client(), []
+        ledger = client.session().ledger
+        real = ledger.record
+
+        def record(*words: object) -> None:
+            ends.append(ledger._foreseen is not None and ledger._foreseen == words)
+            real(*words)  # type: ignore[arg-type]
+
+        with mock.patch.object(ledger, "record", record):
+            outcomes = list(client.run(operations))
+        self.assertFalse(ledger._base.in_transaction)
+        history = ledger.history(client.session().volume())
+        self.assertEqual([(n, code, commit, True) for _, code, commit, n in outcomes], [(n, code, commit, sure) for n, _, code, commit, sure in history])
+        client.close()
+        return [outcome.code for outcome in outcomes], sum(ends)
+
+    def test_all_as_foreseen(self) -> None:
+        self.assertEqual(self.done(creates(40)), ([p.Code.DONE] * 40, 9))
+
+    def test_answers_one_by_one(self) -> None:
+        self.assertEqual(self.done(creates(40), together=False)[0], [p.Code.DONE] * 40)
+
+    def test_a_refusal_in_place_of_what_was_foreseen(self) -> None:
+        other = self.client(os.path.join(self.room, "other.sqlite"))
+        other.create("/f9", b"")
+        other.create("/f30", b"")
+        codes, foreseen = self.done(creates(40))
+        self.assertEqual([index for index, code in enumerate(codes) if code is p.Code.EXISTS], [9, 30])
+        # The first window too, since it has other commits than a new ledger knows of.
+        self.assertEqual(foreseen, 6)
+
+    def test_other_commits_between(self) -> None:
+        self.volume.commits = 1000
+        self.assertEqual(self.done(creates(40)), ([p.Code.DONE] * 40, 8))
+
+    def test_nothing_of_it_is_kept_before_it_came(self) -> None:
+        with closing(Ledger(self.ledger)) as ledger:
+            volume = ledger.learn("way", 0)
+            first, second = Pending(1, b"one", "/one"), Pending(2, b"two", "/two")
+            ledger.record(volume, [], [first])
+            foreseen = volume, [Reply(1, 0, 1, True)], [second]
+            for other in (ledger.pending, ledger.latest, ledger.last_commit, ledger.history, lambda _: ledger.volume("way"), lambda _: ledger.volumes()):
+                known = other(volume)
+                ledger.foresee(*foreseen)
+                self.assertEqual(other(volume), known)
+            ledger.foresee(*foreseen)
+            ledger.record(volume, [Reply(1, 0, 7, True)], [])
+            self.assertEqual(ledger.history(volume), [(1, "/one", 0, 7, True)])
+            ledger.foresee(volume, [], [second])
+        with closing(Ledger(self.ledger)) as ledger:
+            self.assertEqual(ledger.pending(volume), [])
+            ledger.foresee(volume, [], [second])
+            ledger.record(volume, [], [second])
+        with closing(Ledger(self.ledger)) as ledger:
+            self.assertEqual(ledger.pending(volume), [second])
 
 
 class Numbers(unittest.TestCase):

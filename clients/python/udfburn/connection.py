@@ -57,12 +57,25 @@ class Connection:
         """The payload of the next answer if it is here already."""
         return self.frames.take()
 
+    def comes(self, expected: bytes) -> bool:
+        """Waits for what comes in next, and takes it where it is these frames. Else it is there for `payload`."""
+        if self.frames.rest():
+            return False
+        self._wait(time.monotonic() + self.timeout, writing=False)
+        piece = self._read(len(expected))
+        if piece == expected:
+            return True
+        self._take(piece)
+        return False
+
     def close(self) -> None:
         """Ends the conversation."""
         raise NotImplementedError
 
     def _feed(self) -> None:
-        piece = self._read()
+        self._take(self._read(PIECE))
+
+    def _take(self, piece: Optional[bytes]) -> None:
         if piece is None:
             return
         if not piece:
@@ -79,6 +92,8 @@ class Connection:
         if not found:
             raise Lost(f"nothing came for {self.timeout:g} seconds")
         # An end or an error is found by reading or writing.
+        if not writing:
+            return True, False
         return (
             any(descriptor == source and event & ~select.POLLOUT for descriptor, event in found),
             any(descriptor == sink and event & ~select.POLLIN for descriptor, event in found),
@@ -90,7 +105,7 @@ class Connection:
     def _descriptors(self) -> "tuple[int, int]":
         raise NotImplementedError
 
-    def _read(self) -> Optional[bytes]:
+    def _read(self, most: int) -> Optional[bytes]:
         raise NotImplementedError
 
     def _write(self, data: memoryview) -> int:
@@ -118,9 +133,9 @@ class UnixConnection(Connection):
     def _descriptors(self) -> "tuple[int, int]":
         return self.socket.fileno(), self.socket.fileno()
 
-    def _read(self) -> Optional[bytes]:
+    def _read(self, most: int) -> Optional[bytes]:
         try:
-            return self.socket.recv(PIECE)
+            return self.socket.recv(most)
         except BlockingIOError:
             return None
         except OSError as error:
@@ -192,9 +207,9 @@ class ImageConnection(Connection):
     def _descriptors(self) -> "tuple[int, int]":
         return self.source, self.sink
 
-    def _read(self) -> Optional[bytes]:
+    def _read(self, most: int) -> Optional[bytes]:
         try:
-            return os.read(self.source, PIECE)
+            return os.read(self.source, most)
         except BlockingIOError:
             return None
 

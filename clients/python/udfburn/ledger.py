@@ -209,6 +209,7 @@ class Ledger:
             if not is_there(self.path):
                 self._make(client)
             self._base, self.client = self._open(client)
+            self._foreseen: Optional[Tuple[Volume, Sequence[Reply], Sequence[Pending]]] = None
         except BaseException:
             # A ledger that was made is there, and one that is there has its lock.
             self._lock.close(needless=True)
@@ -298,6 +299,7 @@ class Ledger:
 
     def close(self) -> None:
         """Gives the ledger to others."""
+        self._foreseen = None
         self._base.close()
         self._lock.close()
 
@@ -305,11 +307,13 @@ class Ledger:
 
     def volume(self, way: Union[str, bytes]) -> Optional[Volume]:
         """The volume that was last met on this way."""
+        self.set_back()
         row = self._base.execute(f"SELECT id, way, ({LATEST}) FROM volume WHERE way = ? ORDER BY id DESC LIMIT 1", (way,)).fetchone()
         return None if row is None else Volume(*row)
 
     def volumes(self) -> List[Volume]:
         """All volumes that were met."""
+        self.set_back()
         return [Volume(*row) for row in self._base.execute(f"SELECT id, way, ({LATEST}) FROM volume ORDER BY id")]
 
     def learn(self, way: Union[str, bytes], latest: int) -> Volume:
@@ -326,14 +330,17 @@ class Ledger:
 
     def pending(self, volume: Volume) -> List[Pending]:
         """The requests without a reply, in order of their numbers."""
+        self.set_back()
         return [Pending(*row) for row in self._base.execute(PENDING, (volume.id,))]
 
     def latest(self, volume: Volume) -> int:
         """The number of the last request with a reply."""
+        self.set_back()
         return int(self._base.execute(f"SELECT ({LATEST}) FROM volume WHERE id = ?", (volume.id,)).fetchone()[0])
 
     def last_commit(self, volume: Volume) -> int:
         """The greatest commit that was acknowledged."""
+        self.set_back()
         row = self._base.execute(
             "SELECT commit_number FROM request WHERE volume = ? AND code IS NOT NULL ORDER BY number DESC LIMIT 1", (volume.id,)
         ).fetchone()
@@ -343,26 +350,58 @@ class Ledger:
         """Keeps replies that came and requests that are to be sent, as one: durable when it returns."""
         if not replies and not requests:
             return
+        if self._foreseen == (volume, replies, requests) and self._base.in_transaction:
+            self._foreseen = None
+            with self._ending():
+                self._base.execute("COMMIT")
+            return
         with self._transaction():
-            self._base.executemany(
-                "UPDATE request SET code = ?, commit_number = ?, confirmed = ? WHERE volume = ? AND number = ?",
-                [(int(r.code), r.commit, r.confirmed, volume.id, r.number) for r in replies],
-            )
-            self._base.executemany(
-                "INSERT INTO request (volume, number, path) VALUES (?, ?, ?)", [(volume.id, r.number, r.path) for r in requests]
-            )
-            self._base.executemany(
-                KEPT_FRAME, [(volume.id * 4 + r.number % 4, r.payload) for r in requests]
-            )
+            self._write(volume, replies, requests)
+
+    def foresee(self, volume: Volume, replies: Sequence[Reply], requests: Sequence[Pending]) -> None:
+        """Begins what `record` is likely to be told next, while there is time. Nothing of it is kept before `record` is told the
+        same; whatever else is done with the ledger first sets it back."""
+        self.set_back()
+        self._foreseen = volume, replies, requests
+        try:
+            self._base.execute("BEGIN IMMEDIATE")
+            self._write(volume, replies, requests)
+        except sqlite3.Error:
+            # `record` meets the same trouble, and tells of it.
+            self.set_back()
+
+    def set_back(self) -> None:
+        """Undoes what was foreseen and did not come."""
+        if self._foreseen is not None:
+            self._foreseen = None
+            if self._base.in_transaction:
+                self._base.execute("ROLLBACK")
+
+    def _write(self, volume: Volume, replies: Sequence[Reply], requests: Sequence[Pending]) -> None:
+        self._base.executemany(
+            "UPDATE request SET code = ?, commit_number = ?, confirmed = ? WHERE volume = ? AND number = ?",
+            [(int(r.code), r.commit, r.confirmed, volume.id, r.number) for r in replies],
+        )
+        self._base.executemany(
+            "INSERT INTO request (volume, number, path) VALUES (?, ?, ?)", [(volume.id, r.number, r.path) for r in requests]
+        )
+        self._base.executemany(KEPT_FRAME, [(volume.id * 4 + r.number % 4, r.payload) for r in requests])
 
     @contextmanager
     def _transaction(self) -> Iterator[None]:
         """All that is done within is kept as one, or nothing of it."""
-        try:
+        self.set_back()
+        with self._ending():
             self._base.execute("BEGIN IMMEDIATE")
+            yield
+            self._base.execute("COMMIT")
+
+    @contextmanager
+    def _ending(self) -> Iterator[None]:
+        """No transaction is left open behind what is done within."""
+        try:
             try:
                 yield
-                self._base.execute("COMMIT")
             finally:
                 if self._base.in_transaction:
                     self._base.execute("ROLLBACK")
@@ -385,6 +424,7 @@ class Ledger:
 
     def history(self, volume: Volume) -> List[Tuple[int, str, Optional[int], Optional[int], bool]]:
         """Each request that is kept: number, path, code, commit, and whether the tree agreed."""
+        self.set_back()
         rows = self._base.execute(
             "SELECT number, path, code, commit_number, confirmed FROM request WHERE volume = ? ORDER BY number", (volume.id,)
         )

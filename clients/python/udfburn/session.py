@@ -8,7 +8,7 @@ then has without a reply is sent again, one by one, in `recover`. A new process 
 from __future__ import annotations
 
 from collections import deque
-from typing import Deque, Dict, Iterable, Iterator, List, Optional, Tuple
+from typing import Deque, Dict, Iterable, Iterator, List, NamedTuple, Optional, Tuple
 
 from .connection import Connection, Lost
 from .errors import (
@@ -19,8 +19,12 @@ from .line import DAMAGE, Line
 from .operations import Operation, Outcome, after_all, confirmed, paths_of, surely
 from .protocol import (
     CLIENTS_FULL, DAMAGED, FAULT, FULL, MEMORY, Answer, AnyRequest, BadAnswer, Code, Committed, Gap, Malformed, Path, Remove, Stale,
-    Stat, decode_answer, decode_message, encode_message, frame, limits, show,
+    Stat, decode_answer, decode_message, encode_answer, encode_message, frame,
+    limits, show,
 )
+
+AT_ONCE = 1 << 17
+"""Bytes of requests under way and of those behind them up to which all answers are likely to come as one piece."""
 
 
 class Flight:
@@ -50,6 +54,13 @@ class Flight:
         if any(answer in (FAULT, MEMORY, DAMAGED) for answer in answers):
             raise Lost("a question was not answered")
         return confirmed(self.request, reply.code, answers)
+
+
+class Foreseen(NamedTuple):
+    """The answers by which all flights of a window are done and the tree agrees, as one piece, and the replies among them."""
+
+    answers: bytes
+    replies: List[Committed]
 
 
 class Supply:
@@ -95,6 +106,7 @@ class Session:
         self._volume: Optional[Volume] = None
         self._commit = 0
         self._forgetting = False
+        self._foreseen: Optional[Foreseen] = None
         # A conversation that was begun without a greeting knows no numbers.
         line.drop()
         line.greet = self._greet
@@ -287,11 +299,14 @@ class Session:
                     continue
                 if not troubled:
                     supply.look_ahead(window[-1].number())
+                    self._foresee(window, supply)
                     finished, troubled = self._received(connection, window)
                 if troubled:
                     yield from self._recovered(finished, window)
                     finished = []
         finally:
+            self._foreseen = None
+            self.ledger.set_back()
             if window or finished:
                 self.line.drop()
 
@@ -314,11 +329,8 @@ class Session:
 
     def _keep(self, finished: List[Flight], fresh: List[Flight]) -> None:
         """Makes replies and new requests durable, in one."""
-        replies = []
-        for flight in finished:
-            assert flight.reply
-            replies.append(Reply(flight.number(), flight.reply.code, flight.reply.commit, True))
-        self.ledger.record(self.volume(), replies, [flight.pending for flight in fresh])
+        replies = [flight.reply for flight in finished if flight.reply]
+        self.ledger.record(self.volume(), kept(finished, replies), [flight.pending for flight in fresh])
 
     def _sent(self, connection: Connection, fresh: List[Flight]) -> bool:
         """Sends requests with their questions. Whether the conversation lasted."""
@@ -328,11 +340,40 @@ class Session:
         except Lost:
             return False
 
+    def _foresee(self, window: Deque[Flight], supply: Supply) -> None:
+        """Makes ready what is kept next, where all of a full window is likely to be done and answered at once."""
+        self._foreseen = None
+        fresh = list(supply.ahead)
+        if len(window) < limits.REPLIES or not fresh or sum([len(flight.frames) for flight in (*window, *fresh)]) > AT_ONCE:
+            return
+        answers, replies = [], []
+        for commit, flight in enumerate(window, self._commit + 1):
+            if flight.sure is None or flight.reply is not None:
+                return
+            reply = Committed(Code.DONE, commit)
+            replies.append(reply)
+            answers += [frame(encode_answer(reply)), frame(flight.sure)]
+        self._foreseen = Foreseen(b"".join(answers), replies)
+        self.ledger.foresee(self.volume(), kept(window, replies), [flight.pending for flight in fresh])
+
+    def _as_foreseen(self, connection: Connection, window: Deque[Flight]) -> List[Flight]:
+        """All flights of the window, where the answers that come are those that were foreseen; else none."""
+        foreseen = self._foreseen
+        if foreseen is None or not connection.comes(foreseen.answers):
+            return []
+        for flight, reply in zip(window, foreseen.replies):
+            flight.reply = reply
+        self._commit = foreseen.replies[-1].commit
+        finished = list(window)
+        window.clear()
+        return finished
+
     def _received(self, connection: Connection, window: Deque[Flight]) -> Tuple[List[Flight], bool]:
         """Takes the flights out of the window whose answers came, at least one; and whether there was trouble."""
         finished: List[Flight] = []
         try:
-            payload: Optional[bytes] = connection.payload()
+            finished = self._as_foreseen(connection, window)
+            payload: Optional[bytes] = None if finished else connection.payload()
             while payload is not None:
                 flight = window[0]
                 if flight.reply is None:
@@ -385,6 +426,11 @@ class Session:
                 yield Outcome(flight.operation, reply.code, reply.commit, flight.number())
         if error is not None:
             raise error
+
+
+def kept(flights: Iterable[Flight], replies: Iterable[Committed]) -> List[Reply]:
+    """The replies of flights as the ledger keeps them: the tree agrees with each."""
+    return [Reply(flight.pending.number, reply.code, reply.commit, True) for flight, reply in zip(flights, replies)]
 
 
 def outcome(flight: Flight) -> Outcome:
