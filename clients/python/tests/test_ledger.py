@@ -3,6 +3,7 @@
 from __future__ import annotations
 
 import os
+import random
 import resource
 import shutil
 import sqlite3
@@ -228,7 +229,7 @@ class Ledgers(WithServer):
 
     def test_a_disk_without_room(self) -> None:
         """The ledger says so, what it has is whole, and all goes on once there is room."""
-        operations = [Operation(p.Create, (f"f{index}",), index, bytes(5000)) for index in range(90)]
+        operations = [Operation(p.Create, (f"f{index}",), index, random.Random(index).randbytes(5000)) for index in range(90)]
         soft, hard = resource.getrlimit(resource.RLIMIT_FSIZE)
         done = 0
         for room in (0, 5000, 50_000, 200_000):

@@ -209,6 +209,8 @@ class Ledger:
             if not is_there(self.path):
                 self._make(client)
             self._base, self.client = self._open(client)
+            # About the pages that the log has.
+            self._logged = 0
             self._foreseen: Optional[Tuple[Volume, Sequence[Reply], Sequence[Pending]]] = None
         except BaseException:
             # A ledger that was made is there, and one that is there has its lock.
@@ -362,8 +364,12 @@ class Ledger:
         """Begins what `record` is likely to be told next, while there is time. Nothing of it is kept before `record` is told the
         same; whatever else is done with the ledger first sets it back."""
         self.set_back()
-        self._foreseen = volume, replies, requests
         try:
+            # Else the log would be taken over at the end of a transaction, behind which the program waits for requests.
+            if self._logged > LOG_PAGES * 7 // 8:
+                self._base.execute("PRAGMA wal_checkpoint").fetchall()
+                self._logged = 0
+            self._foreseen = volume, replies, requests
             self._base.execute("BEGIN IMMEDIATE")
             self._write(volume, replies, requests)
         except sqlite3.Error:
@@ -386,6 +392,7 @@ class Ledger:
             "INSERT INTO request (volume, number, path) VALUES (?, ?, ?)", [(volume.id, r.number, r.path) for r in requests]
         )
         self._base.executemany(KEPT_FRAME, [(volume.id * 4 + r.number % 4, r.payload) for r in requests])
+        self._logged += 2 + sum([len(r.payload) // 4000 for r in requests])
 
     @contextmanager
     def _transaction(self) -> Iterator[None]:
