@@ -12,7 +12,7 @@ import threading
 import time
 import unittest
 from contextlib import closing
-from typing import Iterator, List, Optional, Tuple
+from typing import Callable, Iterator, List, Optional, Tuple
 from unittest import mock
 
 from udfburn import Client, errors as e
@@ -429,7 +429,8 @@ class Foreseen(WithServer):
     def done(self, operations: List[Operation], together: bool = True) -> Tuple[List[p.Code], int]:
         """The codes of operations, and how many transactions were as foreseen."""
         self.server.together = together
-        client, ends = self.client(), []
+        client = self.client()
+        ends: List[bool] = []
         ledger = client.session().ledger
         real = ledger.record
 
@@ -470,7 +471,8 @@ class Foreseen(WithServer):
             first, second = Pending(1, b"one", "/one"), Pending(2, b"two", "/two")
             ledger.record(volume, [], [first])
             foreseen = volume, [Reply(1, 0, 1, True)], [second]
-            for other in (ledger.pending, ledger.latest, ledger.last_commit, ledger.history, lambda _: ledger.volume("way"), lambda _: ledger.volumes()):
+            others: List[Callable[..., object]] = [ledger.pending, ledger.latest, ledger.last_commit, ledger.history]
+            for other in others + [lambda _: ledger.volume("way"), lambda _: ledger.volumes()]:
                 known = other(volume)
                 ledger.foresee(*foreseen)
                 self.assertEqual(other(volume), known)

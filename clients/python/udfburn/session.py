@@ -19,8 +19,8 @@ from .line import DAMAGE, Line
 from .operations import Operation, Outcome, after_all, confirmed, paths_of, surely
 from .protocol import (
     CLIENTS_FULL, DAMAGED, FAULT, FULL, MEMORY, Answer, AnyRequest, BadAnswer, Code, Committed, Gap, Malformed, Path, Remove, Stale,
-    Stat, decode_answer, decode_message, encode_answer, encode_message, frame,
-    limits, show,
+    Stat, decode_answer, decode_message, encode_answer, encode_message, frame, limits,
+    show,
 )
 
 AT_ONCE = 1 << 17
@@ -329,7 +329,10 @@ class Session:
 
     def _keep(self, finished: List[Flight], fresh: List[Flight]) -> None:
         """Makes replies and new requests durable, in one."""
-        replies = [flight.reply for flight in finished if flight.reply]
+        replies = []
+        for flight in finished:
+            assert flight.reply
+            replies.append(flight.reply)
         self.ledger.record(self.volume(), kept(finished, replies), [flight.pending for flight in fresh])
 
     def _sent(self, connection: Connection, fresh: List[Flight]) -> bool:
@@ -346,7 +349,8 @@ class Session:
         fresh = list(supply.ahead)
         if len(window) < limits.REPLIES or not fresh or sum([len(flight.frames) for flight in (*window, *fresh)]) > AT_ONCE:
             return
-        answers, replies = [], []
+        answers: List[bytes] = []
+        replies: List[Committed] = []
         for commit, flight in enumerate(window, self._commit + 1):
             if flight.sure is None or flight.reply is not None:
                 return
