@@ -4,3 +4,4 @@ pub mod Loops
 pub mod Texts
 pub mod Fields
 pub mod Names
+pub mod Ascii

@@ -1,5 +1,6 @@
-ghost use Rattle.std.specs.Prelude.{◌≡◌, ◌↔◌, ◌≤◌, ℕ, List, IsTrue, IfOk, IfErr, MatchOption, length, nat_eq, None, bytes_eq, codes};
+ghost use Rattle.std.specs.Prelude.{◌≡◌, ◌==◌, ◌↔◌, ◌≤◌, ℕ, List, IsTrue, IfOk, IfErr, MatchOption, length, nat_eq, None, bytes_eq, codes};
 ghost use Rattle.std.specs.Result.{result_err};
+ghost use Rattle.std.specs.List.{list_any};
 ghost use Rattle.std.specs.Hash as fed;
 ghost use Rattle.std.specs.Cmp.Lexicographic.{pointwise, nat_list_eq_equiv};
 ghost use Rattle.std.specs.Cmp.{partial_equiv_from_equiv};
@@ -112,7 +113,19 @@ impl Name {
 pub(crate) fn has_character(text: &str, wanted: char) -> bool
     ensures { result ≡ has_character wanted text.now }
 {
-    text.chars().any(|c| c == wanted)
+    // In ASCII a byte is a character, so that none has to be put together.
+    if text.is_ascii() {
+        has_byte(text.as_bytes(), wanted)
+    } else {
+        text.chars().any(|c| c == wanted)
+    }
+}
+
+/// Whether a character of one byte each is this one.
+fn has_byte(bytes: &[u8], wanted: char) -> bool
+    ensures { result ≡ list_any (λ b. b == wanted) bytes.now }
+{
+    bytes.iter().any(|byte| char::from(*byte) == wanted)
 }
 
 impl Clone for Name {

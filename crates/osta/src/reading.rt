@@ -54,9 +54,16 @@ pub(crate) fn expand_checked(alloc: Global, bytes: &[u8]) -> Result<String, Allo
 }
 
 /// The text of characters of one byte each.
+#[tactic(auto, using(crate::proofs::Ascii::ascii_encoded))]
 fn text_of_bytes(alloc: Global, bytes: &[u8]) -> Result<String, AllocError>
     ensures { IfOk result (λ text. string_bytes text ≡ encode_utf8_all bytes.now) }
 {
+    // ASCII is in UTF-8 what it is here.
+    if bytes.is_ascii() {
+        if let Ok(text) = str::from_utf8(bytes) {
+            return String::from_str(alloc, text);
+        }
+    }
     bytes.iter().map(|byte| char::from(*byte)).collect(alloc)
 }
 

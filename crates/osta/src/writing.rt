@@ -40,10 +40,11 @@ pub fn one_spelling()
 {}
 
 /// Whether each character of a text has a spelling.
+#[tactic(auto, using(crate::proofs::Ascii::ascii_spellable))]
 pub(crate) fn is_spellable(text: &str) -> bool
     ensures { result ≡ spec.is_spellable text.now }
 {
-    text.chars().all(has_spelling)
+    text.is_ascii() || text.chars().all(has_spelling)
 }
 
 /// Whether a character has a spelling: it has 16 bits and is no byte order mark, read either way.
@@ -54,18 +55,24 @@ pub(crate) fn has_spelling(c: char) -> bool
 }
 
 /// Whether each character of a text fits one byte.
+#[tactic(auto, using(crate::proofs::Ascii::ascii_narrow))]
 fn is_narrow(text: &str) -> bool
     ensures { result ≡ list_all spec.is_narrow (chars text.now) }
 {
-    text.chars().all(|c| c <= '\u{FF}')
+    text.is_ascii() || text.chars().all(|c| c <= '\u{FF}')
 }
 
 /// The count of a text's characters.
+#[tactic(auto, using(crate::proofs::Ascii::ascii_count))]
 fn char_count(text: &str) -> usize
     ensures count { result ≡ length (chars text.now) }
     ensures bound { result ≤ length text.now }
 {
-    text.chars().count()
+    if text.is_ascii() {
+        text.len()
+    } else {
+        text.chars().count()
+    }
 }
 
 /// The count of bytes that the spelling of a text takes.
