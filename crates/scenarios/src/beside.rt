@@ -8,6 +8,7 @@ use crate::bytes::show_bytes;
 use crate::changes::{Asked, Change, query};
 use crate::die::Die;
 use crate::machine::Machine;
+use crate::tearing::LastCommit;
 use crate::trouble::Trouble;
 use drive::Fault;
 use model::plain::{Content, Due, Entry, Node, Reply, State};
@@ -364,6 +365,66 @@ impl Beside {
             }
         }
         Ok(String::from_str(alloc, SAME)?)
+    }
+
+    /// A new request, in whose commit the power is lost. The state before it stands, or the one behind it where the last block
+    /// is there. Then the request is put again.
+    pub fn tear(&mut self, machine: &mut Machine) -> Result<String, Trouble> {
+        let old = self.plain()?.tree(self.alloc)?;
+        let before = machine.blocks();
+        let outcome = self.fall(machine)?;
+        if outcome.as_str() != SAME {
+            return Ok(outcome);
+        }
+        let size = machine.blocks().saturating_sub(before);
+        let left = self.lose_power(machine)?;
+        let is_there = left.journal().last() == machine.journal().last();
+        *machine = left;
+        if is_there {
+            return self.go_on(machine, None, 0);
+        }
+        self.go_on(machine, Some(&old), size)
+    }
+
+    /// What is left of the machine where the power is lost in the last commit.
+    fn lose_power(&mut self, machine: &Machine) -> Result<Machine, Trouble> {
+        let sent = self.sent.last().ok_or(Trouble::Line("nothing was sent"))?;
+        let commit = LastCommit {
+            alloc: self.alloc,
+            machine,
+            before: sent.before,
+            payload: &sent.payload,
+        };
+        commit.torn(&mut self.die)
+    }
+
+    /// The tree, which is this one or else that of now, and then the last request again, which adds so many blocks.
+    fn go_on(
+        &self,
+        machine: &mut Machine,
+        old: Option<&[Expected]>,
+        size: usize,
+    ) -> Result<String, Trouble> {
+        let outcome = match old {
+            Some(tree) => compare_tree(self.alloc, machine, None, tree)?,
+            None => self.tree(machine)?,
+        };
+        if outcome.as_str() != SAME {
+            return Ok(outcome);
+        }
+        let blocks = machine.blocks().saturating_add(size);
+        let outcome = self.put_again(machine)?;
+        if machine.blocks() != blocks {
+            return Ok(String::from_str(self.alloc, "other blocks")?);
+        }
+        Ok(outcome)
+    }
+
+    /// The answer to the last request, which is put again.
+    fn put_again(&self, machine: &mut Machine) -> Result<String, Trouble> {
+        let sent = self.sent.last().ok_or(Trouble::Line("nothing was sent"))?;
+        let got = told(self.alloc, &machine.ask(&sent.payload)?)?;
+        compare(self.alloc, &got, &sent.text)
     }
 
     /// Keeps what the plain program has now.

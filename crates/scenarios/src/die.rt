@@ -24,6 +24,20 @@ impl Die {
         ((self.0 >> 33) % u64::from(sides)) as u8
     }
 
+    /// Choices, as many as there are places or fewer.
+    pub fn choices(&mut self, alloc: Global, places: usize) -> Result<Vec<bool>, Trouble> {
+        let places = places.min(32) as u8;
+        let count = match self.roll(2) {
+            0 => places,
+            _ => self.roll(places + 1),
+        };
+        let mut choices = Vec::new(alloc);
+        for _ in 0..count {
+            choices.push(self.roll(2) == 0)?;
+        }
+        Ok(choices)
+    }
+
     /// A path of one to three names.
     fn path(&mut self, alloc: Global) -> Result<Vec<String>, Trouble> {
         let mut path = Vec::new(alloc);

@@ -7,7 +7,7 @@ ghost use Rattle.engine.specs.Situation.{IsReady, situation};
 
 use crate::streams::{Pieces, Room};
 use crate::trouble::Trouble;
-use drive::{Block, Drive, Fault, MemDrive};
+use drive::{Block, Drive, Fault, MemDrive, Scheduled};
 use engine::{Delivery, Engine, ServeFault, run, serve};
 use request::{Answer, Message, Query, Request, encode_answer, read_payload};
 use std::alloc::Global;
@@ -16,6 +16,12 @@ use store::{Commit, Due, Snapshot, Store, StoreFault, format};
 
 /// Above the last moment that has a timestamp.
 const MOMENT_LIMIT: u64 = 4_102_444_800_000_000;
+
+/// How many calls of the drive `Machine::burn` makes.
+const CALLS_TO_BURN: u64 = 2;
+
+/// What is read where a block did not reach the medium and one behind it did.
+const UNWRITTEN: Block = [0; 2048];
 
 /// A store where one is open, or else an engine, and the drive that either is lent.
 #[derive(Drop)]
@@ -82,6 +88,34 @@ impl Machine {
                 block[byte] ^= 1 << (byte % 8);
             }
             copy.burn(&block)?;
+        }
+        Ok(copy)
+    }
+
+    /// A drive with the first blocks of the medium. Of its calls from then on the one of this number fails, counted from 1; a
+    /// write adds so many of its blocks then, or all where it has fewer.
+    pub fn failing(&self, blocks: usize, call: u64, keep: usize) -> Result<Machine, Trouble> {
+        let calls = (blocks as u64).saturating_mul(CALLS_TO_BURN);
+        let mut schedule = Vec::new(self.alloc);
+        let call = calls.saturating_add(call);
+        schedule.push(Scheduled { call, keep })?;
+        let drive = MemDrive::new(self.alloc, self.drive.capacity(), schedule);
+        let mut copy = Machine::on(self.alloc, drive);
+        for (address, block) in self.drive.journal() {
+            if (*address as usize) < blocks {
+                copy.burn(block)?;
+            }
+        }
+        Ok(copy)
+    }
+
+    /// A drive with the first blocks of the medium, and behind them for each choice the block that lies there or one of zeros.
+    pub fn torn(&self, whole: usize, choices: &[bool]) -> Result<Machine, Trouble> {
+        let mut copy = Machine::blank(self.alloc, self.drive.capacity());
+        for (address, block) in self.drive.journal() {
+            if let Some(left) = left_of(block, (*address as usize).checked_sub(whole), choices) {
+                copy.burn(&left)?;
+            }
         }
         Ok(copy)
     }
@@ -215,6 +249,18 @@ impl Machine {
             Some(store) => Ok(store.most_held()),
             None => Err(Trouble::Line("no store is open")),
         }
+    }
+}
+
+/// What is left of a block that lies so far behind those that are whole, or among them.
+fn left_of(block: &Block, behind: Option<usize>, choices: &[bool]) -> Option<Block> {
+    let Some(place) = behind else {
+        return Some(*block);
+    };
+    match choices.get(place) {
+        Some(true) => Some(*block),
+        Some(false) => Some(UNWRITTEN),
+        None => None,
     }
 }
 

@@ -16,6 +16,7 @@ mod script;
 mod stage;
 mod steps;
 mod streams;
+mod tearing;
 mod trouble;
 
 use script::Script;

@@ -219,6 +219,7 @@ impl Player {
             BesideStep::Fronts => return beside.fronts(machine),
             BesideStep::Tree => return beside.tree(machine),
             BesideStep::Lose => return beside.lose(machine),
+            BesideStep::Tear => return beside.tear(machine),
             BesideStep::Mark => beside.mark()?,
             BesideStep::AtMark(index) => match &self.held {
                 Some(snapshot) => return beside.at_mark(machine, snapshot, index),
