@@ -1,8 +1,8 @@
 -- What was answered and written so far, and then a message more.
-use Rattle.std.proofs.Common.{◌≡◌, ℕ, ◌+◌, ◌<◌, List, [], ◌∷◌, ◌++◌, length, take, Option, Some, None, refl, sym, ap, subst, ◌∙◌, append_assoc, arith, length-append, inl, inr, Bool, true, false, Result, Ok, Err, rules}
-use Rattle.std.specs.Prelude.{OnErr, OnOk, is_err, is_none}
+use Rattle.std.proofs.Common.{◌≡◌, ℕ, ◌+◌, ◌<◌, ◌≤◌, List, [], ◌∷◌, ◌++◌, length, take, Option, Some, None, refl, sym, ap, subst, ◌∙◌, append_assoc, arith, length-append, inl, inr, Bool, true, false, Result, Ok, Err, rules}
+use Rattle.std.specs.Prelude.{IfErr, IsErrAnd, OnErr, OnOk, is_err, is_none}
 use Rattle.std.specs.Io.KnownBytes.{Appends, Consumes, Keeps}
-use Rattle.std.proofs.lemmas.List.{append-nil}
+use Rattle.std.proofs.lemmas.List.{append-nil, length-take-le}
 use Rattle.std.proofs.lemmas.Grind.{flat_map-append}
 use Rattle.std.proofs.Math.Seq.{take-append_seam, take-append-add, take-length}
 use Rattle.request.specs.declared.answer.Answer.{Answer}
@@ -10,9 +10,11 @@ use Rattle.request.specs.declared.message.Message.{Message}
 use Rattle.request.specs.Answers.{answer_frame}
 use Rattle.request.specs.Frames.{Takes, IsIdle, MessagesAre, fed}
 use Rattle.request.proofs.FrameLaws.{feeding, taking}
+use Rattle.engine.specs.declared.serving.ServeFault.{ServeFault}
+use Rattle.engine.specs.declared.serving.ServeFault.TheVariants as faults
 use Rattle.engine.specs.Situation.{Situation}
-use Rattle.engine.specs.Streams.{PutsFront, TakesPiece}
-use Rattle.engine.specs.Served.{AllAnswered, IsAnswered, AllTaken, frames_of, Answering, AnswersSome, Serving, ServesSome, ServesAll}
+use Rattle.engine.specs.Streams.{PutsFront, PutsUntil, TakesPiece}
+use Rattle.engine.specs.Served.{AllAnswered, AllTold, IsAnswered, AllTaken, LastUntold, LeftAt, LeftBy, frames_of, Answering, AnswersSome, Serving, ServesSome, ServesUntil, ServesAll}
 use Rattle.engine.proofs.Served.{answered_more, served_holds, served_withstand}
 
 -- and then others
@@ -92,6 +94,62 @@ no_front None b x k = (0, tt)
 no_front (Some xs) None x k = absurd k
 no_front (Some xs) (Some ys) x k = (0, k ∙ sym (append-nil xs))
 
+pub kept_none : (a b : Option (List ℕ)) → Keeps a b → Appends a b []
+kept_none None b k = tt
+kept_none (Some xs) None k = absurd k
+kept_none (Some xs) (Some ys) k = k ∙ sym (append-nil xs)
+
+keeps_told : (a b c : Option (List ℕ)) (x : List ℕ) → Appends a b x → Keeps b c → Appends a c x
+keeps_told None b c x h k = tt
+keeps_told (Some xs) None c x h k = absurd h
+keeps_told (Some xs) (Some ys) None x h k = absurd k
+keeps_told (Some xs) (Some ys) (Some zs) x h k = k ∙ h
+
+-- a front was written where they were not written whole
+pub until_front : (fault : ServeFault) (a b : Option (List ℕ)) (x : List ℕ) → PutsUntil fault a b x → PutsFront a b x
+until_front faults.Read a b x h = absurd h
+until_front faults.Write a b x h = h
+until_front faults.Memory a b x h = no_front a b x h
+
+-- ---- where it is left
+
+-- the last answer's frame was not written whole
+left_at : (fault : ServeFault) (others : List Answer) (last : Answer) (reader o v w : Option (List ℕ)) → Appends o v (frames_of others) → PutsUntil fault v w (answer_frame last) → LeftAt fault (others ++ last ∷ []) reader o w
+left_at faults.Read others last reader o v w told h = absurd h
+left_at faults.Write others last reader o v w told h = inr (h.0, (others, last, refl, appends_more o v w (frames_of others) (take h.0 (answer_frame last)) told h.1))
+left_at faults.Memory others last reader o v w told h = (others, last, refl, appends_more o v w (frames_of others) [] told (kept_none v w h))
+
+-- the same behind other answers, each of which was written
+last_more : (answers more : List Answer) (count : ℕ) (o v w : Option (List ℕ)) → Appends o v (frames_of answers) → LastUntold more count v w → LastUntold (answers ++ more) count o w
+last_more answers more count o v w told (others, last, is, h) =
+    let part : List ℕ = take count (answer_frame last) in (
+      answers ++ others,
+      last,
+      ap (λ (l : List Answer). answers ++ l) is ∙ sym (append_assoc answers others (last ∷ [])),
+      subst (λ (x : List ℕ). Appends o w x) (sym (append_assoc (frames_of answers) (frames_of others) part) ∙ ap (λ (x : List ℕ). x ++ part) (sym (frames_append answers others)))
+          (appends_more o v w (frames_of answers) (frames_of others ++ part) told h),
+    )
+
+all_more : (answers more : List Answer) (reader o v w : Option (List ℕ)) → Appends o v (frames_of answers) → AllTold more reader v w → AllTold (answers ++ more) reader o w
+all_more answers more reader o v w told h =
+    (h.0, subst (λ (x : List ℕ). Appends o w x) (sym (frames_append answers more)) (appends_more o v w (frames_of answers) (frames_of more) told h.1))
+
+left_more : (fault : ServeFault) (bytes : List ℕ) (answers more : List Answer) (reader o v w : Option (List ℕ)) → (bytes ≡ [] → ⊥) → Appends o v (frames_of answers) → LeftAt fault more reader v w → LeftBy fault bytes (answers ++ more) reader o w
+left_more faults.Read bytes answers more reader o v w some told h = absurd h
+left_more faults.Write bytes answers more reader o v w some told (inl h) = (some, inl (all_more answers more reader o v w told h))
+left_more faults.Write bytes answers more reader o v w some told (inr (count, h)) = (some, inr (count, last_more answers more count o v w told h))
+left_more faults.Memory bytes answers more reader o v w some told h = inl (last_more answers more 0 o v w told h)
+
+-- so many bytes are some
+pub took : (n : ℕ) (xs : List ℕ) → n ≤ length xs → (n ≡ 0 → ⊥) → take n xs ≡ [] → ⊥
+took n xs fits some e = some (sym (length-take-le n xs fits) ∙ ap length e)
+
+some_behind : (xs ys : List ℕ) → (ys ≡ [] → ⊥) → xs ++ ys ≡ [] → ⊥
+some_behind [] ys some e = some e
+some_behind (x ∷ xs) ys some e = absurd (omega (arith, ap length e))
+
+-- ---- messages that are there
+
 -- no message was taken yet
 pub answering_none : (reader : Option (List ℕ)) (s : Situation) (o : Option (List ℕ)) → Answering reader reader s s o o
 answering_none reader s o = record { messages = []; answers = []; taken = refl; answered = refl; told = nothing_more o }
@@ -108,38 +166,34 @@ answering_more reader between after s t u o v w m a h takes answered told = reco
       (appends_more o v w (frames_of h.answers) (answer_frame a) h.told told);
 }
 
--- the same where a front of the answer's frame was written
-pub answering_some : (reader between after : Option (List ℕ)) (s t u : Situation) (o v w : Option (List ℕ)) (m : Message) (a : Answer)
-    → Answering reader between s t o v → Takes between m after → IsAnswered m t a u → PutsFront v w (answer_frame a) → AnswersSome reader after s u o w
-answering_some reader between after s t u o v w m a h takes answered front = record {
+-- the same where the answer's frame was not written whole
+pub answering_some : (fault : ServeFault) (reader between after : Option (List ℕ)) (s t u : Situation) (o v w : Option (List ℕ)) (m : Message) (a : Answer)
+    → Answering reader between s t o v → Takes between m after → IsAnswered m t a u → PutsUntil fault v w (answer_frame a) → AnswersSome fault reader after s u o w
+answering_some fault reader between after s t u o v w m a h takes answered until = record {
   messages = h.messages ++ m ∷ [];
   answers = h.answers ++ a ∷ [];
   taken = taken_more h.messages reader between after m h.taken takes;
   answered = answered_more h.messages h.answers s t u m a h.answered answered;
   front = subst (λ (x : List ℕ). PutsFront o w x) (sym (flat_map-append answer_frame h.answers (a ∷ []) ∙ ap (λ (x : List ℕ). frames_of h.answers ++ x) (append-nil (answer_frame a))))
-      (front_more o v w (frames_of h.answers) (answer_frame a) h.told front);
+      (front_more o v w (frames_of h.answers) (answer_frame a) h.told (until_front fault v w (answer_frame a) until));
+  left = left_at fault h.answers a after o v w h.told until;
 }
 
--- what was written whole is a front, also where the writer then kept what it held
-pub answering_kept : (reader after later : Option (List ℕ)) (s t : Situation) (o v w : Option (List ℕ)) → later ≡ after → Answering reader after s t o v → Keeps v w → AnswersSome reader later s t o w
-answering_kept reader after later s t o v w e h k = record {
+-- what was written whole is a front, also where the writer then kept what it held, and failed
+pub answering_kept : (reader after later : Option (List ℕ)) (s t : Situation) (o v w : Option (List ℕ)) → later ≡ after → IsIdle after → Answering reader after s t o v → Keeps v w → AnswersSome faults.Write reader later s t o w
+answering_kept reader after later s t o v w e idle h k = record {
   messages = h.messages;
   answers = h.answers;
   taken = subst (λ (r : Option (List ℕ)). AllTaken reader h.messages r) (sym e) h.taken;
   answered = h.answered;
   front = subst (λ (x : List ℕ). PutsFront o w x) (append-nil (frames_of h.answers)) (front_more o v w (frames_of h.answers) [] h.told (no_front v w [] k));
+  left = inl (subst IsIdle (sym e) idle, keeps_told o v w (frames_of h.answers) h.told k);
 }
 
 -- and all of it is written where it kept that
 pub answering_flushed : (reader after : Option (List ℕ)) (s t : Situation) (o v w : Option (List ℕ)) → Answering reader after s t o v → Keeps v w → Answering reader after s t o w
 answering_flushed reader after s t o v w h k =
     record { messages = h.messages; answers = h.answers; taken = h.taken; answered = h.answered; told = keeps_told o v w (frames_of h.answers) h.told k }
-  where
-    keeps_told : (a b c : Option (List ℕ)) (x : List ℕ) → Appends a b x → Keeps b c → Appends a c x
-    keeps_told None b c x h k = tt
-    keeps_told (Some xs) None c x h k = absurd h
-    keeps_told (Some xs) (Some ys) None x h k = absurd k
-    keeps_told (Some xs) (Some ys) (Some zs) x h k = k ∙ h
 
 -- nothing was read yet
 pub serving_none : (reader : Option (List ℕ)) (s : Situation) (i o : Option (List ℕ)) → reader ≡ Some [] → Serving reader s s i i o o
@@ -159,42 +213,48 @@ serving_more reader between after s t u i l n o v w piece h takes e more = recor
   told = subst (λ (x : List ℕ). Appends o w x) (sym (frames_append h.answers more.answers)) (appends_more o v w (frames_of h.answers) (frames_of more.answers) h.told more.told);
 }
 
--- the same where a front of their answers was written
-pub serving_some : (reader between after : Option (List ℕ)) (s t u : Situation) (i l n o v w : Option (List ℕ)) (piece : List ℕ)
-    → Serving reader s t i l o v → TakesPiece l n piece → between ≡ fed reader piece → AnswersSome between after t u v w → ServesSome s u i n o w
-serving_some reader between after s t u i l n o v w piece h takes e more =
+-- the same where they were left
+pub serving_some : (fault : ServeFault) (reader between after : Option (List ℕ)) (s t u : Situation) (i l n o v w : Option (List ℕ)) (piece : List ℕ)
+    → Serving reader s t i l o v → TakesPiece l n piece → (piece ≡ [] → ⊥) → between ≡ fed reader piece → AnswersSome fault between after t u v w → ServesUntil fault s u i n o w
+serving_some fault reader between after s t u i l n o v w piece h takes some e more =
     let answered : AllAnswered (h.messages ++ more.messages) s (h.answers ++ more.answers) u = answered_append h.messages h.answers more.messages more.answers s t u h.answered more.answered in
     record {
-      bytes = h.bytes ++ piece;
-      messages = h.messages ++ more.messages;
-      answers = h.answers ++ more.answers;
-      reader = after;
-      consumed = consumes_more i l n h.bytes piece h.consumed takes.consumed;
-      messages_are = messages_taken more.messages h.messages (h.bytes ++ piece) between after
-          (subst (λ (r : Option (List ℕ)). MessagesAre (h.bytes ++ piece) h.messages r) (sym e) (feeding h.messages h.bytes piece reader h.messages_are)) more.taken;
-      answered = answered;
-      holds = served_holds (h.messages ++ more.messages) s (h.answers ++ more.answers) u answered;
-      withstands = served_withstand (h.messages ++ more.messages) s (h.answers ++ more.answers) u answered;
-      front = subst (λ (x : List ℕ). PutsFront o w x) (sym (frames_append h.answers more.answers)) (front_more o v w (frames_of h.answers) (frames_of more.answers) h.told more.front);
+      some = record {
+        bytes = h.bytes ++ piece;
+        messages = h.messages ++ more.messages;
+        answers = h.answers ++ more.answers;
+        reader = after;
+        consumed = consumes_more i l n h.bytes piece h.consumed takes.consumed;
+        messages_are = messages_taken more.messages h.messages (h.bytes ++ piece) between after
+            (subst (λ (r : Option (List ℕ)). MessagesAre (h.bytes ++ piece) h.messages r) (sym e) (feeding h.messages h.bytes piece reader h.messages_are)) more.taken;
+        answered = answered;
+        holds = served_holds (h.messages ++ more.messages) s (h.answers ++ more.answers) u answered;
+        withstands = served_withstand (h.messages ++ more.messages) s (h.answers ++ more.answers) u answered;
+        front = subst (λ (x : List ℕ). PutsFront o w x) (sym (frames_append h.answers more.answers)) (front_more o v w (frames_of h.answers) (frames_of more.answers) h.told more.front);
+      };
+      left_by = left_more fault (h.bytes ++ piece) h.answers more.answers after o v w (some_behind h.bytes piece some) h.told more.left;
     }
 
 whole_front : (a b : Option (List ℕ)) (x : List ℕ) → Appends a b x → PutsFront a b x
 whole_front a b x h = (length x, subst (λ (y : List ℕ). Appends a b y) (sym (take-length x)) h)
 
--- a piece more was read, and nothing was made of it
+-- a piece more was read, and there was no memory for it
 pub serving_read : (reader : Option (List ℕ)) (s t : Situation) (i l n o v : Option (List ℕ)) (piece : List ℕ)
-    → Serving reader s t i l o v → TakesPiece l n piece → ServesSome s t i n o v
-serving_read reader s t i l n o v piece h takes = record {
-  bytes = h.bytes ++ piece;
-  messages = h.messages;
-  answers = h.answers;
-  reader = fed reader piece;
-  consumed = consumes_more i l n h.bytes piece h.consumed takes.consumed;
-  messages_are = feeding h.messages h.bytes piece reader h.messages_are;
-  answered = h.answered;
-  holds = served_holds h.messages s h.answers t h.answered;
-  withstands = served_withstand h.messages s h.answers t h.answered;
-  front = whole_front o v (frames_of h.answers) h.told;
+    → Serving reader s t i l o v → IsIdle reader → TakesPiece l n piece → (piece ≡ [] → ⊥) → ServesUntil faults.Memory s t i n o v
+serving_read reader s t i l n o v piece h idle takes some = record {
+  some = record {
+    bytes = h.bytes ++ piece;
+    messages = h.messages;
+    answers = h.answers;
+    reader = fed reader piece;
+    consumed = consumes_more i l n h.bytes piece h.consumed takes.consumed;
+    messages_are = feeding h.messages h.bytes piece reader h.messages_are;
+    answered = h.answered;
+    holds = served_holds h.messages s h.answers t h.answered;
+    withstands = served_withstand h.messages s h.answers t h.answered;
+    front = whole_front o v (frames_of h.answers) h.told;
+  };
+  left_by = inr (inl (reader, piece, idle, some, refl, h.told));
 }
 
 consumes_kept : (a b c : Option (List ℕ)) (x : List ℕ) → Consumes a b x → Keeps b c → Consumes a c x
@@ -204,18 +264,21 @@ consumes_kept (Some xs) (Some ys) None x h k = absurd k
 consumes_kept (Some xs) (Some ys) (Some zs) x h k = h ∙ ap (λ (y : List ℕ). x ++ y) (sym k)
 
 -- a read failed, and took nothing
-pub serving_kept : (reader : Option (List ℕ)) (s t : Situation) (i l n o v : Option (List ℕ)) → Serving reader s t i l o v → Keeps l n → ServesSome s t i n o v
-serving_kept reader s t i l n o v h k = record {
-  bytes = h.bytes;
-  messages = h.messages;
-  answers = h.answers;
-  reader = reader;
-  consumed = consumes_kept i l n h.bytes h.consumed k;
-  messages_are = h.messages_are;
-  answered = h.answered;
-  holds = served_holds h.messages s h.answers t h.answered;
-  withstands = served_withstand h.messages s h.answers t h.answered;
-  front = whole_front o v (frames_of h.answers) h.told;
+pub serving_kept : (reader : Option (List ℕ)) (s t : Situation) (i l n o v : Option (List ℕ)) → Serving reader s t i l o v → IsIdle reader → Keeps l n → ServesUntil faults.Read s t i n o v
+serving_kept reader s t i l n o v h idle k = record {
+  some = record {
+    bytes = h.bytes;
+    messages = h.messages;
+    answers = h.answers;
+    reader = reader;
+    consumed = consumes_kept i l n h.bytes h.consumed k;
+    messages_are = h.messages_are;
+    answered = h.answered;
+    holds = served_holds h.messages s h.answers t h.answered;
+    withstands = served_withstand h.messages s h.answers t h.answered;
+    front = whole_front o v (frames_of h.answers) h.told;
+  };
+  left_by = (idle, h.told);
 }
 
 kept_self : (a : Option (List ℕ)) → Keeps a a
@@ -223,8 +286,26 @@ kept_self None = tt
 kept_self (Some xs) = refl
 
 -- no more is read
-pub serving_stops : (reader : Option (List ℕ)) (s t : Situation) (i l o v : Option (List ℕ)) → Serving reader s t i l o v → ServesSome s t i l o v
-serving_stops reader s t i l o v h = serving_kept reader s t i l l o v h (kept_self l)
+pub serving_stops : (reader : Option (List ℕ)) (s t : Situation) (i l o v : Option (List ℕ)) → Serving reader s t i l o v → IsIdle reader → ServesUntil faults.Read s t i l o v
+serving_stops reader s t i l o v h idle = serving_kept reader s t i l l o v h idle (kept_self l)
+
+-- there was no memory to begin with
+pub serving_nothing : (s : Situation) (i o : Option (List ℕ)) → ServesUntil faults.Memory s s i i o o
+serving_nothing s i o = record {
+  some = record {
+    bytes = [];
+    messages = [];
+    answers = [];
+    reader = Some [];
+    consumed = nothing_read i;
+    messages_are = refl;
+    answered = refl;
+    holds = served_holds [] s [] s refl;
+    withstands = served_withstand [] s [] s refl;
+    front = (0, nothing_more o);
+  };
+  left_by = inr (inr (refl, nothing_more o));
+}
 
 -- the stream is at its end
 pub serving_ends : (reader : Option (List ℕ)) (s t : Situation) (i l n o v : Option (List ℕ)) (piece : List ℕ)
@@ -255,6 +336,11 @@ serving_over reader s t i l o v h idle none = record { reader = reader; serving 
 pub on_err : {T E : Type 0} (r : Result T E) (X : Type 0) → X → OnErr r X
 on_err (Ok v) X x = tt
 on_err (Err e) X x = x
+
+-- a fault that is handed on is the same, and what holds of it holds there
+pub if_err : {T E : Type 0} (r : Result T E) (fault told : E) (X : E → Type 0) → IsErrAnd r (λ e. e ≡ fault) → fault ≡ told → X told → IfErr r X
+if_err (Ok v) fault told X is same x = tt
+if_err (Err e) fault told X is same x = subst X (sym (is ∙ same)) x
 
 pub over : (reader : Option (List ℕ)) → is_none reader ≡ true → reader ≡ None
 over None h = refl

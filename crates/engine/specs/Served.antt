@@ -1,11 +1,11 @@
 -- What became of the messages of a stream, one after another.
-use Rattle.std.specs.Prelude.{◌≡◌, ◌⊎◌, ℕ, List, [], ◌∷◌, ◌++◌, map, Option, None, IsTrue}
+use Rattle.std.specs.Prelude.{◌≡◌, ◌⊎◌, ℕ, List, [], ◌∷◌, ◌++◌, map, take, Option, None, IsTrue}
 use Rattle.std.specs.List.{flat_map}
 use Rattle.std.specs.Io.KnownBytes.{Appends, Consumes, IsAtEnd}
 use Rattle.request.specs.declared.answer.Answer.{Answer}
 use Rattle.request.specs.declared.message.Message.{Message}
 use Rattle.request.specs.Answers.{answer_frame}
-use Rattle.request.specs.Frames.{Takes, IsIdle, MessagesAre}
+use Rattle.request.specs.Frames.{Takes, IsIdle, MessagesAre, fed}
 use Rattle.model.specs.Session.{State, after}
 use Rattle.medium.specs.Commit.{need}
 use Rattle.medium.specs.Journal.{HoldsOnJournal}
@@ -13,6 +13,8 @@ use Rattle.medium.specs.Runs.{Delivery}
 use Rattle.medium.specs.Runs.Delivery.{Delivered}
 use Rattle.udf.specs.Udf.{udf, spelled}
 use Rattle.engine.specs.Situation.{Situation}
+use Rattle.engine.specs.declared.serving.ServeFault.{ServeFault}
+use Rattle.engine.specs.declared.serving.ServeFault.TheVariants as faults
 use Rattle.engine.specs.Answered.{Answered}
 use Rattle.engine.specs.Called.{Calls}
 use Rattle.engine.specs.Headline.{said_answers}
@@ -79,13 +81,42 @@ pub record Answering (reader after : Option (List ℕ)) (before behind : Situati
   pub answered : AllAnswered messages before answers behind
   pub told : Appends output written (frames_of answers)
 
--- The same, but of the answers' frames a front was written.
-pub record AnswersSome (reader after : Option (List ℕ)) (before behind : Situation) (output written : Option (List ℕ)) : Type 0 where
+-- no whole message waits, and each answer's frame was written
+abbrev pub AllTold : List Answer → Option (List ℕ) → Option (List ℕ) → Option (List ℕ) → Type 0
+AllTold answers reader output written = IsIdle reader × Appends output written (frames_of answers)
+
+-- the last answer's frame was not written whole: each other one's was, and so many bytes of it
+abbrev pub LastUntold : List Answer → ℕ → Option (List ℕ) → Option (List ℕ) → Type 0
+LastUntold answers count output written = (others : List Answer) × (last : Answer) × (answers ≡ others ++ last ∷ []) × Appends output written (frames_of others ++ take count (answer_frame last))
+
+-- bytes were read of which the reader of frames took none, behind answers that were written whole
+abbrev pub Unlooked : List Answer → Option (List ℕ) → Option (List ℕ) → Option (List ℕ) → Type 0
+Unlooked answers reader output written = (earlier : Option (List ℕ)) × (piece : List ℕ) × IsIdle earlier × (piece ≡ [] → ⊥) × (reader ≡ fed earlier piece) × Appends output written (frames_of answers)
+
+-- Why messages that are there were left, by what was written of their answers. A write fails at the last answer, or behind
+-- all of them. Memory is short where the last answer has no frame.
+abbrev pub LeftAt : ServeFault → List Answer → Option (List ℕ) → Option (List ℕ) → Option (List ℕ) → Type 0
+LeftAt faults.Read answers reader output written = ⊥
+LeftAt faults.Write answers reader output written = AllTold answers reader output written ⊎ ((count : ℕ) × LastUntold answers count output written)
+LeftAt faults.Memory answers reader output written = LastUntold answers 0 output written
+
+-- Why a stream was left, by what was read of it, and written of the answers. A read fails where all that was read has its
+-- answers; a write where something was read; and memory is short for such a message's answer, for bytes that were read, or
+-- before any were.
+abbrev pub LeftBy : ServeFault → List ℕ → List Answer → Option (List ℕ) → Option (List ℕ) → Option (List ℕ) → Type 0
+LeftBy faults.Read bytes answers reader output written = AllTold answers reader output written
+LeftBy faults.Write bytes answers reader output written = (bytes ≡ [] → ⊥) × LeftAt faults.Write answers reader output written
+LeftBy faults.Memory bytes answers reader output written =
+    LeftAt faults.Memory answers reader output written ⊎ (Unlooked answers reader output written ⊎ ((bytes ≡ []) × Appends output written []))
+
+-- The same, but it ended with a fault, and of the answers' frames a front was written.
+pub record AnswersSome (fault : ServeFault) (reader after : Option (List ℕ)) (before behind : Situation) (output written : Option (List ℕ)) : Type 0 where
   pub messages : List Message
   pub answers : List Answer
   pub taken : AllTaken reader messages after
   pub answered : AllAnswered messages before answers behind
   pub front : PutsFront output written (frames_of answers)
+  pub left : LeftAt fault answers after output written
 
 -- Bytes were read. The messages that a reader of frames gave of them, and that is left so, were answered, and each answer's frame was written.
 pub record Serving (reader : Option (List ℕ)) (before behind : Situation) (input left output written : Option (List ℕ)) : Type 0 where
@@ -118,3 +149,8 @@ pub record ServesSome (before behind : Situation) (input left output written : O
   pub holds : ServedHolds messages before answers behind
   pub withstands : ServedWithstands messages before answers behind
   pub front : PutsFront output written (frames_of answers)
+
+-- The same, up to where this fault came.
+pub record ServesUntil (fault : ServeFault) (before behind : Situation) (input left output written : Option (List ℕ)) : Type 0 where
+  pub some : ServesSome before behind input left output written
+  pub left_by : LeftBy fault some.bytes some.answers some.reader output written

@@ -1,6 +1,8 @@
 -- What was read from a stream and written to one, where its bytes are known.
 use Rattle.std.specs.Prelude.{◌≡◌, ℕ, List, [], take, Option}
-use Rattle.std.specs.Io.KnownBytes.{Appends, Consumes, IsAtEnd}
+use Rattle.std.specs.Io.KnownBytes.{Appends, Consumes, IsAtEnd, Keeps}
+use Rattle.engine.specs.declared.serving.ServeFault.{ServeFault}
+use Rattle.engine.specs.declared.serving.ServeFault.TheVariants as faults
 
 -- these bytes were read, and there are none at the end alone
 pub record TakesPiece (before after : Option (List ℕ)) (piece : List ℕ) : Type 0 where
@@ -10,3 +12,9 @@ pub record TakesPiece (before after : Option (List ℕ)) (piece : List ℕ) : Ty
 -- a front of these bytes was written
 abbrev pub PutsFront : Option (List ℕ) → Option (List ℕ) → List ℕ → Type 0
 PutsFront before after bytes = (count : ℕ) × Appends before after (take count bytes)
+
+-- The bytes were not written whole: a front of them where a write failed, and nothing where there was no memory to make them.
+abbrev pub PutsUntil : ServeFault → Option (List ℕ) → Option (List ℕ) → List ℕ → Type 0
+PutsUntil faults.Read before after bytes = ⊥
+PutsUntil faults.Write before after bytes = PutsFront before after bytes
+PutsUntil faults.Memory before after bytes = Keeps before after

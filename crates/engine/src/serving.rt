@@ -1,13 +1,13 @@
 //! Messages from a stream, and answers to one.
 
-ghost use Rattle.std.specs.Prelude.{OnOk, OnErr};
+ghost use Rattle.std.specs.Prelude.{OnOk, OnErr, IfErr};
 ghost use Rattle.std.specs.Io.KnownBytes.{Appends};
 ghost use Rattle.drive.specs.Reads.{Follows};
 ghost use Rattle.request.specs.Answers.{answer_frame};
 ghost use Rattle.request.specs.Frames.{IsIdle};
-ghost use Rattle.engine.specs.Streams.{PutsFront};
+ghost use Rattle.engine.specs.Streams.{PutsUntil};
 ghost use Rattle.engine.specs.Situation.{IsReady, seen_on};
-ghost use Rattle.engine.specs.Served.{Answering, AnswersSome, ServesSome, ServesAll};
+ghost use Rattle.engine.specs.Served.{Answering, AnswersSome, ServesSome, ServesUntil, ServesAll};
 
 use crate::engine::Engine;
 use crate::streams::{put_all, read_piece};
@@ -44,6 +44,9 @@ pub fn serve<R: Read, W: Write, D: Drive>(
     ensures ok { OnOk result (ServesAll (seen_on D.Drive engine.old drive.old) (seen_on D.Drive engine.new drive.new)
         (R.remaining reader.old) (R.remaining reader.new) (W.contents writer.old) (W.contents writer.new)) }
     ensures err { OnErr result (ServesSome (seen_on D.Drive engine.old drive.old) (seen_on D.Drive engine.new drive.new)
+        (R.remaining reader.old) (R.remaining reader.new) (W.contents writer.old) (W.contents writer.new)) }
+    // Which fault it is tells how far that went.
+    ensures left { IfErr result (λ fault. ServesUntil fault (seen_on D.Drive engine.old drive.old) (seen_on D.Drive engine.new drive.new)
         (R.remaining reader.old) (R.remaining reader.new) (W.contents writer.old) (W.contents writer.new)) }
     ensures ready { IsReady (seen_on D.Drive engine.new drive.new) }
     ensures lent { Follows D.Drive 0 drive.old drive.new }
@@ -85,7 +88,7 @@ fn answer_all<W: Write, D: Drive>(
     ensures ok { OnOk result (Answering frames.old frames.new (seen_on D.Drive engine.old drive.old) (seen_on D.Drive engine.new drive.new)
         (W.contents writer.old) (W.contents writer.new)) }
     ensures idle { OnOk result (IsIdle frames.new) }
-    ensures err { OnErr result (AnswersSome frames.old frames.new (seen_on D.Drive engine.old drive.old) (seen_on D.Drive engine.new drive.new)
+    ensures err { IfErr result (λ fault. AnswersSome fault frames.old frames.new (seen_on D.Drive engine.old drive.old) (seen_on D.Drive engine.new drive.new)
         (W.contents writer.old) (W.contents writer.new)) }
     ensures ready { IsReady (seen_on D.Drive engine.new drive.new) }
     ensures lent { Follows D.Drive 0 drive.old drive.new }
@@ -100,14 +103,14 @@ fn answer_all<W: Write, D: Drive>(
     Ok(())
 }
 
-/// Writes an answer's frame, which is made in the buffer. Where it fails, a front of it was written.
+/// Writes an answer's frame, which is made in the buffer. Where a write fails, a front of it was written.
 fn write_answer<W: Write>(
     writer: &mut W,
     answer: Answer,
     buffer: &mut Vec<u8>,
 ) -> Result<(), ServeFault>
     ensures ok { OnOk result (Appends (W.contents writer.old) (W.contents writer.new) (answer_frame answer)) }
-    ensures err { OnErr result (PutsFront (W.contents writer.old) (W.contents writer.new) (answer_frame answer)) }
+    ensures err { IfErr result (λ fault. PutsUntil fault (W.contents writer.old) (W.contents writer.new) (answer_frame answer)) }
 {
     buffer.clear();
     if encode_answer(&answer, buffer).is_err() {

@@ -1,6 +1,6 @@
-use Rattle.std.proofs.Common.{rules}
+use Rattle.std.proofs.Common.{rules, refl}
 use Rattle.drive.proofs.Reading.{follows_any, follows_then}
-use Rattle.engine.proofs.Messages.{answering_kept, answering_more, answering_some, on_err}
+use Rattle.engine.proofs.Messages.{answering_kept, answering_more, answering_some, if_err}
 use Rattle.engine.proofs.serving.answer_all.Goals as goal
 
 pub loop-message-preserved : goal.loop-message-preserved
@@ -13,13 +13,13 @@ loop-message-preserved g c = record {
 
 pub returns-in_err-write_answer-clause-err : goal.returns-in_err-write_answer-clause-err
 returns-in_err-write_answer-clause-err g c =
-    on_err _ _
-    (answering_some _ c.loop-message.frames _ _ _ _ _ (g.W.Write.contents c.loop-message.writer) _ c.in-Some.message c.answer-answer.result
+    if_err c.from_residual.result _ _ _ c.from_residual.ensures.1 refl
+    (answering_some _ _ c.loop-message.frames _ _ _ _ _ (g.W.Write.contents c.loop-message.writer) _ c.in-Some.message c.answer-answer.result
     c.loop-message.invariant.answering c.in-Some.ensures.some (record { answered = c.answer-answer.ensures.answered; calls = c.answer-answer.ensures.calls; withstands = c.answer-answer.ensures.withstands }) c.in_err-write_answer.ensures.err)
 
 pub returns-then-is_err-clause-err : goal.returns-then-is_err-clause-err
 returns-then-is_err-clause-err g c =
-    answering_kept _ c.loop-message.frames _ _ _ _ (g.W.Write.contents c.loop-message.writer) _ (search rules)
+    answering_kept _ c.loop-message.frames _ _ _ _ (g.W.Write.contents c.loop-message.writer) _ (search rules) (search rules)
     c.loop-message.invariant.answering c.flush.ensures.bytes
 
 pub returns-in_err-write_answer-clause-lent : goal.returns-in_err-write_answer-clause-lent
