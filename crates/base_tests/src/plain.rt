@@ -1,7 +1,7 @@
 //! Requests and their replies, by the plain program. A request's moment is its number.
 
 ghost use Rattle.std.specs.Prelude.{IfOk};
-ghost use Rattle.model.specs.PlainState.{IsWhole};
+ghost use Rattle.model.specs.PlainState.{IsWholeState};
 
 use model::plain::{
     ClientRecord, Code, Content, Due, Node, Operation, Refusal, Reply, Request, State,
@@ -60,8 +60,8 @@ fn ask(
     number: u64,
     operation: Operation,
 ) -> Result<(State, Reply), Refusal>
-    requires { IsWhole state }
-    ensures { IfOk result (λ pair. IsWhole pair.0) }
+    requires { IsWholeState state }
+    ensures { IfOk result (λ pair. IsWholeState pair.0) }
 {
     let request = Request {
         client,
@@ -74,7 +74,7 @@ fn ask(
 
 /// A new volume after these operations of client 7, and their codes.
 fn after(alloc: Global, operations: Vec<Operation>) -> Result<(State, Vec<Code>), Refusal>
-    ensures { IfOk result (λ pair. IsWhole pair.0) }
+    ensures { IfOk result (λ pair. IsWholeState pair.0) }
 {
     let mut state = State::formatted(alloc, 0)?;
     let mut codes = Vec::new(alloc);
@@ -425,7 +425,7 @@ fn a_record_may_keep_one_reply(rt: HostRuntime) -> Result<(), Fail> {
 
 /// A new volume after one request of each of 64 clients.
 fn with_all_clients(alloc: Global) -> Result<State, Refusal>
-    ensures { IfOk result (λ state. IsWhole state) }
+    ensures { IfOk result (λ state. IsWholeState state) }
 {
     let mut state = State::formatted(alloc, 0)?;
     for client in 1..65u64 {

@@ -1,6 +1,6 @@
 //! Clear starts and tables, beside copies of the same bytes.
 
-ghost use Rattle.vat.specs.Table.{view, Fits};
+ghost use Rattle.vat.specs.Table.{view, FitsTable};
 
 use crate::bytes::{MEBIBYTE, ordinary};
 use crate::report::{Report, since, used, wrong};
@@ -118,7 +118,7 @@ fn read_often(alloc: Global, bytes: &[u8], rounds: u32) -> io::Result<usize> {
 
 /// How many bytes are written in all.
 fn write_often(alloc: Global, vat: &Vat, rounds: u32) -> io::Result<usize>
-    requires { Fits (view vat.now) }
+    requires { FitsTable (view vat.now) }
 {
     let mut count = 0usize;
     for _ in 0..rounds {

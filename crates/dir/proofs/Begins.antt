@@ -9,7 +9,7 @@ use Rattle.dir.specs.declared.entry.Entry.{Entry}
 use Rattle.dir.specs.Directory.{identifiers, IsDirectory, BlocksBegin}
 use Rattle.dir.specs.Identifier.{Identifier, plain_size, identifier}
 use Rattle.dir.specs.Layout.{stays, laid, onward, blocks_of, Stands, end_of}
-use Rattle.dir.specs.Split.{Fits}
+use Rattle.dir.specs.Split.{FitsIdentifier}
 use Rattle.dir.proofs.Identifiers.{length-identifier, tag-identifier}
 use Rattle.dir.proofs.Placing.{plain_bounds, laid-nil, laid-put, onward-full, onward-within, stands_within, stands_next}
 use Rattle.dir.proofs.Refusals.{all_Fit}
@@ -34,7 +34,7 @@ end_between at x xs room = by (stays xs (2048 - (at + plain_size (length x.name)
     by false = (room, omega arith)
 
 -- of identifiers that are laid from a place of a block on, one begins at each block's start within their bytes
-laid_begins : (xs : List Identifier) (number at i : ℕ) (behind : List ℕ) → All Fits xs → at < 2048 → Stands at xs → (at + i) % 2048 ≡ 0 → i < length (laid number at xs)
+laid_begins : (xs : List Identifier) (number at i : ℕ) (behind : List ℕ) → All FitsIdentifier xs → at < 2048 → Stands at xs → (at + i) % 2048 ≡ 0 → i < length (laid number at xs)
     → u16_at i (laid number at xs ++ behind) ≡ 257
 laid_begins [] number at i behind fit inside stood start within = absurd (omega (arith, ap length (laid-nil number at)))
 laid_begins (x ∷ xs) number at i behind fit inside stood start within =
@@ -48,7 +48,7 @@ laid_begins (x ∷ xs) number at i behind fit inside stood start within =
     let put : laid number at (x ∷ xs) ≡ one ++ onward number end xs = laid-put number at x xs room in
     let all : length (laid number at (x ∷ xs)) ≡ length one + length (onward number end xs) = ap length put ∙ length-append one (onward number end xs) in
     let whole : laid number at (x ∷ xs) ++ behind ≡ one ++ (onward number end xs ++ behind) = ap (λ (t : List ℕ). t ++ behind) put ∙ append_assoc one (onward number end xs) behind in
-    let rest : All Fits xs = λ k d lt. fit (suc k) d (omega arith) in
+    let rest : All FitsIdentifier xs = λ k d lt. fit (suc k) d (omega arith) in
     ap (u16_at i) whole ∙ elim (cases_lt i (length one)) [
       | inl here ↦
           let none : i ≡ 0 = omega (arith, here, size, bounds.1, start) in

@@ -9,7 +9,7 @@ use Rattle.dir.specs.declared.fids.Fids.{Fids}
 use Rattle.dir.specs.Identifier.{Identifier, rounded}
 use Rattle.dir.specs.Layout.{laid, onward, Stands}
 use Rattle.dir.specs.Reads.{AreShort, Reads}
-use Rattle.dir.specs.Split.{AreBytes, Fits, size_of, use_size, name_size}
+use Rattle.dir.specs.Split.{AreBytes, FitsIdentifier, size_of, use_size, name_size}
 use Rattle.dir.proofs.Placing.{fits_cases, laid-nil}
 use Rattle.dir.proofs.Steps.{read_stands, laid_found}
 
@@ -27,7 +27,7 @@ pub record IsRead (whole : List ℕ) (first : ℕ) (done : List Identifier) (fid
   pub far : fids.index * 2048 + fids.at + length fids.«data».now ≡ length whole
   pub sound : (rest : List Identifier) → AreShort rest → fids.«data».now ≡ laid (first + fids.index) fids.at rest → Stands fids.at rest
       → whole ≡ laid first 0 (done ++ rest)
-  pub only : (xs : List Identifier) → All Fits xs → whole ≡ laid first 0 xs → Continues first done fids xs
+  pub only : (xs : List Identifier) → All FitsIdentifier xs → whole ≡ laid first 0 xs → Continues first done fids xs
 
 pub read_start : (whole : List ℕ) (first : ℕ) (fids : Fids) → AreBytes fids.«data».now → fids.«data».now ≡ whole → fids.at ≡ 0 → fids.index ≡ 0
     → IsRead whole first [] fids
@@ -83,14 +83,14 @@ rest_of_all P a x y b all =
     first_of_all P (a ++ x ∷ []) y b (subst (λ (t : List _). All P t) (sym (append_assoc a (x ∷ []) (y ∷ b))) all)
 
 -- the identifiers behind one that fits are short
-pub short_behind : (done : List Identifier) (m : Identifier) (ms : List Identifier) → All Fits (done ++ (m ∷ ms)) → AreShort ms
+pub short_behind : (done : List Identifier) (m : Identifier) (ms : List Identifier) → All FitsIdentifier (done ++ (m ∷ ms)) → AreShort ms
 short_behind done m ms fit y r e =
-    let all : All Fits (done ++ (m ∷ y ∷ r)) = subst (λ (t : List Identifier). All Fits (done ++ (m ∷ t))) e fit in
-    (rest_of_all Fits done m y r all).name
+    let all : All FitsIdentifier (done ++ (m ∷ y ∷ r)) = subst (λ (t : List Identifier). All FitsIdentifier (done ++ (m ∷ t))) e fit in
+    (rest_of_all FitsIdentifier done m y r all).name
 
 -- one identifier more is done
 pub read_more : (is_first : Bool) (whole : List ℕ) (first : ℕ) (done : List Identifier) (old new : Fids) (x : Identifier)
-    → IsRead whole first done old → Reads is_first first old new x → Fits x → first + old.index < 2 ^ 32
+    → IsRead whole first done old → Reads is_first first old new x → FitsIdentifier x → first + old.index < 2 ^ 32
     → IsRead whole first (done ++ x ∷ []) new
 read_more is_first whole first done old new x k r f in_range =
     let bytes = old.«data».now in
@@ -123,7 +123,7 @@ read_more is_first whole first done old new x k r f in_range =
           goes before before.more refl fit;
     }
   where
-    goes : {xs : List Identifier} → (before : Continues first done old xs) → (more : List Identifier) → before.more ≡ more → All Fits xs
+    goes : {xs : List Identifier} → (before : Continues first done old xs) → (more : List Identifier) → before.more ≡ more → All FitsIdentifier xs
         → Continues first (done ++ x ∷ []) new xs
     goes {xs} before [] e fit =
         let nothing : old.«data».now ≡ [] = before.there ∙ ap (laid (first + old.index) old.at) e ∙ laid-nil (first + old.index) old.at in
@@ -133,10 +133,10 @@ read_more is_first whole first done old new x k r f in_range =
         let bytes = old.«data».now in
         let end = old.at + size_of bytes in
         let split : xs ≡ done ++ (m ∷ ms) = before.split ∙ ap (λ (t : List Identifier). done ++ t) e in
-        let fit_all : All Fits (done ++ (m ∷ ms)) = subst (λ (t : List Identifier). All Fits t) split fit in
+        let fit_all : All FitsIdentifier (done ++ (m ∷ ms)) = subst (λ (t : List Identifier). All FitsIdentifier t) split fit in
         let there : bytes ≡ laid (first + old.index) old.at (m ∷ ms) = before.there ∙ ap (laid (first + old.index) old.at) e in
         let stood : Stands old.at (m ∷ ms) = subst (λ (t : List Identifier). Stands old.at t) e before.stood in
-        let found = laid_found (first + old.index) old.at bytes m ms k.bytes in_range old.in_block k.at4 (first_of_all Fits done m ms fit_all) (short_behind done m ms fit_all) there stood in
+        let found = laid_found (first + old.index) old.at bytes m ms k.bytes in_range old.in_block k.at4 (first_of_all FitsIdentifier done m ms fit_all) (short_behind done m ms fit_all) there stood in
         let same : m ≡ x = sym found.says ∙ sym r.says in
         let high : end ≤ 2048 = elim (fits_cases (size_of bytes) (2048 - old.at) r.split.within) [ inl q ↦ omega (arith, old.in_block) | inr q ↦ omega (arith, old.in_block) ] in
         record {

@@ -8,7 +8,7 @@ use Rattle.dir.specs.Directory.{of_parent, of_name, characteristics_of, IsEntry}
 use Rattle.dir.specs.Identifier.{Identifier}
 use Rattle.dir.specs.Kinds.{IsKind}
 use Rattle.dir.specs.Reads.{IsInPlace}
-use Rattle.dir.specs.Split.{Fits}
+use Rattle.dir.specs.Split.{FitsIdentifier}
 use Rattle.dir.proofs.Reading.{same_said}
 
 pub kind_of_name : (k : Kind) → IsKind (characteristics_of k)
@@ -22,13 +22,13 @@ name_in_place text e = apart e.kind
     apart File same = omega arith
     apart Directory same = omega arith
 
-pub name_Fits : (text : List ℕ) (e : Entry) → IsEntry (text, e) → Fits (of_name text e)
+pub name_Fits : (text : List ℕ) (e : Entry) → IsEntry (text, e) → FitsIdentifier (of_name text e)
 name_Fits text e entry = record { name = name_few text entry.name; kind = kind_of_name e.kind; icb = entry.icb; unique = entry.unique }
 
 pub parent_in_place : (icb : ℕ) → IsInPlace true (of_parent icb)
 parent_in_place icb = (refl, refl, refl)
 
-pub parent_Fits : (icb : ℕ) → icb < 2 ^ 32 → Fits (of_parent icb)
+pub parent_Fits : (icb : ℕ) → icb < 2 ^ 32 → FitsIdentifier (of_parent icb)
 parent_Fits icb fits = record { name = omega arith; kind = inr (inr refl); icb = fits; unique = omega arith }
 
 -- an identifier in the parent's place says what a parent's does

@@ -13,7 +13,7 @@ use Rattle.dir.specs.declared.entry.Kind.TheVariants.{File, Directory}
 use Rattle.dir.specs.Directory.{of_parent, characteristics_of, identifiers, IsEntry, IsDirectory}
 use Rattle.dir.specs.Identifier.{Identifier, rounded}
 use Rattle.dir.specs.Layout.{laid, blocks_of, blocked, identifier_blocks, Stands}
-use Rattle.dir.specs.Split.{AreBytes, Fits, size_of, use_size, name_size}
+use Rattle.dir.specs.Split.{AreBytes, FitsIdentifier, size_of, use_size, name_size}
 use Rattle.dir.proofs.Placing.{fits_cases, laid-nil, length-laid, stands_within, onward-full, onward-within}
 use Rattle.dir.proofs.Refusals.{of_entry, all_Fit, one_name, directory_data}
 use Rattle.dir.proofs.Steps.{bytes_front, laid_found}
@@ -21,10 +21,10 @@ use Rattle.dir.proofs.Steps.{bytes_front, laid_found}
 tail_of : {X : Type 0} (P : X → Type 0) (x : X) (xs : List X) → All P (x ∷ xs) → All P xs
 tail_of P x xs all k d lt = all (suc k) d (omega arith)
 
-short_tail : (x : Identifier) (xs : List Identifier) → All Fits (x ∷ xs) → (y : Identifier) (r : List Identifier) → xs ≡ y ∷ r → length y.name ≤ 255
-short_tail x xs fit y r e = (subst (λ (t : List Identifier). All Fits (x ∷ t)) e fit 1 y (omega arith)).name
+short_tail : (x : Identifier) (xs : List Identifier) → All FitsIdentifier (x ∷ xs) → (y : Identifier) (r : List Identifier) → xs ≡ y ∷ r → length y.name ≤ 255
+short_tail x xs fit y r e = (subst (λ (t : List Identifier). All FitsIdentifier (x ∷ t)) e fit 1 y (omega arith)).name
 
-some_laid : (number at : ℕ) (x : Identifier) (xs : List Identifier) (s : List ℕ) → at < 2048 → Fits x → Stands at (x ∷ xs)
+some_laid : (number at : ℕ) (x : Identifier) (xs : List Identifier) (s : List ℕ) → at < 2048 → FitsIdentifier x → Stands at (x ∷ xs)
     → s ≡ laid number at (x ∷ xs) → s ≡ [] → ⊥
 some_laid number at x xs s inside f stood there none =
     let room = stands_within at x xs f.name (omega arith) stood in
@@ -32,7 +32,7 @@ some_laid number at x xs s inside f stood there none =
 
 -- bytes are laid in one way
 laid_once : (xs ys : List Identifier) (number at : ℕ) (s : List ℕ) → AreBytes s → number + length xs < 2 ^ 32 → at < 2048 → at % 4 ≡ 0
-    → All Fits xs → All Fits ys → s ≡ laid number at xs → s ≡ laid number at ys → Stands at xs → Stands at ys → xs ≡ ys
+    → All FitsIdentifier xs → All FitsIdentifier ys → s ≡ laid number at xs → s ≡ laid number at ys → Stands at xs → Stands at ys → xs ≡ ys
 laid_once [] [] number at s all low inside at4 fx fy ex ey sx sy = refl
 laid_once [] (y ∷ ys) number at s all low inside at4 fx fy ex ey sx sy =
     absurd (some_laid number at y ys s inside (fy 0 y (omega arith)) sy ey (ex ∙ laid-nil number at))
@@ -48,11 +48,11 @@ laid_once (x ∷ xs) (y ∷ ys) number at s all low inside at4 fx fy ex ey sx sy
     let bytes : AreBytes (drop n s) = λ i. subst (λ (v : ℕ). v < 256) (sym (get_or-drop n s i 0)) (all (n + i)) in
     let rest : xs ≡ ys = elim (cases_lt (at + n) 2048) [
       | inl lt ↦
-          laid_once xs ys number (at + n) (drop n s) bytes (omega arith) lt end4 (tail_of Fits x xs fx) (tail_of Fits y ys fy)
+          laid_once xs ys number (at + n) (drop n s) bytes (omega arith) lt end4 (tail_of FitsIdentifier x xs fx) (tail_of FitsIdentifier y ys fy)
           (a.behind ∙ onward-within number (at + n) xs lt) (b.behind ∙ onward-within number (at + n) ys lt) (a.next lt) (b.next lt)
       | inr ge ↦
           let full : at + n ≡ 2048 = omega arith in
-          laid_once xs ys (number + 1) 0 (drop n s) bytes (omega arith) (omega arith) refl (tail_of Fits x xs fx) (tail_of Fits y ys fy)
+          laid_once xs ys (number + 1) 0 (drop n s) bytes (omega arith) (omega arith) refl (tail_of FitsIdentifier x xs fx) (tail_of FitsIdentifier y ys fy)
           (a.behind ∙ onward-full number (at + n) xs full) (b.behind ∙ onward-full number (at + n) ys full) (inl refl) (inl refl)
     ] in
     cc

@@ -7,7 +7,7 @@ use Rattle.ecma.specs.Tag.{Sealed}
 use Rattle.ecma.proofs.Pieces.{IsBytes, cut}
 use Rattle.dir.specs.Identifier.{Identifier, rounded, plain_size, use_of, head_of, body_of, identifier}
 use Rattle.dir.specs.Kinds.{IsKind}
-use Rattle.dir.specs.Split.{name_size, use_size, size_of, said_by, HasHead, IsPadded, Fits}
+use Rattle.dir.specs.Split.{name_size, use_size, size_of, said_by, HasHead, IsPadded, FitsIdentifier}
 use Rattle.ecma.proofs.Seals.{is_sealed}
 use Rattle.dir.proofs.Identifiers.{identifier_is, length-use_of, length-body_of, name_size-identifier, use_size-identifier, kind-identifier, icb-identifier, unique-identifier, head-identifier, tail-identifier}
 
@@ -82,7 +82,7 @@ name-identifier number more x rest =
     ap (take (length x.name)) place ∙ take_at x.name (pad ++ rest) (length x.name) refl
 
 -- the bytes of an identifier say what it says, and pass the tests
-pub said_by-identifier : (number more : ℕ) (x : Identifier) (bytes : List ℕ) → Fits x → more < 2 ^ 15
+pub said_by-identifier : (number more : ℕ) (x : Identifier) (bytes : List ℕ) → FitsIdentifier x → more < 2 ^ 15
     → bytes ≡ identifier number x more → said_by bytes ≡ x
 said_by-identifier number more x bytes f few e =
     let b : bytes ≡ identifier number x more ++ [] = e ∙ sym (append-nil (identifier number x more)) in
@@ -94,7 +94,7 @@ said_by-identifier number more x bytes f few e =
     same_said x _ _ _ _ name (ap (λ (t : List ℕ). slice_index t 18) b ∙ kind-identifier number more x [])
     (ap (u32_at 24) b ∙ icb-identifier number more x [] f.icb) (ap (u32_at 32) b ∙ unique-identifier number more x [] f.unique)
 
-pub HasHead-identifier : (number more : ℕ) (x : Identifier) (bytes : List ℕ) → Fits x → number < 2 ^ 32 → more < 2 ^ 15 → IsBytes bytes
+pub HasHead-identifier : (number more : ℕ) (x : Identifier) (bytes : List ℕ) → FitsIdentifier x → number < 2 ^ 32 → more < 2 ^ 15 → IsBytes bytes
     → bytes ≡ identifier number x more → HasHead number bytes
 HasHead-identifier number more x bytes f in_range few fits e =
     let b : bytes ≡ identifier number x more ++ [] = e ∙ sym (append-nil (identifier number x more)) in

@@ -17,7 +17,7 @@ use Rattle.dir.specs.Directory.{of_parent, of_name, identifiers, IsEntry, IsDire
 use Rattle.dir.specs.Identifier.{Identifier}
 use Rattle.dir.specs.Layout.{laid, blocks_of, Stands}
 use Rattle.dir.specs.Reads.{AreShort}
-use Rattle.dir.specs.Split.{Fits}
+use Rattle.dir.specs.Split.{FitsIdentifier}
 use Rattle.dir.proofs.Directories.{IsRead, Continues, first_of_all, short_behind}
 use Rattle.dir.proofs.Entries.{name_Fits, parent_Fits}
 use Rattle.dir.proofs.Placing.{laid-nil, length-laid, stands_within}
@@ -34,12 +34,12 @@ pub all_push : {X : Type 0} (P : X → Type 0) (xs : List X) (x : X) → All P x
 all_push P [] x ps p = all_cons P x [] p ps
 all_push P (y ∷ ys) x ps p = all_cons P y (ys ++ x ∷ []) (ps 0 y (omega arith)) (all_push P ys x (λ k d lt. ps (suc k) d (omega arith)) p)
 
-entries_Fit : (es : List (List ℕ × Entry)) → All IsEntry es → All Fits (map of_entry es)
+entries_Fit : (es : List (List ℕ × Entry)) → All IsEntry es → All FitsIdentifier (map of_entry es)
 entries_Fit [] all = λ k d lt. absurd (omega arith)
-entries_Fit (e ∷ es) all = all_cons Fits (of_entry e) (map of_entry es) (name_Fits e.0 e.1 (all 0 e (omega arith))) (entries_Fit es (λ k d lt. all (suc k) d (omega arith)))
+entries_Fit (e ∷ es) all = all_cons FitsIdentifier (of_entry e) (map of_entry es) (name_Fits e.0 e.1 (all 0 e (omega arith))) (entries_Fit es (λ k d lt. all (suc k) d (omega arith)))
 
-pub all_Fit : (parent : ℕ) (es : List (List ℕ × Entry)) → parent < 2 ^ 32 → All IsEntry es → All Fits (identifiers parent es)
-all_Fit parent es low all = all_cons Fits (of_parent parent) (map of_entry es) (parent_Fits parent low) (entries_Fit es all)
+pub all_Fit : (parent : ℕ) (es : List (List ℕ × Entry)) → parent < 2 ^ 32 → All IsEntry es → All FitsIdentifier (identifiers parent es)
+all_Fit parent es low all = all_cons FitsIdentifier (of_parent parent) (map of_entry es) (parent_Fits parent low) (entries_Fit es all)
 
 -- the entries of which one identifier is that of one
 pub record Splitting (es : List (List ℕ × Entry)) (a : List Identifier) (m : Identifier) (ms : List Identifier) : Type 0 where
@@ -109,7 +109,7 @@ name_refused whole first parent p entries es fids r low all e some refused =
         let split : identifiers p es ≡ identifiers parent entries ++ (m ∷ ms) = k.split ∙ ap (λ (t : List Identifier). identifiers parent entries ++ t) q in
         let names : map of_entry es ≡ map of_entry entries ++ (m ∷ ms) = cc in
         let s = split_entries es (map of_entry entries) m ms names in
-        let fit : All Fits (identifiers parent entries ++ (m ∷ ms)) = subst (λ (t : List Identifier). All Fits t) split (all_Fit p es low all) in
+        let fit : All FitsIdentifier (identifiers parent entries ++ (m ∷ ms)) = subst (λ (t : List Identifier). All FitsIdentifier t) split (all_Fit p es low all) in
         let item = first_of_all IsEntry s.front s.item s.back (subst (λ (t : List (List ℕ × Entry)). All IsEntry t) s.parts all) in
         refused s.item.0 s.item.1 ms item (short_behind (identifiers parent entries) m ms fit)
         (there ∙ ap (λ (y : Identifier). laid (first + fids.index) fids.at (y ∷ ms)) (sym s.items))
@@ -132,8 +132,8 @@ no_more whole first parent p entries es fids r low all e none =
         let there = k.there ∙ ap (laid (first + fids.index) fids.at) q in
         let stood = subst (λ (t : List Identifier). Stands fids.at t) q k.stood in
         let split : identifiers p es ≡ identifiers parent entries ++ (m ∷ ms) = k.split ∙ ap (λ (t : List Identifier). identifiers parent entries ++ t) q in
-        let fit : All Fits (identifiers parent entries ++ (m ∷ ms)) = subst (λ (t : List Identifier). All Fits t) split (all_Fit p es low all) in
-        let short = (first_of_all Fits (identifiers parent entries) m ms fit).name in
+        let fit : All FitsIdentifier (identifiers parent entries ++ (m ∷ ms)) = subst (λ (t : List Identifier). All FitsIdentifier t) split (all_Fit p es low all) in
+        let short = (first_of_all FitsIdentifier (identifiers parent entries) m ms fit).name in
         let room = stands_within fids.at m ms short (omega (arith, fids.in_block)) stood in
         absurd (omega (arith, ap length there, length-laid (first + fids.index) fids.at m ms room))
 

@@ -8,7 +8,7 @@ use Rattle.std.specs.Prelude.{Bool, IsTrue, ◌↔◌, EachIndex, slice_index}
 use Rattle.std.specs.Str.{bytes_eq}
 use Rattle.std.proofs.lemmas.Slice.Eq.{bytes_eq-Decides}
 use Rattle.dir.proofs.Zeros.{zeros_from_each}
-use Rattle.dir.specs.Split.{Shows, IsSplit, IsWhole, IsUse, name_size, use_size, size_of}
+use Rattle.dir.specs.Split.{Shows, IsSplit, IsWholeIdentifier, IsUse, name_size, use_size, size_of}
 
 -- a part of a front is that part of the whole
 pub part_of_front : (bytes : List ℕ) (at count size : ℕ) → at + count ≤ size → take count (drop at (take size bytes)) ≡ take count (drop at bytes)
@@ -42,7 +42,7 @@ pub use_size-front : (n : ℕ) (bytes : List ℕ) → 38 ≤ n → use_size (tak
 use_size-front n bytes long = omega (arith, get_or-take n bytes 36 0 (omega arith), get_or-take n bytes 37 0 (omega arith))
 
 -- the slices of the identifier at the front are those of its own bytes
-pub whole_front : (at : ℕ) (fid : Fid) (bytes : List ℕ) → IsSplit at bytes → Shows fid bytes → IsWhole fid
+pub whole_front : (at : ℕ) (fid : Fid) (bytes : List ℕ) → IsSplit at bytes → Shows fid bytes → IsWholeIdentifier fid
 whole_front at fid bytes split shown =
     let n = size_of bytes in
     let all = split.whole in
@@ -72,12 +72,12 @@ whole_front at fid bytes split shown =
     }
 
 -- how long the parts of a whole identifier are
-pub length-use : (fid : Fid) → IsWhole fid → length fid.implementation_use.now ≡ use_size fid.bytes.now
+pub length-use : (fid : Fid) → IsWholeIdentifier fid → length fid.implementation_use.now ≡ use_size fid.bytes.now
 length-use fid whole =
     let size = whole.size in
     omega (arith, ap length whole.shown.implementation_use, length-take (use_size fid.bytes.now) (drop 38 fid.bytes.now), length-drop 38 fid.bytes.now)
 
-pub length-name : (fid : Fid) → IsWhole fid → length fid.name.now ≡ name_size fid.bytes.now
+pub length-name : (fid : Fid) → IsWholeIdentifier fid → length fid.name.now ≡ name_size fid.bytes.now
 length-name fid whole =
     let size = whole.size in
     let at = 38 + use_size fid.bytes.now in
@@ -113,7 +113,7 @@ use_tested used id behind m r m-is id-is behind-is zeros tested =
     )
 
 -- a whole identifier's implementation use, in its bytes or as a slice
-pub use_shown : (fid : Fid) → IsWhole fid → (fid.implementation_use.now ≡ use_of (length fid.implementation_use.now)) ↔ IsUse fid.bytes.now
+pub use_shown : (fid : Fid) → IsWholeIdentifier fid → (fid.implementation_use.now ≡ use_of (length fid.implementation_use.now)) ↔ IsUse fid.bytes.now
 use_shown fid whole =
     let n = length-use fid whole in
     let shown = whole.shown.implementation_use in

@@ -6,7 +6,7 @@ use Rattle.std.proofs.lemmas.List.{take-append-drop, take_at, drop_at, length-ap
 use Rattle.ecma.proofs.Pieces.{IsBytes}
 use Rattle.dir.specs.Identifier.{Identifier, plain_size, use_of, identifier}
 use Rattle.dir.specs.Layout.{fits, stays, laid, onward, Stands, end_of}
-use Rattle.dir.specs.Split.{name_size, use_size, size_of, said_by, IsSplit, HasHead, IsPadded, IsLengthened, Fits}
+use Rattle.dir.specs.Split.{name_size, use_size, size_of, said_by, IsSplit, HasHead, IsPadded, IsLengthened, FitsIdentifier}
 use Rattle.dir.proofs.Identifiers.{length-identifier, name_size-identifier, use_size-identifier}
 use Rattle.dir.proofs.Placing.{fits_cases, fits_exactly, fits_with, plain_bounds, laid-put, stands_within, stands_next, name_size-laid, length-laid, onward-nil, onward-full}
 use Rattle.dir.proofs.Reading.{use_whole, size_whole, length-said_by, identifier_read, said_by-identifier, HasHead-identifier, filled-identifier, padding-identifier}
@@ -162,7 +162,7 @@ lengthened_by number at more x (y ∷ rest) bytes behind at4 short inside stood 
 
 -- what the layout has at the front is found there
 pub laid_found : (number at : ℕ) (bytes : List ℕ) (x : Identifier) (rest : List Identifier) → IsBytes bytes → number < 2 ^ 32
-    → at < 2048 → at % 4 ≡ 0 → Fits x → ((y : Identifier) (r : List Identifier) → rest ≡ y ∷ r → length y.name ≤ 255)
+    → at < 2048 → at % 4 ≡ 0 → FitsIdentifier x → ((y : Identifier) (r : List Identifier) → rest ≡ y ∷ r → length y.name ≤ 255)
     → bytes ≡ laid number at (x ∷ rest) → Stands at (x ∷ rest) → Found number at bytes x rest
 laid_found number at bytes x rest all in_range inside at4 f next_short there stood =
     let plain = plain_size (length x.name) in

@@ -38,7 +38,7 @@ pub record Shows (fid : Fid) (bytes : List ℕ) : Type 0 where
   pub name : fid.name.now ≡ take (name_size bytes) (drop (38 + use_size bytes) bytes)
 
 -- the slices are those of a whole identifier
-pub record IsWhole (fid : Fid) : Type 0 where
+pub record IsWholeIdentifier (fid : Fid) : Type 0 where
   pub long : 38 ≤ length fid.bytes.now
   pub shown : Shows fid fid.bytes.now
   pub size : size_of fid.bytes.now ≡ length fid.bytes.now
@@ -83,7 +83,7 @@ pub record IsPadded (at : ℕ) (bytes behind : List ℕ) : Type 0 where
   pub lengthened : (use_size bytes ≡ 0) ⊎ IsLengthened at bytes behind
 
 -- what an identifier can say
-pub record Fits (x : Identifier) : Type 0 where
+pub record FitsIdentifier (x : Identifier) : Type 0 where
   pub name : length x.name ≤ 255
   pub kind : IsKind x.characteristics
   pub icb : x.icb < 2 ^ 32

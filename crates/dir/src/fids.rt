@@ -49,12 +49,12 @@ impl<'a> Fid<'a> {
 impl<'a> Fid<'a> {
     ghost use Rattle.std.specs.Prelude.{◌≡◌, ◌+◌, ◌≤◌, length, take, drop, IfSome, IsSome, ◌↔◌};
     ghost use Rattle.dir.specs.Item.{said};
-    ghost use Rattle.dir.specs.Split.{HasHead, IsWhole, said_by, name_size, use_size};
+    ghost use Rattle.dir.specs.Split.{HasHead, IsWholeIdentifier, said_by, name_size, use_size};
 
     /// What the identifier says, if it has a tag for the block of this number and the fields are
     /// those of a file, a directory or a parent.
     pub(crate) fn item(&self, number: u32) -> Option<Item<'a>>
-        requires { IsWhole self.now }
+        requires { IsWholeIdentifier self.now }
         ensures exactly { IsSome result ↔ HasHead number self.now.bytes.now }
         ensures says { IfSome result (λ item. said item ≡ said_by self.now.bytes.now) }
     {
@@ -92,12 +92,12 @@ impl<'a> Fid<'a> {
 impl Fid<'_> {
     ghost use Rattle.std.specs.Prelude.{◌≡◌, ◌↔◌, ◌<◌, ◌≤◌, ◌+◌, IsTrue, length};
     ghost use Rattle.dir.specs.Identifier.{use_of};
-    ghost use Rattle.dir.specs.Split.{IsWhole, IsPadded, IsLengthened, IsUse, HasZeros};
+    ghost use Rattle.dir.specs.Split.{IsWholeIdentifier, IsPadded, IsLengthened, IsUse, HasZeros};
 
     /// Whether implementation use and padding are as the layout has them, for an identifier at a
     /// place of its block and the data behind it.
     pub(crate) fn is_padded(&self, at: usize, behind: &[u8]) -> bool
-        requires whole { IsWhole self.now }
+        requires whole { IsWholeIdentifier self.now }
         requires room { at + length self.now.bytes.now ≤ 2048 }
         ensures { IsTrue result ↔ IsPadded at self.now.bytes.now behind.now }
     {
@@ -115,7 +115,7 @@ impl Fid<'_> {
 
     /// Whether the bytes behind the name are zeros.
     fn has_zeros(&self) -> bool
-        requires { IsWhole self.now }
+        requires { IsWholeIdentifier self.now }
         ensures { IsTrue result ↔ HasZeros self.now.bytes.now }
     {
         let name_end = HEAD_SIZE + self.implementation_use.len() + self.name.len();
@@ -125,7 +125,7 @@ impl Fid<'_> {
 
     /// Whether the implementation use is the EntityID of this program and then zeros.
     fn has_use(&self) -> bool
-        requires { IsWhole self.now }
+        requires { IsWholeIdentifier self.now }
         ensures { IsTrue result ↔ IsUse self.now.bytes.now }
     {
         let size = self.implementation_use.len();
@@ -140,7 +140,7 @@ impl Fid<'_> {
     /// Whether the implementation use reaches from a place to the block's end, and the identifier
     /// behind it was not to be put into that block.
     fn is_lengthened(&self, at: usize, behind: &[u8]) -> bool
-        requires whole { IsWhole self.now }
+        requires whole { IsWholeIdentifier self.now }
         requires room { at + length self.now.bytes.now ≤ 2048 }
         ensures { IsTrue result ↔ IsLengthened at self.now.bytes.now behind.now }
     {
@@ -262,7 +262,7 @@ impl<'a> Fids<'a> {
     ghost use Rattle.dir.specs.Item.{said};
     ghost use Rattle.dir.specs.Layout.{laid, Stands};
     ghost use Rattle.dir.specs.Reads.{Reads, IsInPlace, AreShort};
-    ghost use Rattle.dir.specs.Split.{AreBytes, Fits};
+    ghost use Rattle.dir.specs.Split.{AreBytes, FitsIdentifier};
     ghost use Rattle.dir.specs.declared.entry.Entry.{Entry};
 
     /// Whether no data is left.
@@ -281,7 +281,7 @@ impl<'a> Fids<'a> {
         ensures ok { IfOk result (λ item. Reads is_first first self.old self.new (said item)) }
         ensures name { IfOk result (λ item. length item.name.now ≤ 255) }
         // What the layout has there is read.
-        ensures err { IfErr result (λ fault. (x : Identifier) (rest : List Identifier) → Fits x → IsInPlace is_first x → AreShort rest
+        ensures err { IfErr result (λ fault. (x : Identifier) (rest : List Identifier) → FitsIdentifier x → IsInPlace is_first x → AreShort rest
             → self.old.data.now ≡ laid (first + self.old.index) self.old.at (x ∷ rest) → Stands self.old.at (x ∷ rest) → ⊥) }
     {
         let at = self.at;

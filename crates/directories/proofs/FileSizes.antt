@@ -19,20 +19,20 @@ use Rattle.medium.specs.Formats.{Block, Fields}
 use Rattle.udf.specs.Words.{fields_of}
 use Rattle.directories.proofs.FileBytes.{HasBytes, stored_nowhere, stored_inside, stored_extent}
 
-abbrev pub IsWhole : Block → Type 0
-IsWhole block = length block ≡ 2048
+abbrev pub IsWholeBlock : Block → Type 0
+IsWholeBlock block = length block ≡ 2048
 
-whole_length : (bs : List Block) → All IsWhole bs → length (flat_map (λ (b : Block). b) bs) ≡ 2048 * length bs
+whole_length : (bs : List Block) → All IsWholeBlock bs → length (flat_map (λ (b : Block). b) bs) ≡ 2048 * length bs
 whole_length [] all = refl
 whole_length (b ∷ bs) all =
     let first : length b ≡ 2048 = all 0 b (omega arith) in
     let rest = whole_length bs (λ k d lt. all (suc k) d (omega arith)) in
     omega (arith, length-append b (flat_map (λ (x : Block). x) bs), first, rest)
 
-extent_length : (M : List Block) (at size : ℕ) → All IsWhole M → at + div_ceil size 2048 ≤ length M → length (bytes_at M at size) ≡ size
+extent_length : (M : List Block) (at size : ℕ) → All IsWholeBlock M → at + div_ceil size 2048 ≤ length M → length (bytes_at M at size) ≡ size
 extent_length M at size all h =
     let bs = take (div_ceil size 2048) (drop at M) in
-    let some = whole_length bs (All-take IsWhole (div_ceil size 2048) (drop at M) (All-drop IsWhole at M all)) in
+    let some = whole_length bs (All-take IsWholeBlock (div_ceil size 2048) (drop at M) (All-drop IsWholeBlock at M all)) in
     let count : length bs ≡ div_ceil size 2048 = omega (arith, length-take (div_ceil size 2048) (drop at M), length-drop at M, h) in
     let enough = (div_ceil_times size 2048 (omega arith)).0 in
     omega (arith, length-take size (flat_map (λ (b : Block). b) bs), some, count, enough)
@@ -45,7 +45,7 @@ pub size_is : (at : ℕ) (J : List Event) (s : Stored) (fields : Fields) (read :
     → Once J → AreWhole J → at ≤ length (held J) → (bytes : List ℕ) → s.body ≡ Bytes bytes → read.size ≡ length bytes
 size_is at J s fields read kind h same fits once are_whole within bytes body = by read.place refl fits
   where
-    all : All IsWhole (held J)
+    all : All IsWholeBlock (held J)
     all = held-whole J once are_whole
 
     by : (p : source.Place) → read.place ≡ p → icb.FitsPlace kind read.size (icb.place_of p) → read.size ≡ length bytes

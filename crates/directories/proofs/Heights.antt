@@ -27,7 +27,7 @@ use Rattle.directories.specs.declared.content.Content.{Content}
 use Rattle.directories.specs.declared.nodes.Placed.{Placed}
 use Rattle.table.specs.declared.node.Node.{Node}
 use Rattle.directories.specs.Heights.{IsHeight, IsHeightSoFar}
-use Rattle.directories.specs.Shows.{IsAt, IsOpened, graph_below}
+use Rattle.directories.specs.Shows.{IsNodeAt, IsOpened, graph_below}
 use Rattle.directories.proofs.Walks.{node_at, names_stored, said_names, step_some, step_file}
 
 -- ---- one name after another
@@ -156,25 +156,25 @@ height_all tree path left es count height is names all so_far = record { longest
 -- ---- by what a directory says
 
 module _ (graph : Graph) (tree : Tree) (one : IsFunctional graph) (is : IsTree tree) (makes : MakesTree graph tree) where
-  pub has_at : (path : Path) (node : Node) → IsAt graph path node → Has tree path
+  pub has_at : (path : Path) (node : Node) → IsNodeAt graph path node → Has tree path
   has_at path node at = ap is_some (node_at graph tree one is makes path node at)
 
-  pub names_opened : (path : Path) (node : Node) (at : IsAt graph path node) (placed : Placed) (content : Content) → IsOpened at.found.stored placed content → names_at tree path ≡ map (λ (e : Name × DirEntry). e.0) content.dir.entries.entries
+  pub names_opened : (path : Path) (node : Node) (at : IsNodeAt graph path node) (placed : Placed) (content : Content) → IsOpened at.found.stored placed content → names_at tree path ≡ map (λ (e : Name × DirEntry). e.0) content.dir.entries.entries
   names_opened path node at placed content shown =
       names_stored graph tree one is makes path node at ∙ (ap (λ (b : Body). names_in (content_in b)) shown.body ∙ said_names content.dir.entries.entries)
 
-  pub distinct_opened : (path : Path) (node : Node) (at : IsAt graph path node) (placed : Placed) (content : Content) → IsOpened at.found.stored placed content → IsDistinct (pointwise nat_eq) (keys_of content.dir.entries.entries)
+  pub distinct_opened : (path : Path) (node : Node) (at : IsNodeAt graph path node) (placed : Placed) (content : Content) → IsOpened at.found.stored placed content → IsDistinct (pointwise nat_eq) (keys_of content.dir.entries.entries)
   distinct_opened path node at placed content shown = subst (λ (ns : List Name). IsDistinct (pointwise nat_eq) ns) (names_opened path node at placed content shown) (is.distinct path)
 
   -- what an entry leads to
-  pub entry_leads : (path : Path) (node : Node) (at : IsAt graph path node) (placed : Placed) (content : Content) → IsOpened at.found.stored placed content → (i : ℕ) (name : Name) (e : DirEntry) → slice_get content.dir.entries.entries i ≡ Some (name, e)
-      → IsAt graph (path ++ name ∷ []) (record { kind = e.kind; address = e.icb; unique = e.unique })
+  pub entry_leads : (path : Path) (node : Node) (at : IsNodeAt graph path node) (placed : Placed) (content : Content) → IsOpened at.found.stored placed content → (i : ℕ) (name : Name) (e : DirEntry) → slice_get content.dir.entries.entries i ≡ Some (name, e)
+      → IsNodeAt graph (path ++ name ∷ []) (record { kind = e.kind; address = e.icb; unique = e.unique })
   entry_leads path node at placed content shown i name e found =
       step_some graph tree one is makes path node at placed content shown name e
       (lookup_from_place nat_list_eq_equiv content.dir.entries.entries i name e (distinct_opened path node at placed content shown) found)
 
   -- nothing is below a file
-  pub file_height : (path : Path) (node : Node) (left : ℕ) → IsAt graph path node → names_directory node.kind ≡ false → IsHeight tree path left 0
+  pub file_height : (path : Path) (node : Node) (left : ℕ) → IsNodeAt graph path node → names_directory node.kind ≡ false → IsHeight tree path left 0
   file_height path node left at file =
       height_alone tree path left is (has_at path node at) (λ name has. not_none tree (path ++ name ∷ []) (step_file graph tree one is makes path node at file name) has)
 
@@ -185,26 +185,26 @@ pub one_on : (at : ℕ) (entries : List (Option ℕ)) (J : List Event) → IsFun
 one_on at entries J = stored_one udf exact (take at (held J)) entries
 
 module _ (at : ℕ) (entries : List (Option ℕ)) (J : List Event) (tree : Tree) (is : IsTree tree) (makes : MakesTree (graph_below at entries J) tree) where
-  pub there_at : (path : Path) (node : Node) → IsAt (graph_below at entries J) path node → Has tree path
+  pub there_at : (path : Path) (node : Node) → IsNodeAt (graph_below at entries J) path node → Has tree path
   there_at path node here = has_at (graph_below at entries J) tree (one_on at entries J) is makes path node here
 
-  pub alone_at : (path : Path) (node : Node) (left : ℕ) → IsAt (graph_below at entries J) path node → names_directory node.kind ≡ false → IsHeight tree path left 0
+  pub alone_at : (path : Path) (node : Node) (left : ℕ) → IsNodeAt (graph_below at entries J) path node → names_directory node.kind ≡ false → IsHeight tree path left 0
   alone_at path node left here file = file_height (graph_below at entries J) tree (one_on at entries J) is makes path node left here file
 
   -- what is stored where a node is, on a journal that is the same
-  pub stored_on : (J1 : List Event) → J1 ≡ J → (address : ℕ) (path : Path) (node : Node) (here : IsAt (graph_below at entries J) path node) → node.address ≡ address → graph_below at entries J1 address here.found.stored
+  pub stored_on : (J1 : List Event) → J1 ≡ J → (address : ℕ) (path : Path) (node : Node) (here : IsNodeAt (graph_below at entries J) path node) → node.address ≡ address → graph_below at entries J1 address here.found.stored
   stored_on J1 same address path node here e =
       let there = subst (λ (a : ℕ). graph_below at entries J a here.found.stored) (sym here.address ∙ e) here.found.is in
       subst (λ (K : List Event). graph_below at entries K address here.found.stored) (sym same) there
 
   -- the height below an entry, on a journal that is the same
-  pub leads_on : (J1 : List Event) → J1 ≡ J → (path : Path) (node : Node) (here : IsAt (graph_below at entries J) path node) (placed : Placed) (content : Content) → IsOpened here.found.stored placed content → (i : ℕ) (name : Name) (e : DirEntry)
-      → slice_get content.dir.entries.entries i ≡ Some (name, e) → IsAt (graph_below at entries J1) (path ++ name ∷ []) (record { kind = e.kind; address = e.icb; unique = e.unique })
+  pub leads_on : (J1 : List Event) → J1 ≡ J → (path : Path) (node : Node) (here : IsNodeAt (graph_below at entries J) path node) (placed : Placed) (content : Content) → IsOpened here.found.stored placed content → (i : ℕ) (name : Name) (e : DirEntry)
+      → slice_get content.dir.entries.entries i ≡ Some (name, e) → IsNodeAt (graph_below at entries J1) (path ++ name ∷ []) (record { kind = e.kind; address = e.icb; unique = e.unique })
   leads_on J1 same path node here placed content shown i name e found =
-      subst (λ (K : List Event). IsAt (graph_below at entries K) (path ++ name ∷ []) (record { kind = e.kind; address = e.icb; unique = e.unique })) (sym same)
+      subst (λ (K : List Event). IsNodeAt (graph_below at entries K) (path ++ name ∷ []) (record { kind = e.kind; address = e.icb; unique = e.unique })) (sym same)
       (entry_leads (graph_below at entries J) tree (one_on at entries J) is makes path node here placed content shown i name e found)
 
-  pub height_opened : (path : Path) (node : Node) (here : IsAt (graph_below at entries J) path node) (placed : Placed) (content : Content) → IsOpened here.found.stored placed content → (left count height : ℕ)
+  pub height_opened : (path : Path) (node : Node) (here : IsNodeAt (graph_below at entries J) path node) (placed : Placed) (content : Content) → IsOpened here.found.stored placed content → (left count height : ℕ)
       → length content.dir.entries.entries ≤ count → IsHeightSoFar tree path left content.dir.entries.entries count height → IsHeight tree path left height
   height_opened path node here placed content shown left count height all so_far =
       height_all tree path left content.dir.entries.entries count height is (names_opened (graph_below at entries J) tree (one_on at entries J) is makes path node here placed content shown) all so_far

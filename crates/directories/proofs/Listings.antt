@@ -22,7 +22,7 @@ use Rattle.udf.proofs.Formats.{exact}
 use Rattle.table.specs.declared.node.Node.{Node}
 use Rattle.directories.specs.Asked.{is_directory, said_listed, said_names}
 use Rattle.directories.specs.Queries.{name_told}
-use Rattle.directories.specs.Shows.{graph_below, IsAt}
+use Rattle.directories.specs.Shows.{graph_below, IsNodeAt}
 use Rattle.directories.proofs.Walks.{node_at}
 use Rattle.recover.proofs.Trees.{leads_push}
 
@@ -65,13 +65,13 @@ module _ (at : ℕ) (entries : List (Option ℕ)) (J : List Event) (tree : Tree)
   one : IsFunctional (graph_below at entries J)
   one = stored_one udf exact (take at (held J)) entries
 
-  pub listed_file : (path : Path) (node : Node) → IsAt (graph_below at entries J) path node → names_directory node.kind ≡ false → told tree (List_ path) ≡ NotDirectory
+  pub listed_file : (path : Path) (node : Node) → IsNodeAt (graph_below at entries J) path node → names_directory node.kind ≡ false → told tree (List_ path) ≡ NotDirectory
   listed_file path node here file =
       ap (listed tree path) (node_at (graph_below at entries J) tree one is makes path node here)
       ∙ file_listed tree path here.found.stored.identity here.found.stored.moment here.found.stored.body (sym here.kind ∙ file)
 
   -- what a name in the directory leads to
-  named : (path : Path) (node : Node) (here : IsAt (graph_below at entries J) path node) (parent : ℕ) (es : List (List ℕ × DirEntry)) → here.found.stored.body ≡ Entries parent (said_entries es)
+  named : (path : Path) (node : Node) (here : IsNodeAt (graph_below at entries J) path node) (parent : ℕ) (es : List (List ℕ × DirEntry)) → here.found.stored.body ≡ Entries parent (said_entries es)
       → (e : List ℕ × DirEntry) → Contains es e → is_directory_at tree (path ++ e.0 ∷ []) ≡ names_directory e.1.kind
   named path node here parent es body e c =
       let there : Contains (entries_of here.found.stored) (said_entry e) = subst (λ (b : Body). Contains (entries_in b) (said_entry e)) (sym body) (contains_map said_entry es e c) in
@@ -79,14 +79,14 @@ module _ (at : ℕ) (entries : List (Option ℕ)) (J : List Event) (tree : Tree)
       let reach = leads_push (graph_below at entries J) path 1 here.found.address e.0 e.1.icb here.found.reach (here.found.stored, here.found.is, said_entry e, there, refl, refl) in
       ap found_directory (has_stored (graph_below at entries J) tree one is makes (path ++ e.0 ∷ []) e.1.icb a.0 reach a.1) ∙ sym a.2
 
-  pub listed_directory : (path : Path) (node : Node) (here : IsAt (graph_below at entries J) path node) (parent : ℕ) (es : List (List ℕ × DirEntry)) → here.found.stored.body ≡ Entries parent (said_entries es)
+  pub listed_directory : (path : Path) (node : Node) (here : IsNodeAt (graph_below at entries J) path node) (parent : ℕ) (es : List (List ℕ × DirEntry)) → here.found.stored.body ≡ Entries parent (said_entries es)
       → told tree (List_ path) ≡ Names (map name_told es)
   listed_directory path node here parent es body =
       ap (listed tree path) (node_at (graph_below at entries J) tree one is makes path node here)
       ∙ (ap (λ (b : Body). listed tree path (Some (record { identity = here.found.stored.identity; moment = here.found.stored.moment; content = content_in b }))) body
       ∙ ap Names (names_same tree path es (named path node here parent es body)))
 
-  pub shown_directory : (path : Path) (node : Node) (here : IsAt (graph_below at entries J) path node) (moment size : ℕ) → names_directory node.kind ≡ true
+  pub shown_directory : (path : Path) (node : Node) (here : IsNodeAt (graph_below at entries J) path node) (moment size : ℕ) → names_directory node.kind ≡ true
       → moment ≡ here.found.stored.moment → size ≡ length (entries_of here.found.stored) → told tree (Stat path) ≡ NodeIs true moment size
   shown_directory path node here moment size dir same count =
       ap shown (node_at (graph_below at entries J) tree one is makes path node here)
@@ -96,7 +96,7 @@ module _ (at : ℕ) (entries : List (Option ℕ)) (J : List Event) (tree : Tree)
       by (Bytes bytes) e = absurd (true≢false (sym e))
       by (Entries parent entries) e = ap (λ (n : ℕ). NodeIs true here.found.stored.moment n) (length-map entries (λ (x : Entry). x.name))
 
-  pub shown_file : (path : Path) (node : Node) (here : IsAt (graph_below at entries J) path node) (moment size : ℕ) → names_directory node.kind ≡ false
+  pub shown_file : (path : Path) (node : Node) (here : IsNodeAt (graph_below at entries J) path node) (moment size : ℕ) → names_directory node.kind ≡ false
       → moment ≡ here.found.stored.moment → ((bytes : List ℕ) → here.found.stored.body ≡ Bytes bytes → size ≡ length bytes) → told tree (Stat path) ≡ NodeIs false moment size
   shown_file path node here moment size file same count =
       ap shown (node_at (graph_below at entries J) tree one is makes path node here)

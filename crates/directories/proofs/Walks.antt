@@ -33,7 +33,7 @@ use Rattle.directories.specs.declared.nodes.Placed.{Placed}
 use Rattle.table.specs.declared.node.Node.{Node}
 use Rattle.directories.specs.Cache.{AreKept, LiesThere}
 use Rattle.directories.specs.declared.directories.Directories.{Directories}
-use Rattle.directories.specs.Shows.{graph_below, LiesIn, IsOpened, IsAt, IsFound, IsFoundDirectory, Shows}
+use Rattle.directories.specs.Shows.{graph_below, LiesIn, IsOpened, IsNodeAt, IsFound, IsFoundDirectory, Shows}
 
 -- ---- one directory
 
@@ -80,17 +80,17 @@ said_names (e ∷ es) = ap (λ (names : List Name). e.0 ∷ names) (said_names e
 
 module _ (graph : Graph) (tree : Tree) (one : IsFunctional graph) (is : IsTree tree) (makes : MakesTree graph tree) where
   -- the tree's node where something is stored
-  pub node_at : (path : Path) (node : Node) (at : IsAt graph path node) → get tree path ≡ Some (node_of at.found.stored)
+  pub node_at : (path : Path) (node : Node) (at : IsNodeAt graph path node) → get tree path ≡ Some (node_of at.found.stored)
   node_at path node at = has_stored graph tree one is makes path at.found.address at.found.stored at.found.reach at.found.is
 
-  pub names_stored : (path : Path) (node : Node) (at : IsAt graph path node) → names_at tree path ≡ names_in (content_of at.found.stored)
+  pub names_stored : (path : Path) (node : Node) (at : IsNodeAt graph path node) → names_at tree path ≡ names_in (content_of at.found.stored)
   names_stored path node at = ap found_names (node_at path node at)
 
-  pub directory_stored : (path : Path) (node : Node) (at : IsAt graph path node) → is_directory_at tree path ≡ names_directory node.kind
+  pub directory_stored : (path : Path) (node : Node) (at : IsNodeAt graph path node) → is_directory_at tree path ≡ names_directory node.kind
   directory_stored path node at = ap found_directory (node_at path node at) ∙ sym at.kind
 
   -- the walk begins at the root
-  pub at_root : identity_at tree [] ≡ 0 → IsAt graph [] (record { kind = kinds.Directory; address = 1; unique = 0 })
+  pub at_root : identity_at tree [] ≡ 0 → IsNodeAt graph [] (record { kind = kinds.Directory; address = 1; unique = 0 })
   at_root zero_id =
       let some = some_at tree [] (has_root graph tree one is makes) in
       let there = (makes.reached [] some.0).0 some.1 in
@@ -103,8 +103,8 @@ module _ (graph : Graph) (tree : Tree) (one : IsFunctional graph) (is : IsTree t
       }
 
   -- a name in the directory
-  pub step_some : (path : Path) (node : Node) (at : IsAt graph path node) (placed : Placed) (content : Content) → IsOpened at.found.stored placed content → (name : Name) (e : DirEntry)
-      → lookup (pointwise nat_eq name) content.dir.entries.entries ≡ Some e → IsAt graph (path ++ name ∷ []) (record { kind = e.kind; address = e.icb; unique = e.unique })
+  pub step_some : (path : Path) (node : Node) (at : IsNodeAt graph path node) (placed : Placed) (content : Content) → IsOpened at.found.stored placed content → (name : Name) (e : DirEntry)
+      → lookup (pointwise nat_eq name) content.dir.entries.entries ≡ Some e → IsNodeAt graph (path ++ name ∷ []) (record { kind = e.kind; address = e.icb; unique = e.unique })
   step_some path node at placed content shown name e found =
       let es = content.dir.entries.entries in
       let listed : Contains es (name, e) = Contains-from_lookup texts_exact name e es found in
@@ -123,7 +123,7 @@ module _ (graph : Graph) (tree : Tree) (one : IsFunctional graph) (is : IsTree t
       }
 
   -- a name that is not in it
-  pub step_none : (path : Path) (node : Node) (at : IsAt graph path node) (placed : Placed) (content : Content) → IsOpened at.found.stored placed content → (name : Name)
+  pub step_none : (path : Path) (node : Node) (at : IsNodeAt graph path node) (placed : Placed) (content : Content) → IsOpened at.found.stored placed content → (name : Name)
       → lookup (pointwise nat_eq name) content.dir.entries.entries ≡ None → get tree (path ++ name ∷ []) ≡ None
   step_none path node at placed content shown name none =
       let es = content.dir.entries.entries in
@@ -131,7 +131,7 @@ module _ (graph : Graph) (tree : Tree) (one : IsFunctional graph) (is : IsTree t
       none_at tree (path ++ name ∷ []) (λ has. not_in_none name es none (subst (λ (ns : List Name). Contains ns name) names ((is.children path name).0 has)))
 
   -- a file has no names
-  pub step_file : (path : Path) (node : Node) (at : IsAt graph path node) → names_directory node.kind ≡ false → (name : Name) → get tree (path ++ name ∷ []) ≡ None
+  pub step_file : (path : Path) (node : Node) (at : IsNodeAt graph path node) → names_directory node.kind ≡ false → (name : Name) → get tree (path ++ name ∷ []) ≡ None
   step_file path node at file name =
       let names : names_at tree path ≡ [] = names_stored path node at ∙ no_names at.found.stored.body (sym at.kind ∙ file) in
       none_at tree (path ++ name ∷ []) (λ has. not_in_nil name (subst (λ (ns : List Name). Contains ns name) names ((is.children path name).0 has)))
@@ -161,19 +161,19 @@ shows_on later J J' directories next at entries tree same kept s =
 -- what a directory says of the next name
 abbrev pub IsNext : Graph → Tree → Path → ℕ → Option DirEntry → Type 0
 IsNext graph tree names i None = get tree names ≡ None
-IsNext graph tree names i (Some e) = IsAt graph (take (i + 1) names) (record { kind = e.kind; address = e.icb; unique = e.unique })
+IsNext graph tree names i (Some e) = IsNodeAt graph (take (i + 1) names) (record { kind = e.kind; address = e.icb; unique = e.unique })
 
 module _ (at : ℕ) (entries : List (Option ℕ)) (J J1 J2 : List Event) (same1 : J1 ≡ J) (same2 : J2 ≡ J1) (tree : Tree) (is : IsTree tree) (makes : MakesTree (graph_below at entries J) tree) where
   one : IsFunctional (graph_below at entries J)
   one = stored_one udf exact (take at (held J)) entries
 
-  pub lies_at : (path : Path) (node : Node) (placed : Placed) (here : IsAt (graph_below at entries J) path node) → names_directory node.kind ≡ true
+  pub lies_at : (path : Path) (node : Node) (placed : Placed) (here : IsNodeAt (graph_below at entries J) path node) → names_directory node.kind ≡ true
       → ((s : Stored) → graph_below at entries J1 node.address s → is_directory s ≡ true → LiesIn J1 placed s) → LiesIn J placed here.found.stored
   lies_at path node placed here dir lies =
       let there : graph_below at entries J node.address here.found.stored = subst (λ (a : ℕ). graph_below at entries J a here.found.stored) (sym here.address) here.found.is in
       subst (λ (K : List Event). (s : Stored) → graph_below at entries K node.address s → is_directory s ≡ true → LiesIn K placed s) same1 lies here.found.stored there (sym here.kind ∙ dir)
 
-  pub next_at : (names : Path) (i : ℕ) (name : Name) (node : Node) (placed : Placed) (o : Option DirEntry) → i < length names → name ≡ get_or names i name → IsAt (graph_below at entries J) (take i names) node → names_directory node.kind ≡ true
+  pub next_at : (names : Path) (i : ℕ) (name : Name) (node : Node) (placed : Placed) (o : Option DirEntry) → i < length names → name ≡ get_or names i name → IsNodeAt (graph_below at entries J) (take i names) node → names_directory node.kind ≡ true
       → ((s : Stored) → graph_below at entries J1 node.address s → is_directory s ≡ true → LiesIn J1 placed s)
       → ((content : Content) × LiesThere J2 placed.extent content × (o ≡ lookup (pointwise nat_eq name) content.dir.entries.entries)) → IsNext (graph_below at entries J) tree names i o
   next_at names i name node placed o lt same here dir lies read =
@@ -186,17 +186,17 @@ module _ (at : ℕ) (entries : List (Option ℕ)) (J J1 J2 : List Event) (same1 
       by None e shown = rest_none (graph_below at entries J) tree one is makes names i name lt same (step_none (graph_below at entries J) tree one is makes (take i names) node here placed read.0 shown name (sym e))
       by (Some entry) e shown =
           let front : take (i + 1) names ≡ take i names ++ name ∷ [] = take_more names i name lt ∙ ap (λ (n : Name). take i names ++ n ∷ []) (sym same) in
-          subst (λ (p : Path). IsAt (graph_below at entries J) p (record { kind = entry.kind; address = entry.icb; unique = entry.unique })) (sym front)
+          subst (λ (p : Path). IsNodeAt (graph_below at entries J) p (record { kind = entry.kind; address = entry.icb; unique = entry.unique })) (sym front)
           (step_some (graph_below at entries J) tree one is makes (take i names) node here placed read.0 shown name entry (sym e))
 
-  pub file_at : (names : Path) (i : ℕ) (name : Name) (node : Node) → i < length names → name ≡ get_or names i name → IsAt (graph_below at entries J) (take i names) node → names_directory node.kind ≡ false → get tree names ≡ None
+  pub file_at : (names : Path) (i : ℕ) (name : Name) (node : Node) → i < length names → name ≡ get_or names i name → IsNodeAt (graph_below at entries J) (take i names) node → names_directory node.kind ≡ false → get tree names ≡ None
   file_at names i name node lt same here file =
       rest_none (graph_below at entries J) tree one is makes names i name lt same (step_file (graph_below at entries J) tree one is makes (take i names) node here file name)
 
-  pub root_at : (names : Path) → identity_at tree [] ≡ 0 → IsAt (graph_below at entries J) (take 0 names) (record { kind = kinds.Directory; address = 1; unique = 0 })
+  pub root_at : (names : Path) → identity_at tree [] ≡ 0 → IsNodeAt (graph_below at entries J) (take 0 names) (record { kind = kinds.Directory; address = 1; unique = 0 })
   root_at names zero_id = at_root (graph_below at entries J) tree one is makes zero_id
 
-  pub refused_at : (path : Path) (node : Node) (placed : Placed) (why : StoreFault) (here : IsAt (graph_below at entries J) path node) → names_directory node.kind ≡ true
+  pub refused_at : (path : Path) (node : Node) (placed : Placed) (why : StoreFault) (here : IsNodeAt (graph_below at entries J) path node) → names_directory node.kind ≡ true
       → ((s : Stored) → graph_below at entries J1 node.address s → is_directory s ≡ true → LiesIn J1 placed s)
       → IsDirectoryRefused placed.extent (data_of (held J2) placed.extent) why → IsShortage why
   refused_at path node placed why here dir lies refused =

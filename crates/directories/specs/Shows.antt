@@ -42,7 +42,7 @@ pub record Shows (is_honest : Bool) (journal : List Event) (directories : Direct
   pub root : identity_at t [] ≡ 0
 
 -- the node is what the path leads to
-pub record IsAt (graph : Graph) (path : Path) (node : Node) : Type 0 where
+pub record IsNodeAt (graph : Graph) (path : Path) (node : Node) : Type 0 where
   pub found : Found graph path
   pub address : node.address ≡ found.address
   pub kind : names_directory node.kind ≡ is_directory found.stored
@@ -51,9 +51,9 @@ pub record IsAt (graph : Graph) (path : Path) (node : Node) : Type 0 where
 -- the node that the tree has at a path, if it has one
 abbrev pub IsFound : Graph → Tree → Path → Option Node → Type 0
 IsFound graph tree path None = get tree path ≡ None
-IsFound graph tree path (Some node) = IsAt graph path node
+IsFound graph tree path (Some node) = IsNodeAt graph path node
 
 -- the directory that it has there
 abbrev pub IsFoundDirectory : Graph → Tree → Path → Option Node → Type 0
 IsFoundDirectory graph tree path None = is_directory_at tree path ≡ false
-IsFoundDirectory graph tree path (Some node) = IsAt graph path node × (names_directory node.kind ≡ true)
+IsFoundDirectory graph tree path (Some node) = IsNodeAt graph path node × (names_directory node.kind ≡ true)

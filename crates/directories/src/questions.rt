@@ -15,7 +15,7 @@ ghost use Rattle.directories.specs.Cache.{AreKept};
 ghost use Rattle.directories.specs.Asked.{said_names};
 ghost use Rattle.directories.specs.Asked as asked;
 ghost use Rattle.directories.specs.Queries.{IsMissing, IsRefused, name_told};
-ghost use Rattle.directories.specs.Shows.{IsAt, Shows, graph_below};
+ghost use Rattle.directories.specs.Shows.{IsNodeAt, Shows, graph_below};
 
 use crate::content::Content;
 use crate::directories::Directories;
@@ -118,7 +118,7 @@ impl Nodes<'_> {
     ) -> Result<Node, StoreFault>
         requires below { AreBelow self.now.at self.now.entries.now }
         requires within { self.now.at ≤ next_of (D.journal drive.old) }
-        ensures found { (tree : Tree) → Shows (D.honest drive.new) (D.journal drive.old) directories.old self.now.at self.now.entries.now tree → IfOk result (IsAt (graph_below self.now.at self.now.entries.now (D.journal drive.old)) path.now) }
+        ensures found { (tree : Tree) → Shows (D.honest drive.new) (D.journal drive.old) directories.old self.now.at self.now.entries.now tree → IfOk result (IsNodeAt (graph_below self.now.at self.now.entries.now (D.journal drive.old)) path.now) }
         ensures missing { (tree : Tree) → Shows (D.honest drive.new) (D.journal drive.old) directories.old self.now.at self.now.entries.now tree → IfErr result (IsMissing tree path.now) }
         ensures kept { IsTrue (D.honest drive.new) → AreKept (D.journal drive.old) directories.old → AreKept (D.journal drive.old) directories.new }
         ensures reads { Reads D.Drive (devices result) drive.old drive.new }

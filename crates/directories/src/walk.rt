@@ -9,7 +9,7 @@ ghost use Rattle.model.specs.Graph.{Stored, is_directory};
 ghost use Rattle.recover.specs.Faults.{IsShortage, devices};
 ghost use Rattle.directories.specs.Cache.{AreKept, LiesThere};
 ghost use Rattle.directories.specs.Heights.{IsHeight};
-ghost use Rattle.directories.specs.Shows.{IsAt, IsOpened, Shows, IsFound, IsFoundDirectory, graph_below};
+ghost use Rattle.directories.specs.Shows.{IsNodeAt, IsOpened, Shows, IsFound, IsFoundDirectory, graph_below};
 ghost use Rattle.udf.specs.Said.{names_directory};
 ghost use Rattle.table.specs.declared.node.Node.{Node};
 
@@ -114,8 +114,8 @@ impl Nodes<'_> {
         requires below { AreBelow self.now.at self.now.entries.now }
         requires within { self.now.at ≤ next_of (D.journal drive.old) }
         ensures bound { IfOk result (λ height. height ≤ left) }
-        ensures height { (tree : Tree) (path : Path) (node : Node) → Shows (D.honest drive.new) (D.journal drive.old) directories.old self.now.at self.now.entries.now tree → IsAt (graph_below self.now.at self.now.entries.now (D.journal drive.old)) path node → names_directory node.kind ≡ true → node.address ≡ address → IfOk result (IsHeight tree path left) }
-        ensures short { (tree : Tree) (path : Path) (node : Node) → Shows (D.honest drive.new) (D.journal drive.old) directories.old self.now.at self.now.entries.now tree → IsAt (graph_below self.now.at self.now.entries.now (D.journal drive.old)) path node → names_directory node.kind ≡ true → node.address ≡ address → IfErr result IsShortage }
+        ensures height { (tree : Tree) (path : Path) (node : Node) → Shows (D.honest drive.new) (D.journal drive.old) directories.old self.now.at self.now.entries.now tree → IsNodeAt (graph_below self.now.at self.now.entries.now (D.journal drive.old)) path node → names_directory node.kind ≡ true → node.address ≡ address → IfOk result (IsHeight tree path left) }
+        ensures short { (tree : Tree) (path : Path) (node : Node) → Shows (D.honest drive.new) (D.journal drive.old) directories.old self.now.at self.now.entries.now tree → IsNodeAt (graph_below self.now.at self.now.entries.now (D.journal drive.old)) path node → names_directory node.kind ≡ true → node.address ≡ address → IfErr result IsShortage }
         ensures kept { IsTrue (D.honest drive.new) → AreKept (D.journal drive.old) directories.old → AreKept (D.journal drive.old) directories.new }
         ensures reads { Reads D.Drive (devices result) drive.old drive.new }
     {

@@ -34,7 +34,7 @@ use Rattle.engine.specs.Situation.{Situation, IsOpen}
 use Rattle.engine.specs.Answered.{due_of}
 use Rattle.engine.specs.Delivered.{with_store}
 use Rattle.engine.specs.Said.{said_message, said_answer}
-use Rattle.engine.specs.Steps.{IsAt, IsStep}
+use Rattle.engine.specs.Steps.{HoldsState, IsStep}
 use Rattle.engine.specs.Called.{failed, refused, applied, got, listed, shown, get_refused, list_refused, stat_refused, IsShort, Uses, IsDealt, IsQueried, Calls, CallsAreSteps, RestartsAreSteps}
 
 -- ---- where nothing is written
@@ -105,7 +105,7 @@ module _ (volume : ℕ) where
   short_due S mark capacity most r New a (inl e) = subst (λ (x : medium.Answer). AnswersNew S mark capacity most r x nothing) (sym e) (fails nothing (inl refl) (omega arith) (λ some. absurd (omega arith)))
   short_due S mark capacity most r New a (inr e) = subst (λ (x : medium.Answer). AnswersNew S mark capacity most r x nothing) (sym e) (no_memory nothing (refl, refl))
 
-  short_step : (d : Delivery) (S : State) (before : Situation) (a : Answer) (behind : Situation) → IsAt volume S before → IsShort before a behind → Row (need spelled) S (length before.journal) volume d (Some (said_answer a)) nothing
+  short_step : (d : Delivery) (S : State) (before : Situation) (a : Answer) (behind : Situation) → HoldsState volume S before → IsShort before a behind → Row (need spelled) S (length before.journal) volume d (Some (said_answer a)) nothing
       → (S' : State) × IsStep volume d S before (Some (said_answer a)) S' behind
   short_step d S before a behind at short row = (S, quiet d (Some (said_answer a)) S before behind row at.once at.stands short.journal short.capacity (none_knows volume S behind short.store))
 
@@ -237,7 +237,7 @@ module _ (volume : ℕ) where
       → (S' : State) × IsStep volume d S during a S' behind → (S' : State) × IsStep volume d S before a S' behind
   use_step d S before during store a behind uses (S', step) = (S', step_from d a S S' before during behind uses.journal uses.capacity step)
 
-  calls_step : (m : Message) (S : State) (before : Situation) (a : Answer) (behind : Situation) → IsAt volume S before → Calls volume m S before a behind
+  calls_step : (m : Message) (S : State) (before : Situation) (a : Answer) (behind : Situation) → HoldsState volume S before → Calls volume m S before a behind
       → (S' : State) × IsStep volume (medium.Delivery.Delivered (said_message m)) S before (Some (said_answer a)) S' behind
   calls_step (message.Malformed cause) S before a behind at (is, same) = (
     S,

@@ -11,7 +11,7 @@ use Rattle.medium.proofs.OnJournals.{length-held, holds_on_journal}
 use Rattle.medium.proofs.Runs.{holds}
 use Rattle.udf.specs.Udf.{udf, spelled}
 use Rattle.engine.specs.Situation.{Situation}
-use Rattle.engine.specs.Steps.{IsAt, AllSteps, StepsHold}
+use Rattle.engine.specs.Steps.{HoldsState, AllSteps, StepsHold}
 
 -- what steps make of a medium
 record Made (volume capacity : ℕ) (ds : List Delivery) (S : State) (before : Situation) (answers : List Answer) (S' : State) (behind : Situation) : Type 0 where
@@ -29,7 +29,7 @@ front_on J K L first le second = shorter ∙ ap (λ (M : List Event). take (leng
     shorter = sym (take-take (length J) (length K) L le)
 
 module _ (volume capacity : ℕ) where
-  made : (ds : List Delivery) (S : State) (before : Situation) (answers : List Answer) (S' : State) (behind : Situation) → IsAt volume S before → before.capacity ≡ capacity
+  made : (ds : List Delivery) (S : State) (before : Situation) (answers : List Answer) (S' : State) (behind : Situation) → HoldsState volume S before → before.capacity ≡ capacity
       → AllSteps volume ds S before answers S' behind → Made volume capacity ds S before answers S' behind
   made [] S before answers S' behind at size (none, state, same) = record {
     committed = [];

@@ -11,7 +11,7 @@ use Rattle.request.specs.declared.message.Query.{Query}
 use Rattle.request.specs.declared.message.Request.{Request}
 use Rattle.store.specs.declared.store.Store.{Store}
 use Rattle.store.specs.Calls.{Knows}
-use Rattle.engine.specs.Situation.{Situation, Follows, situation}
+use Rattle.engine.specs.Situation.{Situation, AddsBlocks, situation}
 use Rattle.engine.specs.Answered.{Answered, due_of, IsCommitted, IsDue, Opens, Row, faults}
 use Rattle.engine.specs.Called.{Calls, IsApplied, IsDealt, IsRead, IsShort, Uses}
 
@@ -28,7 +28,7 @@ pub record Opened (before during : Situation) (store : Store) : Type 0 where
   pub honest : IsTrue during.honest → IsTrue before.honest
   pub failures : Counts 0 before.failures during.failures
 
-follows_behind : (before during after : Situation) (store : Store) → Opened before during store → Follows during after → Follows before after
+follows_behind : (before during after : Situation) (store : Store) → Opened before during store → AddsBlocks during after → AddsBlocks before after
 follows_behind before during after store o f = record {
   ready = f.ready;
   front = (f.front.0, f.front.1 ∙ ap (λ (J : List Event). J ++ f.front.0) o.opens.journal);
@@ -40,7 +40,7 @@ counts_behind : (n f0 f1 f2 : ℕ) → Counts 0 f0 f1 → Counts n f1 f2 → Cou
 counts_behind n f0 f1 f2 a b = λ lt. let k : f1 + n ≤ f2 = b lt in let l : f0 + 0 ≤ f1 = a (omega (arith, k, lt)) in omega (arith, k, l)
 
 pub request_answered : (asked : Message) (request : Request) (before during after : Situation) (store : Store) (a : Answer) → asked ≡ message.Request request → Opened before during store
-    → IsDue (due_of store request.client request.number) during a after → Follows during after → Counts (faults a) during.failures after.failures
+    → IsDue (due_of store request.client request.number) during a after → AddsBlocks during after → Counts (faults a) during.failures after.failures
     → Answered asked before a after
 request_answered asked request before during after store a e o due follows failures = record {
   follows = follows_behind before during after store o follows;

@@ -14,8 +14,8 @@ use Rattle.engine.specs.declared.runs.Delivery as delivered
 use Rattle.engine.specs.declared.runs.Delivery.TheVariants.{Frame, Restart}
 use Rattle.engine.specs.Situation.{Situation, situation}
 use Rattle.engine.specs.Delivered.{Delivers}
-use Rattle.engine.specs.Said.{IsSaid, AllSaid, said_answer, said_message}
-use Rattle.engine.specs.Steps.{IsAt, IsStep, AllSteps}
+use Rattle.engine.specs.Said.{IsDeliverySaid, AllSaid, said_answer, said_message}
+use Rattle.engine.specs.Steps.{HoldsState, IsStep, AllSteps}
 use Rattle.engine.specs.Headline.{DeliversBy, IsRun, RunHolds, said_answers, RunsBegin, RunsGoOn, RunsAreHeld}
 use Rattle.engine.proofs.Calling.{none_knows, calls_are_steps, restarts_are_steps}
 use Rattle.engine.proofs.Holding.{steps_hold}
@@ -25,8 +25,8 @@ said_told None = None
 said_told (Some a) = Some (said_answer a)
 
 -- a delivery by its calls is a step
-delivers_step : (volume : ℕ) (d : delivered.Delivery) (S : State) (before : Situation) (told : Option Answer) (behind : Situation) → IsAt volume S before → DeliversBy volume d S before told behind
-    → (said : Delivery) × IsSaid d said × (S' : State) × IsStep volume said S before (said_told told) S' behind
+delivers_step : (volume : ℕ) (d : delivered.Delivery) (S : State) (before : Situation) (told : Option Answer) (behind : Situation) → HoldsState volume S before → DeliversBy volume d S before told behind
+    → (said : Delivery) × IsDeliverySaid d said × (S' : State) × IsStep volume said S before (said_told told) S' behind
 delivers_step volume Restart S before None behind at is =
     (medium.Delivery.Restart, refl, S, subst (λ (s : Situation). IsStep volume medium.Delivery.Restart S before None S s) (sym is) (restarts_are_steps volume S before at))
 delivers_step volume Restart S before (Some a) behind at is = absurd is
@@ -37,8 +37,8 @@ delivers_step volume (Frame payload) S before (Some a) behind at (m, tells, call
 
 module _ (volume : ℕ) where
   -- what stands behind the last step
-  pub at_end : (ds : List Delivery) (S : State) (before : Situation) (answers : List medium.Answer) (T : State) (behind : Situation) → IsAt volume S before → AllSteps volume ds S before answers T behind → IsAt volume T behind
-  at_end [] S before answers T behind at (none, state, same) = subst (λ (U : State). IsAt volume U behind) (sym state) (subst (λ (s : Situation). IsAt volume S s) (sym same) at)
+  pub at_end : (ds : List Delivery) (S : State) (before : Situation) (answers : List medium.Answer) (T : State) (behind : Situation) → HoldsState volume S before → AllSteps volume ds S before answers T behind → HoldsState volume T behind
+  at_end [] S before answers T behind at (none, state, same) = subst (λ (U : State). HoldsState volume U behind) (sym state) (subst (λ (s : Situation). HoldsState volume S s) (sym same) at)
   at_end (d ∷ ds) S before answers T behind at (a, U, during, rest, step, told, steps) = at_end ds U during rest T behind step.at steps
 
   steps_more : (ds : List Delivery) (S : State) (before : Situation) (answers : List medium.Answer) (T : State) (during : Situation) (d : Delivery) (a : Option medium.Answer) (S' : State) (behind : Situation)
@@ -67,7 +67,7 @@ said_more [] None = refl
 said_more [] (Some a) = refl
 said_more (b ∷ answers) told = ap (λ (xs : List medium.Answer). said_answer b ∷ xs) (said_more answers told)
 
-all_said_more : (deliveries : List delivered.Delivery) (ds : List Delivery) (one : delivered.Delivery) (d : Delivery) → AllSaid deliveries ds → IsSaid one d → AllSaid (deliveries ++ one ∷ []) (ds ++ d ∷ [])
+all_said_more : (deliveries : List delivered.Delivery) (ds : List Delivery) (one : delivered.Delivery) (d : Delivery) → AllSaid deliveries ds → IsDeliverySaid one d → AllSaid (deliveries ++ one ∷ []) (ds ++ d ∷ [])
 all_said_more [] [] one d all is = (is, tt)
 all_said_more [] (e ∷ ds) one d all is = absurd all
 all_said_more (x ∷ deliveries) [] one d all is = absurd all
@@ -115,11 +115,11 @@ begun_run volume S journal failures capacity honest writes store answers once st
 pub next_run : (volume : ℕ) (deliveries : List delivered.Delivery) (i : ℕ) (d : delivered.Delivery) (S : State) (journal : List Event) (failures capacity : ℕ) (honest : Bool) (writes : List (List (List ℕ))) (answers later : List Answer)
     (during : Situation) (told : Option Answer) (behind : Situation) → i < length deliveries → d ≡ get_or deliveries i d → Delivers d during told behind → later ≡ answers ++ option_to_list told
     → (IsTrue during.honest → Once journal → Stands udf capacity volume (held journal) S → IsRun volume (take i deliveries) S (situation None journal failures capacity honest writes) answers during)
-    → ((T : State) → IsTrue behind.honest → IsAt volume T during → DeliversBy volume d T during told behind)
+    → ((T : State) → IsTrue behind.honest → HoldsState volume T during → DeliversBy volume d T during told behind)
     → IsTrue behind.honest → Once journal → Stands udf capacity volume (held journal) S → IsRun volume (take (i + 1) deliveries) S (situation None journal failures capacity honest writes) later behind
 next_run volume deliveries i d S journal failures capacity honest writes answers later during told behind lt is delivers e before by so once stands =
     let start : Situation = situation None journal failures capacity honest writes in
-    let at : IsAt volume S start = (runs_begin volume S journal failures capacity honest writes once stands).0 in
+    let at : HoldsState volume S start = (runs_begin volume S journal failures capacity honest writes once stands).0 in
     let run : IsRun volume (take i deliveries) S start answers during = before (delivers_honest d during told behind delivers so) once stands in
     let one : take (i + 1) deliveries ≡ take i deliveries ++ d ∷ [] =
     take_more deliveries i d lt ∙ ap (λ (x : delivered.Delivery). take i deliveries ++ x ∷ []) (sym is) in

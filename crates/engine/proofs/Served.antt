@@ -11,7 +11,7 @@ use Rattle.udf.specs.Udf.{udf, spelled}
 use Rattle.engine.specs.Situation.{Situation}
 use Rattle.engine.specs.Said.{said_answer}
 use Rattle.engine.specs.Headline.{said_answers}
-use Rattle.engine.specs.Steps.{IsAt, AllSteps}
+use Rattle.engine.specs.Steps.{HoldsState, AllSteps}
 use Rattle.engine.specs.Served.{AllAnswered, IsAnswered, EachWithstands, ServedHolds, ServedWithstands, brought}
 use Rattle.engine.specs.Withstanding.{AsksFor, Withstands}
 use Rattle.engine.proofs.Calling.{calls_are_steps}
@@ -34,7 +34,7 @@ answered_honest [] before (a ∷ answers) behind h honest = absurd h
 answered_honest (m ∷ messages) before [] behind h honest = absurd h
 answered_honest (m ∷ messages) before (a ∷ answers) behind (during, one, rest) honest = one.answered.follows.honest (answered_honest messages during answers behind rest honest)
 
-answered_steps : (volume : ℕ) (messages : List Message) (S : State) (before : Situation) (answers : List Answer) (behind : Situation) → AllAnswered messages before answers behind → IsTrue behind.honest → IsAt volume S before
+answered_steps : (volume : ℕ) (messages : List Message) (S : State) (before : Situation) (answers : List Answer) (behind : Situation) → AllAnswered messages before answers behind → IsTrue behind.honest → HoldsState volume S before
     → (T : State) × AllSteps volume (brought messages) S before (said_answers answers) T behind
 answered_steps volume [] S before [] behind same honest at = (S, (refl, refl, same))
 answered_steps volume [] S before (a ∷ answers) behind h honest at = absurd h
@@ -56,7 +56,7 @@ answered_capacity [] before (a ∷ answers) behind h = absurd h
 answered_capacity (m ∷ messages) before [] behind h = absurd h
 answered_capacity (m ∷ messages) before (a ∷ answers) behind (during, one, rest) = answered_capacity messages during answers behind rest ∙ one.answered.follows.capacity
 
-module _ (volume : ℕ) (S : State) (before : Situation) (at : IsAt volume S before) where
+module _ (volume : ℕ) (S : State) (before : Situation) (at : HoldsState volume S before) where
   -- what one message more leaves, where those before it ended
   next_withstands : (done : List Message) (told : List Answer) (during : Situation) (m : Message) (a : Answer) (next : Situation) → AllAnswered done before told during → IsAnswered m during a next → IsTrue next.honest
       → (run : HoldsOnJournal udf (need spelled) before.capacity volume S before.journal during.journal (brought done) (said_answers told))
@@ -64,7 +64,7 @@ module _ (volume : ℕ) (S : State) (before : Situation) (at : IsAt volume S bef
   next_withstands done told during m a next sofar one honest =
       let so = one.answered.follows.honest honest in
       let steps = answered_steps volume done S before told during sofar so at in
-      let there : IsAt volume steps.0 during = at_end volume (brought done) S before (said_answers told) steps.0 during at steps.1 in
+      let there : HoldsState volume steps.0 during = at_end volume (brought done) S before (said_answers told) steps.0 during at steps.1 in
       let size : during.capacity ≡ before.capacity = answered_capacity done before told during sofar in
       let run = served_holds done before told during sofar volume S so at in
       let stood : Stands udf before.capacity volume (held during.journal) steps.0 = subst (λ (c : ℕ). Stands udf c volume (held during.journal) steps.0) size there.stands in

@@ -18,7 +18,7 @@ use Rattle.store.specs.declared.store.Store.{Store}
 use Rattle.engine.specs.Answered.{due_of}
 use Rattle.engine.specs.declared.runs.Delivery.{Delivery}
 use Rattle.engine.specs.Situation.{Situation, situation}
-use Rattle.engine.specs.Steps.{IsAt}
+use Rattle.engine.specs.Steps.{HoldsState}
 use Rattle.engine.specs.Headline.{IsRun, RunHolds, said_answers}
 use Rattle.engine.proofs.Running.{at_end, runs_begin, runs_are_held}
 use Rattle.engine.specs.Withstanding.{Withstands, Brings, BringsAt, AllWithstand}
@@ -89,13 +89,13 @@ pub withstand_run : (volume : ℕ) (deliveries : List Delivery) (i : ℕ) (d : D
     → Stands udf capacity volume (held journal) S → during.capacity ≡ capacity
     → (IsTrue during.honest → Once journal → Stands udf capacity volume (held journal) S → IsRun volume (take i deliveries) S (situation None journal failures capacity honest writes) answers during)
     → (IsTrue during.honest → Once journal → Stands udf capacity volume (held journal) S → AllWithstand volume capacity deliveries S journal writes i answers during.journal between)
-    → ((T : State) → IsAt volume T during → Withstands during.capacity volume during.journal T (Brings d) between later)
+    → ((T : State) → HoldsState volume T during → Withstands during.capacity volume during.journal T (Brings d) between later)
     → AllWithstand volume capacity deliveries S journal writes (i + 1) more behind later
 withstand_run volume deliveries i d S journal failures capacity honest answers more during told writes between behind later lt is answered so once stands size run all one =
     let start : Situation = situation None journal failures capacity honest writes in
-    let at : IsAt volume S start = (runs_begin volume S journal failures capacity honest writes once stands).0 in
+    let at : HoldsState volume S start = (runs_begin volume S journal failures capacity honest writes once stands).0 in
     let sofar : IsRun volume (take i deliveries) S start answers during = run so once stands in
-    let there : IsAt volume sofar.state during = at_end volume sofar.said S start (said_answers answers) sofar.state during at sofar.steps in
+    let there : HoldsState volume sofar.state during = at_end volume sofar.said S start (said_answers answers) sofar.state during at sofar.steps in
     let stood : Stands udf capacity volume (held during.journal) sofar.state = subst (λ (c : ℕ). Stands udf c volume (held during.journal) sofar.state) size there.stands in
     let holds : RunHolds volume capacity (take i deliveries) S journal answers during.journal = runs_are_held volume (take i deliveries) S start answers during at sofar in
     let state : sofar.state ≡ after S holds.holds.holds.committed = held_ended volume capacity holds.said S journal during.journal (said_answers answers) sofar.state holds.holds stood in

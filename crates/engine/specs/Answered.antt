@@ -15,7 +15,7 @@ use Rattle.request.specs.declared.message.Query.TheVariants as query
 use Rattle.store.specs.declared.store.Store.{Store}
 use Rattle.store.specs.Sessions.{reply_said}
 use Rattle.udf.specs.Said.{said_record}
-use Rattle.engine.specs.Situation.{Situation, IsOpen, Follows}
+use Rattle.engine.specs.Situation.{Situation, IsOpen, AddsBlocks}
 
 -- how many failures of the drive an answer stands for
 abbrev pub faults : Answer → ℕ
@@ -36,19 +36,19 @@ faults (answer.Names names) = 0
 faults (answer.Node status) = 0
 
 -- the drive failed, there was no memory, or the medium holds no sound volume
-abbrev pub MayFail : Answer → Type 0
-MayFail a = (a ≡ answer.Fault) ⊎ ((a ≡ answer.Memory) ⊎ (a ≡ answer.Damaged))
+abbrev pub FailsOrIsDamaged : Answer → Type 0
+FailsOrIsDamaged a = (a ≡ answer.Fault) ⊎ ((a ≡ answer.Memory) ⊎ (a ≡ answer.Damaged))
 
 -- what a query can be told
-abbrev pub IsTold : Query → Answer → Type 0
-IsTold (query.Get path) a = ((bytes : List ℕ) × (a ≡ answer.Data bytes)) ⊎ ((a ≡ answer.NotFound) ⊎ ((a ≡ answer.IsDirectory) ⊎ MayFail a))
-IsTold (query.List path) a = ((names : List Listed) × (a ≡ answer.Names names)) ⊎ ((a ≡ answer.NotFound) ⊎ ((a ≡ answer.NotDirectory) ⊎ MayFail a))
-IsTold (query.Stat path) a = ((status : NodeStatus) × (a ≡ answer.Node status)) ⊎ ((a ≡ answer.NotFound) ⊎ MayFail a)
+abbrev pub CanBeTold : Query → Answer → Type 0
+CanBeTold (query.Get path) a = ((bytes : List ℕ) × (a ≡ answer.Data bytes)) ⊎ ((a ≡ answer.NotFound) ⊎ ((a ≡ answer.IsDirectory) ⊎ FailsOrIsDamaged a))
+CanBeTold (query.List path) a = ((names : List Listed) × (a ≡ answer.Names names)) ⊎ ((a ≡ answer.NotFound) ⊎ ((a ≡ answer.NotDirectory) ⊎ FailsOrIsDamaged a))
+CanBeTold (query.Stat path) a = ((status : NodeStatus) × (a ≡ answer.Node status)) ⊎ ((a ≡ answer.NotFound) ⊎ FailsOrIsDamaged a)
 
 -- A new request is committed, or it is told why it may not be. Unless the store stopped, nothing was written then.
 abbrev pub IsCommitted : Situation → Answer → Situation → Type 0
 IsCommitted before a after = ((reply : Reply) × (a ≡ answer.Reply reply))
-    ⊎ (((a ≡ answer.Full) ⊎ MayFail a) × IfSome after.store (λ store. store.is_stopped ≡ false → after.journal ≡ before.journal))
+    ⊎ (((a ≡ answer.Full) ⊎ FailsOrIsDamaged a) × IfSome after.store (λ store. store.is_stopped ≡ false → after.journal ≡ before.journal))
 
 -- what is due for a number of a client, by the sessions that a store keeps
 abbrev pub due_of : Store → ℕ → ℕ → Due
@@ -70,19 +70,19 @@ pub record Opens (before during : Situation) (store : Store) : Type 0 where
 
 -- The store was not open, and could not be opened. Nothing was written.
 abbrev pub IsRefused : Situation → Answer → Situation → Type 0
-IsRefused before a after = MayFail a × (after.journal ≡ before.journal) × ((store : Store) → IsOpen before store → ⊥)
+IsRefused before a after = FailsOrIsDamaged a × (after.journal ≡ before.journal) × ((store : Store) → IsOpen before store → ⊥)
 
 -- one row for each kind of message
 abbrev pub Row : Message → Situation → Answer → Situation → Type 0
 Row (message.Malformed cause) before a after = (a ≡ answer.Malformed cause) × (after ≡ before)
 Row message.NoMemory before a after = (a ≡ answer.Memory) × (after ≡ before)
-Row (message.Query asked) before a after = IsTold asked a × (after.journal ≡ before.journal)
+Row (message.Query asked) before a after = CanBeTold asked a × (after.journal ≡ before.journal)
 Row (message.Request request) before a after = IsRefused before a after
     ⊎ ((during : Situation) × (store : Store) × Opens before during store × IsDue (due_of store request.client request.number) during a after)
 
 -- A message was answered.
 pub record Answered (asked : Message) (before : Situation) (a : Answer) (after : Situation) : Type 0 where
-  pub follows : Follows before after
+  pub follows : AddsBlocks before after
   pub failures : Counts (faults a) before.failures after.failures
   pub row : Row asked before a after
 
@@ -91,5 +91,5 @@ pub record Answered (asked : Message) (before : Situation) (a : Answer) (after :
 abbrev pub IsNothingThere : Message → Situation → Answer → Situation → Type 0
 IsNothingThere (message.Malformed cause) before a after = ⊤
 IsNothingThere message.NoMemory before a after = ⊤
-IsNothingThere (message.Query asked) before a after = MayFail a × (after.journal ≡ before.journal) × (after.store ≡ None)
-IsNothingThere (message.Request request) before a after = MayFail a × (after.journal ≡ before.journal) × (after.store ≡ None)
+IsNothingThere (message.Query asked) before a after = FailsOrIsDamaged a × (after.journal ≡ before.journal) × (after.store ≡ None)
+IsNothingThere (message.Request request) before a after = FailsOrIsDamaged a × (after.journal ≡ before.journal) × (after.store ≡ None)

@@ -25,7 +25,7 @@ use Rattle.engine.specs.Situation.{Situation}
 use Rattle.engine.specs.Answered.{due_of}
 use Rattle.engine.specs.Delivered.{with_store}
 use Rattle.engine.specs.Said.{said_message, said_answer}
-use Rattle.engine.specs.Steps.{IsAt, IsStep}
+use Rattle.engine.specs.Steps.{HoldsState, IsStep}
 
 -- ---- answers, by what the store gave
 
@@ -128,9 +128,9 @@ Calls volume (message.Request request) S before a behind =
 -- they make a step that is a row of the medium's
 abbrev pub CallsAreSteps : Type 0
 CallsAreSteps =
-    (volume : ℕ) (m : Message) (S : State) (before : Situation) (a : Answer) (behind : Situation) → IsAt volume S before → Calls volume m S before a behind
+    (volume : ℕ) (m : Message) (S : State) (before : Situation) (a : Answer) (behind : Situation) → HoldsState volume S before → Calls volume m S before a behind
     → (S' : State) × IsStep volume (medium.Delivery.Delivered (said_message m)) S before (Some (said_answer a)) S' behind
 
 -- and so does a restart
 abbrev pub RestartsAreSteps : Type 0
-RestartsAreSteps = (volume : ℕ) (S : State) (before : Situation) → IsAt volume S before → IsStep volume medium.Delivery.Restart S before None S (with_store None before)
+RestartsAreSteps = (volume : ℕ) (S : State) (before : Situation) → HoldsState volume S before → IsStep volume medium.Delivery.Restart S before None S (with_store None before)

@@ -3,7 +3,7 @@ use Rattle.std.specs.Prelude.{◌≡◌, List, [], ◌∷◌, ◌++◌, Option, 
 use Rattle.std.specs.Option.{option_to_list}
 use Rattle.request.specs.declared.answer.Answer.{Answer}
 use Rattle.request.specs.declared.message.Message.{Message}
-use Rattle.request.specs.Payload.{Tells}
+use Rattle.request.specs.Payload.{TellsPayload}
 use Rattle.store.specs.declared.store.Store.{Store}
 use Rattle.engine.specs.declared.runs.Delivery.{Delivery}
 use Rattle.engine.specs.declared.runs.Delivery.TheVariants.{Frame, Restart}
@@ -19,7 +19,7 @@ abbrev pub Delivers : Delivery → Situation → Option Answer → Situation →
 Delivers Restart before None after = after ≡ with_store None before
 Delivers Restart before (Some a) after = ⊥
 Delivers (Frame payload) before None after = ⊥
-Delivers (Frame payload) before (Some a) after = (m : Message) × Tells m payload.items × Answered m before a after
+Delivers (Frame payload) before (Some a) after = (m : Message) × TellsPayload m payload.items × Answered m before a after
 
 -- each delivery in turn, with the answers to those that get one
 abbrev pub AllDelivered : List Delivery → Situation → List Answer → Situation → Type 0

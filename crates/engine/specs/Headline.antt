@@ -4,7 +4,7 @@ use Rattle.std.specs.Option.{option_to_list}
 use Rattle.drive.specs.Journal.{Event, held, Once}
 use Rattle.request.specs.declared.message.Message.{Message}
 use Rattle.request.specs.declared.answer.Answer.{Answer}
-use Rattle.request.specs.Payload.{Tells}
+use Rattle.request.specs.Payload.{TellsPayload}
 use Rattle.model.specs.Session.{State}
 use Rattle.medium.specs.Volume.{Stands}
 use Rattle.medium.specs.Commit.{need}
@@ -17,7 +17,7 @@ use Rattle.engine.specs.declared.runs.Delivery.TheVariants.{Frame, Restart}
 use Rattle.engine.specs.Situation.{Situation, situation}
 use Rattle.engine.specs.Delivered.{with_store}
 use Rattle.engine.specs.Said.{AllSaid, said_answer}
-use Rattle.engine.specs.Steps.{IsAt, AllSteps}
+use Rattle.engine.specs.Steps.{HoldsState, AllSteps}
 use Rattle.engine.specs.Called.{Calls}
 
 -- a delivery, by the calls that it makes
@@ -25,7 +25,7 @@ abbrev pub DeliversBy : ℕ → delivered.Delivery → State → Situation → O
 DeliversBy volume Restart S before None behind = behind ≡ with_store None before
 DeliversBy volume Restart S before (Some a) behind = ⊥
 DeliversBy volume (Frame payload) S before None behind = ⊥
-DeliversBy volume (Frame payload) S before (Some a) behind = (m : Message) × Tells m payload.items × Calls volume m S before a behind
+DeliversBy volume (Frame payload) S before (Some a) behind = (m : Message) × TellsPayload m payload.items × Calls volume m S before a behind
 
 abbrev pub said_answers : List Answer → List medium.Answer
 said_answers answers = map said_answer answers
@@ -41,13 +41,13 @@ pub record IsRun (volume : ℕ) (deliveries : List delivered.Delivery) (S : Stat
 abbrev pub RunsBegin : Type 0
 RunsBegin =
     (volume : ℕ) (S : State) (journal : List Event) (failures capacity : ℕ) (honest : Bool) (writes : List (List (List ℕ))) → Once journal → Stands udf capacity volume (held journal) S
-    → IsAt volume S (situation None journal failures capacity honest writes)
+    → HoldsState volume S (situation None journal failures capacity honest writes)
     × IsRun volume [] S (situation None journal failures capacity honest writes) [] (situation None journal failures capacity honest writes)
 
 -- and goes on with each delivery
 abbrev pub RunsGoOn : Type 0
 RunsGoOn =
-    (volume : ℕ) (deliveries : List delivered.Delivery) (S : State) (before : Situation) (answers : List Answer) (during : Situation) → IsAt volume S before
+    (volume : ℕ) (deliveries : List delivered.Delivery) (S : State) (before : Situation) (answers : List Answer) (during : Situation) → HoldsState volume S before
     → (run : IsRun volume deliveries S before answers during) (d : delivered.Delivery) (told : Option Answer) (behind : Situation) → DeliversBy volume d run.state during told behind
     → IsRun volume (deliveries ++ d ∷ []) S before (answers ++ option_to_list told) behind
 
@@ -59,5 +59,5 @@ pub record RunHolds (volume capacity : ℕ) (deliveries : List delivered.Deliver
 
 abbrev pub RunsAreHeld : Type 0
 RunsAreHeld =
-    (volume : ℕ) (deliveries : List delivered.Delivery) (S : State) (before : Situation) (answers : List Answer) (behind : Situation) → IsAt volume S before
+    (volume : ℕ) (deliveries : List delivered.Delivery) (S : State) (before : Situation) (answers : List Answer) (behind : Situation) → HoldsState volume S before
     → IsRun volume deliveries S before answers behind → RunHolds volume before.capacity deliveries S before.journal answers behind.journal

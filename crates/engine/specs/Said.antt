@@ -5,7 +5,7 @@ use Rattle.request.specs.declared.message.Message.TheVariants as message
 use Rattle.request.specs.declared.answer.Answer as told
 use Rattle.request.specs.declared.answer.Answer.TheVariants as answer
 use Rattle.request.specs.Numbers.{cause_number}
-use Rattle.request.specs.Payload.{Tells}
+use Rattle.request.specs.Payload.{TellsPayload}
 use Rattle.medium.specs.Runs.{Message, Delivery, Answer}
 use Rattle.medium.specs.Runs.Message.{Asks, Queries, Malformed, NoMemory}
 use Rattle.medium.specs.Runs as medium
@@ -38,12 +38,12 @@ said_answer (answer.Names names) = medium.Answer.Names (said_names names)
 said_answer (answer.Node status) = medium.Answer.NodeIs (is_directory status.kind) status.moment status.size
 
 -- a frame brings the message that its payload tells
-abbrev pub IsSaid : delivered.Delivery → Delivery → Type 0
-IsSaid (Frame payload) d = (m : asked.Message) × Tells m payload.items × (d ≡ medium.Delivery.Delivered (said_message m))
-IsSaid Restart d = d ≡ medium.Delivery.Restart
+abbrev pub IsDeliverySaid : delivered.Delivery → Delivery → Type 0
+IsDeliverySaid (Frame payload) d = (m : asked.Message) × TellsPayload m payload.items × (d ≡ medium.Delivery.Delivered (said_message m))
+IsDeliverySaid Restart d = d ≡ medium.Delivery.Restart
 
 abbrev pub AllSaid : List delivered.Delivery → List Delivery → Type 0
 AllSaid [] [] = Unit {0}
 AllSaid [] (d ∷ ds) = ⊥
 AllSaid (one ∷ deliveries) [] = ⊥
-AllSaid (one ∷ deliveries) (d ∷ ds) = IsSaid one d × AllSaid deliveries ds
+AllSaid (one ∷ deliveries) (d ∷ ds) = IsDeliverySaid one d × AllSaid deliveries ds

@@ -19,7 +19,7 @@ use Rattle.engine.specs.Answered.{Answered}
 use Rattle.engine.specs.Called.{Calls}
 use Rattle.engine.specs.Headline.{said_answers}
 use Rattle.engine.specs.Said.{said_message}
-use Rattle.engine.specs.Steps.{IsAt}
+use Rattle.engine.specs.Steps.{HoldsState}
 use Rattle.engine.specs.Streams.{PutsFront}
 use Rattle.engine.specs.Withstanding.{AsksFor, Withstands}
 
@@ -27,8 +27,8 @@ use Rattle.engine.specs.Withstanding.{AsksFor, Withstands}
 -- whatever a loss of power leaves of what was written for it, that state stands or the one after the request.
 pub record IsAnswered (asked : Message) (before : Situation) (a : Answer) (behind : Situation) : Type 0 where
   pub answered : Answered asked before a behind
-  pub calls : (volume : ℕ) (S : State) → IsTrue behind.honest → IsAt volume S before → Calls volume asked S before a behind
-  pub withstands : (volume : ℕ) (S : State) → IsTrue behind.honest → IsAt volume S before → Withstands before.capacity volume before.journal S (AsksFor asked) before.writes behind.writes
+  pub calls : (volume : ℕ) (S : State) → IsTrue behind.honest → HoldsState volume S before → Calls volume asked S before a behind
+  pub withstands : (volume : ℕ) (S : State) → IsTrue behind.honest → HoldsState volume S before → Withstands before.capacity volume before.journal S (AsksFor asked) before.writes behind.writes
 
 -- each message got its answer, in order
 abbrev pub AllAnswered : List Message → Situation → List Answer → Situation → Type 0
@@ -44,7 +44,7 @@ brought messages = map (λ m. Delivered (said_message m)) messages
 -- state after the first of the requests that were committed.
 abbrev pub ServedHolds : List Message → Situation → List Answer → Situation → Type 0
 ServedHolds messages before answers behind =
-    (volume : ℕ) (S : State) → IsTrue behind.honest → IsAt volume S before
+    (volume : ℕ) (S : State) → IsTrue behind.honest → HoldsState volume S before
     → HoldsOnJournal udf (need spelled) before.capacity volume S before.journal behind.journal (brought messages) (said_answers answers)
 
 -- The messages that were answered so far, and then the others, one after another. As each of these comes, those before it
@@ -62,7 +62,7 @@ EachWithstands volume S before done told during (m ∷ messages) (a ∷ answers)
 -- so it is of all messages, on an honest drive, where a state stands that an open store knows
 abbrev pub ServedWithstands : List Message → Situation → List Answer → Situation → Type 0
 ServedWithstands messages before answers behind =
-    (volume : ℕ) (S : State) → IsTrue behind.honest → IsAt volume S before → EachWithstands volume S before [] [] before messages answers behind
+    (volume : ℕ) (S : State) → IsTrue behind.honest → HoldsState volume S before → EachWithstands volume S before [] [] before messages answers behind
 
 -- a reader of frames gave these messages, in order
 abbrev pub AllTaken : Option (List ℕ) → List Message → Option (List ℕ) → Type 0

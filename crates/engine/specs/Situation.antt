@@ -24,7 +24,7 @@ abbrev pub IsOpen : Situation → Store → Type 0
 IsOpen s store = (s.store ≡ Some store) × (store.is_stopped ≡ false)
 
 -- Blocks alone came to the medium. It has room for as many as before, and it is no more honest.
-pub record Follows (before after : Situation) : Type 0 where
+pub record AddsBlocks (before after : Situation) : Type 0 where
   pub ready : IsReady after
   pub front : (written : List Event) × (after.journal ≡ before.journal ++ written)
   pub capacity : after.capacity ≡ before.capacity

@@ -13,7 +13,7 @@ use Rattle.store.specs.Calls.{Knows}
 use Rattle.engine.specs.Situation.{Situation, IsOpen}
 
 -- The state stands on the drive's journal, and a store that is open keeps it.
-pub record IsAt (volume : ℕ) (S : State) (s : Situation) : Type 0 where
+pub record HoldsState (volume : ℕ) (S : State) (s : Situation) : Type 0 where
   pub once : Once s.journal
   pub stands : Stands udf s.capacity volume (held s.journal) S
   pub knows : (store : Store) → IsOpen s store → Knows s.capacity volume s.journal S store
@@ -26,7 +26,7 @@ pub record IsStep (volume : ℕ) (d : Delivery) (S : State) (before : Situation)
   pub state : S' ≡ after S effect.done
   pub advances : Advances udf before.capacity volume before.journal S behind.journal S'
   pub capacity : behind.capacity ≡ before.capacity
-  pub at : IsAt volume S' behind
+  pub at : HoldsState volume S' behind
 
 -- each delivery in turn
 abbrev pub AllSteps : ℕ → List Delivery → State → Situation → List Answer → State → Situation → Type 0
@@ -38,6 +38,6 @@ AllSteps volume (d ∷ ds) S before answers S' behind =
 -- so what stands at each front of the journal is the state after the first of the requests that were committed
 abbrev pub StepsHold : Type 0
 StepsHold =
-    (volume : ℕ) (deliveries : List Delivery) (S : State) (before : Situation) (answers : List Answer) (S' : State) (behind : Situation) → IsAt volume S before
+    (volume : ℕ) (deliveries : List Delivery) (S : State) (before : Situation) (answers : List Answer) (S' : State) (behind : Situation) → HoldsState volume S before
     → AllSteps volume deliveries S before answers S' behind
     → HoldsOnJournal udf (need spelled) before.capacity volume S before.journal behind.journal deliveries answers

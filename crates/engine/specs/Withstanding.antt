@@ -4,7 +4,7 @@ use Rattle.drive.specs.Journal.{Event, written}
 use Rattle.drive.specs.Writes.{IsLeft}
 use Rattle.request.specs.declared.message.Message.{Message}
 use Rattle.request.specs.declared.message.Message.TheVariants as message
-use Rattle.request.specs.Payload.{Tells}
+use Rattle.request.specs.Payload.{TellsPayload}
 use Rattle.model.specs.Session.{State, Request, due, after, after_one}
 use Rattle.model.specs.Session.Due.{New}
 use Rattle.medium.specs.Formats.{Block}
@@ -33,7 +33,7 @@ AsksFor (message.Request asked) request = request ≡ said_request asked
 -- a delivery does
 abbrev pub Brings : Delivery → Request → Type 0
 Brings Restart request = ⊥
-Brings (Frame payload) request = (m : Message) × Tells m payload.items × AsksFor m request
+Brings (Frame payload) request = (m : Message) × TellsPayload m payload.items × AsksFor m request
 
 -- the delivery of this number does
 abbrev pub BringsAt : List Delivery → ℕ → Request → Type 0

@@ -11,10 +11,10 @@ ghost use Rattle.request.specs.declared.message.Message.TheVariants as messages;
 ghost use Rattle.request.specs.declared.message.Query.TheVariants as queries;
 ghost use Rattle.store.specs.Agrees.{Agrees};
 ghost use Rattle.store.specs.Calls.{Knows};
-ghost use Rattle.engine.specs.Situation.{IsReady, Follows, HoldsNothing, seen_on, situation_on};
-ghost use Rattle.engine.specs.Answered.{Answered, due_of, IsDue, IsNothingThere, IsTold, MayFail, faults};
+ghost use Rattle.engine.specs.Situation.{IsReady, AddsBlocks, HoldsNothing, seen_on, situation_on};
+ghost use Rattle.engine.specs.Answered.{Answered, due_of, IsDue, IsNothingThere, CanBeTold, FailsOrIsDamaged, faults};
 ghost use Rattle.engine.specs.Called.{Calls, IsDealt, IsQueried, failed, refused, get_refused, list_refused, stat_refused};
-ghost use Rattle.engine.specs.Steps.{IsAt};
+ghost use Rattle.engine.specs.Steps.{HoldsState};
 ghost use Rattle.engine.specs.Withstanding.{Withstands, AsksFor};
 
 use drive::Drive;
@@ -41,9 +41,9 @@ impl Engine {
         requires { IsReady (seen_on D.Drive self.old drive.old) }
         ensures answered { Answered message (seen_on D.Drive self.old drive.old) result (seen_on D.Drive self.new drive.new) }
         // On an honest drive, where a state stands that an open store knows.
-        ensures calls { (volume : ℕ) (S : State) → IsTrue (D.honest drive.new) → IsAt volume S (seen_on D.Drive self.old drive.old) → Calls volume message S (seen_on D.Drive self.old drive.old) result (seen_on D.Drive self.new drive.new) }
+        ensures calls { (volume : ℕ) (S : State) → IsTrue (D.honest drive.new) → HoldsState volume S (seen_on D.Drive self.old drive.old) → Calls volume message S (seen_on D.Drive self.old drive.old) result (seen_on D.Drive self.new drive.new) }
         // Whatever part of its writes a loss of power leaves, where a disk keeps any choice of the blocks of the last one that it was given.
-        ensures withstands { (volume : ℕ) (S : State) → IsTrue (D.honest drive.new) → IsAt volume S (seen_on D.Drive self.old drive.old) → Withstands (D.capacity drive.old) volume (D.journal drive.old) S (AsksFor message) (D.writes drive.old) (D.writes drive.new) }
+        ensures withstands { (volume : ℕ) (S : State) → IsTrue (D.honest drive.new) → HoldsState volume S (seen_on D.Drive self.old drive.old) → Withstands (D.capacity drive.old) volume (D.journal drive.old) S (AsksFor message) (D.writes drive.old) (D.writes drive.new) }
         // On an honest drive where nothing stands.
         ensures nothing { IsTrue (D.honest drive.new) → HoldsNothing (seen_on D.Drive self.old drive.old) → IsNothingThere message (seen_on D.Drive self.old drive.old) result (seen_on D.Drive self.new drive.new) }
         ensures lent { drives.Follows D.Drive (faults result) drive.old drive.new }
@@ -75,8 +75,8 @@ impl Engine {
         requires { IsReady (seen_on D.Drive self.old drive.old) }
         ensures agrees { IfOk result (Agrees (D.journal drive.new) (D.capacity drive.new)) }
         ensures open { IfOk result (λ store. store.is_stopped ≡ false) }
-        ensures knows { (volume : ℕ) (S : State) → IsTrue (D.honest drive.new) → IsAt volume S (seen_on D.Drive self.old drive.old) → IfOk result (Knows (D.capacity drive.old) volume (D.journal drive.old) S) }
-        ensures short { (volume : ℕ) (S : State) → IsTrue (D.honest drive.new) → IsAt volume S (seen_on D.Drive self.old drive.old) → IfErr result IsShortage }
+        ensures knows { (volume : ℕ) (S : State) → IsTrue (D.honest drive.new) → HoldsState volume S (seen_on D.Drive self.old drive.old) → IfOk result (Knows (D.capacity drive.old) volume (D.journal drive.old) S) }
+        ensures short { (volume : ℕ) (S : State) → IsTrue (D.honest drive.new) → HoldsState volume S (seen_on D.Drive self.old drive.old) → IfErr result IsShortage }
         ensures nothing { IsTrue (D.honest drive.new) → HoldsNothing (seen_on D.Drive self.old drive.old) → IfOk result (λ store. ⊥) }
         ensures taken { self.new.store ≡ None }
         ensures stays { (kept : _) → self.old.store ≡ Some kept → kept.is_stopped ≡ false → (result ≡ Ok kept) × (drive.new ≡ drive.old) }
@@ -99,7 +99,7 @@ fn answer_request<D: Drive>(
 ) -> Answer
     requires { Agrees (D.journal drive.old) (D.capacity drive.old) store.old }
     ensures due { IsDue (due_of store.old request.now.client request.now.number) (situation_on D.Drive (Some store.old) drive.old) result (situation_on D.Drive (Some store.new) drive.new) }
-    ensures follows { Follows (situation_on D.Drive (Some store.old) drive.old) (situation_on D.Drive (Some store.new) drive.new) }
+    ensures follows { AddsBlocks (situation_on D.Drive (Some store.old) drive.old) (situation_on D.Drive (Some store.new) drive.new) }
     ensures dealt { (volume : ℕ) (S : State) → IsTrue (D.honest drive.new) → Knows (D.capacity drive.old) volume (D.journal drive.old) S store.old → store.old.is_stopped ≡ false → IsDealt (due_of store.old request.now.client request.now.number) volume S request.now (situation_on D.Drive (Some store.old) drive.old) store.old result (situation_on D.Drive (Some store.new) drive.new) }
     ensures withstands { (volume : ℕ) (S : State) → IsTrue (D.honest drive.new) → Knows (D.capacity drive.old) volume (D.journal drive.old) S store.old → Withstands (D.capacity drive.old) volume (D.journal drive.old) S (AsksFor (messages.Request request.now)) (D.writes drive.old) (D.writes drive.new) }
     ensures lent { drives.Follows D.Drive (faults result) drive.old drive.new }
@@ -119,7 +119,7 @@ fn answer_request<D: Drive>(
 /// The answer to a query.
 fn answer_query<D: Drive>(store: &mut Store, alloc: Global, drive: &mut D, query: &Query) -> Answer
     requires { Agrees (D.journal drive.old) (D.capacity drive.old) store.old }
-    ensures told { IsTold query.now result }
+    ensures told { CanBeTold query.now result }
     ensures queried { (volume : ℕ) (S : State) → IsTrue (D.honest drive.new) → Knows (D.capacity drive.old) volume (D.journal drive.old) S store.old → store.old.is_stopped ≡ false → IsQueried S query.now result × Knows (D.capacity drive.old) volume (D.journal drive.old) S store.new }
     ensures agrees { Agrees (D.journal drive.new) (D.capacity drive.new) store.new }
     ensures reads { Reads D.Drive (faults result) drive.old drive.new }
@@ -143,7 +143,7 @@ fn answer_query<D: Drive>(store: &mut Store, alloc: Global, drive: &mut D, query
 /// The answer where a request is not committed.
 fn refusal(fault: StoreFault) -> Answer
     ensures refused { result ≡ refused fault }
-    ensures may { (result ≡ answers.Full) ⊎ MayFail result }
+    ensures may { (result ≡ answers.Full) ⊎ FailsOrIsDamaged result }
     ensures device { faults result ≡ failures_of fault }
 {
     match fault {
@@ -155,7 +155,7 @@ fn refusal(fault: StoreFault) -> Answer
 /// The answer where a file's bytes are not given.
 fn get_refusal(fault: StoreFault) -> Answer
     ensures refused { result ≡ get_refused fault }
-    ensures told { (path : Path) → IsTold (queries.Get path) result }
+    ensures told { (path : Path) → CanBeTold (queries.Get path) result }
     ensures device { faults result ≡ failures_of fault }
 {
     match fault {
@@ -168,7 +168,7 @@ fn get_refusal(fault: StoreFault) -> Answer
 /// The answer where a directory's names are not given.
 fn list_refusal(fault: StoreFault) -> Answer
     ensures refused { result ≡ list_refused fault }
-    ensures told { (path : Path) → IsTold (queries.List path) result }
+    ensures told { (path : Path) → CanBeTold (queries.List path) result }
     ensures device { faults result ≡ failures_of fault }
 {
     match fault {
@@ -181,7 +181,7 @@ fn list_refusal(fault: StoreFault) -> Answer
 /// The answer where it is not told what a path leads to.
 fn stat_refusal(fault: StoreFault) -> Answer
     ensures refused { result ≡ stat_refused fault }
-    ensures told { (path : Path) → IsTold (queries.Stat path) result }
+    ensures told { (path : Path) → CanBeTold (queries.Stat path) result }
     ensures device { faults result ≡ failures_of fault }
 {
     match fault {
@@ -192,7 +192,7 @@ fn stat_refusal(fault: StoreFault) -> Answer
 
 /// The answer where the drive failed, where there was no memory, or where the medium holds no sound volume.
 fn failure(fault: StoreFault) -> Answer
-    ensures fails { MayFail result }
+    ensures fails { FailsOrIsDamaged result }
     ensures failed { result ≡ failed fault }
     ensures device { faults result ≡ failures_of fault }
 {

@@ -10,7 +10,7 @@ ghost use Rattle.engine.specs.Answered.{faults};
 ghost use Rattle.engine.specs.Situation.{IsReady, seen_on, situation_on};
 ghost use Rattle.engine.specs.Delivered.{Delivers, Runs};
 ghost use Rattle.engine.specs.Headline.{DeliversBy, RunHolds};
-ghost use Rattle.engine.specs.Steps.{IsAt};
+ghost use Rattle.engine.specs.Steps.{HoldsState};
 ghost use Rattle.engine.specs.Withstanding.{Withstands, Brings, AllWithstand};
 
 use crate::engine::Engine;
@@ -65,9 +65,9 @@ fn deliver<D: Drive>(
 ) -> Option<Answer>
     requires { IsReady (seen_on D.Drive engine.old drive.old) }
     ensures delivers { Delivers delivery.now (seen_on D.Drive engine.old drive.old) result (seen_on D.Drive engine.new drive.new) }
-    ensures by { (volume : ℕ) (S : State) → IsTrue (D.honest drive.new) → IsAt volume S (seen_on D.Drive engine.old drive.old)
+    ensures by { (volume : ℕ) (S : State) → IsTrue (D.honest drive.new) → HoldsState volume S (seen_on D.Drive engine.old drive.old)
         → DeliversBy volume delivery.now S (seen_on D.Drive engine.old drive.old) result (seen_on D.Drive engine.new drive.new) }
-    ensures withstands { (volume : ℕ) (S : State) → IsTrue (D.honest drive.new) → IsAt volume S (seen_on D.Drive engine.old drive.old) → Withstands (D.capacity drive.old) volume (D.journal drive.old) S (Brings delivery.now) (D.writes drive.old) (D.writes drive.new) }
+    ensures withstands { (volume : ℕ) (S : State) → IsTrue (D.honest drive.new) → HoldsState volume S (seen_on D.Drive engine.old drive.old) → Withstands (D.capacity drive.old) volume (D.journal drive.old) S (Brings delivery.now) (D.writes drive.old) (D.writes drive.new) }
     ensures ready { IsReady (seen_on D.Drive engine.new drive.new) }
     ensures lent { Follows D.Drive 0 drive.old drive.new }
 {

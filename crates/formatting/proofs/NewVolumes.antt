@@ -16,7 +16,7 @@ use Rattle.dir.specs.Directory.{IsDirectory, IsEntry as IsName, identifiers}
 use Rattle.dir.specs.Layout.{laid, blocks_of, blocked, identifier_blocks}
 use Rattle.dir.proofs.Once.{laid_directory}
 use Rattle.dir.proofs.Sizes.{data_sized}
-use Rattle.vat.specs.Table.{Fits, IsTable, table_bytes}
+use Rattle.vat.specs.Table.{FitsTable, IsTable, table_bytes}
 use Rattle.volume.specs.Front.{IsFrontBlock, IsFront}
 use Rattle.volume.proofs.FrontLaws.{one_front_block}
 use Rattle.medium.specs.Formats.{Block}
@@ -59,7 +59,7 @@ entries_low zero d lt = let h : 0 < 0xFFFF_FFFF = omega arith in h
 entries_low (suc zero) d lt = let h : 2 < 0xFFFF_FFFF = omega arith in h
 entries_low (suc (suc k)) d lt = absurd (omega arith)
 
-pub first_fits : (label : List ℕ) → IsLabel label → Fits (first_table label)
+pub first_fits : (label : List ℕ) → IsLabel label → FitsTable (first_table label)
 first_fits label is = record {
   label = is;
   first = (λ h. refl, λ h. refl);

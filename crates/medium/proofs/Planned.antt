@@ -25,7 +25,7 @@ use Rattle.model.proofs.Made.{reach_has, reach_one}
 use Rattle.medium.specs.Formats.{Block, Table_, Formats, AreExact, AreBounded, AreDistinct}
 use Rattle.medium.specs.Formats.Kind.{Table as TableEntry}
 use Rattle.medium.specs.Formats.Place.{Extent}
-use Rattle.medium.specs.Step.{Follows, CarriesOut}
+use Rattle.medium.specs.Step.{FollowsRequest, CarriesOut}
 use Rattle.std.proofs.lemmas.Grind.{div_ceil_times}
 use Rattle.medium.specs.Volume.{Medium, partition_start, IsWithin, extent, bytes_in, HasTable, NoneImitates, IsStoredAt, graph_of, Stands}
 use Rattle.medium.proofs.Packed.{length-packed, bytes-packed}
@@ -484,7 +484,7 @@ module _ (formats : Formats) (capacity volume : ℕ) (exact : AreExact formats) 
       apart : NodesApart (length V) p.nodes
       gone : GoneWithin (length V) p.gone
       size : size_after (length V) p.nodes ≡ (after_one S r).table_length
-      follows : Follows graph graph' S r
+      follows : FollowsRequest graph graph' S r
 
     refused_settled : (code_of r.operation S.tree ≡ 0 → ⊥) → Settled
     refused_settled other =
@@ -585,5 +585,5 @@ module _ (formats : Formats) (capacity volume : ℕ) (exact : AreExact formats) 
       files = ap (λ (t : Table_). t.files) p.table_is;
       directories = ap (λ (t : Table_). t.directories) p.table_is;
       set = ap (λ (V' : List (Option ℕ)). slice_get V' 0) table_entries ∙ set_kept;
-      follows = subst (λ (V' : List (Option ℕ)). Follows graph (graph_of formats (B ++ blocks) V') S r) (sym table_entries) settled.follows;
+      follows = subst (λ (V' : List (Option ℕ)). FollowsRequest graph (graph_of formats (B ++ blocks) V') S r) (sym table_entries) settled.follows;
     }

@@ -14,7 +14,7 @@ use Rattle.model.proofs.Place
 use Rattle.model.proofs.Place.{Placed, stored_at, makes_from_placed}
 use Rattle.model.proofs.Made.{place_of, place_reach, placed_from_makes}
 use Rattle.model.proofs.Operations.{kept, makes_after}
-use Rattle.medium.specs.Step.{Follows}
+use Rattle.medium.specs.Step.{FollowsRequest}
 
 -- a graph that keeps what paths reach makes the same tree
 pub makes_kept : (graph graph' : Graph) (tree : Tree) → IsFunctional graph → IsFunctional graph' → IsTree tree → MakesTree graph tree → ((address : ℕ) → IsReached graph address → Keeps graph graph' address) → MakesTree graph' tree
@@ -52,7 +52,7 @@ pub few_after : (S : State) (r : Request) → S.next_identity ≤ 16 + S.commits
 few_after S r l = more_drawn (draws_identity r.operation && (code_of r.operation S.tree == 0)) S.next_identity S.commits l
 
 -- and behind the request
-pub made_after : (graph graph' : Graph) (S : State) (r : Request) → IsFunctional graph → IsFunctional graph' → Made graph S.tree S.next_identity → Follows graph graph' S r → Made graph' (after_one S r).tree (after_one S r).next_identity
+pub made_after : (graph graph' : Graph) (S : State) (r : Request) → IsFunctional graph → IsFunctional graph' → Made graph S.tree S.next_identity → FollowsRequest graph graph' S r → Made graph' (after_one S r).tree (after_one S r).next_identity
 made_after graph graph' S r one one' m follows = go (code_of r.operation S.tree == 0) refl
   where
     go : (b : Bool) → (code_of r.operation S.tree == 0) ≡ b

@@ -11,7 +11,7 @@ use Rattle.medium.specs.Formats.{Block, Table_, Formats}
 use Rattle.medium.specs.Volume.{Medium, partition_start, IsStoredAt, NoneImitates, HasTable, Stands, Past, graph_of}
 
 -- What is stored changes as the request's operation does; where the request is refused, what paths reach stays.
-pub record Follows (graph graph' : Graph) (state : State) (request : Request) : Type 0 where
+pub record FollowsRequest (graph graph' : Graph) (state : State) (request : Request) : Type 0 where
   pub done : code_of request.operation state.tree ≡ 0 → Changes graph graph' request.operation request.moment state.next_identity
   pub refused : (code_of request.operation state.tree ≡ 0 → ⊥) → (address : ℕ) → IsReached graph address → Keeps graph graph' address
 
@@ -39,7 +39,7 @@ module _ (formats : Formats) where
     pub files : table.files ≡ files_of (after_one S request).tree
     pub directories : table.directories ≡ directories_of (after_one S request).tree
     pub set : slice_get table.entries 0 ≡ slice_get stands.tells.table.entries 0
-    pub follows : Follows (graph_of formats (take stands.at medium) stands.tells.table.entries) (graph_of formats (medium ++ blocks) table.entries) S request
+    pub follows : FollowsRequest (graph_of formats (take stands.at medium) stands.tells.table.entries) (graph_of formats (medium ++ blocks) table.entries) S request
 
   -- The blocks of a format, and its table entry behind them.
   pub record IsFormat (capacity volume : ℕ) (label : List ℕ) (moment : ℕ) (blocks : List Block) (mark : Block) : Type 0 where

@@ -8,7 +8,7 @@ use Rattle.model.specs.Operation.{Operation, code_of, done, tree_after}
 use Rattle.model.specs.Session.{State, Reply, ClientRecord, draws_identity, with_reply, reply_to, after_one, formatted}
 use Rattle.model.specs.Laws.{IsSound}
 use Rattle.model.specs.Plain.{entry_in, path_in, node_in, record_in, tree_in, AreApart}
-use Rattle.model.specs.PlainState.{state_in, request_in, IsWhole}
+use Rattle.model.specs.PlainState.{state_in, request_in, IsWholeState}
 use Rattle.model.specs.declared.plain.nodes.Entry.{Entry}
 use Rattle.model.specs.declared.plain.state.Request.{Request as PlainRequest}
 use Rattle.model.specs.declared.plain.state.State.{State as PlainState}
@@ -20,7 +20,7 @@ one_apart : (e : Entry) → AreApart (e ∷ [])
 unfolding IsDistinct
 one_apart e = (tt, tt)
 
-pub fresh_whole : (s : PlainState) (e : Entry) (moment : ℕ) → s.nodes.items ≡ e ∷ [] → state_in s ≡ formatted moment → IsWhole s
+pub fresh_whole : (s : PlainState) (e : Entry) (moment : ℕ) → s.nodes.items ≡ e ∷ [] → state_in s ≡ formatted moment → IsWholeState s
 fresh_whole s e moment nodes is = record { apart = subst AreApart (sym nodes) (one_apart e); sound = subst IsSound (sym is) (sound_fresh moment) }
 
 -- what a refused operation leaves
@@ -57,5 +57,5 @@ state_after s new r apart tree reply answer records commits next table moment =
       moment = moment i;
     }
 
-pub whole_after : (s new : PlainState) (r : PlainRequest) → IsWhole s → AreApart new.nodes.items → state_in new ≡ after_one (state_in s) (request_in r) → IsWhole new
+pub whole_after : (s new : PlainState) (r : PlainRequest) → IsWholeState s → AreApart new.nodes.items → state_in new ≡ after_one (state_in s) (request_in r) → IsWholeState new
 whole_after s new r whole apart same = record { apart = apart; sound = subst IsSound (sym same) (sound_one (state_in s) (request_in r) whole.sound) }

@@ -20,6 +20,6 @@ state_in state = record {
 }
 
 -- The state is one that requests can lead to. Each request keeps it so.
-pub record IsWhole (state : PlainState) : Type 0 where
+pub record IsWholeState (state : PlainState) : Type 0 where
   pub apart : AreApart state.nodes.items
   pub sound : IsSound (state_in state)

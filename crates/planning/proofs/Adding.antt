@@ -24,14 +24,14 @@ use Rattle.planning.specs.declared.change.Thing.TheVariants as thing
 use Rattle.directories.specs.declared.content.Content.{Content}
 use Rattle.table.specs.declared.node.Node.{Node}
 use Rattle.directories.specs.declared.nodes.Placed.{Placed}
-use Rattle.directories.specs.Shows.{IsAt, IsOpened}
+use Rattle.directories.specs.Shows.{IsNodeAt, IsOpened}
 use Rattle.planning.specs.Writings.{directory_writing, new_file, change_writings}
 use Rattle.table.specs.NextTable.{made_by, Takes}
 use Rattle.planning.specs.Changes.{addition, content_of_thing, code_by_names, addresses_in, gone_of, Does}
 use Rattle.directories.proofs.Walks.{node_at, names_stored, directory_stored, said_names, step_some, step_none}
 
 -- a directory is stored where a walk ends at one
-pub stored_directory : (graph : Graph) (path : Path) (node : Node) (here : IsAt graph path node) → names_directory node.kind ≡ true → is_directory here.found.stored ≡ true
+pub stored_directory : (graph : Graph) (path : Path) (node : Node) (here : IsNodeAt graph path node) → names_directory node.kind ≡ true → is_directory here.found.stored ≡ true
 stored_directory graph path node here directory = sym here.kind ∙ directory
 
 -- ---- the code
@@ -78,7 +78,7 @@ module _ (path above : Path) (name : Name) (split : path ≡ above ++ name ∷ [
       ∙ (ap (λ (b : Bool). add_code false b (is_directory_at tree above) (rest_code path tree)) short
       ∙ ap (λ (b : Bool). add_code false false b (rest_code path tree)) none)
 
-  module _ (graph : Graph) (one : IsFunctional graph) (is : IsTree tree) (makes : MakesTree graph tree) (parent : Node) (here : IsAt graph above parent) (directory : names_directory parent.kind ≡ true)
+  module _ (graph : Graph) (one : IsFunctional graph) (is : IsTree tree) (makes : MakesTree graph tree) (parent : Node) (here : IsNodeAt graph above parent) (directory : names_directory parent.kind ≡ true)
       (placed : Placed) (content : Content) (shown : IsOpened here.found.stored placed content) where
     there : (o : Option DirEntry) → lookup (pointwise nat_eq name) content.dir.entries.entries ≡ o → contains_key tree (above ++ name ∷ []) ≡ is_some o
     there None e = ap is_some (step_none graph tree one is makes above parent here placed content shown name e)
@@ -127,7 +127,7 @@ takes_none path (thing.File bytes) tree gone taken none = none
 takes_none path thing.Directory tree gone taken none = none
 
 -- the directory above with one entry more
-pub listed : (above : Path) (name : Name) (graph : Graph) (parent : Node) (here : IsAt graph above parent) (placed : Placed) (content : Content) → IsOpened here.found.stored placed content → (moment : ℕ) (entry : DirEntry) (d : NewDirectory)
+pub listed : (above : Path) (name : Name) (graph : Graph) (parent : Node) (here : IsNodeAt graph above parent) (placed : Placed) (content : Content) → IsOpened here.found.stored placed content → (moment : ℕ) (entry : DirEntry) (d : NewDirectory)
     → d.address ≡ parent.address → d.unique ≡ parent.unique → d.moment ≡ moment → d.content.dir.parent ≡ content.dir.parent → d.content.dir.entries.entries ≡ content.dir.entries.entries ++ (name, entry) ∷ []
     → directory_writing d ≡ record { address = here.found.address; stored = whole here.found.stored.identity moment (with_entries (λ entries. entries ++ said_entry (name, entry) ∷ []) here.found.stored.body) }
 listed above name graph parent here placed content shown moment entry d address unique when parent_is entries_are =
@@ -138,7 +138,7 @@ listed above name graph parent here placed content shown moment entry d address 
     λ i. record { address = (address ∙ here.address) i; stored = whole ((unique ∙ here.identity) i) (when i) (body i) }
 
 -- the node is put there
-pub adds : (graph : Graph) (free moment identity : ℕ) (path above : Path) (name : Name) (split : path ≡ above ++ name ∷ []) (what : Thing) (tree : Tree) (parent : Node) (here : IsAt graph above parent) (placed : Placed) (content : Content)
+pub adds : (graph : Graph) (free moment identity : ℕ) (path above : Path) (name : Name) (split : path ≡ above ++ name ∷ []) (what : Thing) (tree : Tree) (parent : Node) (here : IsNodeAt graph above parent) (placed : Placed) (content : Content)
     → IsOpened here.found.stored placed content → (before change : Change) (entry : DirEntry) (d : NewDirectory) → code_of (addition path what) tree ≡ 0 → change.code ≡ code.Done → change.made ≡ made_by (addition path what) free → change.removed ≡ None
     → change_writings moment before ≡ record { address = free; stored = whole identity moment (new_body parent.address (content_of_thing what)) } ∷ [] → change.file ≡ before.file → change.directories.items ≡ before.directories.items ++ d ∷ []
     → d.address ≡ parent.address → d.unique ≡ parent.unique → d.moment ≡ moment → d.content.dir.parent ≡ content.dir.parent → d.content.dir.entries.entries ≡ content.dir.entries.entries ++ (name, entry) ∷ []

@@ -31,7 +31,7 @@ use Rattle.planning.specs.declared.change.NewDirectory.{NewDirectory}
 use Rattle.directories.specs.declared.content.Content.{Content}
 use Rattle.table.specs.declared.node.Node.{Node}
 use Rattle.directories.specs.declared.nodes.Placed.{Placed}
-use Rattle.directories.specs.Shows.{IsAt, IsOpened}
+use Rattle.directories.specs.Shows.{IsNodeAt, IsOpened}
 use Rattle.planning.specs.Moves.{IsWithin, IsBetween, Turns}
 use Rattle.planning.specs.Writings.{directory_writing, new_file, new_directories, change_writings}
 use Rattle.planning.specs.Changes.{addresses_in, gone_of, Does}
@@ -157,7 +157,7 @@ entries_gained new copy es more entry none same added = added (ap (λ (n : Name)
 
 -- ---- what directories say
 
-abbrev found_above : (graph : Graph) (path above : Path) (name : Name) (node : Node) → path ≡ above ++ name ∷ [] → IsAt graph above node → Found graph (parent_of path)
+abbrev found_above : (graph : Graph) (path above : Path) (name : Name) (node : Node) → path ≡ above ++ name ∷ [] → IsNodeAt graph above node → Found graph (parent_of path)
 found_above graph path above name node split at = record {
   address = at.found.address;
   stored = at.found.stored;
@@ -167,7 +167,7 @@ found_above graph path above name node split at = record {
 
 module _ (graph : Graph) (tree : Tree) (one : IsFunctional graph) (is : IsTree tree) (makes : MakesTree graph tree) where
   -- a name that leads nowhere is not listed
-  pub not_listed : (above : Path) (node : Node) (at : IsAt graph above node) (placed : Placed) (content : Content) → IsOpened at.found.stored placed content → (name : Name) → get tree (above ++ name ∷ []) ≡ None
+  pub not_listed : (above : Path) (node : Node) (at : IsNodeAt graph above node) (placed : Placed) (content : Content) → IsOpened at.found.stored placed content → (name : Name) → get tree (above ++ name ∷ []) ≡ None
       → lookup (pointwise nat_eq name) content.dir.entries.entries ≡ None
   not_listed above node at placed content shown name none = go (lookup (pointwise nat_eq name) content.dir.entries.entries) refl
     where
@@ -178,23 +178,23 @@ module _ (graph : Graph) (tree : Tree) (one : IsFunctional graph) (is : IsTree t
           absurd (not_none tree (above ++ name ∷ []) none (has_at graph tree one is makes (above ++ name ∷ []) (record { kind = entry.kind; address = entry.icb; unique = entry.unique }) next))
 
   -- one that leads somewhere is
-  pub is_listed : (above : Path) (node : Node) (at : IsAt graph above node) (placed : Placed) (content : Content) → IsOpened at.found.stored placed content → (name : Name) → Has tree (above ++ name ∷ [])
+  pub is_listed : (above : Path) (node : Node) (at : IsNodeAt graph above node) (placed : Placed) (content : Content) → IsOpened at.found.stored placed content → (name : Name) → Has tree (above ++ name ∷ [])
       → lookup (pointwise nat_eq name) content.dir.entries.entries ≡ None → ⊥
   is_listed above node at placed content shown name has none = not_none tree (above ++ name ∷ []) (step_none graph tree one is makes above node at placed content shown name none) has
 
   -- one address, one path
-  pub same_path : (p q : Path) (a b : Node) → IsAt graph p a → IsAt graph q b → a.address ≡ b.address → p ≡ q
+  pub same_path : (p q : Path) (a b : Node) → IsNodeAt graph p a → IsNodeAt graph q b → a.address ≡ b.address → p ≡ q
   same_path p q a b at bt same =
       makes.one_path p q at.found.address at.found.reach (subst (λ (v : ℕ). Reach graph q v) (sym bt.address ∙ (sym same ∙ at.address)) bt.found.reach)
 
-  pub same_address : (p q : Path) (a b : Node) → IsAt graph p a → IsAt graph q b → p ≡ q → a.address ≡ b.address
+  pub same_address : (p q : Path) (a b : Node) → IsNodeAt graph p a → IsNodeAt graph q b → p ≡ q → a.address ≡ b.address
   same_address p q a b at bt same =
       at.address ∙ (reach_one graph tree one is makes q at.found.address bt.found.address (subst (λ (r : Path). Reach graph r at.found.address) same at.found.reach) bt.found.reach ∙ sym bt.address)
 
 -- ---- what is written
 
 -- a directory with other entries
-rewritten : (graph : Graph) (path : Path) (node : Node) (at : IsAt graph path node) (placed : Placed) (content : Content) → IsOpened at.found.stored placed content → (change : List Entry → List Entry) (moment : ℕ) (d : NewDirectory)
+rewritten : (graph : Graph) (path : Path) (node : Node) (at : IsNodeAt graph path node) (placed : Placed) (content : Content) → IsOpened at.found.stored placed content → (change : List Entry → List Entry) (moment : ℕ) (d : NewDirectory)
     → d.address ≡ node.address → d.unique ≡ node.unique → d.moment ≡ moment → d.content.dir.parent ≡ content.dir.parent → said_entries d.content.dir.entries.entries ≡ change (said_entries content.dir.entries.entries)
     → directory_writing d ≡ record { address = at.found.address; stored = whole at.found.stored.identity moment (with_entries change at.found.stored.body) }
 rewritten graph path node at placed content shown change moment d address unique when parent_is entries_are =

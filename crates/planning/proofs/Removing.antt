@@ -29,7 +29,7 @@ use Rattle.planning.specs.declared.change.NewDirectory.{NewDirectory}
 use Rattle.directories.specs.declared.content.Content.{Content}
 use Rattle.table.specs.declared.node.Node.{Node}
 use Rattle.directories.specs.declared.nodes.Placed.{Placed}
-use Rattle.directories.specs.Shows.{IsAt, IsOpened}
+use Rattle.directories.specs.Shows.{IsNodeAt, IsOpened}
 use Rattle.planning.specs.Writings.{directory_writing, new_file, change_writings}
 use Rattle.table.specs.NextTable.{Takes}
 use Rattle.planning.specs.Changes.{addresses_in, gone_of, Does}
@@ -77,7 +77,7 @@ module _ (path above : Path) (name : Name) (split : path ≡ above ++ name ∷ [
       ∙ ap (λ (b : Bool). remove_code false b (nat_lt 0 (length (names_at tree path)))) (ap is_some none)
 
   -- the code by whether the node has names
-  pub remove_there : (graph : Graph) → IsFunctional graph → IsTree tree → MakesTree graph tree → (node : Node) (here : IsAt graph path node) (has : Bool) → has ≡ nat_lt 0 (length (entries_of here.found.stored)) → code_of (Remove path) tree ≡ (if has then 5 else 0)
+  pub remove_there : (graph : Graph) → IsFunctional graph → IsTree tree → MakesTree graph tree → (node : Node) (here : IsNodeAt graph path node) (has : Bool) → has ≡ nat_lt 0 (length (entries_of here.found.stored)) → code_of (Remove path) tree ≡ (if has then 5 else 0)
   remove_there graph one is makes node here has same =
       let count : length (names_at tree path) ≡ length (entries_of here.found.stored) = ap length (names_stored graph tree one is makes path node here) ∙ names_count here.found.stored.body in
       ap (λ (b : Bool). remove_code b (contains_key tree path) (nat_lt 0 (length (names_at tree path)))) (not_empty path above name split)
@@ -116,7 +116,7 @@ left name (e ∷ es) d = go (left name es d.1) (pointwise nat_eq name e.0) refl
         ∙ sym (ap (λ (b : Bool). cond b (said_entry e ∷ rest) rest) (other_apart name e.0 (λ same. not_same name e.0 apart (sym same))))
 
 -- the directory above without the entry
-unlisted : (path above : Path) (name : Name) (split : path ≡ above ++ name ∷ []) (graph : Graph) (parent : Node) (up : IsAt graph above parent) (placed : Placed) (content : Content) → IsOpened up.found.stored placed content → IsDistinct (pointwise nat_eq) (keys_of content.dir.entries.entries)
+unlisted : (path above : Path) (name : Name) (split : path ≡ above ++ name ∷ []) (graph : Graph) (parent : Node) (up : IsNodeAt graph above parent) (placed : Placed) (content : Content) → IsOpened up.found.stored placed content → IsDistinct (pointwise nat_eq) (keys_of content.dir.entries.entries)
     → (moment : ℕ) (d : NewDirectory) → d.address ≡ parent.address → d.unique ≡ parent.unique → d.moment ≡ moment → d.content.dir.parent ≡ content.dir.parent → d.content.dir.entries.entries ≡ remove_entry (pointwise nat_eq name) content.dir.entries.entries
     → directory_writing d ≡ record { address = up.found.address; stored = whole up.found.stored.identity moment (with_entries (without path) up.found.stored.body) }
 unlisted path above name split graph parent up placed content shown distinct moment d address unique when parent_is entries_are =
@@ -133,8 +133,8 @@ kind_back kinds.File = refl
 
 -- the node is taken away
 pub removes : (graph : Graph) (one : IsFunctional graph) (free moment identity : ℕ) (path above : Path) (name : Name) (split : path ≡ above ++ name ∷ []) (tree : Tree) (is : IsTree tree) (makes : MakesTree graph tree)
-    (parent : Node) (up : IsAt graph above parent) (placed : Placed) (content : Content)
-    → IsOpened up.found.stored placed content → IsDistinct (pointwise nat_eq) (keys_of content.dir.entries.entries) → (node : Node) (here : IsAt graph path node) (change : Change) (d : NewDirectory) → code_of (Remove path) tree ≡ 0
+    (parent : Node) (up : IsNodeAt graph above parent) (placed : Placed) (content : Content)
+    → IsOpened up.found.stored placed content → IsDistinct (pointwise nat_eq) (keys_of content.dir.entries.entries) → (node : Node) (here : IsNodeAt graph path node) (change : Change) (d : NewDirectory) → code_of (Remove path) tree ≡ 0
     → change.code ≡ code.Done → change.made ≡ None → change.removed ≡ Some node → change.file ≡ None → change.directories.items ≡ d ∷ []
     → d.address ≡ parent.address → d.unique ≡ parent.unique → d.moment ≡ moment → d.content.dir.parent ≡ content.dir.parent → d.content.dir.entries.entries ≡ remove_entry (pointwise nat_eq name) content.dir.entries.entries
     → Does graph free tree (Remove path) moment identity change

@@ -18,7 +18,7 @@ use Rattle.udf.proofs.Formats.{exact}
 use Rattle.planning.specs.declared.change.Change.{Change}
 use Rattle.planning.specs.declared.change.NewFile.{NewFile}
 use Rattle.table.specs.declared.node.Node.{Node}
-use Rattle.directories.specs.Shows.{graph_below, IsAt}
+use Rattle.directories.specs.Shows.{graph_below, IsNodeAt}
 use Rattle.planning.specs.Writings.{file_writing, directory_writing, new_file, change_writings}
 use Rattle.planning.specs.Changes.{addresses_in, gone_of, IsRefusal, Does}
 use Rattle.directories.proofs.Walks.{node_at, directory_stored}
@@ -69,23 +69,23 @@ replace_missing path bytes tree some none =
     ∙ ap (λ (b : Bool). replace_code false b (is_directory_at tree path)) (ap is_some none)
 
 module _ (at : ℕ) (entries : List (Option ℕ)) (J : List Event) (tree : Tree) (is : IsTree tree) (makes : MakesTree (graph_below at entries J) tree) where
-  there_at : (path : Path) (node : Node) → IsAt (graph_below at entries J) path node → contains_key tree path ≡ true
+  there_at : (path : Path) (node : Node) → IsNodeAt (graph_below at entries J) path node → contains_key tree path ≡ true
   there_at path node here = ap is_some (node_at (graph_below at entries J) tree (stored_one udf exact (take at (held J)) entries) is makes path node here)
 
-  directory_there : (path : Path) (node : Node) → IsAt (graph_below at entries J) path node → is_directory_at tree path ≡ names_directory node.kind
+  directory_there : (path : Path) (node : Node) → IsNodeAt (graph_below at entries J) path node → is_directory_at tree path ≡ names_directory node.kind
   directory_there path node here = directory_stored (graph_below at entries J) tree (stored_one udf exact (take at (held J)) entries) is makes path node here
 
-  replace_there : (path : Path) (node : Node) (b : Bool) → (length path == 0) ≡ false → IsAt (graph_below at entries J) path node → names_directory node.kind ≡ b → (bytes : List ℕ) → code_of (Replace path bytes) tree ≡ (if b then 4 else 0)
+  replace_there : (path : Path) (node : Node) (b : Bool) → (length path == 0) ≡ false → IsNodeAt (graph_below at entries J) path node → names_directory node.kind ≡ b → (bytes : List ℕ) → code_of (Replace path bytes) tree ≡ (if b then 4 else 0)
   replace_there path node b some here kind bytes =
       ap (λ (e : Bool). replace_code e (contains_key tree path) (is_directory_at tree path)) some
       ∙ (ap (λ (e : Bool). replace_code false e (is_directory_at tree path)) (there_at path node here)
       ∙ ap (λ (e : Bool). replace_code false true e) (directory_there path node here ∙ kind))
 
-  pub replace_directory : (path : Path) (node : Node) → (length path == 0) ≡ false → IsAt (graph_below at entries J) path node → names_directory node.kind ≡ true → (bytes : List ℕ) → code_of (Replace path bytes) tree ≡ 4
+  pub replace_directory : (path : Path) (node : Node) → (length path == 0) ≡ false → IsNodeAt (graph_below at entries J) path node → names_directory node.kind ≡ true → (bytes : List ℕ) → code_of (Replace path bytes) tree ≡ 4
   replace_directory path node some here kind bytes = replace_there path node true some here kind bytes
 
   -- the file is written anew
-  pub replaces : (free moment identity : ℕ) (path : Path) (node : Node) (file : NewFile) (done change : Change) → (length path == 0) ≡ false → IsAt (graph_below at entries J) path node → names_directory node.kind ≡ false
+  pub replaces : (free moment identity : ℕ) (path : Path) (node : Node) (file : NewFile) (done change : Change) → (length path == 0) ≡ false → IsNodeAt (graph_below at entries J) path node → names_directory node.kind ≡ false
       → IsRefusal code.Done done → change.code ≡ done.code → change.file ≡ Some file → change.directories ≡ done.directories → change.made ≡ done.made → change.removed ≡ done.removed → file.address ≡ node.address → file.unique ≡ node.unique
       → Does (graph_below at entries J) free tree (Replace path file.bytes.now) moment identity change
   replaces free moment identity path node file done change some here kind r code_is file_is dirs made removed address unique =

@@ -2,7 +2,7 @@
 use Rattle.std.specs.Prelude.{ℕ, ◌+◌, ◌*◌, ◌-◌, ◌<◌, ◌≤◌, List}
 use Rattle.limits.specs.declared.TheConstants.{LEAST_CAPACITY, GREATEST_CAPACITY, FORMAT_BLOCKS, FIRST_UNIQUE}
 use Rattle.drive.specs.Journal.{Event, next_of}
-use Rattle.vat.specs.Table.{Fits, view}
+use Rattle.vat.specs.Table.{FitsTable, view}
 use Rattle.vat.specs.declared.table.Vat.{Vat}
 use Rattle.table.specs.Below.{AreBelow}
 use Rattle.planning.specs.declared.plan.LastTable.{LastTable}
@@ -10,7 +10,7 @@ use Rattle.planning.specs.declared.plan.LastTable.{LastTable}
 -- a table whose entry stands at this address
 pub record Keeps (at : ℕ) (vat : Vat) : Type 0 where
   pub low : FORMAT_BLOCKS - 1 ≤ at
-  pub fits : Fits (view vat)
+  pub fits : FitsTable (view vat)
   pub entries : AreBelow at vat.entries.items
   pub few_commits : 2 * vat.sessions.commits + (FORMAT_BLOCKS - 1) ≤ at
   pub few_unique : vat.sessions.next_unique ≤ FIRST_UNIQUE + vat.sessions.commits

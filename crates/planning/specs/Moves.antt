@@ -9,7 +9,7 @@ use Rattle.model.specs.Operation.Operation.{Rename}
 use Rattle.medium.specs.Plan.{Writing, turned}
 use Rattle.udf.specs.Said.{names_directory}
 use Rattle.table.specs.declared.node.Node.{Node}
-use Rattle.directories.specs.Shows.{IsAt}
+use Rattle.directories.specs.Shows.{IsNodeAt}
 
 -- another name in one directory, which does not have it
 pub record IsWithin (graph : Graph) (tree : Tree) (from to : Path) (parent : Node) (old new : Name) : Type 0 where
@@ -18,7 +18,7 @@ pub record IsWithin (graph : Graph) (tree : Tree) (from to : Path) (parent : Nod
   pub to_is : to ≡ above ++ new ∷ []
   pub here : Has tree from
   pub new_there : get tree to ≡ None
-  pub parent_at : IsAt graph above parent
+  pub parent_at : IsNodeAt graph above parent
   pub directory : names_directory parent.kind ≡ true
   pub code_is : code_of (Rename from to) tree ≡ 0
 
@@ -29,11 +29,11 @@ pub record IsBetween (graph : Graph) (tree : Tree) (from to : Path) (node loses 
   pub from_is : from ≡ above ++ old ∷ []
   pub to_is : to ≡ beyond ++ new ∷ []
   pub elsewhere : above ≡ beyond → ⊥
-  pub node_at : IsAt graph from node
+  pub node_at : IsNodeAt graph from node
   pub new_there : get tree to ≡ None
-  pub loses_at : IsAt graph above loses
+  pub loses_at : IsNodeAt graph above loses
   pub loses_directory : names_directory loses.kind ≡ true
-  pub gains_at : IsAt graph beyond gains
+  pub gains_at : IsNodeAt graph beyond gains
   pub gains_directory : names_directory gains.kind ≡ true
   pub code_is : code_of (Rename from to) tree ≡ (if nat_le DIRECTORY_NAMES (length (names_at tree beyond)) then 9 else 0)
 

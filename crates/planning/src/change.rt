@@ -20,7 +20,7 @@ ghost use Rattle.directories.specs.Asked.{said_operation};
 ghost use Rattle.table.specs.NextTable.{made_by};
 ghost use Rattle.planning.specs.Changes.{Does, IsRefusal, addition, code_by_names, content_of_thing};
 ghost use Rattle.planning.specs.Moves.{IsBetween, IsWithin, Turns};
-ghost use Rattle.directories.specs.Shows.{IsAt, Shows, graph_below};
+ghost use Rattle.directories.specs.Shows.{IsNodeAt, Shows, graph_below};
 ghost use Rattle.planning.specs.Writings.{change_writings, new_directories};
 ghost use Rattle.request.specs.Numbers.{code_number};
 ghost use Rattle.udf.specs.Said.{names_directory};
@@ -356,8 +356,8 @@ impl Before<'_> {
     ) -> Result<bool, StoreFault>
         requires below { AreBelow self.now.nodes.at self.now.nodes.entries.now }
         requires within { self.now.nodes.at ≤ next_of (D.journal drive.old) }
-        ensures deep { (tree : Tree) (from to : Path) → Shows (D.honest drive.new) (D.journal drive.old) directories.old self.now.nodes.at self.now.nodes.entries.now tree → IsAt (graph_below self.now.nodes.at self.now.nodes.entries.now (D.journal drive.old)) from node → length from ≡ names_before → length to ≡ names_behind → IfOk result (λ deep. deep ≡ moves_too_deep from to tree) }
-        ensures short { (tree : Tree) (from : Path) → Shows (D.honest drive.new) (D.journal drive.old) directories.old self.now.nodes.at self.now.nodes.entries.now tree → IsAt (graph_below self.now.nodes.at self.now.nodes.entries.now (D.journal drive.old)) from node → IfErr result IsShortage }
+        ensures deep { (tree : Tree) (from to : Path) → Shows (D.honest drive.new) (D.journal drive.old) directories.old self.now.nodes.at self.now.nodes.entries.now tree → IsNodeAt (graph_below self.now.nodes.at self.now.nodes.entries.now (D.journal drive.old)) from node → length from ≡ names_before → length to ≡ names_behind → IfOk result (λ deep. deep ≡ moves_too_deep from to tree) }
+        ensures short { (tree : Tree) (from : Path) → Shows (D.honest drive.new) (D.journal drive.old) directories.old self.now.nodes.at self.now.nodes.entries.now tree → IsNodeAt (graph_below self.now.nodes.at self.now.nodes.entries.now (D.journal drive.old)) from node → IfErr result IsShortage }
         ensures kept { IsTrue (D.honest drive.new) → AreKept (D.journal drive.old) directories.old → AreKept (D.journal drive.old) directories.new }
         ensures reads { Reads D.Drive (devices result) drive.old drive.new }
     {

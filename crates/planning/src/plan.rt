@@ -15,7 +15,7 @@ ghost use Rattle.medium.specs.Formats.Place.{Extent};
 ghost use Rattle.medium.specs.Plan.{WritesNodes, Written};
 ghost use Rattle.recover.specs.declared.fault.StoreFault.TheVariants.{Full, Memory};
 ghost use Rattle.udf.specs.Udf.{udf};
-ghost use Rattle.vat.specs.Table.{Fits, view};
+ghost use Rattle.vat.specs.Table.{FitsTable, view};
 ghost use Rattle.recover.specs.Faults.{IsShortage, devices};
 ghost use Rattle.request.specs.Numbers.{code_number};
 ghost use Rattle.planning.specs.Last.{IsLast, Keeps};
@@ -251,7 +251,7 @@ impl LastTable<'_> {
         requires keeps { Keeps self.now.at self.now.vat.now }
         requires next { IsNext request.now.client request.now.number self.now.vat.now.sessions.records.items }
         ensures table { IfOk result (λ vat. view vat ≡ begun self.now.at request.now.client request.now.number (code_number change.now.code) change.now.made (view self.now.vat.now)) }
-        ensures fits { IfOk result (λ vat. Fits (view vat)) }
+        ensures fits { IfOk result (λ vat. FitsTable (view vat)) }
         ensures below { IfOk result (λ vat. AreBelow self.now.at vat.entries.items) }
         ensures previous { IfOk result (λ vat. vat.previous ≡ Some (self.now.at - 257)) }
         ensures commits { IfOk result (λ vat. vat.sessions.commits ≡ self.now.vat.now.sessions.commits + 1) }
@@ -280,7 +280,7 @@ impl LastTable<'_> {
 
 /// The most blocks that a commit may take, from sizes alone.
 fn need(change: &Change<'_>, vat: &Vat) -> u64
-    requires { Fits (view vat.now) }
+    requires { FitsTable (view vat.now) }
     ensures value { result ≡ min (needs.change_need change.now (view vat.now)) (2 ^ 64 - 1) }
     ensures proper { All (λ d. IsProper d.content.dir) change.now.directories.items }
 {
@@ -290,7 +290,7 @@ fn need(change: &Change<'_>, vat: &Vat) -> u64
 
 /// The most blocks for a table.
 fn table_need(vat: &Vat) -> u64
-    requires { Fits (view vat.now) }
+    requires { FitsTable (view vat.now) }
     ensures value { result ≡ needs.table_need (view vat.now) }
     ensures few { result ≤ 1_000 }
 {
@@ -359,9 +359,9 @@ fn enter_file<'r>(
     moment: Timestamp,
     at: u32,
 ) -> Result<Option<PlacedFile<'r>>, StoreFault>
-    requires fits { Fits (view vat.old) }
+    requires fits { FitsTable (view vat.old) }
     requires room { numbers.old.next + needs.file_need file ≤ numbers.old.end }
-    ensures fits { OnOk result (Fits (view vat.new)) }
+    ensures fits { OnOk result (FitsTable (view vat.new)) }
     ensures below { OnOk result (AreBelow (numbers.old.next + 257) vat.old.entries.items → AreBelow (numbers.new.next + 257) vat.new.entries.items) }
     ensures previous { OnOk result (vat.new.previous ≡ vat.old.previous) }
     ensures commits { OnOk result (vat.new.sessions.commits ≡ vat.old.sessions.commits) }
@@ -397,10 +397,10 @@ fn enter_directories(
     directories: Vec<NewDirectory>,
     at: u32,
 ) -> Result<Vec<PlacedDirectory>, StoreFault>
-    requires fits { Fits (view vat.old) }
+    requires fits { FitsTable (view vat.old) }
     requires proper { All (λ d. IsProper d.content.dir) directories.items }
     requires room { numbers.old.next + needs.directories_need directories.items ≤ numbers.old.end }
-    ensures fits { OnOk result (Fits (view vat.new)) }
+    ensures fits { OnOk result (FitsTable (view vat.new)) }
     ensures below { OnOk result (AreBelow (numbers.old.next + 257) vat.old.entries.items → AreBelow (numbers.new.next + 257) vat.new.entries.items) }
     ensures previous { OnOk result (vat.new.previous ≡ vat.old.previous) }
     ensures commits { OnOk result (vat.new.sessions.commits ≡ vat.old.sessions.commits) }
@@ -431,9 +431,9 @@ fn enter_directories(
 
 /// Takes a node away, if one goes. The table of the state before stands at `at`.
 fn take_away(vat: &mut Vat, removed: Option<Node>, at: u32) -> Result<(), StoreFault>
-    requires fits { Fits (view vat.old) }
+    requires fits { FitsTable (view vat.old) }
     ensures table { OnOk result (view vat.new ≡ without_gone removed (view vat.old)) }
-    ensures fits { OnOk result (Fits (view vat.new)) }
+    ensures fits { OnOk result (FitsTable (view vat.new)) }
     ensures below { OnOk result ((at : ℕ) → AreBelow at vat.old.entries.items → AreBelow at vat.new.entries.items) }
     ensures previous { OnOk result (vat.new.previous ≡ vat.old.previous) }
     ensures commits { OnOk result (vat.new.sessions.commits ≡ vat.old.sessions.commits) }
@@ -459,7 +459,7 @@ fn place_table(
     numbers: &mut Numbers,
     moment: Timestamp,
 ) -> Result<PlacedTable, StoreFault>
-    requires fits { Fits (view vat) }
+    requires fits { FitsTable (view vat) }
     requires below { AreBelow (numbers.old.next + 257) vat.entries.items }
     requires previous { IfSome vat.previous (λ previous. previous < numbers.old.next) }
     requires room { numbers.old.next + needs.table_need (view vat) ≤ numbers.old.end }

@@ -16,7 +16,7 @@ use Rattle.formatting.proofs.NewVolumes.{format_long}
 use Rattle.store.specs.declared.store.Store.{Store}
 use Rattle.engine.specs.Situation.{Situation, situation}
 use Rattle.engine.specs.Delivered.{with_store}
-use Rattle.engine.specs.Steps.{IsAt}
+use Rattle.engine.specs.Steps.{HoldsState}
 use Rattle.engine.specs.Headline.{said_answers}
 use Rattle.engine.specs.Served.{ServedHolds, ServesAll, ServesSome, brought}
 use Rattle.engine.proofs.Running.{runs_begin}
@@ -46,7 +46,7 @@ applied_to_image outcome d behind i l o w begins size h = inr (begins_on 450000 
 -- ---- a new volume on a drive that was blank and is honest
 
 module _ (capacity : ℕ) (label : List ℕ) (J : List Event) (made : IsFormatted capacity (words_on capacity label 0) [] J true) where
-  new_is_at : (failures : ℕ) (writes : List (List (List ℕ))) → IsAt (min capacity 450000) (formatted 0) (situation None J failures capacity true writes)
+  new_is_at : (failures : ℕ) (writes : List (List (List ℕ))) → HoldsState (min capacity 450000) (formatted 0) (situation None J failures capacity true writes)
   new_is_at failures writes = (runs_begin (min capacity 450000) (formatted 0) J failures capacity true writes once (made.stands refl)).0
     where
       once : Once J

@@ -30,7 +30,7 @@ use Rattle.engine.specs.Situation.{Situation}
 use Rattle.programs.specs.declared.fault.Fault.{Fault}
 use Rattle.programs.specs.declared.fault.Fault.TheVariants as faults
 use Rattle.programs.specs.Lines.{Puts, names_text, commits_text, sound_text}
-use Rattle.programs.specs.Questions.{Question, Says, Refuses, IsSaid, IsRefused, Shows, ShowsImage, ShowsPath}
+use Rattle.programs.specs.Questions.{Question, Says, Refuses, IsQuestionAnswered, IsRefused, Shows, ShowsImage, ShowsPath}
 use Rattle.programs.specs.Questions.Question.{Names_at, Bytes_at, Commits, Soundness}
 use Rattle.programs.specs.Status.{IsPathTold}
 use Rattle.programs.proofs.Opening.{begins_on, keeps_self}
@@ -38,7 +38,7 @@ use Rattle.programs.proofs.Opening.{begins_on, keeps_self}
 -- ---- by the outcome
 
 pub shows_put : {T : Type 0} (question : Question) (outcome : Result T Fault) (capacity : ℕ) (J : List Event) (honest : Bool) (o w : Option (List ℕ)) (bytes : List ℕ) → Puts outcome o w bytes
-    → (IsTrue honest → Once J → IsSaid question capacity J bytes) → Shows question outcome capacity J honest o w
+    → (IsTrue honest → Once J → IsQuestionAnswered question capacity J bytes) → Shows question outcome capacity J honest o w
 shows_put question (Ok x) capacity J honest o w bytes puts said = record { bytes = bytes; printed = puts; said = said }
 shows_put question (Err faults.Usage) capacity J honest o w bytes puts said = puts
 shows_put question (Err faults.Path) capacity J honest o w bytes puts said = puts
@@ -58,7 +58,7 @@ module _ (capacity : ℕ) (J : List Event) (store : Store) where
   abbrev Standing : Type 0
   Standing = (S : State) × Knows capacity store.capacity J S store
 
-  said_of : (question : Question) (bytes : List ℕ) (known : Standing) → Says question capacity store.capacity (held J) known.0 known.1.stands.at bytes → IsSaid question capacity J bytes
+  said_of : (question : Question) (bytes : List ℕ) (known : Standing) → Says question capacity store.capacity (held J) known.0 known.1.stands.at bytes → IsQuestionAnswered question capacity J bytes
   said_of question bytes known says = record { volume = store.capacity; state = known.0; stands = known.1.stands; says = says }
 
   refused_of : (question : Question) (fault : StoreFault) (known : Standing) → Refuses question capacity store.capacity (held J) known.0 known.1.stands.at fault → IsRefused question capacity J fault
@@ -74,7 +74,7 @@ module _ (capacity : ℕ) (J : List Event) (store : Store) where
         subst (λ (j : List Event). TreeShows later j store.directories store.at store.vat.entries.items known.0.tree) (sym journal) (shows capacity store.capacity J known.0 store known.1 later honest)
 
     pub names_said : (path : Path) (names : List Listed) (bytes : List ℕ) → ((tree : Tree) → TreeShows later K store.directories store.at store.vat.entries.items tree → told tree (List_ path) ≡ Names (said_names names))
-        → bytes ≡ names_text (said_names names) → IsTrue later → Once J → IsSaid (Names_at path) capacity J bytes
+        → bytes ≡ names_text (said_names names) → IsTrue later → Once J → IsQuestionAnswered (Names_at path) capacity J bytes
     names_said path names bytes is text honest once = let known = known_at honest once in
         said_of (Names_at path) bytes known (said_names names, is known.0.tree (shown_at honest once), text)
 
@@ -88,7 +88,7 @@ module _ (capacity : ℕ) (J : List Event) (store : Store) where
     names_short path honest once = inr (refused_of (Names_at path) Memory (known_at honest once) (inl (inr refl)))
 
     pub bytes_said : (path : Path) (data_ bytes : List ℕ) → ((tree : Tree) → TreeShows later K store.directories store.at store.vat.entries.items tree → told tree (Get path) ≡ Data data_)
-        → bytes ≡ data_ → IsTrue later → Once J → IsSaid (Bytes_at path) capacity J bytes
+        → bytes ≡ data_ → IsTrue later → Once J → IsQuestionAnswered (Bytes_at path) capacity J bytes
     bytes_said path data_ bytes is same honest once = let known = known_at honest once in
         said_of (Bytes_at path) bytes known (is known.0.tree (shown_at honest once) ∙ ap (λ (x : List ℕ). Data x) (sym same))
 
@@ -108,7 +108,7 @@ module _ (capacity : ℕ) (J : List Event) (store : Store) where
 
     pub commits_said : (size : ℕ) (commits : List Commit) (bytes : List ℕ) → size ≡ capacity → (IsTrue later → IsHistory (held K) store.at commits)
         → ((volume : ℕ) (T : State) → IsTrue later → Knows size volume K T store → length commits ≡ T.commits + 1)
-        → bytes ≡ commits_text commits → IsTrue later → Once J → IsSaid Commits capacity J bytes
+        → bytes ≡ commits_text commits → IsTrue later → Once J → IsQuestionAnswered Commits capacity J bytes
     commits_said size commits bytes same history all text honest once = let known = known_at honest once in
         said_of Commits bytes known (
           commits,
@@ -128,7 +128,7 @@ module _ (capacity : ℕ) (J : List Event) (store : Store) where
 
     pub sound_said : (size n : ℕ) (bytes : List ℕ) → size ≡ capacity
         → ((volume : ℕ) (T : State) → IsTrue later → Knows size volume K T store → (n ≡ T.commits) × AllStood size volume (held K) n)
-        → bytes ≡ sound_text n → IsTrue later → Once J → IsSaid Soundness capacity J bytes
+        → bytes ≡ sound_text n → IsTrue later → Once J → IsQuestionAnswered Soundness capacity J bytes
     sound_said size n bytes same whole text honest once =
         let known = known_at honest once in
         let all = whole store.capacity known.0 honest (knows_here size same honest once) in

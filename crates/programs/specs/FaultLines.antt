@@ -76,5 +76,5 @@ Reports name (Ok x) errors told = told ≡ errors
 Reports name (Err fault) errors told = PutsFront errors told (fault_line name fault)
 
 -- A program with this name ended with this status, which is that of an outcome, and said of it what there is to say.
-abbrev pub Tells : List ℕ → ℕ → Option (List ℕ) → Option (List ℕ) → Type 0
-Tells name status errors told = (outcome : Result (Unit {0}) Fault) × (status ≡ status_of outcome) × Reports name outcome errors told
+abbrev pub TellsOutcome : List ℕ → ℕ → Option (List ℕ) → Option (List ℕ) → Type 0
+TellsOutcome name status errors told = (outcome : Result (Unit {0}) Fault) × (status ≡ status_of outcome) × Reports name outcome errors told

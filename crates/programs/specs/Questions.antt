@@ -46,7 +46,7 @@ Refuses Commits capacity volume medium S at fault = IsHistoryRefused medium at f
 Refuses Soundness capacity volume medium S at fault = IsCheckRefused capacity volume medium S.commits fault
 
 -- a state stands, and the bytes say it
-pub record IsSaid (question : Question) (capacity : ℕ) (journal : List Event) (bytes : List ℕ) : Type 0 where
+pub record IsQuestionAnswered (question : Question) (capacity : ℕ) (journal : List Event) (bytes : List ℕ) : Type 0 where
   pub volume : ℕ
   pub state : State
   pub stands : Stands udf capacity volume (held journal) state
@@ -63,12 +63,12 @@ pub record IsRefused (question : Question) (capacity : ℕ) (journal : List Even
 pub record Prints (question : Question) (capacity : ℕ) (journal : List Event) (honest : Bool) (output written : Option (List ℕ)) : Type 0 where
   pub bytes : List ℕ
   pub printed : Appends output written bytes
-  pub said : IsTrue honest → Once journal → IsSaid question capacity journal bytes
+  pub said : IsTrue honest → Once journal → IsQuestionAnswered question capacity journal bytes
 
 pub record PrintsFront (question : Question) (capacity : ℕ) (journal : List Event) (honest : Bool) (output written : Option (List ℕ)) : Type 0 where
   pub bytes : List ℕ
   pub front : PutsFront output written bytes
-  pub said : IsTrue honest → Once journal → IsSaid question capacity journal bytes
+  pub said : IsTrue honest → Once journal → IsQuestionAnswered question capacity journal bytes
 
 -- Nothing was printed. On an honest drive none stands, or the one that does gives no answer, or the drive failed or memory was short.
 pub record PrintsNothing (question : Question) (capacity : ℕ) (journal : List Event) (honest : Bool) (fault : StoreFault) (output written : Option (List ℕ)) : Type 0 where

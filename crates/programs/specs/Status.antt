@@ -24,9 +24,9 @@ abbrev pub IsRefusal : Fault → Type 0
 IsRefusal fault = fault_status fault ≡ 1
 
 -- how a fault of the words is told: other words as such, want of memory as a refusal
-abbrev pub IsTold : WordsFault → Fault → Type 0
-IsTold words.Usage fault = fault ≡ Usage
-IsTold words.Memory fault = IsRefusal fault
+abbrev pub AreWordsTold : WordsFault → Fault → Type 0
+AreWordsTold words.Usage fault = fault ≡ Usage
+AreWordsTold words.Memory fault = IsRefusal fault
 
 -- how a fault of a path is told
 abbrev pub IsPathTold : PathFault → Fault → Type 0

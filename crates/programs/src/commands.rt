@@ -3,7 +3,7 @@
 ghost use Rattle.std.specs.Prelude.{◌≡◌, ◌≤◌, ◌↔◌, map, codes, IfErr};
 ghost use Rattle.words.specs.Commands.{Asks};
 ghost use Rattle.programs.specs.Asked.{IsInRange};
-ghost use Rattle.programs.specs.FaultLines.{Tells};
+ghost use Rattle.programs.specs.FaultLines.{TellsOutcome};
 ghost use Rattle.programs.specs.Status.{IsRefusal};
 ghost use Rattle.programs.specs.Tasks.{Does, Ends, task_of};
 
@@ -37,7 +37,7 @@ where
     ensures status { result ≤ 2 }
     ensures asks { result ≤ 1 → (asked : _) × Asks (map (λ w. w.now) words.now) asked }
     // Why it was refused is all that is said.
-    ensures tells { Tells (codes "udfburn") result (E.contents errors.old) (E.contents errors.new) }
+    ensures tells { TellsOutcome (codes "udfburn") result (E.contents errors.old) (E.contents errors.new) }
     // Of other words nothing is read, and nothing is written.
     ensures unread { result ≡ 2 → I.remaining input.new ≡ I.remaining input.old }
     ensures unwritten { result ≡ 2 → O.contents output.new ≡ O.contents output.old }

@@ -6,7 +6,7 @@ ghost use Rattle.engine.specs.Situation.{IsReady, seen_on, situation_on};
 ghost use Rattle.engine.specs.Served.{ServesAll};
 ghost use Rattle.words.specs.Daemon.{AsksDaemon};
 ghost use Rattle.programs.specs.Connections.{GoesOn, AreOneRun, ServesFront};
-ghost use Rattle.programs.specs.FaultLines.{Tells};
+ghost use Rattle.programs.specs.FaultLines.{TellsOutcome};
 ghost use Rattle.programs.specs.Images.{OnImage};
 ghost use Rattle.programs.specs.Status.{IsRefusal};
 
@@ -49,7 +49,7 @@ where
     ensures usage { result ≡ 2 → (asked : _) → AsksDaemon (map (λ w. w.now) words.now) asked → ⊥ }
     ensures refused { ((asked : _) → AsksDaemon (map (λ w. w.now) words.now) asked → ⊥) → 1 ≤ result }
     // Where it was refused, it said why, and nothing else.
-    ensures tells { 1 ≤ result → Tells (codes "udfburnd") result (E.contents errors.old) (E.contents errors.new) }
+    ensures tells { 1 ≤ result → TellsOutcome (codes "udfburnd") result (E.contents errors.old) (E.contents errors.new) }
 {
     let outcome = match read_daemon(rt.alloc(), words) {
         Ok(asked) => serve_all(rt, &asked, errors),

@@ -6,7 +6,7 @@ ghost use Rattle.engine.specs.Streams.{PutsFront};
 ghost use Rattle.recover.specs.declared.fault.StoreFault.TheVariants.{Memory};
 ghost use Rattle.programs.specs.FaultLines.{Reports, damage_text, fault_line, place_text};
 ghost use Rattle.programs.specs.FaultLines as said;
-ghost use Rattle.programs.specs.Status.{status_of, IsTold, IsPathTold};
+ghost use Rattle.programs.specs.Status.{status_of, AreWordsTold, IsPathTold};
 ghost use Rattle.programs.specs.declared.fault.Fault.TheVariants.{Store, Stream};
 
 use engine::{ServeFault, put_all};
@@ -128,7 +128,7 @@ impl From<ServeFault> for Fault {
 }
 
 impl From<WordsFault> for Fault {
-    ghost from_gives = { IsTold };
+    ghost from_gives = { AreWordsTold };
 
     fn from(fault: WordsFault) -> Fault {
         match fault {

@@ -3,7 +3,7 @@
 ghost use Rattle.std.specs.Prelude.{◌≡◌, ◌≤◌, map, codes, IfErr, IfOk, IfSome, IsSomeAnd};
 ghost use Rattle.words.specs.Commands.{Asks};
 ghost use Rattle.programs.specs.Connections.{AreOneRun};
-ghost use Rattle.programs.specs.FaultLines.{Tells};
+ghost use Rattle.programs.specs.FaultLines.{TellsOutcome};
 ghost use Rattle.programs.specs.Images.{OnImage};
 ghost use Rattle.programs.specs.Tasks.{Ends, HasFront, IsBegun, IsDone, task_of};
 
@@ -32,7 +32,7 @@ where
     I: Read,
     O: Write + Drop,
     E: Write,
-    ensures tells { Tells (codes "udfburn") result.0 (E.contents errors.old) (E.contents errors.new) }
+    ensures tells { TellsOutcome (codes "udfburn") result.0 (E.contents errors.old) (E.contents errors.new) }
     // At status 0 there are words of a command, and all is written that was done of what they ask for.
     ensures done { result.0 ≡ 0 → IsSomeAnd result.1 (λ written. IsDone (I.remaining input.old) (I.remaining input.new) (O.contents output) (O.contents written) (E.contents errors.old) (E.contents errors.new)) }
     // At status 1 there are such words too where the output was not let go, and a front is written.
@@ -54,7 +54,7 @@ where
     // Where it ends by itself, all connections were one run.
     ensures run { result ≡ 0 → OnImage 450_000 AreOneRun }
     // Where it was refused, it said why, and nothing else.
-    ensures tells { 1 ≤ result → Tells (codes "udfburnd") result (E.contents errors.old) (E.contents errors.new) }
+    ensures tells { 1 ≤ result → TellsOutcome (codes "udfburnd") result (E.contents errors.old) (E.contents errors.new) }
 {
     match try_daemon(rt, errors) {
         Ok(status) => status,
@@ -74,7 +74,7 @@ where
     O: Write + Drop,
     E: Write,
     ensures unsaid { IfErr result (λ _. E.contents errors.new ≡ E.contents errors.old) }
-    ensures tells { IfOk result (λ ended. Tells (codes "udfburn") ended.0 (E.contents errors.old) (E.contents errors.new)) }
+    ensures tells { IfOk result (λ ended. TellsOutcome (codes "udfburn") ended.0 (E.contents errors.old) (E.contents errors.new)) }
     ensures done { IfOk result (λ ended. ended.0 ≡ 0 → IsSomeAnd ended.1 (λ written. IsDone (I.remaining input.old) (I.remaining input.new) (O.contents output) (O.contents written) (E.contents errors.old) (E.contents errors.new))) }
     ensures begun { IfOk result (λ ended. ended.0 ≤ 1 → IfSome ended.1 (λ written. IsBegun (I.remaining input.old) (I.remaining input.new) (O.contents output) (O.contents written))) }
 {
@@ -98,7 +98,7 @@ where
     I: Read,
     O: Write + Drop,
     E: Write,
-    ensures tells { Tells (codes "udfburn") result.0 (E.contents errors.old) (E.contents errors.new) }
+    ensures tells { TellsOutcome (codes "udfburn") result.0 (E.contents errors.old) (E.contents errors.new) }
     ensures asks { result.0 ≤ 1 → IfSome result.1 (λ _. (asked : _) × Asks (map (λ w. w.now) words.now) asked) }
     ensures kept { result.0 ≡ 0 → IsSomeAnd result.1 (λ _. (asked : _) × Asks (map (λ w. w.now) words.now) asked) }
     // At status 0 all is written that was done, and else a front of it.
@@ -132,7 +132,7 @@ where
     ensures unsaid { IfErr result (λ _. E.contents errors.new ≡ E.contents errors.old) }
     ensures status { IfOk result (λ status. status ≤ 2) }
     ensures run { IfOk result (λ status. status ≡ 0 → OnImage 450_000 AreOneRun) }
-    ensures tells { IfOk result (λ status. 1 ≤ status → Tells (codes "udfburnd") status (E.contents errors.old) (E.contents errors.new)) }
+    ensures tells { IfOk result (λ status. 1 ≤ status → TellsOutcome (codes "udfburnd") status (E.contents errors.old) (E.contents errors.new)) }
 {
     hold_standard_streams(rt)?;
     let words = own_words(rt)?;

@@ -8,7 +8,7 @@ use Rattle.ecma.specs.FirstFault.{IsFirst}
 use Rattle.ecma.proofs.Faults.{no_fault}
 use Rattle.volume.specs.declared.front.Front.{Front}
 use Rattle.volume.specs.declared.read.VolumeFault.{VolumeFault}
-use Rattle.volume.specs.Reading.{Tells, word_rules}
+use Rattle.volume.specs.Reading.{DescriptorsTell, word_rules}
 use Rattle.volume.proofs.ReadingLaws.{front_tells, one_told}
 use Rattle.volume.specs.Front.{IsFront, IsFrontBlock}
 
@@ -41,12 +41,12 @@ module _ (label : List ℕ) (moment capacity : ℕ) (medium : List (List ℕ)) w
 
   -- the descriptors of a front tell it
   told_front : (primary partition : List ℕ) → slice_get medium 32 ≡ Some primary → slice_get medium 34 ≡ Some partition → IsFront label moment capacity (take 257 medium)
-      → Tells (record { label = label; moment = moment; capacity = capacity }) primary partition
+      → DescriptorsTell (record { label = label; moment = moment; capacity = capacity }) primary partition
   told_front primary partition first second is =
       let a : slice_index_or (take 257 medium) 32 [] ≡ primary = get_or-take 257 medium 32 [] (omega arith) ∙ get_or_from_slice_get medium 32 primary [] first in
       let b : slice_index_or (take 257 medium) 34 [] ≡ partition = get_or-take 257 medium 34 [] (omega arith) ∙ get_or_from_slice_get medium 34 partition [] second in
-      subst (λ (x : List ℕ). Tells (record { label = label; moment = moment; capacity = capacity }) x partition) a
-      (subst (λ (x : List ℕ). Tells (record { label = label; moment = moment; capacity = capacity }) (slice_index_or (take 257 medium) 32 []) x) b
+      subst (λ (x : List ℕ). DescriptorsTell (record { label = label; moment = moment; capacity = capacity }) x partition) a
+      (subst (λ (x : List ℕ). DescriptorsTell (record { label = label; moment = moment; capacity = capacity }) (slice_index_or (take 257 medium) 32 []) x) b
       (front_tells (record { label = label; moment = moment; capacity = capacity }) (take 257 medium) is))
 
   -- blocks whose descriptors tell no front are none
@@ -56,7 +56,7 @@ module _ (label : List ℕ) (moment capacity : ℕ) (medium : List (List ℕ)) w
       no_fault (word_rules primary partition) fault told (told_front primary partition first second is).rules
 
   -- and no other
-  pub no_block : (front : Front) (primary partition : List ℕ) (n : ℕ) (block : List ℕ) → slice_get medium 32 ≡ Some primary → slice_get medium 34 ≡ Some partition → Tells front primary partition
+  pub no_block : (front : Front) (primary partition : List ℕ) (n : ℕ) (block : List ℕ) → slice_get medium 32 ≡ Some primary → slice_get medium 34 ≡ Some partition → DescriptorsTell front primary partition
       → n < 257 → slice_get medium n ≡ Some block → (IsFrontBlock front.label front.moment front.capacity n block → ⊥) → IsFront label moment capacity (take 257 medium) → ⊥
   no_block front primary partition n block first second tells lt there never is =
       let same = one_told (record { label = label; moment = moment; capacity = capacity }) front primary partition (told_front primary partition first second is) tells in

@@ -28,7 +28,7 @@ use Rattle.recover.specs.declared.state.State.{State}
 use Rattle.recover.specs.declared.table.TableEntry.{TableEntry}
 use Rattle.recover.specs.declared.walk.Named.{Named}
 use Rattle.recover.specs.declared.walk.Walk.{Walk}
-use Rattle.recover.specs.Forest.{Adds, AreDrawn, IsWhole, IsWalked, by_address, by_identity, directories_in, files_in, whole}
+use Rattle.recover.specs.Forest.{Adds, AreDrawn, IsWholeForest, IsWalked, by_address, by_identity, directories_in, files_in, whole}
 use Rattle.recover.specs.Forest.Forest.{End, Seen}
 use Rattle.recover.specs.Laws.{LastStands}
 use Rattle.recover.specs.Nodes.{is_directory}
@@ -60,7 +60,7 @@ module _ (medium : List (List ℕ)) (vat : Vat) (before after : Walk) (node : Na
   functional : IsFunctional (graph_of udf medium vat.entries.items)
   functional = stored_one udf exact medium vat.entries.items
 
-  is_whole : IsWhole (graph_of udf medium vat.entries.items) vat.sessions.next_unique visits.stored visits.below
+  is_whole : IsWholeForest (graph_of udf medium vat.entries.items) vat.sessions.next_unique visits.stored visits.below
   is_whole = record {
     walked =
         subst (λ (i : ℕ). IsWalked (graph_of udf medium vat.entries.items) 1 (Seen [] i visits.stored visits.below End)) address

@@ -21,14 +21,14 @@ use Rattle.recover.proofs.Tables.{fields_are}
 
 module _ (M : List (List ℕ)) (at : ℕ) where
   -- a block at this address is the entry of a table, on the blocks below it
-  pub record IsTold (table : Table_) : Type 0 where
+  pub record IsTableTold (table : Table_) : Type 0 where
     pub block : List ℕ
     pub moment : ℕ
     pub low : 257 ≤ at
     pub there : slice_get M at ≡ Some block
     pub has : volumes.HasTable udf (take at M) at block table moment
 
-  pub told : (t : Table) → HasTable M at t → IsTold (said_table t)
+  pub told : (t : Table) → HasTable M at t → IsTableTold (said_table t)
   told t h =
       let within = slice_get_within M at h.is_entry.block h.is_entry.there in
       let below = h.below in
@@ -41,7 +41,7 @@ module _ (M : List (List ℕ)) (at : ℕ) where
       }
 
   -- what is told was read
-  pub read : (table : Table_) → IsTold table → (t : Table) × HasTable M at t × (said_table t ≡ table)
+  pub read : (table : Table_) → IsTableTold table → (t : Table) × HasTable M at t × (said_table t ≡ table)
   read table is =
       let h = is.has in
       let e : TableEntry = record { moment = h.fields.moment; first = h.first; size = h.fields.size } in
@@ -58,7 +58,7 @@ module _ (M : List (List ℕ)) (at : ℕ) where
       )
 
   -- one table is told
-  pub one_told : (s t : Table_) → IsTold s → IsTold t → s ≡ t
+  pub one_told : (s t : Table_) → IsTableTold s → IsTableTold t → s ≡ t
   one_told s t a b =
       let same : b.block ≡ a.block = same_Some b.block a.block (sym b.there ∙ a.there) in
       (table_one udf exact (take at M) at a.block s t a.moment b.moment a.has (subst (λ (x : List ℕ). volumes.HasTable udf (take at M) at x t b.moment) same b.has)).0

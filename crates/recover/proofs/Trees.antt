@@ -14,7 +14,7 @@ use Rattle.model.proofs.Lists.{contains_here, contains_there, contains_cons, con
 use Rattle.model.proofs.Paths.{path_cases, path_cmp_total}
 use Rattle.model.proofs.Maps.{has_some, some_at, has_lists}
 use Rattle.model.proofs.Counts.{total, total-insert_new, total-empty, files-total, directories-total}
-use Rattle.recover.specs.Forest.{Forest, IsSeen, IsWalked, At, IsWhole, by_address, by_identity, named, height, files_in, directories_in, whole}
+use Rattle.recover.specs.Forest.{Forest, IsSeen, IsWalked, At, IsWholeForest, by_address, by_identity, named, height, files_in, directories_in, whole}
 use Rattle.recover.specs.Forest.Forest.{End, Seen}
 use Rattle.recover.proofs.Forests.{tail_same, at_nil, at_short, at_drawn, at_seen, at_child, at_one, at_first, leads_down, leads_up, adds_one}
 
@@ -235,7 +235,7 @@ module _ (graph : Graph) where
 pub tree_of : Stored → Forest → Tree
 tree_of root below = made (([], node_of root) ∷ listed below)
 
-module _ (graph : Graph) (functional : IsFunctional graph) (next : ℕ) (root : Stored) (below : Forest) (is : IsWhole graph next root below) where
+module _ (graph : Graph) (functional : IsFunctional graph) (next : ℕ) (root : Stored) (below : Forest) (is : IsWholeForest graph next root below) where
   root_seen : IsSeen graph 1 1 root
   root_seen = is.walked.0
 

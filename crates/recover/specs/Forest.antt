@@ -82,7 +82,7 @@ abbrev pub whole : Stored → Forest → Forest
 whole root below = Seen [] 1 root below End
 
 -- Each node that the root leads to is as the directory above says, none is reached twice, and no identity is drawn twice.
-pub record IsWhole (graph : Graph) (next : ℕ) (root : Stored) (below : Forest) : Type 0 where
+pub record IsWholeForest (graph : Graph) (next : ℕ) (root : Stored) (below : Forest) : Type 0 where
   pub walked : IsWalked graph 1 (whole root below)
   pub is_root : is_directory root ≡ true
   pub shallow : height (whole root below) ≤ PATH_NAMES + 1

@@ -19,7 +19,7 @@ use Rattle.recover.specs.Nodes.{data_of}
 use Rattle.recover.specs.Walk.{extent_in}
 
 -- the entry there is that of the node with this virtual address, and says this
-pub record IsSaid (medium : List (List ℕ)) (place : EntryPlace) (entry : NodeEntry) : Type 0 where
+pub record IsEntrySaid (medium : List (List ℕ)) (place : EntryPlace) (entry : NodeEntry) : Type 0 where
   pub block : List ℕ
   pub there : slice_get medium place.at ≡ Some block
   pub fields : Fields
@@ -43,7 +43,7 @@ pub record IsNamed (medium : List (List ℕ)) (extent : Extent) (names : Names) 
 
 -- each entry that is kept for a virtual address is what the medium has there
 abbrev pub AreEntries : List (List ℕ) → Entries → Type 0
-AreEntries medium entries = (address : ℕ) → IfSome (get_or entries.kept.items address None) (λ k. IsSaid medium (record { at = k.at; address = address }) k.entry)
+AreEntries medium entries = (address : ℕ) → IfSome (get_or entries.kept.items address None) (λ k. IsEntrySaid medium (record { at = k.at; address = address }) k.entry)
 
 -- as extents are compared
 abbrev pub same_extent : Extent → Extent → Bool

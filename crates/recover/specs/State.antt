@@ -25,7 +25,7 @@ pub record IsCounted (at : ℕ) (vat : Vat) : Type 0 where
   pub few_unique : vat.sessions.next_unique ≤ FIRST_UNIQUE + vat.sessions.commits
 
 -- the state of a table whose entry stands at this address, on a drive of this capacity
-pub record IsSound (at capacity : ℕ) (state : State) : Type 0 where
+pub record HasSoundTable (at capacity : ℕ) (state : State) : Type 0 where
   pub low : LEAST_CAPACITY ≤ state.capacity
   pub high : state.capacity ≤ GREATEST_CAPACITY
   pub fits : state.capacity ≤ capacity

@@ -37,7 +37,7 @@ impl NodeEntry {
     ghost use Rattle.icb.specs.Entry.{place_of};
     ghost use Rattle.drive.specs.Reads.{Reads};
     ghost use Rattle.recover.specs.Faults.{devices};
-    ghost use Rattle.recover.specs.Known.{IsSaid, IsUnsaid};
+    ghost use Rattle.recover.specs.Known.{IsEntrySaid, IsUnsaid};
     ghost use Rattle.recover.specs.Walk.{extent_in};
 
     /// Reads the entry that stands there.
@@ -45,7 +45,7 @@ impl NodeEntry {
     #[inline(never)]
     pub(crate) fn read<D: Drive>(drive: &mut D, place: EntryPlace) -> Result<NodeEntry, StoreFault>
         requires { place.at < next_of (D.journal drive.old) }
-        ensures said { IfOk result (λ entry. IsTrue (D.honest drive.new) → IsSaid (held (D.journal drive.old)) place entry) }
+        ensures said { IfOk result (λ entry. IsTrue (D.honest drive.new) → IsEntrySaid (held (D.journal drive.old)) place entry) }
         ensures refused { IfErr result (λ fault. IsTrue (D.honest drive.new) → IsUnsaid (held (D.journal drive.old)) place fault) }
         ensures reads { Reads D.Drive (devices result) drive.old drive.new }
     {
@@ -131,7 +131,7 @@ pub(crate) struct Entries {
 
 impl Entries {
     ghost use Rattle.std.specs.Prelude.{◌<◌, ◌≤◌, ℕ, List, IfSome, vec_len};
-    ghost use Rattle.recover.specs.Known.{AreEntries, IsSaid};
+    ghost use Rattle.recover.specs.Known.{AreEntries, IsEntrySaid};
 
     /// None yet.
     pub(crate) fn new(alloc: Global) -> Entries
@@ -145,7 +145,7 @@ impl Entries {
     /// What the entry there says, if it is kept.
     #[inline(always)]
     pub(crate) fn find(&self, place: EntryPlace) -> Option<NodeEntry>
-        ensures { (medium : List (List ℕ)) → AreEntries medium self.now → IfSome result (IsSaid medium place) }
+        ensures { (medium : List (List ℕ)) → AreEntries medium self.now → IfSome result (IsEntrySaid medium place) }
     {
         let index = place.address as usize;
         if index >= self.kept.len() {
@@ -159,7 +159,7 @@ impl Entries {
 
     /// Keeps what the entry there says in place of the one that was kept for its virtual address, if there is memory for it.
     pub(crate) fn keep(&mut self, place: EntryPlace, entry: NodeEntry)
-        ensures { (medium : List (List ℕ)) → IsSaid medium place entry → AreEntries medium self.old → AreEntries medium self.new }
+        ensures { (medium : List (List ℕ)) → IsEntrySaid medium place entry → AreEntries medium self.old → AreEntries medium self.new }
     {
         let index = place.address as usize;
         if index >= ADDRESSES {

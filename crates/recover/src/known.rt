@@ -34,7 +34,7 @@ impl Known {
     ghost use Rattle.volume.specs.Front.{IsFront};
     ghost use Rattle.drive.specs.Reads.{Reads};
     ghost use Rattle.recover.specs.Faults.{devices};
-    ghost use Rattle.recover.specs.Known.{IsKnown, IsNamed, IsSaid, IsUnsaid};
+    ghost use Rattle.recover.specs.Known.{IsKnown, IsNamed, IsEntrySaid, IsUnsaid};
     ghost use Rattle.recover.specs.Nodes.{IsDirectoryRefused, data_of};
     ghost use Rattle.recover.specs.State.{IsFrontRefused};
 
@@ -109,7 +109,7 @@ impl Known {
     ) -> Result<NodeEntry, StoreFault>
         requires within { place.at < next_of (D.journal drive.old) }
         requires known { IsTrue (D.honest drive.old) → IsKnown (held (D.journal drive.old)) self.old }
-        ensures said { IfOk result (λ entry. IsTrue (D.honest drive.new) → IsSaid (held (D.journal drive.old)) place entry) }
+        ensures said { IfOk result (λ entry. IsTrue (D.honest drive.new) → IsEntrySaid (held (D.journal drive.old)) place entry) }
         ensures refused { IfErr result (λ fault. IsTrue (D.honest drive.new) → IsUnsaid (held (D.journal drive.old)) place fault) }
         ensures known { IsTrue (D.honest drive.new) → IsKnown (held (D.journal drive.new)) self.new }
         ensures reads { Reads D.Drive (devices result) drive.old drive.new }
@@ -126,7 +126,7 @@ impl Known {
 
     /// Keeps what the entry there says.
     fn keep_entry(&mut self, place: EntryPlace, entry: NodeEntry)
-        ensures { (medium : List (List ℕ)) → IsSaid medium place entry → IsKnown medium self.old → IsKnown medium self.new }
+        ensures { (medium : List (List ℕ)) → IsEntrySaid medium place entry → IsKnown medium self.old → IsKnown medium self.new }
     {
         if self.keeps_nodes {
             self.entries.keep(place, entry);

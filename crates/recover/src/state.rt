@@ -7,7 +7,7 @@ ghost use Rattle.volume.specs.Front.{IsFront};
 ghost use Rattle.drive.specs.Reads.{Reads};
 ghost use Rattle.recover.specs.Faults.{devices};
 ghost use Rattle.recover.specs.Known.{IsKnown};
-ghost use Rattle.recover.specs.State.{HasFileSet, HasTree, IsCounted, IsDescribed, IsFrontRefused, IsSetRefused, IsShown, IsSound, IsStateRefused, IsTreeRefused};
+ghost use Rattle.recover.specs.State.{HasFileSet, HasTree, IsCounted, IsDescribed, IsFrontRefused, IsSetRefused, IsShown, HasSoundTable, IsStateRefused, IsTreeRefused};
 ghost use Rattle.recover.specs.Tables.{HasTable};
 
 use crate::cause;
@@ -53,7 +53,7 @@ pub fn state_at<D: Drive>(alloc: Global, drive: &mut D, at: u32) -> Result<State
     ensures shown { IfOk result (λ state. IsTrue (D.honest drive.new) → IsShown (D.capacity drive.old) (held (D.journal drive.old)) at state) }
     // Where it is refused none is told there, unless the drive failed or memory was short.
     ensures refused { IfErr result (λ fault. IsTrue (D.honest drive.new) → IsStateRefused (D.capacity drive.old) (held (D.journal drive.old)) at fault) }
-    ensures sound { IfOk result (IsSound at (D.capacity drive.old)) }
+    ensures sound { IfOk result (HasSoundTable at (D.capacity drive.old)) }
     // The table that it keeps is the one whose entry stands there.
     ensures table { IfOk result (λ state. IsTrue (D.honest drive.new) → HasTable (held (D.journal drive.old)) at (view state.vat)) }
     ensures reads { Reads D.Drive (devices result) drive.old drive.new }
@@ -75,7 +75,7 @@ pub fn state_sharing<D: Drive>(
     requires known { IsTrue (D.honest drive.old) → IsKnown (held (D.journal drive.old)) known.old }
     ensures shown { IfOk result (λ state. IsTrue (D.honest drive.new) → IsShown (D.capacity drive.old) (held (D.journal drive.old)) at state) }
     ensures refused { IfErr result (λ fault. IsTrue (D.honest drive.new) → IsStateRefused (D.capacity drive.old) (held (D.journal drive.old)) at fault) }
-    ensures sound { IfOk result (IsSound at (D.capacity drive.old)) }
+    ensures sound { IfOk result (HasSoundTable at (D.capacity drive.old)) }
     ensures table { IfOk result (λ state. IsTrue (D.honest drive.new) → HasTable (held (D.journal drive.old)) at (view state.vat)) }
     // What is known stays so, whatever was found.
     ensures known { IsTrue (D.honest drive.new) → IsKnown (held (D.journal drive.new)) known.new }

@@ -4,7 +4,7 @@ ghost use Rattle.std.specs.Prelude.{◌≡◌, ℕ, ◌+◌, ◌-◌, ◌^◌, �
 ghost use Rattle.std.specs.Int.{div_ceil};
 ghost use Rattle.drive.specs.Journal.{held, next_of};
 ghost use Rattle.icb.specs.declared.entry.Kind.TheVariants as kinds;
-ghost use Rattle.icb.specs.Entry.{Fits, fields_of, place_of};
+ghost use Rattle.icb.specs.Entry.{FitsEntry, fields_of, place_of};
 ghost use Rattle.icb.specs.Entry.Place.{Extent};
 ghost use Rattle.vat.specs.Table.{IsTableAt, view};
 ghost use Rattle.drive.specs.Reads.{Reads};
@@ -84,7 +84,7 @@ pub fn table_entry<D: Drive>(drive: &mut D, at: u32) -> Result<TableEntry, Store
 
 /// The number of the first block of a table's data, where the entry is that of a table.
 fn data_start(entry: &FileEntry<'_>) -> Option<u32>
-    requires { Fits (fields_of entry.now) }
+    requires { FitsEntry (fields_of entry.now) }
     ensures some { IfSome result (λ first. (entry.now.kind ≡ kinds.Vat) × (place_of entry.now.place ≡ Extent first)) }
     ensures none { IfNone result (entry.now.kind ≡ kinds.Vat → ⊥) }
 {

@@ -10,7 +10,7 @@ use Rattle.request.specs.declared.message.Cause.{Cause}
 use Rattle.request.specs.declared.message.Message.{Message}
 use Rattle.request.specs.Spelling.{Said}
 use Rattle.request.specs.Reading.{said_at}
-use Rattle.request.specs.Payload.{told_by, Tells}
+use Rattle.request.specs.Payload.{told_by, TellsPayload}
 use Rattle.request.specs.Frames.{frame, length_at, IsOverlong, IsPartial, Begins, FirstIs, fed, Takes, IsIdle, MessagesAre, Agree}
 
 length_of_frame : (payload rest : List ℕ) → length payload < 2 ^ 32 → length_at (frame payload ++ rest) ≡ length payload
@@ -97,7 +97,7 @@ tells_one (Some x) (Some y) payload h k = inr (inr (ap (λ (t : Result Said Caus
 first_agree : (bytes : List ℕ) (m n : Message) (x y : List ℕ) → FirstIs bytes m x → FirstIs bytes n y → Agree m n × (x ≡ y)
 first_agree bytes m n x y p q =
     let same = same_frames p.0 q.0 x y (omega (arith, p.1.fits)) (omega (arith, q.1.fits)) (sym p.1.whole ∙ q.1.whole) in
-    (tells_one (told_by m) (told_by n) q.0 (subst (Tells m) same.0 p.2) q.2, same.1)
+    (tells_one (told_by m) (told_by n) q.0 (subst (TellsPayload m) same.0 p.2) q.2, same.1)
 
 pub one_reading : (messages others : List Message) (bytes : List ℕ) (reader other : Option (List ℕ)) → MessagesAre bytes messages reader → IsIdle reader → MessagesAre bytes others other → IsIdle other
     → (reader ≡ other) × AllZip Agree messages others

@@ -4,7 +4,7 @@ use Rattle.std.specs.Int.{w32, to_le_bytes, from_le_bytes}
 use Rattle.request.specs.declared.message.Cause.TheVariants.{TooLong}
 use Rattle.request.specs.declared.message.Message.{Message}
 use Rattle.request.specs.declared.message.Message.TheVariants.{Malformed}
-use Rattle.request.specs.Payload.{Tells, told_by}
+use Rattle.request.specs.Payload.{TellsPayload, told_by}
 
 abbrev pub frame : List ℕ → List ℕ
 frame payload = to_le_bytes w32 (length payload) ++ payload
@@ -28,7 +28,7 @@ pub record Begins (bytes payload rest : List ℕ) : Type 0 where
 
 -- the first message of the bytes, and what is behind its frame
 abbrev pub FirstIs : List ℕ → Message → List ℕ → Type 0
-FirstIs bytes message rest = (payload : List ℕ) × Begins bytes payload rest × Tells message payload
+FirstIs bytes message rest = (payload : List ℕ) × Begins bytes payload rest × TellsPayload message payload
 
 -- A reader holds the bytes that were fed and not yet taken. It is None for good behind an overlong length.
 abbrev pub fed : Option (List ℕ) → List ℕ → Option (List ℕ)

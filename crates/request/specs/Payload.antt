@@ -4,7 +4,7 @@ use Rattle.request.specs.declared.message.Cause.{Cause}
 use Rattle.request.specs.declared.message.Request.{Request}
 use Rattle.request.specs.declared.message.Message.{Message}
 use Rattle.request.specs.declared.message.Message.TheVariants as message
-use Rattle.request.specs.Spelling.{Said, payload_of, IsSaid}
+use Rattle.request.specs.Spelling.{Said, payload_of, CanBeSaid}
 use Rattle.request.specs.Spelling.Said.{Changes, Asks}
 use Rattle.request.specs.Reading.{said_at}
 
@@ -19,9 +19,9 @@ told_by (message.Malformed cause) = Some (Err cause)
 told_by message.NoMemory = None
 
 -- The message tells what this payload says, or its first fault, unless there was no memory.
-abbrev pub Tells : Message → List ℕ → Type 0
-Tells message payload = IfSome (told_by message) (λ told. told ≡ said_at payload)
+abbrev pub TellsPayload : Message → List ℕ → Type 0
+TellsPayload message payload = IfSome (told_by message) (λ told. told ≡ said_at payload)
 
 -- where this was said, it may be said, and the payload spells it
 abbrev pub IsSpelled : List ℕ → Result Said Cause → Type 0
-IsSpelled payload told = IfOk told (λ said. IsSaid said × (payload ≡ payload_of said))
+IsSpelled payload told = IfOk told (λ said. CanBeSaid said × (payload ≡ payload_of said))

@@ -2,10 +2,10 @@
 
 ghost use Rattle.std.specs.Prelude.{◌≡◌, ◌≤◌, ◌<◌, List, ℕ, length, Ok, IfOk, IfErr, IfSome};
 ghost use Rattle.std.specs.Int.{w16, w32, w64};
-ghost use Rattle.request.specs.Spelling.{Said, IsSaid, payload_of};
+ghost use Rattle.request.specs.Spelling.{Said, CanBeSaid, payload_of};
 ghost use Rattle.request.specs.Spelling.Said.{Asks};
 ghost use Rattle.request.specs.Reading.{Gives, Fails, number_at, client_at, number_above_zero_at, moment_at, tested_name, name_at, names_at, path_at, data_at, op_at, ended, change_at, question_at, kind_at, fields_at, said_at};
-ghost use Rattle.request.specs.Payload.{Tells, IsSpelled, told_by, said_by};
+ghost use Rattle.request.specs.Payload.{TellsPayload, IsSpelled, told_by, said_by};
 ghost use Rattle.request.specs.declared.payload.ReadError.TheVariants.{Memory};
 
 use crate::message::{Cause, FILE_BYTES, FileData, MOMENT_LIMIT, Message, Op, Query, Request};
@@ -63,11 +63,11 @@ enum Kind {
 /// What the payload of a frame says.
 pub fn read_payload(alloc: Global, payload: &[u8]) -> Message
     // It is the one thing that the payload says, or its first fault from left to right, unless there was no memory.
-    ensures exact { Tells result payload.now }
+    ensures exact { TellsPayload result payload.now }
     // What is said may be said, and the payload is its spelling.
     ensures found { IfSome (told_by result) (IsSpelled payload.now) }
     // What may be said is read from its spelling, unless there was no memory.
-    ensures only { (said : Said) → IsSaid said → payload.now ≡ payload_of said → IfSome (told_by result) (λ told. told ≡ Ok said) }
+    ensures only { (said : Said) → CanBeSaid said → payload.now ≡ payload_of said → IfSome (told_by result) (λ told. told ≡ Ok said) }
 {
     match message_of(alloc, payload) {
         Ok(message) => message,
@@ -78,7 +78,7 @@ pub fn read_payload(alloc: Global, payload: &[u8]) -> Message
 
 #[tactic(auto, unfolding(crate::specs::Reading::said_at, crate::specs::Reading::fields_at))]
 fn message_of(alloc: Global, payload: &[u8]) -> Result<Message, ReadError>
-    ensures ok { IfOk result (λ m. Tells m payload.now) }
+    ensures ok { IfOk result (λ m. TellsPayload m payload.now) }
     ensures err { IfErr result (λ e. Fails e (said_at payload.now)) }
 {
     let (kind, fields) = kind_of(payload)?;

@@ -1,7 +1,7 @@
 //! Requests as a die falls, on a machine and beside it on the plain program of `model`.
 
 ghost use Rattle.std.specs.Prelude.{ℕ};
-ghost use Rattle.model.specs.PlainState.{IsWhole};
+ghost use Rattle.model.specs.PlainState.{IsWholeState};
 
 use crate::answers::{node_text, told};
 use crate::bytes::show_bytes;
@@ -31,7 +31,7 @@ impl Model for Plain {
 
     ghost view = { λ p. p.state.commits };
 
-    ghost invariant = { λ p. IsWhole p.state };
+    ghost invariant = { λ p. IsWholeState p.state };
 }
 
 impl Plain {

@@ -33,7 +33,7 @@ use Rattle.directories.specs.Asked.{said_operation, said_request}
 use Rattle.directories.specs.Cache.{AreKept}
 use Rattle.store.specs.Calls.{Applies, IsDone, IsFailed, Knows, Refuses, Withstands}
 use Rattle.planning.specs.Changes.{Does}
-use Rattle.table.specs.Commits.{IsPart, IsWhole}
+use Rattle.table.specs.Commits.{IsPart, IsWholeCommit}
 use Rattle.planning.specs.Needs.{change_need}
 use Rattle.table.specs.NextTable.{begun}
 use Rattle.planning.specs.Plan.{IsPlan, node_list, plan_blocks, table_data}
@@ -140,7 +140,7 @@ module _ (capacity volume : ℕ) (J : List Event) (S : State) (store : Store) (k
         there_all : J' ≡ J ++ written (length J) (blocks ++ plan.table.entry ∷ [])
         there_all = whole_is ∙ (λ i. J ++ written (next i) (all_is i))
 
-        pub whole : IsWhole capacity volume J S (said_request r) J'
+        pub whole : IsWholeCommit capacity volume J S (said_request r) J'
         whole = commits_are_whole capacity volume J J' S (said_request r) blocks plan.table.entry knows.once knows.stands plans there_all
 
         -- the table that stands there is the plan's

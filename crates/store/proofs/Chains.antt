@@ -17,7 +17,7 @@ use Rattle.vat.specs.Table.{Table}
 use Rattle.recover.specs.declared.state.State.{State}
 use Rattle.recover.specs.State.{IsShown}
 use Rattle.recover.specs.Tables.{HasTable, IsBefore}
-use Rattle.recover.proofs.Told.{IsTold, one_read, read, told}
+use Rattle.recover.proofs.Told.{IsTableTold, one_read, read, told}
 use Rattle.store.specs.History.{Leads}
 
 -- ---- fronts of a medium
@@ -40,7 +40,7 @@ module _ (M : Medium) (at : ℕ) (N : Medium) (ends : EndsAt M at N) where
   below_same = part_same at (omega arith)
 
   -- its last table is the one whose entry stands there
-  abbrev pub last_in : (t : Table_) → IsTold M at t → LastTable udf N
+  abbrev pub last_in : (t : Table_) → IsTableTold M at t → LastTable udf N
   last_in t is = record {
     at = at;
     block = is.block;
@@ -50,14 +50,14 @@ module _ (M : Medium) (at : ℕ) (N : Medium) (ends : EndsAt M at N) where
     has = subst (λ (B : Medium). volumes.HasTable udf B at is.block t is.moment) (sym below_same) is.has;
   }
 
-  last_at : (t : Table_) → IsTold M at t → (last : LastTable udf N) → last.at ≡ at
+  last_at : (t : Table_) → IsTableTold M at t → (last : LastTable udf N) → last.at ≡ at
   last_at t is last = last_one udf N last.at at last.block is.block last.last (last_in t is).last
 
-  pub last_is : (t : Table_) → IsTold M at t → (last : LastTable udf N) → last.table ≡ t
+  pub last_is : (t : Table_) → IsTableTold M at t → (last : LastTable udf N) → last.table ≡ t
   last_is t is last = last_table_one udf exact N last (last_in t is)
 
   -- the last table is told there
-  last_told : (last : LastTable udf N) → last.at ≡ at → IsTold M at last.table
+  last_told : (last : LastTable udf N) → last.at ≡ at → IsTableTold M at last.table
   last_told last same = record {
     block = last.block;
     moment = last.moment;

@@ -16,7 +16,7 @@ use Rattle.recover.specs.declared.fault.StoreFault.TheVariants.{Device, Memory, 
 use Rattle.recover.specs.declared.state.State.{State}
 use Rattle.recover.specs.State.{IsShown, IsStateRefused}
 use Rattle.recover.specs.Tables.{HasTable}
-use Rattle.recover.proofs.Told.{IsTold, one_told, read, told}
+use Rattle.recover.proofs.Told.{IsTableTold, one_told, read, told}
 use Rattle.store.specs.declared.store.Store.{Store}
 use Rattle.store.specs.Calls.{Knows}
 use Rattle.store.specs.History.{IsTableOf, IsWayRefused}
@@ -33,7 +33,7 @@ module _ (capacity volume : ℕ) (J : List Event) (T : model.State) (store : Sto
   pub low_here : 257 ≤ store.at
   low_here = omega (arith, knows.at, knows.stands.last.is.0)
 
-  told_here : IsTold (held J) store.at (said_table (view store.vat))
+  told_here : IsTableTold (held J) store.at (said_table (view store.vat))
   told_here = record {
     block = knows.stands.block;
     moment = T.moment;
@@ -76,7 +76,7 @@ module _ (capacity volume : ℕ) (J : List Event) (T : model.State) (store : Sto
         let stood : StoodBefore udf (found.steps + 0) capacity volume (held J) S =
         stood_along capacity volume (held J) store.at found.steps at 0 S found.leads (shown_stood capacity volume (held J) at state low shown (volume_told at state low shown)) (held J) ends_here in
         let all : found.steps + 0 ≡ found.steps = omega arith in
-        let shown_there : IsTold (held J) at shown.tells.table = record { block = shown.block; moment = S.moment; low = low; there = shown.there; has = shown.tells.has } in
+        let shown_there : IsTableTold (held J) at shown.tells.table = record { block = shown.block; moment = S.moment; low = low; there = shown.there; has = shown.tells.has } in
         let same : said_table (view state.vat) ≡ said_table (view vat) = sym shown.table ∙ one_told (held J) at shown.tells.table (said_table (view vat)) shown_there (told (held J) at (view vat) found.table) in (
           S,
           record {

@@ -4,7 +4,7 @@ ghost use Rattle.std.specs.Prelude.{◌≡◌, ◌<◌, All, length, map, Some, 
 ghost use Rattle.model.specs.Session.{due_by, record_of};
 ghost use Rattle.store.specs.Sessions.{due_said, is_code, reply_said};
 ghost use Rattle.udf.specs.Said.{said_record, said_reply};
-ghost use Rattle.vat.specs.Table.{Fits, view};
+ghost use Rattle.vat.specs.Table.{FitsTable, view};
 
 use crate::store::Store;
 use request::{Code, Reply};
@@ -31,7 +31,7 @@ impl Store {
     /// What is due for a client's request number, from 1 on.
     pub fn due(&self, client: u64, number: u64) -> Due
         requires above_zero { 0 < number }
-        requires fits { Fits (view self.now.vat) }
+        requires fits { FitsTable (view self.now.vat) }
         ensures { due_said result ≡ due_by number (length self.now.vat.sessions.records.items) (record_of client (map said_record self.now.vat.sessions.records.items)) }
     {
         let records = &self.vat.sessions.records;

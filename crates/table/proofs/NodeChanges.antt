@@ -4,7 +4,7 @@ use Rattle.std.specs.Prelude.{Option, Some, None, IfSome, IsTrue, is_some, slice
 use Rattle.std.proofs.lemmas.Bool.{eqb-true, eqb-false, false≢true}
 use Rattle.std.proofs.lemmas.Option.{slice_get_within}
 use Rattle.vat.specs.Entry.{unused}
-use Rattle.vat.specs.Table.{Table, Fits}
+use Rattle.vat.specs.Table.{Table, FitsTable}
 use Rattle.table.specs.Below.{AreBelow, IsUsed}
 use Rattle.table.specs.TableChange.{with_entry, with_nodes, IsFree}
 use Rattle.table.proofs.EntryChanges.{length-with_entry, All-with_entry, entry_there, entry_other, count_added, count_placed, count_removed, free_within}
@@ -18,10 +18,10 @@ record AreEntries (used : ℕ) (xs : List (Option ℕ)) : Type 0 where
   root : IsUsed 1 xs
   count : count_by is_some xs ≡ used
 
-entries_of : (t : Table) → Fits t → AreEntries (1 + (t.files + t.directories)) t.entries
+entries_of : (t : Table) → FitsTable t → AreEntries (1 + (t.files + t.directories)) t.entries
 entries_of t fits = record { few = fits.few; many = fits.many; numbers = fits.numbers; file_set = fits.file_set; root = fits.root; count = fits.used }
 
-fits_with : (t : Table) (files directories next : ℕ) (xs : List (Option ℕ)) → Fits t → 16 ≤ next → next < 2 ^ 32 → AreEntries (1 + (files + directories)) xs → Fits (with_nodes files directories next xs t)
+fits_with : (t : Table) (files directories next : ℕ) (xs : List (Option ℕ)) → FitsTable t → 16 ≤ next → next < 2 ^ 32 → AreEntries (1 + (files + directories)) xs → FitsTable (with_nodes files directories next xs t)
 fits_with t files directories next xs fits least most are = record {
   label = fits.label;
   first = fits.first;
@@ -90,31 +90,31 @@ one_less used less xs i are next behind is =
 
 -- ---- the tables
 
-module _ (t : Table) (fits : Fits t) (i : ℕ) (ys : List (Option ℕ)) where
+module _ (t : Table) (fits : FitsTable t) (i : ℕ) (ys : List (Option ℕ)) where
   module _ (number : ℕ) (small : number < unused) where
-    pub fits_added_file : t.next_unique + 1 < 2 ^ 32 → IsFree i t.entries → ys ≡ with_entry i (Some number) t.entries → Fits (with_nodes (t.files + 1) t.directories (t.next_unique + 1) ys t)
+    pub fits_added_file : t.next_unique + 1 < 2 ^ 32 → IsFree i t.entries → ys ≡ with_entry i (Some number) t.entries → FitsTable (with_nodes (t.files + 1) t.directories (t.next_unique + 1) ys t)
     fits_added_file most free is =
         fits_with t (t.files + 1) t.directories (t.next_unique + 1) ys fits (omega (arith, fits.next_unique)) most
         (subst (AreEntries (1 + (t.files + 1 + t.directories))) (sym is) (one_more (1 + (t.files + t.directories)) (1 + (t.files + 1 + t.directories)) t.entries i number (entries_of t fits) (omega arith) small free))
 
-    pub fits_added_directory : t.next_unique + 1 < 2 ^ 32 → IsFree i t.entries → ys ≡ with_entry i (Some number) t.entries → Fits (with_nodes t.files (t.directories + 1) (t.next_unique + 1) ys t)
+    pub fits_added_directory : t.next_unique + 1 < 2 ^ 32 → IsFree i t.entries → ys ≡ with_entry i (Some number) t.entries → FitsTable (with_nodes t.files (t.directories + 1) (t.next_unique + 1) ys t)
     fits_added_directory most free is =
         fits_with t t.files (t.directories + 1) (t.next_unique + 1) ys fits (omega (arith, fits.next_unique)) most
         (subst (AreEntries (1 + (t.files + (t.directories + 1)))) (sym is) (one_more (1 + (t.files + t.directories)) (1 + (t.files + (t.directories + 1))) t.entries i number (entries_of t fits) (omega arith) small free))
 
-    pub fits_placed : (b : Bool) → (IsTrue b → IsUsed i t.entries) → ys ≡ (if b then with_entry i (Some number) t.entries else t.entries) → Fits (with_nodes t.files t.directories t.next_unique ys t)
+    pub fits_placed : (b : Bool) → (IsTrue b → IsUsed i t.entries) → ys ≡ (if b then with_entry i (Some number) t.entries else t.entries) → FitsTable (with_nodes t.files t.directories t.next_unique ys t)
     fits_placed b used is = fits_with t t.files t.directories t.next_unique ys fits fits.next_unique fits.next_unique_fits (go b used is)
       where
         go : (b : Bool) → (IsTrue b → IsUsed i t.entries) → ys ≡ (if b then with_entry i (Some number) t.entries else t.entries) → AreEntries (1 + (t.files + t.directories)) ys
         go true u e = subst (AreEntries (1 + (t.files + t.directories))) (sym e) (as_many (1 + (t.files + t.directories)) t.entries i number (entries_of t fits) small (u refl))
         go false u e = subst (AreEntries (1 + (t.files + t.directories))) (sym e) (entries_of t fits)
 
-  pub fits_removed_file : 2 ≤ i → 0 < t.files → IsUsed i t.entries → ys ≡ with_entry i None t.entries → Fits (with_nodes (t.files - 1) t.directories t.next_unique ys t)
+  pub fits_removed_file : 2 ≤ i → 0 < t.files → IsUsed i t.entries → ys ≡ with_entry i None t.entries → FitsTable (with_nodes (t.files - 1) t.directories t.next_unique ys t)
   fits_removed_file behind some used is =
       fits_with t (t.files - 1) t.directories t.next_unique ys fits fits.next_unique fits.next_unique_fits
       (subst (AreEntries (1 + (t.files - 1 + t.directories))) (sym is) (one_less (1 + (t.files + t.directories)) (1 + (t.files - 1 + t.directories)) t.entries i (entries_of t fits) (omega arith) behind used))
 
-  pub fits_removed_directory : 2 ≤ i → 1 < t.directories → IsUsed i t.entries → ys ≡ with_entry i None t.entries → Fits (with_nodes t.files (t.directories - 1) t.next_unique ys t)
+  pub fits_removed_directory : 2 ≤ i → 1 < t.directories → IsUsed i t.entries → ys ≡ with_entry i None t.entries → FitsTable (with_nodes t.files (t.directories - 1) t.next_unique ys t)
   fits_removed_directory behind some used is =
       fits_with t t.files (t.directories - 1) t.next_unique ys fits fits.next_unique fits.next_unique_fits
       (subst (AreEntries (1 + (t.files + (t.directories - 1)))) (sym is) (one_less (1 + (t.files + t.directories)) (1 + (t.files + (t.directories - 1))) t.entries i (entries_of t fits) (omega arith) behind used))

@@ -14,7 +14,7 @@ use Rattle.vat.specs.declared.table.Version.TheVariants.{One, Two}
 use Rattle.vat.specs.Version.{places}
 use Rattle.vat.specs.Reply.{AreReplies}
 use Rattle.vat.specs.Record.{IsKept}
-use Rattle.vat.specs.Table.{Table, Fits}
+use Rattle.vat.specs.Table.{Table, FitsTable}
 use Rattle.table.specs.TableChange.{answered, answered_if, first_record, with_reply, IsNext}
 
 abbrev Apart : Record → Record → Type 0
@@ -173,9 +173,9 @@ module _ (client number : ℕ) (reply : Reply) where
             }
 
 -- the next table has a spelling
-pub fits_committed : (at client number code : ℕ) (t : Table) (rs : List Record) → Fits t → 261 ≤ at → at < 2 ^ 32 → code ≤ 10 → 0 < client → client < 2 ^ 64 → 0 < number → number < 2 ^ 64
+pub fits_committed : (at client number code : ℕ) (t : Table) (rs : List Record) → FitsTable t → 261 ≤ at → at < 2 ^ 32 → code ≤ 10 → 0 < client → client < 2 ^ 64 → 0 < number → number < 2 ^ 64
     → t.commits + 1 < 2 ^ 32 → IsNext client number t.records → rs ≡ with_reply client number (record { code = code; commit = t.commits + 1 }) t.records
-    → Fits (record { label = t.label; previous = Some (at - 257); files = t.files; directories = t.directories; version = Two; next_unique = t.next_unique; commits = t.commits + 1; records = rs; entries = t.entries })
+    → FitsTable (record { label = t.label; previous = Some (at - 257); files = t.files; directories = t.directories; version = Two; next_unique = t.next_unique; commits = t.commits + 1; records = rs; entries = t.entries })
 fits_committed at client number code t rs fits behind small known some client_fits first number_fits count next is =
     let kept : Keeps (t.commits + 1) rs =
     subst (Keeps (t.commits + 1)) (sym is)

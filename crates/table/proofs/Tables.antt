@@ -1,7 +1,7 @@
 -- A table's bytes, and where they lead.
 use Rattle.std.proofs.Common.{◌≡◌, ℕ, ◌+◌, ◌*◌, ◌<◌, ◌≤◌, List, length, get_or, refl, arith}
 use Rattle.std.specs.Prelude.{IfSome, Option, Some, None}
-use Rattle.vat.specs.Table.{Table, Fits, IsTableAt, table_bytes}
+use Rattle.vat.specs.Table.{Table, FitsTable, IsTableAt, table_bytes}
 use Rattle.vat.specs.declared.table.Version.{Version}
 use Rattle.vat.specs.declared.table.Version.TheVariants.{One, Two}
 use Rattle.vat.specs.Version.{record_size}
@@ -9,7 +9,7 @@ use Rattle.vat.proofs.TableReads.{takes_so_many}
 use Rattle.table.specs.Below.{AreBelow}
 
 -- a table's bytes are few
-pub table_few : (t : Table) → Fits t → length (table_bytes t) ≤ 1_048_576
+pub table_few : (t : Table) → FitsTable t → length (table_bytes t) ≤ 1_048_576
 table_few t fits =
     let size = takes_so_many t (table_bytes t) (record { fits = fits; whole = refl }) in
     by t.version size
@@ -18,11 +18,11 @@ table_few t fits =
     by One size = omega (arith, size, fits.clients, fits.many)
     by Two size = omega (arith, size, fits.clients, fits.many)
 
-pub table_some : (t : Table) → Fits t → 0 < length (table_bytes t)
+pub table_some : (t : Table) → FitsTable t → 0 < length (table_bytes t)
 table_some t fits = omega (arith, takes_so_many t (table_bytes t) (record { fits = fits; whole = refl }))
 
 -- and no more than its records and entries take
-pub table_long : (t : Table) → Fits t → length (table_bytes t) ≤ 196 + 48 * length t.records + 4 * length t.entries
+pub table_long : (t : Table) → FitsTable t → length (table_bytes t) ≤ 196 + 48 * length t.records + 4 * length t.entries
 table_long t fits =
     let size = takes_so_many t (table_bytes t) (record { fits = fits; whole = refl }) in
     by t.version size
@@ -32,7 +32,7 @@ table_long t fits =
     by Two size = omega (arith, size)
 
 -- all that a table names lies below the block number of its entry
-pub table_at : (t : Table) (from number : ℕ) (bytes : List ℕ) → Fits t → bytes ≡ table_bytes t → IfSome t.previous (λ p. p < from) → AreBelow (from + 257) t.entries → from ≤ number → IsTableAt number t bytes
+pub table_at : (t : Table) (from number : ℕ) (bytes : List ℕ) → FitsTable t → bytes ≡ table_bytes t → IfSome t.previous (λ p. p < from) → AreBelow (from + 257) t.entries → from ≤ number → IsTableAt number t bytes
 table_at t from number bytes fits is previous below later = record {
   table = record { fits = fits; whole = is };
   previous = earlier t.previous previous;

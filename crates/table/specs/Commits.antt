@@ -10,7 +10,7 @@ use Rattle.medium.specs.Journal.{Advances}
 use Rattle.udf.specs.Udf.{udf, spelled}
 
 -- The request is committed, in no more blocks than it may need.
-pub record IsWhole (capacity volume : ℕ) (before : List Event) (S : State) (request : Request) (behind : List Event) : Type 0 where
+pub record IsWholeCommit (capacity volume : ℕ) (before : List Event) (S : State) (request : Request) (behind : List Event) : Type 0 where
   pub advances : Advances udf capacity volume before S behind (after_one S request)
   pub some : length before < length behind
   pub few : length behind ≤ length before + need spelled S request
@@ -18,7 +18,7 @@ pub record IsWhole (capacity volume : ℕ) (before : List Event) (S : State) (re
 abbrev pub CommitsAreWhole : Type 0
 CommitsAreWhole =
     (capacity volume : ℕ) (before behind : List Event) (S : State) (request : Request) (blocks : List Block) (mark : Block) → Once before → (stands : Stands udf capacity volume (held before) S)
-    → IsPlanned udf capacity volume (held before) S stands request blocks mark → behind ≡ before ++ written (length before) (blocks ++ mark ∷ []) → IsWhole capacity volume before S request behind
+    → IsPlanned udf capacity volume (held before) S stands request blocks mark → behind ≡ before ++ written (length before) (blocks ++ mark ∷ []) → IsWholeCommit capacity volume before S request behind
 
 -- The request is committed or not.
 pub record IsPart (capacity volume : ℕ) (before : List Event) (S : State) (request : Request) (behind : List Event) : Type 0 where

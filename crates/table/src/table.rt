@@ -8,7 +8,7 @@ ghost use Rattle.table.specs.Full.{is_full};
 ghost use Rattle.table.specs.Needs.{table_need};
 ghost use Rattle.table.specs.TableChange as spec;
 ghost use Rattle.vat.specs.declared.record.Record.{Record};
-ghost use Rattle.vat.specs.Table.{Fits, view};
+ghost use Rattle.vat.specs.Table.{FitsTable, view};
 
 use dir::Kind;
 use recover::{PARTITION_START, ROOT_ADDRESS, StoreFault};
@@ -98,7 +98,7 @@ pub fn keep_reply(
     number: u64,
     code: u16,
 ) -> Result<(), StoreFault>
-    requires fits { Fits (view vat.old) }
+    requires fits { FitsTable (view vat.old) }
     requires behind { 261 ≤ at }
     requires code { code ≤ 10 }
     requires client { 0 < client }
@@ -106,7 +106,7 @@ pub fn keep_reply(
     requires count { vat.old.sessions.commits + 1 < 2 ^ 32 }
     requires next { spec.IsNext client number vat.old.sessions.records.items }
     ensures kept { IfOk result (λ _. view vat.new ≡ spec.committed at client number code (view vat.old)) }
-    ensures fits { IfOk result (λ _. Fits (view vat.new)) }
+    ensures fits { IfOk result (λ _. FitsTable (view vat.new)) }
     ensures full { is_full result ≡ false }
     ensures failures { devices result ≡ 0 }
     ensures memory { IfErr result (λ fault. fault ≡ Memory) }
@@ -168,12 +168,12 @@ fn set_entry(entries: &mut Vec<Option<u32>>, address: u32, entry: Option<u32>) -
 ///
 /// After an error the table is in no state that is known.
 pub fn add_node(vat: &mut Vat, kind: Kind, address: u32, number: u32) -> Result<bool, StoreFault>
-    requires fits { Fits (view vat.old) }
+    requires fits { FitsTable (view vat.old) }
     requires number { number < 0xFFFF_FFFF }
     requires unique { vat.old.sessions.next_unique + 1 < 2 ^ 32 }
     ensures free { IfOk result (λ made. IsTrue made ↔ spec.IsFree address vat.old.entries.items) }
     ensures table { IfOk result (λ made. view vat.new ≡ (if made then spec.added kind address number (view vat.old) else view vat.old)) }
-    ensures fits { IfOk result (λ _. Fits (view vat.new)) }
+    ensures fits { IfOk result (λ _. FitsTable (view vat.new)) }
     ensures below { IfOk result (λ _. (at : ℕ) → number + 257 < at → AreBelow at vat.old.entries.items → AreBelow at vat.new.entries.items) }
     ensures full { is_full result ≡ false }
     ensures failures { devices result ≡ 0 }
@@ -192,12 +192,12 @@ pub fn add_node(vat: &mut Vat, kind: Kind, address: u32, number: u32) -> Result<
 
 /// Leads the address of a node to the block number, if it has one: whether it has.
 pub fn place_node(vat: &mut Vat, address: u32, number: u32) -> bool
-    requires fits { Fits (view vat.old) }
+    requires fits { FitsTable (view vat.old) }
     requires number { number < 0xFFFF_FFFF }
     ensures used { IsTrue result ↔ IsUsed address vat.old.entries.items }
     ensures table { view vat.new ≡ (if result then spec.placed address number (view vat.old) else view vat.old) }
     ensures need { table_need (view vat.new) ≡ table_need (view vat.old) }
-    ensures fits { Fits (view vat.new) }
+    ensures fits { FitsTable (view vat.new) }
     ensures commits { vat.new.sessions.commits ≡ vat.old.sessions.commits }
     ensures unique { vat.new.sessions.next_unique ≡ vat.old.sessions.next_unique }
     ensures below { (at : ℕ) → number + 257 < at → AreBelow at vat.old.entries.items → AreBelow at vat.new.entries.items }
@@ -217,11 +217,11 @@ fn has_node(vat: &Vat, kind: Kind) -> bool
 
 /// Removes a node that is not the root, if the address has one and its kind is counted: whether it did.
 pub fn remove_node(vat: &mut Vat, kind: Kind, address: u32) -> bool
-    requires fits { Fits (view vat.old) }
+    requires fits { FitsTable (view vat.old) }
     ensures removed { IsTrue result ↔ spec.IsRemovable kind address (view vat.old) }
     ensures table { view vat.new ≡ (if result then spec.removed kind address (view vat.old) else view vat.old) }
     ensures need { table_need (view vat.new) ≡ table_need (view vat.old) }
-    ensures fits { Fits (view vat.new) }
+    ensures fits { FitsTable (view vat.new) }
     ensures below { (at : ℕ) → AreBelow at vat.old.entries.items → AreBelow at vat.new.entries.items }
 {
     if address <= ROOT_ADDRESS || !has_node(vat, kind) {

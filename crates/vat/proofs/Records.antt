@@ -93,10 +93,10 @@ abbrev pub parsed : Version → List ℕ → Record
 parsed version text = record { client = u64_at 0 text; latest = u64_at 8 text; replies = replies_in (places_in version text) }
 
 -- a reply with a spelling
-abbrev Fits : Reply → Type 0
-Fits reply = (reply.code < 2 ^ 16) × (reply.commit < 2 ^ 32)
+abbrev FitsReply : Reply → Type 0
+FitsReply reply = (reply.code < 2 ^ 16) × (reply.commit < 2 ^ 32)
 
-reply_again : (reply : Reply) → Fits reply → made (reply.code % 256 + reply.code / 256 % 256 * 2 ^ 8) (reply.commit % 256 + reply.commit / 256 % 256 * 2 ^ 8 + (reply.commit / 65536 % 256 + reply.commit / 16777216 % 256 * 2 ^ 8) * 2 ^ 16) ≡ reply
+reply_again : (reply : Reply) → FitsReply reply → made (reply.code % 256 + reply.code / 256 % 256 * 2 ^ 8) (reply.commit % 256 + reply.commit / 256 % 256 * 2 ^ 8 + (reply.commit / 65536 % 256 + reply.commit / 16777216 % 256 * 2 ^ 8) * 2 ^ 16) ≡ reply
 reply_again reply fits =
     let code : reply.code % 256 + reply.code / 256 % 256 * 2 ^ 8 ≡ reply.code = omega (arith, fits.0) in
     let commit : reply.commit % 256 + reply.commit / 256 % 256 * 2 ^ 8 + (reply.commit / 65536 % 256 + reply.commit / 16777216 % 256 * 2 ^ 8) * 2 ^ 16 ≡ reply.commit = omega (arith, fits.1) in
@@ -108,7 +108,7 @@ again reply = made (reply.code % 256 + reply.code / 256 % 256 * 2 ^ 8) (reply.co
 abbrev listed : Reply → Reply → Reply → Reply → List Reply
 listed a b c d = a ∷ b ∷ c ∷ d ∷ []
 
-four_again : (client latest : ℕ) (a b c d : Reply) → Fits a → Fits b → Fits c → Fits d
+four_again : (client latest : ℕ) (a b c d : Reply) → FitsReply a → FitsReply b → FitsReply c → FitsReply d
     → places_in Two (concat (to_le_bytes w64 client ∷ to_le_bytes w64 latest ∷ flat_map reply_bytes (a ∷ b ∷ c ∷ d ∷ []) ∷ [])) ≡ a ∷ b ∷ c ∷ d ∷ []
 four_again client latest a b c d fa fb fc fd =
     ap (λ (x : Reply). listed x (again b) (again c) (again d)) (reply_again a fa)
@@ -124,10 +124,10 @@ found_again limit k (reply ∷ replies) all =
     let no : eqb reply.commit 0 ≡ false = ne_eqb reply.commit 0 (omega (arith, all.1)) in
     rw no (ap (λ (x : List Reply). reply ∷ x) (found_again (reply.commit - 1) k replies all.3))
 
-fits_of : (reply : Reply) (limit : ℕ) → limit < 2 ^ 32 → reply.code ≤ 10 → reply.commit ≤ limit → Fits reply
+fits_of : (reply : Reply) (limit : ℕ) → limit < 2 ^ 32 → reply.code ≤ 10 → reply.commit ≤ limit → FitsReply reply
 fits_of reply limit small code commit = (omega arith, omega arith)
 
-nothing_fits : Fits nothing
+nothing_fits : FitsReply nothing
 nothing_fits = (omega arith, omega arith)
 
 replies_again : (version : Version) (client latest limit : ℕ) (replies : List Reply) → limit < 2 ^ 32 → 0 < length replies → length replies ≤ places version → AreReplies limit replies

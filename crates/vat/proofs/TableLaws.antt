@@ -14,7 +14,7 @@ use Rattle.vat.specs.declared.table.Version.TheVariants.{One, Two}
 use Rattle.vat.specs.Version.{version_number, version_of, record_size}
 use Rattle.vat.specs.Record.{record_bytes, IsKept}
 use Rattle.vat.specs.Entry.{unused, entry_number, entry_of, entry_bytes}
-use Rattle.vat.specs.Table.{Table, Fits, IsTableAt, table_bytes, head_parts, middle_parts, use_size}
+use Rattle.vat.specs.Table.{Table, FitsTable, IsTableAt, table_bytes, head_parts, middle_parts, use_size}
 use Rattle.vat.specs.Rules.{version_at, count_at, commits_at, record_size_at, numbers_at, label_field, record_place, record_text, HasHeader, HasRevisions, HasRecords, HasClients, AreEntries, HasCounts, Says}
 use Rattle.vat.proofs.Labels.{length-label, field_is}
 use Rattle.vat.proofs.Areas.{piece_at}
@@ -173,7 +173,7 @@ module _ (icb : ℕ) (t : Table) (bytes : List ℕ) (small : icb < 2 ^ 32) (fits
     λ none_yet. ap is_some (says.previous ∙ ap entry_of (header.first (sym says.commits ∙ none_yet))),
   )
 
-  pub fits_are : Fits t
+  pub fits_are : FitsTable t
   fits_are = record {
     label = says.label.label;
     first = first_alone;

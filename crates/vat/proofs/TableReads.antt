@@ -15,7 +15,7 @@ use Rattle.vat.specs.declared.table.Version.TheVariants.{One, Two}
 use Rattle.vat.specs.Version.{version_number, version_of, record_size}
 use Rattle.vat.specs.Record.{record_bytes, IsKept}
 use Rattle.vat.specs.Entry.{unused, entry_number, entry_of, entry_bytes, words}
-use Rattle.vat.specs.Table.{Table, Fits, IsTable, IsTableAt, head_bytes, head_parts, middle_of, use_size}
+use Rattle.vat.specs.Table.{Table, FitsTable, IsTable, IsTableAt, head_bytes, head_parts, middle_of, use_size}
 use Rattle.vat.specs.Rules.{table_rules, version_at, count_at, commits_at, record_size_at, numbers_at, label_field, record_place, used_of, HasHeader, HasRecords, HasClients, HasEntries, HasCounts, Says, SaysRecords}
 use Rattle.vat.proofs.Labels.{length-label, field_told, one_label}
 use Rattle.vat.proofs.Areas.{length-pieces}
@@ -58,7 +58,7 @@ either true = inl refl
 either false = inr refl
 
 module _ (icb : ℕ) (t : Table) (bytes : List ℕ) (stands : IsTableAt icb t bytes) where
-  fits : Fits t
+  fits : FitsTable t
   fits = stands.table.fits
 
   abbrev records : List ℕ
@@ -248,7 +248,7 @@ one_table icb here t u bytes a b =
 
 -- ---- bounds
 
-pub nodes_have_entries : (t : Table) → Fits t → (1 + (t.files + t.directories) ≤ length t.entries) × (length t.entries ≤ 4097)
+pub nodes_have_entries : (t : Table) → FitsTable t → (1 + (t.files + t.directories) ≤ length t.entries) × (length t.entries ≤ 4097)
 nodes_have_entries t fits = (omega (arith, fits.used, count_by-le-length is_some t.entries), fits.many)
 
 pub takes_so_many : (t : Table) (bytes : List ℕ) → IsTable t bytes → length bytes ≡ 196 + (record_size t.version * length t.records + 4 * length t.entries)

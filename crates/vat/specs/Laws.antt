@@ -2,7 +2,7 @@
 use Rattle.std.specs.Prelude.{◌≡◌, ℕ, ◌+◌, ◌*◌, ◌≤◌, List, length}
 use Rattle.limits.specs.declared.TheConstants.{ADDRESSES}
 use Rattle.vat.specs.Version.{record_size}
-use Rattle.vat.specs.Table.{Table, Fits, IsTable, IsTableAt}
+use Rattle.vat.specs.Table.{Table, FitsTable, IsTable, IsTableAt}
 
 -- bytes are one table at most, wherever its entry stands
 abbrev pub OneTable : Type 0
@@ -10,7 +10,7 @@ OneTable = (icb other : ℕ) (t u : Table) (bytes : List ℕ) → IsTableAt icb 
 
 -- each node and the file set have an entry, and there is an end to them
 abbrev pub NodesHaveEntries : Type 0
-NodesHaveEntries = (t : Table) → Fits t → (1 + (t.files + t.directories) ≤ length t.entries) × (length t.entries ≤ ADDRESSES)
+NodesHaveEntries = (t : Table) → FitsTable t → (1 + (t.files + t.directories) ≤ length t.entries) × (length t.entries ≤ ADDRESSES)
 
 -- how many bytes a table takes: 48 for a record in version 2
 abbrev pub TakesSoMany : Type 0

@@ -76,7 +76,7 @@ abbrev pub table_bytes : Table → List ℕ
 table_bytes t = head_bytes t ++ (flat_map (record_bytes t.version) t.records ++ flat_map entry_bytes t.entries)
 
 -- what has a spelling
-pub record Fits (t : Table) : Type 0 where
+pub record FitsTable (t : Table) : Type 0 where
   pub label : IsLabel t.label
   -- the first table alone has none before it
   pub first : IsNone t.previous ↔ (t.commits ≡ 0)
@@ -98,7 +98,7 @@ pub record Fits (t : Table) : Type 0 where
 
 -- the bytes are the table's
 pub record IsTable (t : Table) (bytes : List ℕ) : Type 0 where
-  pub fits : Fits t
+  pub fits : FitsTable t
   pub whole : bytes ≡ table_bytes t
 
 -- the same, with all that it names below the block number of its own entry

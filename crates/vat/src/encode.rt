@@ -1,6 +1,6 @@
 ghost use Rattle.std.specs.Prelude.{◌≡◌, ◌*◌, ◌≤◌, ◌++◌, length, All, IfOk, OnOk};
 ghost use Rattle.std.specs.List.{flat_map};
-ghost use Rattle.vat.specs.Table.{view, Fits, head_bytes, table_bytes};
+ghost use Rattle.vat.specs.Table.{view, FitsTable, head_bytes, table_bytes};
 ghost use Rattle.vat.specs.Record as spec;
 ghost use Rattle.vat.specs.Record.{HasRoom};
 ghost use Rattle.vat.specs.Entry.{entry_number, entry_bytes};
@@ -28,7 +28,7 @@ pub(crate) const SESSIONS: &[u8; 18] = b"\x00*udfburn sessions";
 
 /// The one spelling of a table.
 pub fn encode_vat(alloc: Global, vat: &Vat) -> Result<Vec<u8>, AllocError>
-    requires { Fits (view vat.now) }
+    requires { FitsTable (view vat.now) }
     ensures { IfOk result (λ bytes. bytes.items ≡ table_bytes (view vat.now)) }
 {
     let sessions = &vat.sessions;

@@ -19,7 +19,7 @@ use Rattle.osta.proofs.Names.{label_Dstring}
 use Rattle.volume.specs.declared.front.Front.{Front}
 use Rattle.volume.specs.Descriptors.{digits, partition_fields}
 use Rattle.volume.specs.Front.{IsFront, IsFrontBlock}
-use Rattle.volume.specs.Reading.{DiffersAt, DiffersFirst, Tells, label_field, stamp_field}
+use Rattle.volume.specs.Reading.{DiffersAt, DiffersFirst, DescriptorsTell, label_field, stamp_field}
 use Rattle.volume.proofs.Digits.{length-label, length-set}
 use Rattle.volume.proofs.FrontLaws.{one_front_block}
 
@@ -97,7 +97,7 @@ partition_tells label moment capacity block high is =
     (sealed_front 5 34 512 fields block d refl, omega (arith, high, cell 176, cell 177, cell 178, cell 179))
 
 -- the front that blocks are is what two of them tell
-pub front_tells : (f : Front) (blocks : List (List ℕ)) → IsFront f.label f.moment f.capacity blocks → Tells f (get_or blocks 32 []) (get_or blocks 34 [])
+pub front_tells : (f : Front) (blocks : List (List ℕ)) → IsFront f.label f.moment f.capacity blocks → DescriptorsTell f (get_or blocks 32 []) (get_or blocks 34 [])
 front_tells f blocks is =
     let p = primary_tells f.label f.moment f.capacity (get_or blocks 32 []) (is.each 32 (omega arith)) in
     let q = partition_tells f.label f.moment f.capacity (get_or blocks 34 []) is.high (is.each 34 (omega arith)) in
@@ -115,7 +115,7 @@ same_front d e label moment capacity =
     from
 
 -- two blocks tell one front
-pub one_told : (d e : Front) (primary partition : List ℕ) → Tells d primary partition → Tells e primary partition → d ≡ e
+pub one_told : (d e : Front) (primary partition : List ℕ) → DescriptorsTell d primary partition → DescriptorsTell e primary partition → d ≡ e
 one_told d e primary partition x y =
     let field = label_field primary in
     let label = sym (text_from_Dstring d.label field (length field) x.label.field) ∙ text_from_Dstring e.label field (length field) y.label.field in

@@ -29,7 +29,7 @@ word_rules primary partition =
     ∷ []
 
 -- what the two descriptors tell
-pub record Tells (front : Front) (primary partition : List ℕ) : Type 0 where
+pub record DescriptorsTell (front : Front) (primary partition : List ℕ) : Type 0 where
   pub rules : AllHold (word_rules primary partition)
   pub label : IsLabelDstring front.label (label_field primary)
   pub moment : IsMoment front.moment (stamp_field primary)
@@ -51,7 +51,7 @@ pub record DiffersAt (front : Front) (n : ℕ) (block : List ℕ) (at : ℕ) : T
 -- the two descriptors tell a front, and the fault is the first byte that is not that of its blocks
 pub record FirstDifference (blocks : List (List ℕ)) (primary partition : List ℕ) (fault : VolumeFault) : Type 0 where
   pub front : Front
-  pub tells : Tells front primary partition
+  pub tells : DescriptorsTell front primary partition
   pub n : ℕ
   pub at : ℕ
   pub told : fault ≡ Field n at
@@ -60,5 +60,5 @@ pub record FirstDifference (blocks : List (List ℕ)) (primary partition : List 
   pub differs : DiffersAt front n (slice_index_or blocks n []) at
 
 -- the fault that is told of blocks with these two descriptors
-abbrev pub IsTold : List (List ℕ) → List ℕ → List ℕ → VolumeFault → Type 0
-IsTold blocks primary partition fault = IsFirst (word_rules primary partition) fault ⊎ FirstDifference blocks primary partition fault
+abbrev pub IsFaultTold : List (List ℕ) → List ℕ → List ℕ → VolumeFault → Type 0
+IsFaultTold blocks primary partition fault = IsFirst (word_rules primary partition) fault ⊎ FirstDifference blocks primary partition fault

@@ -3,7 +3,7 @@ ghost use Rattle.ecma.specs.Tag.{Sealed};
 ghost use Rattle.ecma.specs.FirstFault.{IsFirst};
 ghost use Rattle.volume.specs.declared.read.VolumeFault.TheVariants.{Field};
 ghost use Rattle.volume.specs.Front.{IsFront, IsFrontBlock};
-ghost use Rattle.volume.specs.Reading.{word_rules, Tells, DiffersAt, DiffersFirst, IsTold, stamp_field};
+ghost use Rattle.volume.specs.Reading.{word_rules, DescriptorsTell, DiffersAt, DiffersFirst, IsFaultTold, stamp_field};
 
 use crate::descriptors::{MAIN, PARTITION, PARTITION_TAG, PRIMARY_VOLUME_TAG};
 use crate::front::{Front, front_block};
@@ -28,7 +28,7 @@ pub fn read_front(blocks: &[Block]) -> Result<Front, VolumeFault>
     requires { length blocks.now ≡ 257 }
     ensures found { IfOk result (λ f. IsFront f.label f.moment f.capacity blocks.now) }
     ensures only { (f : Front) → IsFront f.label f.moment f.capacity blocks.now → result ≡ Ok f }
-    ensures fault { IfErr result (IsTold blocks.now (slice_index_or blocks.now 32 []) (slice_index_or blocks.now 34 [])) }
+    ensures fault { IfErr result (IsFaultTold blocks.now (slice_index_or blocks.now 32 []) (slice_index_or blocks.now 34 [])) }
 {
     let front = match front_words(&blocks[32], &blocks[34]) {
         Ok(front) => front,
@@ -47,7 +47,7 @@ pub fn read_front(blocks: &[Block]) -> Result<Front, VolumeFault>
 
 /// The front that its primary volume descriptor, block 32, and its partition descriptor, block 34, tell.
 pub fn front_words(primary: &Block, partition: &Block) -> Result<Front, VolumeFault>
-    ensures tells { IfOk result (λ f. Tells f primary.now partition.now) }
+    ensures tells { IfOk result (λ f. DescriptorsTell f primary.now partition.now) }
     ensures capacity { IfOk result (λ f. (512 ≤ f.capacity) × (f.capacity ≤ 450_000)) }
     ensures fault { IfErr result (IsFirst (word_rules primary.now partition.now)) }
 {

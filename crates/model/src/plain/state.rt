@@ -7,7 +7,7 @@ ghost use Rattle.model.specs.Tree.{IsTree};
 ghost use Rattle.model.specs.Operation.{code_of, tree_after};
 ghost use Rattle.model.specs.Session.{draws_identity, due, formatted, reply_to, after_one};
 ghost use Rattle.model.specs.Plain.{names_in, node_in, code_in, operation_in, tree_in, reply_in, due_in, AreApart};
-ghost use Rattle.model.specs.PlainState.{request_in, state_in, IsWhole};
+ghost use Rattle.model.specs.PlainState.{request_in, state_in, IsWholeState};
 
 use super::codes::code_of;
 use super::edits::done;
@@ -59,7 +59,7 @@ pub struct State {
 impl State {
     /// A volume as it is formatted: the root alone, no client and no commit.
     pub fn formatted(alloc: Global, moment: u64) -> Result<State, AllocError>
-        ensures whole { IfOk result (λ state. IsWhole state) }
+        ensures whole { IfOk result (λ state. IsWholeState state) }
         ensures state { IfOk result (λ state. state_in state ≡ formatted moment) }
     {
         let root = Node {
@@ -98,8 +98,8 @@ impl State {
 
     /// The state after the request, and the reply to it. What is due is for the caller to ask first. At a refusal the state is gone.
     pub fn apply(self, alloc: Global, request: Request) -> Result<(State, Reply), Refusal>
-        requires { IsWhole self }
-        ensures whole { IfOk result (λ pair. IsWhole pair.0) }
+        requires { IsWholeState self }
+        ensures whole { IfOk result (λ pair. IsWholeState pair.0) }
         ensures state { IfOk result (λ pair. state_in pair.0 ≡ after_one (state_in self) (request_in request)) }
         ensures reply { IfOk result (λ pair. reply_in pair.1 ≡ reply_to (state_in self) (request_in request)) }
         ensures exhausted { IfErr result (λ refusal. refusal ≡ Refusal.Exhausted → (2 ^ 64 ≤ self.commits + 1) ⊎ (2 ^ 64 ≤ self.next_identity + 1)) }

@@ -1,5 +1,5 @@
-use Rattle.model.specs.PlainState.{IsWhole}
+use Rattle.model.specs.PlainState.{IsWholeState}
 use Rattle.base_tests.proofs.plain.with_all_clients.Given as goal
 
 abbrev pub invariant-loop-client : goal.invariant-loop-client
-invariant-loop-client l = IsWhole l.state
+invariant-loop-client l = IsWholeState l.state

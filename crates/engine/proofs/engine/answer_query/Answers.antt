@@ -1,7 +1,7 @@
 use Rattle.std.proofs.Common.{Ok, Err, refl, sym, subst}
 use Rattle.request.specs.declared.answer.Answer.TheVariants as answer
 use Rattle.request.specs.declared.message.Query.{Query}
-use Rattle.engine.specs.Answered.{IsTold}
+use Rattle.engine.specs.Answered.{CanBeTold}
 use Rattle.engine.specs.Called.{IsQueried}
 use Rattle.store.proofs.Knowing.{shows, knows_again}
 use Rattle.store.proofs.Queried.{gets, lists, stats}
@@ -18,7 +18,7 @@ returns-in-Ok-clause-queried g c volume S honest knows going =
     )
 
 pub returns-in-Err-clause-told : goal.returns-in-Err-clause-told
-returns-in-Err-clause-told g c = subst (λ (q : Query). IsTold q c.get_refusal.result) (sym c.in-Get.is) (c.get_refusal.ensures.told c.in-Get.path)
+returns-in-Err-clause-told g c = subst (λ (q : Query). CanBeTold q c.get_refusal.result) (sym c.in-Get.is) (c.get_refusal.ensures.told c.in-Get.path)
 
 pub returns-in-Err-clause-queried : goal.returns-in-Err-clause-queried
 returns-in-Err-clause-queried g c volume S honest knows going =
@@ -41,7 +41,7 @@ returns-in-Ok-list-clause-queried g c volume S honest knows going =
     )
 
 pub returns-in-Err-list-clause-told : goal.returns-in-Err-list-clause-told
-returns-in-Err-list-clause-told g c = subst (λ (q : Query). IsTold q c.list_refusal.result) (sym c.in-List.is) (c.list_refusal.ensures.told c.in-List.path)
+returns-in-Err-list-clause-told g c = subst (λ (q : Query). CanBeTold q c.list_refusal.result) (sym c.in-List.is) (c.list_refusal.ensures.told c.in-List.path)
 
 pub returns-in-Err-list-clause-queried : goal.returns-in-Err-list-clause-queried
 returns-in-Err-list-clause-queried g c volume S honest knows going =
@@ -64,7 +64,7 @@ returns-in-Ok-stat-clause-queried g c volume S honest knows going =
     )
 
 pub returns-in-Err-stat-clause-told : goal.returns-in-Err-stat-clause-told
-returns-in-Err-stat-clause-told g c = subst (λ (q : Query). IsTold q c.stat_refusal.result) (sym c.in-Stat.is) (c.stat_refusal.ensures.told c.in-Stat.path)
+returns-in-Err-stat-clause-told g c = subst (λ (q : Query). CanBeTold q c.stat_refusal.result) (sym c.in-Stat.is) (c.stat_refusal.ensures.told c.in-Stat.path)
 
 pub returns-in-Err-stat-clause-queried : goal.returns-in-Err-stat-clause-queried
 returns-in-Err-stat-clause-queried g c volume S honest knows going =

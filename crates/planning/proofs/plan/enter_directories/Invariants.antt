@@ -3,7 +3,7 @@ use Rattle.std.specs.Prelude.{All}
 use Rattle.std.specs.Vec.Iter.{into_iter_items, into_iter_len}
 use Rattle.medium.specs.Plan.{WritesNodes}
 use Rattle.udf.specs.Udf.{udf}
-use Rattle.vat.specs.Table.{Fits, view}
+use Rattle.vat.specs.Table.{FitsTable, view}
 use Rattle.table.specs.Below.{AreBelow, IsUsed}
 use Rattle.planning.specs.Plan.{AreLaid, directories_list, directories_writings, directories_written}
 use Rattle.planning.specs.Needs.{table_need, directories_need}
@@ -19,7 +19,7 @@ invariant-loop-directory l = record {
   count : into_iter_len l.directory-iterator ≡ length (into_iter_items l.directory-iterator);
   writings : new_directories l.fn.directories.items ≡ directories_writings l.all.items ++ new_directories (into_iter_items l.directory-iterator);
   table : view l.vat ≡ all_placed (directories_written l.all.items) (view l.fn.vat);
-  fits : Fits (view l.vat);
+  fits : FitsTable (view l.vat);
   below : AreBelow (l.fn.numbers.next + 257) l.fn.vat.entries.items → AreBelow (l.numbers.next + 257) l.vat.entries.items;
   previous : l.vat.previous ≡ l.fn.vat.previous;
   commits : l.vat.sessions.commits ≡ l.fn.vat.sessions.commits;

@@ -1,5 +1,5 @@
 use Rattle.std.proofs.Common.{◌≡◌, ℕ, IsTrue, List, Some}
-use Rattle.volume.specs.Reading.{Tells}
+use Rattle.volume.specs.Reading.{DescriptorsTell}
 use Rattle.drive.specs.Journal.{held, last_at}
 use Rattle.drive.specs.Reads.{Reads}
 use Rattle.recover.proofs.Fronts.{BeginsFront}
@@ -8,6 +8,6 @@ use Rattle.recover.proofs.state.read_front.Given as goal
 abbrev pub invariant-loop-n : goal.invariant-loop-n
 invariant-loop-n g l = record {
   seen : IsTrue (g.D.Drive.honest l.drive) → BeginsFront l.front.label l.front.moment l.front.capacity l.n (held (g.D.Drive.journal l.fn.drive));
-  words : IsTrue (g.D.Drive.honest l.drive) → (primary : List ℕ) × (partition : List ℕ) × (last_at (g.D.Drive.journal l.fn.drive) 32 ≡ Some primary) × (last_at (g.D.Drive.journal l.fn.drive) 34 ≡ Some partition) × Tells l.front primary partition;
+  words : IsTrue (g.D.Drive.honest l.drive) → (primary : List ℕ) × (partition : List ℕ) × (last_at (g.D.Drive.journal l.fn.drive) 32 ≡ Some primary) × (last_at (g.D.Drive.journal l.fn.drive) 34 ≡ Some partition) × DescriptorsTell l.front primary partition;
   reads : Reads g.D.Drive 0 l.fn.drive l.drive;
 }

@@ -5,7 +5,7 @@ use Rattle.udf.specs.Said.{names_directory}
 use Rattle.table.specs.declared.node.Node.{Node}
 use Rattle.directories.specs.Cache.{AreKept}
 use Rattle.directories.specs.Heights.{IsHeightSoFar}
-use Rattle.directories.specs.Shows.{Shows, IsAt, graph_below}
+use Rattle.directories.specs.Shows.{Shows, IsNodeAt, graph_below}
 use Rattle.directories.proofs.nodes.Nodes.+height.Given as goal
 
 abbrev pub decreases-height : goal.decreases-height
@@ -19,6 +19,6 @@ invariant-loop-index g l = record {
   reads : Reads g.D.Drive 0 l.fn.drive l.drive;
   kept : IsTrue (g.D.Drive.honest l.drive) → AreKept (g.D.Drive.journal l.fn.drive) l.fn.directories → AreKept (g.D.Drive.journal l.fn.drive) l.directories;
   height : (tree : Tree) (path : Path) (node : Node) → Shows (g.D.Drive.honest l.drive) (g.D.Drive.journal l.fn.drive) l.fn.directories l.fn.self.at l.fn.self.entries.now tree
-      → IsAt (graph_below l.fn.self.at l.fn.self.entries.now (g.D.Drive.journal l.fn.drive)) path node → names_directory node.kind ≡ true → node.address ≡ l.fn.address
+      → IsNodeAt (graph_below l.fn.self.at l.fn.self.entries.now (g.D.Drive.journal l.fn.drive)) path node → names_directory node.kind ≡ true → node.address ≡ l.fn.address
       → IsHeightSoFar tree path l.left l.content.dir.entries.entries l.index l.most;
 }

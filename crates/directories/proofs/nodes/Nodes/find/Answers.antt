@@ -8,7 +8,7 @@ use Rattle.recover.specs.declared.fault.StoreFault.{StoreFault}
 use Rattle.model.specs.Tree.{Path}
 use Rattle.dir.specs.declared.entry.Entry.{Entry}
 use Rattle.directories.specs.Cache.{AreKept}
-use Rattle.directories.specs.Shows.{IsAt, graph_below}
+use Rattle.directories.specs.Shows.{IsNodeAt, graph_below}
 use Rattle.directories.proofs.Walks.{IsNext, shows_before, next_at, file_at, root_at, refused_at}
 use Rattle.directories.proofs.nodes.Nodes.find.Goals as goal
 
@@ -102,4 +102,4 @@ pub returns-clause-found : goal.returns-clause-found
 returns-clause-found g c tree s =
     let J = g.D.Drive.journal c.args.drive.now in
     let here = c.loop-name.invariant.found tree s in
-    subst (λ (p : Path). IsAt (graph_below c.args.self.now.at c.args.self.now.entries.now J) p c.loop-name.node) (take_all c.loop-name.name-index c.args.names.now c.loop-name-test.false) here
+    subst (λ (p : Path). IsNodeAt (graph_below c.args.self.now.at c.args.self.now.entries.now J) p c.loop-name.node) (take_all c.loop-name.name-index c.args.names.now c.loop-name-test.false) here

@@ -10,7 +10,7 @@ use Rattle.recover.specs.Faults.{IsShortage}
 use Rattle.recover.specs.declared.fault.StoreFault.{StoreFault}
 use Rattle.request.specs.declared.answer.Code.TheVariants as code
 use Rattle.directories.specs.Cache.{AreKept}
-use Rattle.directories.specs.Shows.{IsAt, IsFound, IsFoundDirectory, graph_below}
+use Rattle.directories.specs.Shows.{IsNodeAt, IsFound, IsFoundDirectory, graph_below}
 use Rattle.planning.specs.declared.change.Change.{Change}
 use Rattle.planning.specs.declared.change.NewDirectory.{NewDirectory}
 use Rattle.directories.specs.declared.content.Content.{Content}
@@ -115,7 +115,7 @@ returns-in_err-content-clause-short g c tree s =
     let s3 = shows_before (g.D.Drive.honest c.open.new.drive) (g.D.Drive.honest c.find_directory.new.drive) J c.args.directories.now at entries tree c.in_err-content.ensures.reads.honest s in
     let s2 = shows_on (g.D.Drive.honest c.find_directory.new.drive) J J2 c.args.directories.now c.has_names.new.directories at entries tree same2 kept2 s3 in
     let up2 = subst (λ (o : Option Node). IsFoundDirectory (graph_below at entries J2) tree above o) c.in-Some-3.is (c.in_ok-parent.ensures.found tree s2) in
-    let up = subst (λ (K : List Event). IsAt (graph_below at entries K) above c.in-Some-3.parent) same2 up2.0 in
+    let up = subst (λ (K : List Event). IsNodeAt (graph_below at entries K) above c.in-Some-3.parent) same2 up2.0 in
     let there = there_too at entries J tree s.tree s.makes at entries J3 refl refl same3 above c.in-Some-3.parent up in
     rw p.1 (subst (λ (f : StoreFault). IsShortage f) (sym p.2) (c.in_err-content.ensures.refused s.honest up.found.stored there (stored_directory graph above c.in-Some-3.parent up up2.1)))
 
@@ -175,7 +175,7 @@ returns-clause-does g c tree identity s =
     let s3 = shows_before (g.D.Drive.honest c.open.new.drive) (g.D.Drive.honest c.find_directory.new.drive) J c.args.directories.now at entries tree c.in_ok-content.ensures.reads.honest s in
     let s2 = shows_on (g.D.Drive.honest c.find_directory.new.drive) J J2 c.args.directories.now c.has_names.new.directories at entries tree same2 kept2 s3 in
     let up2 = subst (λ (o : Option Node). IsFoundDirectory (graph_below at entries J2) tree above o) c.in-Some-3.is (c.in_ok-parent.ensures.found tree s2) in
-    let up = subst (λ (K : List Event). IsAt (graph_below at entries K) above parent) same2 up2.0 in
+    let up = subst (λ (K : List Event). IsNodeAt (graph_below at entries K) above parent) same2 up2.0 in
     let kept3 = kept_on J J2 c.has_names.new.directories c.find_directory.new.directories same2 (c.in_ok-parent.ensures.kept h3) kept2 in
     let kept3_on = subst (λ (K : List Event). AreKept K c.find_directory.new.directories) (sym same3) kept3 in
     let up_there = there_too at entries J tree s.tree s.makes at entries J3 refl refl same3 above parent up in

@@ -15,7 +15,7 @@ use Rattle.udf.specs.Said.{names_directory}
 use Rattle.table.specs.declared.node.Node.{Node}
 use Rattle.planning.specs.Changes.{Does}
 use Rattle.planning.specs.Moves.{IsWithin, IsBetween}
-use Rattle.directories.specs.Shows.{IsAt, Shows, graph_below}
+use Rattle.directories.specs.Shows.{IsNodeAt, Shows, graph_below}
 use Rattle.directories.proofs.Behind.{IsBehind, behind_more, shows_behind, found_on, directory_on}
 use Rattle.directories.proofs.Heights.{one_on, there_at}
 use Rattle.planning.proofs.Moving.{goes_into, rename_into, rename_nowhere, rename_exists, rename_deep, rename_beside, rename_elsewhere, same_path, same_address}
@@ -68,22 +68,22 @@ behind_loses g c =
 
 -- ---- what was found
 
-node_there : (g : Over) (c : In-Some-2 g) (tree : Tree) → Shows (g.D.Drive.honest c.find.new.drive) (g.D.Drive.journal c.args.drive.now) c.args.directories.now c.args.self.now.nodes.at c.args.self.now.nodes.entries.now tree → IsAt (graph_below c.args.self.now.nodes.at c.args.self.now.nodes.entries.now (g.D.Drive.journal c.args.drive.now)) c.args.from.now c.in-Some-2.node
+node_there : (g : Over) (c : In-Some-2 g) (tree : Tree) → Shows (g.D.Drive.honest c.find.new.drive) (g.D.Drive.journal c.args.drive.now) c.args.directories.now c.args.self.now.nodes.at c.args.self.now.nodes.entries.now tree → IsNodeAt (graph_below c.args.self.now.nodes.at c.args.self.now.nodes.entries.now (g.D.Drive.journal c.args.drive.now)) c.args.from.now c.in-Some-2.node
 node_there g c tree s = found_on c.args.self.now.nodes.at c.args.self.now.nodes.entries.now (g.D.Drive.journal c.args.drive.now) (g.D.Drive.journal c.args.drive.now) tree c.args.from.now c.in_ok-node.field-0 (Some c.in-Some-2.node) refl c.in-Some-2.is (c.in_ok-node.ensures.found tree s)
 
-gains_there : (g : Over) (c : In-Some-3 g) → IsBehind (g.D.Drive.journal c.args.drive.now) c.args.directories.now (g.D.Drive.honest c.args.drive.now) (g.D.Drive.journal c.find.new.drive) c.find.new.directories (g.D.Drive.honest c.find.new.drive) → (tree : Tree) → Shows (g.D.Drive.honest c.find_directory.new.drive) (g.D.Drive.journal c.args.drive.now) c.args.directories.now c.args.self.now.nodes.at c.args.self.now.nodes.entries.now tree → IsAt (graph_below c.args.self.now.nodes.at c.args.self.now.nodes.entries.now (g.D.Drive.journal c.args.drive.now)) c.in-Some-split_last.beyond.now c.in-Some-3.gains × (names_directory c.in-Some-3.gains.kind ≡ true)
+gains_there : (g : Over) (c : In-Some-3 g) → IsBehind (g.D.Drive.journal c.args.drive.now) c.args.directories.now (g.D.Drive.honest c.args.drive.now) (g.D.Drive.journal c.find.new.drive) c.find.new.directories (g.D.Drive.honest c.find.new.drive) → (tree : Tree) → Shows (g.D.Drive.honest c.find_directory.new.drive) (g.D.Drive.journal c.args.drive.now) c.args.directories.now c.args.self.now.nodes.at c.args.self.now.nodes.entries.now tree → IsNodeAt (graph_below c.args.self.now.nodes.at c.args.self.now.nodes.entries.now (g.D.Drive.journal c.args.drive.now)) c.in-Some-split_last.beyond.now c.in-Some-3.gains × (names_directory c.in-Some-3.gains.kind ≡ true)
 gains_there g c b tree s = directory_on c.args.self.now.nodes.at c.args.self.now.nodes.entries.now (g.D.Drive.journal c.args.drive.now) (g.D.Drive.journal c.find.new.drive) tree c.in-Some-split_last.beyond.now c.in_ok-gains.field-0 (Some c.in-Some-3.gains) b.journal c.in-Some-3.is (c.in_ok-gains.ensures.found tree (shows_behind (g.D.Drive.journal c.args.drive.now) (g.D.Drive.journal c.find.new.drive) c.args.directories.now c.find.new.directories (g.D.Drive.honest c.args.drive.now) (g.D.Drive.honest c.find.new.drive) (g.D.Drive.honest c.find_directory.new.drive) (g.D.Drive.honest c.find_directory.new.drive) c.args.self.now.nodes.at c.args.self.now.nodes.entries.now tree b c.in_ok-gains.ensures.reads.honest (λ h. h) s))
 
 nothing_there : (g : Over) (c : In_ok-deep g) → IsBehind (g.D.Drive.journal c.args.drive.now) c.args.directories.now (g.D.Drive.honest c.args.drive.now) (g.D.Drive.journal c.find_directory.new.drive) c.find_directory.new.directories (g.D.Drive.honest c.find_directory.new.drive) → (tree : Tree) → Shows (g.D.Drive.honest c.find-2.new.drive) (g.D.Drive.journal c.args.drive.now) c.args.directories.now c.args.self.now.nodes.at c.args.self.now.nodes.entries.now tree → get tree c.args.to.now ≡ None
 nothing_there g c b tree s =
     found_on c.args.self.now.nodes.at c.args.self.now.nodes.entries.now (g.D.Drive.journal c.args.drive.now) (g.D.Drive.journal c.find_directory.new.drive) tree c.args.to.now c.in_ok-there.there None b.journal (no_node c.in_ok-there.there (sym c.is_some.ensures ∙ c.if-is_some.false)) (c.in_ok-there.ensures.found tree (shows_behind (g.D.Drive.journal c.args.drive.now) (g.D.Drive.journal c.find_directory.new.drive) c.args.directories.now c.find_directory.new.directories (g.D.Drive.honest c.args.drive.now) (g.D.Drive.honest c.find_directory.new.drive) (g.D.Drive.honest c.find-2.new.drive) (g.D.Drive.honest c.find-2.new.drive) c.args.self.now.nodes.at c.args.self.now.nodes.entries.now tree b c.in_ok-there.ensures.reads.honest (λ h. h) s))
 
-deep_there : (g : Over) (c : In_ok-deep g) → IsBehind (g.D.Drive.journal c.args.drive.now) c.args.directories.now (g.D.Drive.honest c.args.drive.now) (g.D.Drive.journal c.find-2.new.drive) c.find-2.new.directories (g.D.Drive.honest c.find-2.new.drive) → (tree : Tree) → Shows (g.D.Drive.honest c.is_too_deep.new.drive) (g.D.Drive.journal c.args.drive.now) c.args.directories.now c.args.self.now.nodes.at c.args.self.now.nodes.entries.now tree → IsAt (graph_below c.args.self.now.nodes.at c.args.self.now.nodes.entries.now (g.D.Drive.journal c.args.drive.now)) c.args.from.now c.in-Some-2.node → moves_too_deep c.args.from.now c.args.to.now tree ≡ c.in_ok-deep.deep
+deep_there : (g : Over) (c : In_ok-deep g) → IsBehind (g.D.Drive.journal c.args.drive.now) c.args.directories.now (g.D.Drive.honest c.args.drive.now) (g.D.Drive.journal c.find-2.new.drive) c.find-2.new.directories (g.D.Drive.honest c.find-2.new.drive) → (tree : Tree) → Shows (g.D.Drive.honest c.is_too_deep.new.drive) (g.D.Drive.journal c.args.drive.now) c.args.directories.now c.args.self.now.nodes.at c.args.self.now.nodes.entries.now tree → IsNodeAt (graph_below c.args.self.now.nodes.at c.args.self.now.nodes.entries.now (g.D.Drive.journal c.args.drive.now)) c.args.from.now c.in-Some-2.node → moves_too_deep c.args.from.now c.args.to.now tree ≡ c.in_ok-deep.deep
 deep_there g c b tree s here =
-    let here3 = subst (λ (K : List Event). IsAt (graph_below c.args.self.now.nodes.at c.args.self.now.nodes.entries.now K) c.args.from.now c.in-Some-2.node) (sym b.journal) here in
+    let here3 = subst (λ (K : List Event). IsNodeAt (graph_below c.args.self.now.nodes.at c.args.self.now.nodes.entries.now K) c.args.from.now c.in-Some-2.node) (sym b.journal) here in
     sym (c.in_ok-deep.ensures.deep tree c.args.from.now c.args.to.now (shows_behind (g.D.Drive.journal c.args.drive.now) (g.D.Drive.journal c.find-2.new.drive) c.args.directories.now c.find-2.new.directories (g.D.Drive.honest c.args.drive.now) (g.D.Drive.honest c.find-2.new.drive) (g.D.Drive.honest c.is_too_deep.new.drive) (g.D.Drive.honest c.is_too_deep.new.drive) c.args.self.now.nodes.at c.args.self.now.nodes.entries.now tree b c.in_ok-deep.ensures.reads.honest (λ h. h) s) here3 refl refl)
 
-loses_there : (g : Over) (c : In-Some-4 g) → IsBehind (g.D.Drive.journal c.args.drive.now) c.args.directories.now (g.D.Drive.honest c.args.drive.now) (g.D.Drive.journal c.is_too_deep.new.drive) c.is_too_deep.new.directories (g.D.Drive.honest c.is_too_deep.new.drive) → (tree : Tree) → Shows (g.D.Drive.honest c.find_directory-2.new.drive) (g.D.Drive.journal c.args.drive.now) c.args.directories.now c.args.self.now.nodes.at c.args.self.now.nodes.entries.now tree → IsAt (graph_below c.args.self.now.nodes.at c.args.self.now.nodes.entries.now (g.D.Drive.journal c.args.drive.now)) c.in-Some.above.now c.in-Some-4.loses × (names_directory c.in-Some-4.loses.kind ≡ true)
+loses_there : (g : Over) (c : In-Some-4 g) → IsBehind (g.D.Drive.journal c.args.drive.now) c.args.directories.now (g.D.Drive.honest c.args.drive.now) (g.D.Drive.journal c.is_too_deep.new.drive) c.is_too_deep.new.directories (g.D.Drive.honest c.is_too_deep.new.drive) → (tree : Tree) → Shows (g.D.Drive.honest c.find_directory-2.new.drive) (g.D.Drive.journal c.args.drive.now) c.args.directories.now c.args.self.now.nodes.at c.args.self.now.nodes.entries.now tree → IsNodeAt (graph_below c.args.self.now.nodes.at c.args.self.now.nodes.entries.now (g.D.Drive.journal c.args.drive.now)) c.in-Some.above.now c.in-Some-4.loses × (names_directory c.in-Some-4.loses.kind ≡ true)
 loses_there g c b tree s = directory_on c.args.self.now.nodes.at c.args.self.now.nodes.entries.now (g.D.Drive.journal c.args.drive.now) (g.D.Drive.journal c.is_too_deep.new.drive) tree c.in-Some.above.now c.in_ok-loses.field-0 (Some c.in-Some-4.loses) b.journal c.in-Some-4.is (c.in_ok-loses.ensures.found tree (shows_behind (g.D.Drive.journal c.args.drive.now) (g.D.Drive.journal c.is_too_deep.new.drive) c.args.directories.now c.is_too_deep.new.directories (g.D.Drive.honest c.args.drive.now) (g.D.Drive.honest c.is_too_deep.new.drive) (g.D.Drive.honest c.find_directory-2.new.drive) (g.D.Drive.honest c.find_directory-2.new.drive) c.args.self.now.nodes.at c.args.self.now.nodes.entries.now tree b c.in_ok-loses.ensures.reads.honest (λ h. h) s))
 
 -- ---- each way out
@@ -167,7 +167,7 @@ returns-in_err-deep-clause-short g c tree s =
     let s4_ = shows_behind (g.D.Drive.journal c.args.drive.now) (g.D.Drive.journal c.find-2.new.drive) c.args.directories.now c.find-2.new.directories (g.D.Drive.honest c.args.drive.now) (g.D.Drive.honest c.find-2.new.drive) (g.D.Drive.honest c.is_too_deep.new.drive) (g.D.Drive.honest c.is_too_deep.new.drive) c.args.self.now.nodes.at c.args.self.now.nodes.entries.now tree (behind_there g (goal.at.returns-in_err-deep-clause-short g c).In_ok-there) c.in_err-deep.ensures.reads.honest (λ h. h) s in
     let here = node_there g (goal.at.returns-in_err-deep-clause-short g c).In-Some-2 tree s1 in
     let b = behind_there g (goal.at.returns-in_err-deep-clause-short g c).In_ok-there in
-    let here3 = subst (λ (K : List Event). IsAt (graph_below c.args.self.now.nodes.at c.args.self.now.nodes.entries.now K) c.args.from.now c.in-Some-2.node) (sym b.journal) here in
+    let here3 = subst (λ (K : List Event). IsNodeAt (graph_below c.args.self.now.nodes.at c.args.self.now.nodes.entries.now K) c.args.from.now c.in-Some-2.node) (sym b.journal) here in
     let p = err_from_is_err_and c.from_residual-in_err-deep.result c.from_residual-in_err-deep.ensures.1 in
     rw p.1 (subst (λ (f : StoreFault). IsShortage f) (sym p.2) (c.in_err-deep.ensures.short tree c.args.from.now s4_ here3))
 

@@ -8,7 +8,7 @@ use Rattle.medium.specs.Plan.{Writing, WritesNodes}
 use Rattle.request.specs.Numbers.{code_number}
 use Rattle.udf.specs.Udf.{udf}
 use Rattle.vat.specs.declared.table.Vat.{Vat}
-use Rattle.vat.specs.Table.{Table, Fits, view}
+use Rattle.vat.specs.Table.{Table, FitsTable, view}
 use Rattle.table.specs.Below.{AreBelow, IsUsed}
 use Rattle.planning.specs.Plan.{AreLaid, IsTablePlaced, file_list, file_writings, file_written, directories_list, directories_writings, directories_written}
 use Rattle.planning.specs.Needs.{change_need}
@@ -78,7 +78,7 @@ returns-clause-plan g c =
       fits = omega (arith, c.in_ok-table.ensures.within, c.in_ok-directories.ensures.end, c.in_ok-file.ensures.end, c.new-numbers.ensures.end, c.requires.agrees.fits, c.requires.agrees.least);
       keeps = record {
         low = omega (arith, behind, c.requires.agrees.on, c.requires.agrees.keeps.low);
-        fits = subst (λ (v : Vat). Fits (view v)) (sym c.in_ok-table.ensures.vat) c.in_ok-take_away.ensures.fits;
+        fits = subst (λ (v : Vat). FitsTable (view v)) (sym c.in_ok-table.ensures.vat) c.in_ok-take_away.ensures.fits;
         entries = subst (λ (v : Vat). AreBelow at v.entries.items) (sym c.in_ok-table.ensures.vat) all;
         few_commits = omega (arith, commits, behind, c.requires.agrees.on, c.requires.agrees.keeps.few_commits);
         few_unique = omega (arith, commits, unique, c.in_ok-vat.ensures.unique, c.in_ok-vat.ensures.commits);

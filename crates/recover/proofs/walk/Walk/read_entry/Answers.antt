@@ -5,7 +5,7 @@ use Rattle.std.proofs.lemmas.Bool.{false≢true}
 use Rattle.std.proofs.lemmas.Result.{err_from_is_err_and}
 use Rattle.drive.specs.Journal.{Event, held}
 use Rattle.recover.specs.declared.directory.Extent.{Extent}
-use Rattle.recover.specs.Known.{IsSaid}
+use Rattle.recover.specs.Known.{IsEntrySaid}
 use Rattle.recover.specs.Walk.{LiesBelow}
 use Rattle.recover.proofs.Held.{lies_there}
 use Rattle.recover.proofs.Nodes.{extent_lies}
