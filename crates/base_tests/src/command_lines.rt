@@ -1,11 +1,11 @@
 //! The words of the two programs.
 
 use std::test::Fail;
-use words::{Command, DaemonWords, Medium, WordsFault, read_command, read_daemon};
+use words::{Command, DaemonWords, Storage, WordsFault, read_command, read_daemon};
 
 #[test]
 fn words_of_the_command(rt: HostRuntime) {
-    let apply = Some(Command::Apply(Medium::Memory(3000)));
+    let apply = Some(Command::Apply(Storage::Memory(3000)));
     assert!(rt; read_command(&["apply", "mem:3000"]) == apply);
     assert!(rt; read_command(&["apply", "mem:003000"]) == apply);
     let format = Some(Command::Format {

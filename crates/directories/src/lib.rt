@@ -10,7 +10,7 @@
 mod content;
 mod directories;
 mod nodes;
-mod questions;
+mod queries;
 mod walk;
 
 pub use content::Content;

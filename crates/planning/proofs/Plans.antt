@@ -7,7 +7,7 @@ use Rattle.medium.specs.Formats.{Block}
 use Rattle.medium.specs.Plan.{zeros, packed, Writing, Written, WritesNode, WritesNodes}
 use Rattle.medium.proofs.Packed.{length-packed}
 use Rattle.udf.specs.Udf.{udf}
-use Rattle.planning.specs.declared.placed.PlacedDirectory.{PlacedDirectory}
+use Rattle.planning.specs.declared.layout.PlacedDirectory.{PlacedDirectory}
 use Rattle.planning.specs.declared.change.NewDirectory.{NewDirectory}
 use Rattle.planning.specs.declared.plan.Plan.{Plan}
 use Rattle.vat.specs.Table.{Table}

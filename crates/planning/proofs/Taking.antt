@@ -10,8 +10,8 @@ use Rattle.vat.specs.Table.{Table}
 use Rattle.planning.specs.declared.change.Change.{Change}
 use Rattle.planning.specs.declared.change.NewDirectory.{NewDirectory}
 use Rattle.planning.specs.declared.change.NewFile.{NewFile}
-use Rattle.planning.specs.declared.placed.PlacedDirectory.{PlacedDirectory}
-use Rattle.planning.specs.declared.placed.PlacedFile.{PlacedFile}
+use Rattle.planning.specs.declared.layout.PlacedDirectory.{PlacedDirectory}
+use Rattle.planning.specs.declared.layout.PlacedFile.{PlacedFile}
 use Rattle.table.specs.Below.{IsUsed}
 use Rattle.table.specs.NextTable.{AreTaken, AreUsed, all_placed, with_made}
 use Rattle.planning.specs.Plan.{file_writings, file_written, directories_writings, directories_written}

@@ -11,9 +11,9 @@ use Rattle.udf.specs.Udf.{udf}
 use Rattle.vat.specs.Table.{view, IsTableAt}
 use Rattle.table.specs.Outside.{outside}
 use Rattle.planning.specs.Writings.{file_writing, directory_writing}
-use Rattle.planning.specs.declared.placed.PlacedFile.{PlacedFile}
-use Rattle.planning.specs.declared.placed.PlacedDirectory.{PlacedDirectory}
-use Rattle.planning.specs.declared.placed.PlacedTable.{PlacedTable}
+use Rattle.planning.specs.declared.layout.PlacedFile.{PlacedFile}
+use Rattle.planning.specs.declared.layout.PlacedDirectory.{PlacedDirectory}
+use Rattle.planning.specs.declared.layout.PlacedTable.{PlacedTable}
 use Rattle.planning.specs.declared.plan.Plan.{Plan}
 use Rattle.planning.specs.Last.{Keeps}
 

@@ -9,11 +9,11 @@
 #![tactic(auto)]
 
 mod change;
-mod placed;
+mod layout;
 mod places;
 mod plan;
 mod write;
 
 pub use change::{Before, Change, NewDirectory, NewFile};
-pub use placed::{PlacedDirectory, PlacedFile, PlacedTable};
+pub use layout::{PlacedDirectory, PlacedFile, PlacedTable};
 pub use plan::{LastTable, Plan};

@@ -14,7 +14,7 @@ ghost use Rattle.udf.specs.Said.{said_place};
 ghost use Rattle.udf.specs.Udf.{udf};
 
 use crate::change::{NewDirectory, NewFile};
-use crate::placed::{PlacedDirectory, PlacedFile};
+use crate::layout::{PlacedDirectory, PlacedFile};
 use ecma::{Block, Timestamp};
 use icb::{FileEntry, Kind, Place, encode_fe};
 use recover::{Extent, block_count, link_count};

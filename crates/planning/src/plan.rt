@@ -28,7 +28,7 @@ ghost use Rattle.table.specs.TableChange.{IsFree, IsNext, IsRemovable, committed
 ghost use Rattle.planning.specs.Writings.{IsProper, new_file, new_directories, change_writings};
 
 use crate::change::{Change, NewDirectory, NewFile};
-use crate::placed::{PlacedDirectory, PlacedFile, PlacedTable};
+use crate::layout::{PlacedDirectory, PlacedFile, PlacedTable};
 use crate::places::{Numbers, outside_of};
 use crate::write::Writer;
 use dir::Entry;

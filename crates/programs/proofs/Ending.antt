@@ -6,7 +6,7 @@ use Rattle.std.proofs.lemmas.List.{take-append-drop}
 use Rattle.model.proofs.Lists.{bytes_same}
 use Rattle.words.specs.declared.command.Command.{Command}
 use Rattle.words.specs.declared.command.Command.TheVariants as commands
-use Rattle.words.specs.declared.command.Medium.TheVariants.{Image, Memory}
+use Rattle.words.specs.declared.command.Storage.TheVariants.{Image, Memory}
 use Rattle.words.specs.Commands.{Asks}
 use Rattle.programs.specs.declared.fault.Fault.{Fault}
 use Rattle.programs.specs.FaultLines.{Reports}

@@ -3,7 +3,7 @@ use Rattle.std.proofs.Common.{◌≡◌, ◌↔◌, ◌≤◌, ℕ, List, Result
 use Rattle.std.specs.Prelude.{IfErr}
 use Rattle.words.specs.declared.command.Command.{Command}
 use Rattle.words.specs.declared.command.Command.TheVariants.{Format, Apply, List as Listing, Get, Log, Check, Send}
-use Rattle.words.specs.declared.command.Medium.TheVariants.{Image, Memory}
+use Rattle.words.specs.declared.command.Storage.TheVariants.{Image, Memory}
 use Rattle.words.specs.Commands.{Asks}
 use Rattle.programs.specs.Asked.{IsInRange}
 use Rattle.programs.specs.declared.fault.Fault.{Fault}

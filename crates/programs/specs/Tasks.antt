@@ -2,7 +2,7 @@
 use Rattle.std.specs.Prelude.{◌≡◌, ⊤, ℕ, List, take, codes, Option, Some, None, Result}
 use Rattle.words.specs.declared.command.Command.{Command}
 use Rattle.words.specs.declared.command.Command.TheVariants as commands
-use Rattle.words.specs.declared.command.Medium.TheVariants.{Image, Memory}
+use Rattle.words.specs.declared.command.Storage.TheVariants.{Image, Memory}
 use Rattle.words.specs.Commands.{Asks}
 use Rattle.programs.specs.declared.fault.Fault.{Fault}
 use Rattle.programs.specs.Applied.{AppliesToImage, AnswersInMemory}

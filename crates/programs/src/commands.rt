@@ -15,7 +15,7 @@ use crate::volumes::format_image;
 use std::fs::{File, Files};
 use std::io::{Read, Write};
 use std::net::Net;
-use words::{Command, Medium, read_command};
+use words::{Command, Storage, read_command};
 
 /// Does what the words ask for, from the input to the output. It answers the status, and says on `errors` why it was
 /// refused.
@@ -45,13 +45,13 @@ where
     ensures does { (asked : _) → Asks (map (λ w. w.now) words.now) asked → Ends (task_of asked) result (I.remaining input.old) (I.remaining input.new) (O.contents output.old) (O.contents output.new) (E.contents errors.old) (E.contents errors.new) }
 {
     let outcome = match read_command(words) {
-        Some(asked) => run_command(rt, asked, input, output),
+        Some(asked) => carry_out(rt, asked, input, output),
         None => Err(Fault::Usage),
     };
     report("udfburn", outcome, errors)
 }
 
-fn run_command<R, I, O>(
+fn carry_out<R, I, O>(
     rt: &R,
     asked: Command<'_>,
     input: &mut I,
@@ -72,8 +72,8 @@ where
             moment,
             capacity,
         } => format_image(rt, image, label, moment, capacity, output),
-        Command::Apply(Medium::Image(image)) => apply_to_image(rt, image, input, output),
-        Command::Apply(Medium::Memory(capacity)) => {
+        Command::Apply(Storage::Image(image)) => apply_to_image(rt, image, input, output),
+        Command::Apply(Storage::Memory(capacity)) => {
             apply_in_memory(rt.alloc(), capacity, input, output)
         }
         Command::List { image, path } => list_image(rt, image, path, output),

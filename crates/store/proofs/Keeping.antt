@@ -16,7 +16,7 @@ use Rattle.directories.specs.Cache.{LiesThere, AreKept}
 use Rattle.planning.specs.Plan.{directory_data, directory_list, directories_list, file_list, table_data, plan_blocks, AreLaid, IsPlan}
 use Rattle.directories.specs.declared.content.Content.{Content}
 use Rattle.directories.specs.declared.directories.Directories.{Directories}
-use Rattle.planning.specs.declared.placed.PlacedDirectory.{PlacedDirectory}
+use Rattle.planning.specs.declared.layout.PlacedDirectory.{PlacedDirectory}
 use Rattle.planning.specs.declared.plan.Plan.{Plan}
 
 -- ---- a journal that grows

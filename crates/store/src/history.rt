@@ -16,7 +16,7 @@ ghost use Rattle.store.specs.Calls.{Knows};
 ghost use Rattle.store.specs.History.{IsChecked, IsHistory, IsHistoryRefused, IsTableOf, IsUnchecked, IsWayRefused, told_of};
 ghost use Rattle.store.specs.Past.{AllStood, IsCheckRefused, IsPast, IsPastRefused};
 
-use crate::query::nodes_of;
+use crate::queries::nodes_of;
 use crate::store::Store;
 use drive::Drive;
 use recover::{

@@ -15,7 +15,7 @@ mod commit;
 mod due;
 mod history;
 mod laws;
-mod query;
+mod queries;
 mod store;
 
 pub use due::Due;

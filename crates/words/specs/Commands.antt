@@ -4,15 +4,15 @@ use Rattle.limits.specs.declared.TheConstants.{LEAST_CAPACITY, GREATEST_CAPACITY
 use Rattle.words.specs.Number.{Says}
 use Rattle.words.specs.declared.command.Command.{Command}
 use Rattle.words.specs.declared.command.Command.TheVariants.{Format, Apply, List as Listing, Get, Log, Check, Send}
-use Rattle.words.specs.declared.command.Medium.{Medium}
-use Rattle.words.specs.declared.command.Medium.TheVariants.{Image, Memory}
+use Rattle.words.specs.declared.command.Storage.{Storage}
+use Rattle.words.specs.declared.command.Storage.TheVariants.{Image, Memory}
 
 -- a capacity that a volume may have, in blocks
 abbrev pub IsCapacity : ℕ → Type 0
 IsCapacity n = (LEAST_CAPACITY ≤ n) × (n ≤ GREATEST_CAPACITY)
 
 -- `IMAGE`, or `mem:` and a capacity
-abbrev pub Names : List ℕ → Medium → Type 0
+abbrev pub Names : List ℕ → Storage → Type 0
 Names word (Image path) = (word ≡ path.now) × ((rest : List ℕ) → word ≡ codes "mem:" ++ rest → ⊥)
 Names word (Memory capacity) = (digits : List ℕ) × (word ≡ codes "mem:" ++ digits) × Says digits capacity × IsCapacity capacity
 

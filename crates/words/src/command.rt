@@ -16,7 +16,7 @@ const LAST_MOMENT: u64 = limits::MOMENT_LIMIT - 1;
 
 /// What requests are applied to.
 #[derive(Clone, Copy, Debug, PartialEq, Eq)]
-pub enum Medium<'w> {
+pub enum Storage<'w> {
     /// The volume on the image at this path.
     Image(&'w str),
     /// A new volume in memory, with a capacity of so many blocks: 512 to 450,000.
@@ -36,7 +36,7 @@ pub enum Command<'w> {
         capacity: u32,
     },
     /// Answers to the messages of the standard input.
-    Apply(Medium<'w>),
+    Apply(Storage<'w>),
     /// The names in a directory.
     List {
         image: &'w str,
@@ -140,8 +140,8 @@ fn read_apply<'w>(words: &[&'w str]) -> Option<Command<'w>>
 {
     let word = one(words)?;
     let medium = match word.strip_prefix("mem:") {
-        Some(capacity) => Medium::Memory(read_capacity(capacity)?),
-        None => Medium::Image(word),
+        Some(capacity) => Storage::Memory(read_capacity(capacity)?),
+        None => Storage::Image(word),
     };
     Some(Command::Apply(medium))
 }

@@ -9,5 +9,5 @@ mod command;
 mod daemon;
 mod number;
 
-pub use command::{Command, Medium, read_command};
+pub use command::{Command, Storage, read_command};
 pub use daemon::{DaemonWords, WordsFault, read_daemon};

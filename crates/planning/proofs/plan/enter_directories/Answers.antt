@@ -5,7 +5,7 @@ use Rattle.std.specs.Vec.Iter.{into_iter_items}
 use Rattle.medium.specs.Plan.{Writing, WritesNodes}
 use Rattle.udf.specs.Udf.{udf}
 use Rattle.planning.specs.declared.change.NewDirectory.{NewDirectory}
-use Rattle.planning.specs.declared.placed.PlacedDirectory.{PlacedDirectory}
+use Rattle.planning.specs.declared.layout.PlacedDirectory.{PlacedDirectory}
 use Rattle.vat.specs.Table.{Table, view}
 use Rattle.table.specs.Below.{IsUsed}
 use Rattle.planning.specs.Needs.{directories_need}

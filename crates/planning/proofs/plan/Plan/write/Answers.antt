@@ -2,7 +2,7 @@ use Rattle.std.proofs.Common.{◌++◌, ◌∷◌, ◌∙◌, [], List, length, 
 use Rattle.std.proofs.lemmas.Result.{err_from_is_err_and}
 use Rattle.drive.specs.Journal.{next_of}
 use Rattle.drive.specs.Waiting.{Waiting, end_of}
-use Rattle.planning.specs.declared.placed.PlacedDirectory.{PlacedDirectory}
+use Rattle.planning.specs.declared.layout.PlacedDirectory.{PlacedDirectory}
 use Rattle.planning.specs.Plan.{file_list, directories_list, table_data, node_list, plan_blocks}
 use Rattle.drive.proofs.Packing.{stops_longer}
 use Rattle.planning.proofs.Plans.{plan_ends}

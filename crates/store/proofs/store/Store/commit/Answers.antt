@@ -9,8 +9,8 @@ use Rattle.planning.specs.Plan.{node_list, plan_blocks, table_data}
 use Rattle.vat.specs.declared.table.Vat.{Vat}
 use Rattle.planning.specs.Last.{Keeps}
 use Rattle.directories.specs.Cache.{LiesThere}
-use Rattle.planning.specs.declared.placed.PlacedDirectory.{PlacedDirectory}
-use Rattle.planning.specs.declared.placed.PlacedTable.{PlacedTable}
+use Rattle.planning.specs.declared.layout.PlacedDirectory.{PlacedDirectory}
+use Rattle.planning.specs.declared.layout.PlacedTable.{PlacedTable}
 use Rattle.store.proofs.Keeping.{kept_front, kept_longer, plan_lies}
 use Rattle.planning.proofs.Names.{all_next}
 use Rattle.planning.proofs.Plans.{plan_ends}

@@ -3,7 +3,7 @@ use Rattle.std.specs.Prelude.{All}
 use Rattle.std.specs.Vec.Iter.{into_iter_items}
 use Rattle.drive.specs.Journal.{Event}
 use Rattle.directories.specs.Cache.{LiesThere, AreKept}
-use Rattle.planning.specs.declared.placed.PlacedDirectory.{PlacedDirectory}
+use Rattle.planning.specs.declared.layout.PlacedDirectory.{PlacedDirectory}
 use Rattle.store.proofs.store.Store.commit.Given as goal
 
 -- only the directories that are kept change, and each that is put there lies there

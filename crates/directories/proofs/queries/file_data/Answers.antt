@@ -12,7 +12,7 @@ use Rattle.udf.specs.Words.{fields_of}
 use Rattle.model.specs.Graph.Body.{Bytes}
 use Rattle.directories.proofs.StoredNodes.{decoded}
 use Rattle.directories.proofs.FileBytes.{has_bytes, stored_nowhere, stored_inside, stored_extent}
-use Rattle.directories.proofs.questions.file_data.Goals as goal
+use Rattle.directories.proofs.queries.file_data.Goals as goal
 
 pub returns-in_err-block-clause-short : goal.returns-in_err-block-clause-short
 returns-in_err-block-clause-short g c =

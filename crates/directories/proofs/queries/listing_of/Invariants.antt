@@ -1,7 +1,7 @@
 use Rattle.std.proofs.Common.{◌≡◌, length, map, take}
 use Rattle.directories.specs.Asked.{said_names}
 use Rattle.directories.specs.Queries.{name_told}
-use Rattle.directories.proofs.questions.listing_of.Given as goal
+use Rattle.directories.proofs.queries.listing_of.Given as goal
 
 -- the names so far are listed
 abbrev pub invariant-loop-index : goal.invariant-loop-index

@@ -10,7 +10,7 @@ use Rattle.udf.specs.Words.{fields_of}
 use Rattle.directories.proofs.StoredNodes.{decoded}
 use Rattle.directories.proofs.FileBytes.{has_bytes}
 use Rattle.directories.proofs.FileSizes.{size_is}
-use Rattle.directories.proofs.questions.moment_and_size.Goals as goal
+use Rattle.directories.proofs.queries.moment_and_size.Goals as goal
 
 pub returns-in_err-block-clause-short : goal.returns-in_err-block-clause-short
 returns-in_err-block-clause-short g c =

@@ -2,7 +2,7 @@ use Rattle.std.proofs.Common.{◌∷◌, [], sym, ap, length, List, arith}
 use Rattle.std.proofs.lemmas.List.{length-append}
 use Rattle.request.specs.declared.answer.Listed.{Listed}
 use Rattle.directories.proofs.Listings.{names_next}
-use Rattle.directories.proofs.questions.listing_of.Goals as goal
+use Rattle.directories.proofs.queries.listing_of.Goals as goal
 
 pub loop-index-preserved : goal.loop-index-preserved
 loop-index-preserved c =
