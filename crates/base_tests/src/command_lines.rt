@@ -1,7 +1,7 @@
 //! The words of the two programs.
 
+use command_line::{Command, DaemonWords, Storage, WordsFault, read_command, read_daemon};
 use std::test::Fail;
-use words::{Command, DaemonWords, Storage, WordsFault, read_command, read_daemon};
 
 #[test]
 fn words_of_the_command(rt: HostRuntime) {

@@ -6,14 +6,14 @@ use Rattle.drive.specs.Journal.{Event, held}
 use Rattle.model.specs.Tree.{Path, Tree, IsTree, has_names}
 use Rattle.model.specs.Graph.{Body, MakesTree, content_in}
 use Rattle.model.specs.Graph.Body.{Bytes, Entries}
-use Rattle.medium.specs.Runs.{got, told}
-use Rattle.medium.specs.Runs.Answer.{Data, NotFound, IsDirectory}
-use Rattle.medium.specs.Runs.Query.{Get}
-use Rattle.medium.proofs.Stored.{stored_one}
+use Rattle.durability.specs.Runs.{got, told}
+use Rattle.durability.specs.Runs.Answer.{Data, NotFound, IsDirectory}
+use Rattle.durability.specs.Runs.Query.{Get}
+use Rattle.durability.proofs.Stored.{stored_one}
 use Rattle.udf.specs.Udf.{udf}
 use Rattle.udf.specs.Said.{names_directory}
 use Rattle.udf.proofs.Formats.{exact}
-use Rattle.table.specs.declared.node.Node.{Node}
+use Rattle.next_vat.specs.declared.node.Node.{Node}
 use Rattle.directories.specs.Shows.{graph_below, IsNodeAt}
 use Rattle.directories.proofs.Walks.{node_at}
 

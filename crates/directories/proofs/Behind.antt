@@ -5,7 +5,7 @@ use Rattle.drive.specs.Journal.{Event}
 use Rattle.model.specs.Tree.{Path, Tree}
 use Rattle.directories.specs.declared.directories.Directories.{Directories}
 use Rattle.directories.specs.Cache.{AreKept}
-use Rattle.table.specs.declared.node.Node.{Node}
+use Rattle.next_vat.specs.declared.node.Node.{Node}
 use Rattle.directories.specs.Shows.{Shows, IsFound, IsFoundDirectory, graph_below}
 use Rattle.directories.proofs.Walks.{kept_on, shows_on, shows_before}
 

@@ -10,9 +10,9 @@ use Rattle.icb.specs.Entry as icb
 use Rattle.model.specs.Tree.{has_names}
 use Rattle.model.specs.Graph.{Stored, Body, is_directory, content_in}
 use Rattle.model.specs.Graph.Body.{Bytes, Entries}
-use Rattle.medium.specs.Formats.{Block, Place, Fields}
-use Rattle.medium.specs.Formats.Place.{Nowhere, Extent, Inside}
-use Rattle.medium.specs.Volume.{Medium, HoldsBody, HoldsFile, IsWithin, bytes_in, extent}
+use Rattle.durability.specs.Formats.{Block, Place, Fields}
+use Rattle.durability.specs.Formats.Place.{Nowhere, Extent, Inside}
+use Rattle.durability.specs.Volume.{Medium, HoldsBody, HoldsFile, IsWithin, bytes_in, extent}
 use Rattle.udf.specs.Udf.{udf}
 use Rattle.udf.specs.Words.{fields_of, place_of}
 use Rattle.directories.specs.Shows.{graph_below}

@@ -15,7 +15,7 @@ use Rattle.icb.specs.declared.entry.Place.TheVariants as places
 use Rattle.icb.specs.Entry as icb
 use Rattle.model.specs.Graph.{Stored, Body}
 use Rattle.model.specs.Graph.Body.{Bytes, Entries}
-use Rattle.medium.specs.Formats.{Block, Fields}
+use Rattle.durability.specs.Formats.{Block, Fields}
 use Rattle.udf.specs.Words.{fields_of}
 use Rattle.directories.proofs.FileBytes.{HasBytes, stored_nowhere, stored_inside, stored_extent}
 

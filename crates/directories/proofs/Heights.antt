@@ -15,7 +15,7 @@ use Rattle.dir.specs.declared.entry.Entry.{Entry as DirEntry}
 use Rattle.dir.specs.declared.entry.Kind.{Kind}
 use Rattle.dir.specs.declared.entry.Kind.TheVariants as kinds
 use Rattle.drive.specs.Journal.{Event, held}
-use Rattle.medium.proofs.Stored.{stored_one}
+use Rattle.durability.proofs.Stored.{stored_one}
 use Rattle.udf.specs.Udf.{udf}
 use Rattle.udf.proofs.Formats.{exact}
 use Rattle.model.specs.Tree.{Name, Path, Tree, IsTree, Has, names_at, names_in}
@@ -25,7 +25,7 @@ use Rattle.model.proofs.Maps.{not_none, has_front}
 use Rattle.udf.specs.Said.{names_directory}
 use Rattle.directories.specs.declared.content.Content.{Content}
 use Rattle.directories.specs.declared.nodes.Placed.{Placed}
-use Rattle.table.specs.declared.node.Node.{Node}
+use Rattle.next_vat.specs.declared.node.Node.{Node}
 use Rattle.directories.specs.Heights.{IsHeight, IsHeightSoFar}
 use Rattle.directories.specs.Shows.{IsNodeAt, IsOpened, graph_below}
 use Rattle.directories.proofs.Walks.{node_at, names_stored, said_names, step_some, step_file}

@@ -12,14 +12,14 @@ use Rattle.model.specs.Graph.{Graph, Body, Entry, MakesTree, IsFunctional, entri
 use Rattle.model.specs.Graph.Body.{Bytes, Entries}
 use Rattle.model.proofs.Lists.{contains_here, contains_there, contains_map}
 use Rattle.model.proofs.Made.{has_stored}
-use Rattle.medium.specs.Runs.{listed, shown, told}
-use Rattle.medium.specs.Runs.Answer.{Names, NodeIs, NotFound, NotDirectory}
-use Rattle.medium.specs.Runs.Query.{List_, Stat}
-use Rattle.medium.proofs.Stored.{stored_one}
+use Rattle.durability.specs.Runs.{listed, shown, told}
+use Rattle.durability.specs.Runs.Answer.{Names, NodeIs, NotFound, NotDirectory}
+use Rattle.durability.specs.Runs.Query.{List_, Stat}
+use Rattle.durability.proofs.Stored.{stored_one}
 use Rattle.udf.specs.Udf.{udf}
 use Rattle.udf.specs.Said.{said_entry, said_entries, names_directory}
 use Rattle.udf.proofs.Formats.{exact}
-use Rattle.table.specs.declared.node.Node.{Node}
+use Rattle.next_vat.specs.declared.node.Node.{Node}
 use Rattle.directories.specs.Asked.{is_directory, said_listed, said_names}
 use Rattle.directories.specs.Queries.{name_told}
 use Rattle.directories.specs.Shows.{graph_below, IsNodeAt}

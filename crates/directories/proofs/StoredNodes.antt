@@ -18,10 +18,10 @@ use Rattle.model.specs.Tree.{has_names}
 use Rattle.model.specs.Addresses.{used_first, free_address}
 use Rattle.model.specs.Graph.{Stored, Body, Entry, is_directory, content_in}
 use Rattle.model.specs.Graph.Body.{Bytes, Entries}
-use Rattle.medium.specs.Formats.{Block, Place, Fields}
-use Rattle.medium.specs.Formats.Place.{Nowhere, Extent as Extent_, Inside}
-use Rattle.medium.specs.Volume.{Medium, HoldsBody, HoldsDirectory}
-use Rattle.medium.proofs.Lists.{get-take, part-append}
+use Rattle.durability.specs.Formats.{Block, Place, Fields}
+use Rattle.durability.specs.Formats.Place.{Nowhere, Extent as Extent_, Inside}
+use Rattle.durability.specs.Volume.{Medium, HoldsBody, HoldsDirectory}
+use Rattle.durability.proofs.Lists.{get-take, part-append}
 use Rattle.udf.specs.Udf.{udf}
 use Rattle.udf.specs.Words.{fields_of, place_of}
 use Rattle.directories.specs.Shows.{graph_below, LiesIn}

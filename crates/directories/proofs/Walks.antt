@@ -22,7 +22,7 @@ use Rattle.model.specs.Graph.Body.{Bytes, Entries}
 use Rattle.model.proofs.Lists.{contains_map, not_in_nil}
 use Rattle.model.proofs.Maps.{none_at, not_none, some_at, has_front}
 use Rattle.model.proofs.Made.{has_stored, has_root}
-use Rattle.medium.proofs.Stored.{stored_one}
+use Rattle.durability.proofs.Stored.{stored_one}
 use Rattle.udf.specs.Udf.{udf}
 use Rattle.udf.specs.Words as said
 use Rattle.udf.specs.Said.{said_entry, said_entries, names_directory}
@@ -30,7 +30,7 @@ use Rattle.udf.proofs.Formats.{exact}
 use Rattle.udf.proofs.Said.{directories_agree}
 use Rattle.directories.specs.declared.content.Content.{Content}
 use Rattle.directories.specs.declared.nodes.Placed.{Placed}
-use Rattle.table.specs.declared.node.Node.{Node}
+use Rattle.next_vat.specs.declared.node.Node.{Node}
 use Rattle.directories.specs.Cache.{AreKept, LiesThere}
 use Rattle.directories.specs.declared.directories.Directories.{Directories}
 use Rattle.directories.specs.Shows.{graph_below, LiesIn, IsOpened, IsNodeAt, IsFound, IsFoundDirectory, Shows}

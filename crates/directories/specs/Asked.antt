@@ -12,8 +12,8 @@ use Rattle.model.specs.Tree.{Name}
 use Rattle.model.specs.Operation.{Operation}
 use Rattle.model.specs.Operation.Operation.{Create, Replace, MakeDir, Rename, Remove}
 use Rattle.model.specs.Session.{Request}
-use Rattle.medium.specs.Runs.{Query}
-use Rattle.medium.specs.Runs.Query.{Get, List_, Stat}
+use Rattle.durability.specs.Runs.{Query}
+use Rattle.durability.specs.Runs.Query.{Get, List_, Stat}
 
 abbrev pub said_operation : Op → Operation
 said_operation (asked.Create path bytes) = Create path bytes

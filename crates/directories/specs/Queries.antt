@@ -3,8 +3,8 @@ use Rattle.std.specs.Prelude.{◌≡◌, ◌⊎◌, ℕ, Bool, List, None}
 use Rattle.std.specs.FinMap.{get}
 use Rattle.dir.specs.declared.entry.Entry.{Entry}
 use Rattle.model.specs.Tree.{Name, Path, Tree}
-use Rattle.medium.specs.Runs as runs
-use Rattle.medium.specs.Runs.{Answer}
+use Rattle.durability.specs.Runs as runs
+use Rattle.durability.specs.Runs.{Answer}
 use Rattle.recover.specs.Faults.{IsShortage}
 use Rattle.recover.specs.declared.fault.StoreFault.{StoreFault}
 use Rattle.recover.specs.declared.fault.StoreFault.TheVariants.{NotFound, IsDirectory, NotDirectory}

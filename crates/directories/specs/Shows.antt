@@ -7,13 +7,13 @@ use Rattle.model.specs.Tree.{Path, Tree, IsTree, is_directory_at, identity_at}
 use Rattle.model.specs.Graph.{Graph, Stored, Entry, MakesTree, is_directory}
 use Rattle.model.specs.Graph.Body.{Entries}
 use Rattle.model.specs.Change.{Found}
-use Rattle.medium.specs.Volume.{graph_of}
+use Rattle.durability.specs.Volume.{graph_of}
 use Rattle.udf.specs.Udf.{udf}
 use Rattle.udf.specs.Said.{said_entries, names_directory}
 use Rattle.directories.specs.declared.content.Content.{Content}
 use Rattle.directories.specs.declared.directories.Directories.{Directories}
 use Rattle.directories.specs.declared.nodes.Placed.{Placed}
-use Rattle.table.specs.declared.node.Node.{Node}
+use Rattle.next_vat.specs.declared.node.Node.{Node}
 use Rattle.directories.specs.Cache.{AreKept}
 
 -- what is stored under virtual addresses, on what a journal holds below the address of a table's entry

@@ -8,7 +8,7 @@ ghost use Rattle.model.specs.Addresses as addresses;
 ghost use Rattle.model.specs.Graph.{Stored, is_directory};
 ghost use Rattle.recover.specs.Faults.{devices, failures_of};
 ghost use Rattle.recover.specs.declared.fault.StoreFault.TheVariants.{Device};
-ghost use Rattle.table.specs.Below.{AreBelow, IsUsed};
+ghost use Rattle.next_vat.specs.Below.{AreBelow, IsUsed};
 ghost use Rattle.directories.specs.Shows.{LiesIn, graph_below};
 
 use drive::Drive;

@@ -4,13 +4,13 @@
 ghost use Rattle.std.specs.Prelude.{◌≡◌, ℕ, ◌≤◌, List, IsTrue, IfOk, IfErr, length, map, true, false};
 ghost use Rattle.drive.specs.Journal.{Once, next_of};
 ghost use Rattle.drive.specs.Reads.{Reads};
-ghost use Rattle.medium.specs.Runs as runs;
+ghost use Rattle.durability.specs.Runs as runs;
 ghost use Rattle.model.specs.Tree.{Tree};
 ghost use Rattle.model.specs.Graph.{Stored, entries_of, is_directory};
 ghost use Rattle.model.specs.Graph.Body.{Bytes};
 ghost use Rattle.recover.specs.Faults.{IsShortage, devices};
 ghost use Rattle.udf.specs.Said.{names_directory};
-ghost use Rattle.table.specs.Below.{AreBelow};
+ghost use Rattle.next_vat.specs.Below.{AreBelow};
 ghost use Rattle.directories.specs.Cache.{AreKept};
 ghost use Rattle.directories.specs.Asked.{said_names};
 ghost use Rattle.directories.specs.Asked as asked;
@@ -23,10 +23,10 @@ use crate::nodes::Nodes;
 use dir::Kind;
 use drive::Drive;
 use icb::{Place, decode_fe};
+use next_vat::Node;
 use recover::{PARTITION_START, StoreFault, cause, damaged, lies_below, read_bytes};
 use request::{FileData, Listed, Listing, NodeKind, NodeStatus, Path};
 use std::alloc::Global;
-use table::Node;
 
 impl Nodes<'_> {
     /// The bytes of a file.

@@ -3,7 +3,7 @@
 ghost use Rattle.std.specs.Prelude.{◌≡◌, ◌≤◌, IsTrue, IfOk, IfErr, true};
 ghost use Rattle.drive.specs.Journal.{next_of};
 ghost use Rattle.drive.specs.Reads.{Reads};
-ghost use Rattle.table.specs.Below.{AreBelow};
+ghost use Rattle.next_vat.specs.Below.{AreBelow};
 ghost use Rattle.model.specs.Tree.{Path, Tree};
 ghost use Rattle.model.specs.Graph.{Stored, is_directory};
 ghost use Rattle.recover.specs.Faults.{IsShortage, devices};
@@ -11,17 +11,17 @@ ghost use Rattle.directories.specs.Cache.{AreKept, LiesThere};
 ghost use Rattle.directories.specs.Heights.{IsHeight};
 ghost use Rattle.directories.specs.Shows.{IsNodeAt, IsOpened, Shows, IsFound, IsFoundDirectory, graph_below};
 ghost use Rattle.udf.specs.Said.{names_directory};
-ghost use Rattle.table.specs.declared.node.Node.{Node};
+ghost use Rattle.next_vat.specs.declared.node.Node.{Node};
 
 use crate::content::Content;
 use crate::directories::Directories;
 use crate::nodes::{Nodes, Placed};
 use dir::Kind;
 use drive::Drive;
+use next_vat::{Node, ROOT};
 use osta::Name;
 use recover::StoreFault;
 use std::alloc::Global;
-use table::{Node, ROOT};
 
 impl Nodes<'_> {
     /// The directory at a virtual address, which is not kept any longer, and where it lies.

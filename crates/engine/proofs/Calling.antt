@@ -16,15 +16,15 @@ use Rattle.request.specs.declared.answer.Answer.{Answer}
 use Rattle.request.specs.declared.answer.Answer.TheVariants as answer
 use Rattle.model.specs.Session.{State, Request, ClientRecord, Due, due, due_by, record_of, reply_to, after}
 use Rattle.model.specs.Session.Due.{Repeat, Stale, Gap, ClientsFull, New}
-use Rattle.medium.specs.Commit.{need}
-use Rattle.medium.specs.Formats.{Table_}
-use Rattle.medium.specs.Volume.{Medium, Stands}
-use Rattle.medium.specs.Step.{Moves}
-use Rattle.medium.specs.Journal.{Advances}
-use Rattle.medium.specs.Runs.{Delivery, Query, Effect, Row, AnswersNew, AnswersDue, MayFail, told}
-use Rattle.medium.specs.Runs as medium
-use Rattle.medium.specs.Runs.AnswersNew.{committed, failed as fails, full, no_memory}
-use Rattle.medium.proofs.Commits.{moves_front}
+use Rattle.durability.specs.Commit.{need}
+use Rattle.durability.specs.Formats.{Table_}
+use Rattle.durability.specs.Volume.{Medium, Stands}
+use Rattle.durability.specs.Step.{Moves}
+use Rattle.durability.specs.Journal.{Advances}
+use Rattle.durability.specs.Runs.{Delivery, Query, Effect, Row, AnswersNew, AnswersDue, MayFail, told}
+use Rattle.durability.specs.Runs as medium
+use Rattle.durability.specs.Runs.AnswersNew.{committed, failed as fails, full, no_memory}
+use Rattle.durability.proofs.Commits.{moves_front}
 use Rattle.udf.specs.Udf.{udf, spelled}
 use Rattle.udf.specs.Said.{said_record}
 use Rattle.store.specs.declared.store.Store.{Store}

@@ -3,12 +3,12 @@ use Rattle.std.proofs.Common.{◌≡◌, ℕ, ◌+◌, ◌≤◌, List, [], ◌�
 use Rattle.std.proofs.lemmas.List.{take_all, take-take}
 use Rattle.drive.specs.Journal.{Event, held, Once}
 use Rattle.model.specs.Session.{State, Request}
-use Rattle.medium.specs.Commit.{need}
-use Rattle.medium.specs.Step.{Moves}
-use Rattle.medium.specs.Journal.{Advances}
-use Rattle.medium.specs.Runs.{Delivery, Answer, Row, Runs}
-use Rattle.medium.proofs.OnJournals.{length-held, holds_on_journal}
-use Rattle.medium.proofs.Runs.{holds}
+use Rattle.durability.specs.Commit.{need}
+use Rattle.durability.specs.Step.{Moves}
+use Rattle.durability.specs.Journal.{Advances}
+use Rattle.durability.specs.Runs.{Delivery, Answer, Row, Runs}
+use Rattle.durability.proofs.OnJournals.{length-held, holds_on_journal}
+use Rattle.durability.proofs.Runs.{holds}
 use Rattle.udf.specs.Udf.{udf, spelled}
 use Rattle.engine.specs.Situation.{Situation}
 use Rattle.engine.specs.Steps.{HoldsState, AllSteps, StepsHold}

@@ -8,13 +8,13 @@ use Rattle.model.specs.Session.Due.{New}
 use Rattle.model.specs.Runs.{AllNew}
 use Rattle.model.proofs.Runs.{after-append}
 use Rattle.model.proofs.Sessions.{each_once}
-use Rattle.medium.specs.Formats.{Block}
-use Rattle.medium.specs.Volume.{Stands, Past}
-use Rattle.medium.specs.Commit.{need}
-use Rattle.medium.specs.Journal.{Advances, HoldsOnJournal}
-use Rattle.medium.specs.Runs.{Delivery, Answer}
-use Rattle.medium.proofs.History.{past_now}
-use Rattle.medium.proofs.Lists.{side, take_past}
+use Rattle.durability.specs.Formats.{Block}
+use Rattle.durability.specs.Volume.{Stands, Past}
+use Rattle.durability.specs.Commit.{need}
+use Rattle.durability.specs.Journal.{Advances, HoldsOnJournal}
+use Rattle.durability.specs.Runs.{Delivery, Answer}
+use Rattle.durability.proofs.History.{past_now}
+use Rattle.durability.proofs.Lists.{side, take_past}
 use Rattle.udf.specs.Udf.{udf, spelled}
 use Rattle.engine.specs.Headline.{said_answers}
 use Rattle.engine.specs.Served.{brought}

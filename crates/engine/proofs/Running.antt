@@ -5,9 +5,9 @@ use Rattle.std.proofs.lemmas.List.{take_all, take_more}
 use Rattle.drive.specs.Journal.{Event, held, Once}
 use Rattle.request.specs.declared.answer.Answer.{Answer}
 use Rattle.model.specs.Session.{State}
-use Rattle.medium.specs.Volume.{Stands}
-use Rattle.medium.specs.Runs.{Delivery}
-use Rattle.medium.specs.Runs as medium
+use Rattle.durability.specs.Volume.{Stands}
+use Rattle.durability.specs.Runs.{Delivery}
+use Rattle.durability.specs.Runs as medium
 use Rattle.udf.specs.Udf.{udf}
 use Rattle.store.specs.declared.store.Store.{Store}
 use Rattle.engine.specs.declared.runs.Delivery as delivered

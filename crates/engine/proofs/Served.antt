@@ -4,9 +4,9 @@ use Rattle.request.specs.declared.answer.Answer.{Answer}
 use Rattle.request.specs.declared.message.Message.{Message}
 use Rattle.drive.specs.Journal.{held}
 use Rattle.model.specs.Session.{State, after}
-use Rattle.medium.specs.Commit.{need}
-use Rattle.medium.specs.Journal.{HoldsOnJournal}
-use Rattle.medium.specs.Volume.{Stands}
+use Rattle.durability.specs.Commit.{need}
+use Rattle.durability.specs.Journal.{HoldsOnJournal}
+use Rattle.durability.specs.Volume.{Stands}
 use Rattle.udf.specs.Udf.{udf, spelled}
 use Rattle.engine.specs.Situation.{Situation}
 use Rattle.engine.specs.Said.{said_answer}

@@ -6,11 +6,11 @@ use Rattle.drive.specs.Journal.{Event, held, written, Once}
 use Rattle.request.specs.declared.answer.Answer.{Answer}
 use Rattle.model.specs.Session.{State, Request, due, after, after_one}
 use Rattle.model.specs.Session.Due.{New}
-use Rattle.medium.specs.Formats.{Block}
-use Rattle.medium.specs.Commit.{need}
-use Rattle.medium.specs.Journal.{Advances, HoldsOnJournal}
-use Rattle.medium.specs.Runs as medium
-use Rattle.medium.specs.Volume.{Stands}
+use Rattle.durability.specs.Formats.{Block}
+use Rattle.durability.specs.Commit.{need}
+use Rattle.durability.specs.Journal.{Advances, HoldsOnJournal}
+use Rattle.durability.specs.Runs as medium
+use Rattle.durability.specs.Volume.{Stands}
 use Rattle.udf.specs.Udf.{udf, spelled}
 use Rattle.store.specs.Calls as store
 use Rattle.store.specs.Calls.{Knows}
@@ -22,7 +22,7 @@ use Rattle.engine.specs.Steps.{HoldsState}
 use Rattle.engine.specs.Headline.{IsRun, RunHolds, said_answers}
 use Rattle.engine.proofs.Running.{at_end, runs_begin, runs_are_held}
 use Rattle.engine.specs.Withstanding.{Withstands, Brings, BringsAt, AllWithstand}
-use Rattle.medium.proofs.One.{stands_one}
+use Rattle.durability.proofs.One.{stands_one}
 use Rattle.udf.proofs.Formats.{exact}
 use Rattle.drive.proofs.Once.{held_once, length-blocks_of}
 use Rattle.engine.proofs.Calling.{front_grows, same_due, stay}

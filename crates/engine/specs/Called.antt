@@ -15,8 +15,8 @@ use Rattle.request.specs.declared.answer.Listed.{Listed}
 use Rattle.request.specs.declared.answer.NodeStatus.{NodeStatus}
 use Rattle.model.specs.Session.{State, Due}
 use Rattle.model.specs.Session.Due.{Repeat, Stale, Gap, ClientsFull, New}
-use Rattle.medium.specs.Runs.{Delivery}
-use Rattle.medium.specs.Runs as medium
+use Rattle.durability.specs.Runs.{Delivery}
+use Rattle.durability.specs.Runs as medium
 use Rattle.store.specs.declared.store.Store.{Store}
 use Rattle.store.specs.Asked.{said_request}
 use Rattle.store.specs.Calls.{Knows, StillKnows, Applies, Gets, Lists, Stats}

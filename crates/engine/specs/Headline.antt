@@ -6,11 +6,11 @@ use Rattle.request.specs.declared.message.Message.{Message}
 use Rattle.request.specs.declared.answer.Answer.{Answer}
 use Rattle.request.specs.Payload.{TellsPayload}
 use Rattle.model.specs.Session.{State}
-use Rattle.medium.specs.Volume.{Stands}
-use Rattle.medium.specs.Commit.{need}
-use Rattle.medium.specs.Journal.{HoldsOnJournal}
-use Rattle.medium.specs.Runs.{Delivery}
-use Rattle.medium.specs.Runs as medium
+use Rattle.durability.specs.Volume.{Stands}
+use Rattle.durability.specs.Commit.{need}
+use Rattle.durability.specs.Journal.{HoldsOnJournal}
+use Rattle.durability.specs.Runs.{Delivery}
+use Rattle.durability.specs.Runs as medium
 use Rattle.udf.specs.Udf.{udf, spelled}
 use Rattle.engine.specs.declared.runs.Delivery as delivered
 use Rattle.engine.specs.declared.runs.Delivery.TheVariants.{Frame, Restart}

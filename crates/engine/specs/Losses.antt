@@ -7,11 +7,11 @@ use Rattle.request.specs.declared.message.Message.{Message}
 use Rattle.model.specs.Session.{State, Request, due, after}
 use Rattle.model.specs.Session.Due.{New}
 use Rattle.model.specs.Runs.{AllNew, EachOnce}
-use Rattle.medium.specs.Formats.{Block}
-use Rattle.medium.specs.Volume.{Stands, Past}
-use Rattle.medium.specs.Commit.{need}
-use Rattle.medium.specs.Journal.{Advances, HoldsOnJournal}
-use Rattle.medium.specs.Runs.{Delivery, Answer}
+use Rattle.durability.specs.Formats.{Block}
+use Rattle.durability.specs.Volume.{Stands, Past}
+use Rattle.durability.specs.Commit.{need}
+use Rattle.durability.specs.Journal.{Advances, HoldsOnJournal}
+use Rattle.durability.specs.Runs.{Delivery, Answer}
 use Rattle.udf.specs.Udf.{udf, spelled}
 use Rattle.engine.specs.declared.runs.Delivery as delivered
 use Rattle.engine.specs.Headline.{RunHolds, said_answers}

@@ -6,9 +6,9 @@ use Rattle.request.specs.declared.answer.Answer as told
 use Rattle.request.specs.declared.answer.Answer.TheVariants as answer
 use Rattle.request.specs.Numbers.{cause_number}
 use Rattle.request.specs.Payload.{TellsPayload}
-use Rattle.medium.specs.Runs.{Message, Delivery, Answer}
-use Rattle.medium.specs.Runs.Message.{Asks, Queries, Malformed, NoMemory}
-use Rattle.medium.specs.Runs as medium
+use Rattle.durability.specs.Runs.{Message, Delivery, Answer}
+use Rattle.durability.specs.Runs.Message.{Asks, Queries, Malformed, NoMemory}
+use Rattle.durability.specs.Runs as medium
 use Rattle.store.specs.Asked.{said_request, said_query, said_names, is_directory}
 use Rattle.store.specs.Sessions.{reply_said}
 use Rattle.engine.specs.declared.runs.Delivery as delivered

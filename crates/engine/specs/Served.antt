@@ -7,10 +7,10 @@ use Rattle.request.specs.declared.message.Message.{Message}
 use Rattle.request.specs.Answers.{answer_frame}
 use Rattle.request.specs.Frames.{Takes, IsIdle, MessagesAre, fed}
 use Rattle.model.specs.Session.{State, after}
-use Rattle.medium.specs.Commit.{need}
-use Rattle.medium.specs.Journal.{HoldsOnJournal}
-use Rattle.medium.specs.Runs.{Delivery}
-use Rattle.medium.specs.Runs.Delivery.{Delivered}
+use Rattle.durability.specs.Commit.{need}
+use Rattle.durability.specs.Journal.{HoldsOnJournal}
+use Rattle.durability.specs.Runs.{Delivery}
+use Rattle.durability.specs.Runs.Delivery.{Delivered}
 use Rattle.udf.specs.Udf.{udf, spelled}
 use Rattle.engine.specs.Situation.{Situation}
 use Rattle.engine.specs.declared.serving.ServeFault.{ServeFault}

@@ -3,10 +3,10 @@ use Rattle.std.specs.Prelude.{◌≡◌, ℕ, ◌+◌, List, [], ◌∷◌, ◌+
 use Rattle.std.specs.Option.{option_to_list}
 use Rattle.drive.specs.Journal.{held, Once}
 use Rattle.model.specs.Session.{State, after}
-use Rattle.medium.specs.Volume.{Stands}
-use Rattle.medium.specs.Commit.{need}
-use Rattle.medium.specs.Journal.{Advances, HoldsOnJournal}
-use Rattle.medium.specs.Runs.{Delivery, Answer, Effect, Row}
+use Rattle.durability.specs.Volume.{Stands}
+use Rattle.durability.specs.Commit.{need}
+use Rattle.durability.specs.Journal.{Advances, HoldsOnJournal}
+use Rattle.durability.specs.Runs.{Delivery, Answer, Effect, Row}
 use Rattle.udf.specs.Udf.{udf, spelled}
 use Rattle.store.specs.declared.store.Store.{Store}
 use Rattle.store.specs.Calls.{Knows}

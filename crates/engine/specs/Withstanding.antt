@@ -7,8 +7,8 @@ use Rattle.request.specs.declared.message.Message.TheVariants as message
 use Rattle.request.specs.Payload.{TellsPayload}
 use Rattle.model.specs.Session.{State, Request, due, after, after_one}
 use Rattle.model.specs.Session.Due.{New}
-use Rattle.medium.specs.Formats.{Block}
-use Rattle.medium.specs.Journal.{Advances}
+use Rattle.durability.specs.Formats.{Block}
+use Rattle.durability.specs.Journal.{Advances}
 use Rattle.udf.specs.Udf.{udf}
 use Rattle.store.specs.Asked.{said_request}
 use Rattle.request.specs.declared.answer.Answer.{Answer}

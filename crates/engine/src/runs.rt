@@ -2,7 +2,7 @@
 
 ghost use Rattle.std.specs.Prelude.{◌≡◌, ◌≤◌, ℕ, None, IsTrue, IfOk, OnErr, length, sum_by};
 ghost use Rattle.drive.specs.Journal.{held, Once};
-ghost use Rattle.medium.specs.Volume.{Stands};
+ghost use Rattle.durability.specs.Volume.{Stands};
 ghost use Rattle.model.specs.Session.{State};
 ghost use Rattle.drive.specs.Reads.{Counts, Follows};
 ghost use Rattle.udf.specs.Udf.{udf};

@@ -17,15 +17,15 @@ use Rattle.drive.specs.declared.Drive.{Ghosts}
 use Rattle.volume.proofs.FrontLaws.{each_push}
 use Rattle.recover.proofs.Held.{length-held}
 use Rattle.model.specs.Session.{formatted}
-use Rattle.medium.specs.Formats.{Block}
-use Rattle.medium.specs.Volume.{IsTableEntry, Stands}
-use Rattle.medium.specs.Step.{IsFormat}
-use Rattle.medium.proofs.Formatted.{format_stands}
-use Rattle.medium.proofs.Mediums.{none_take_at}
+use Rattle.durability.specs.Formats.{Block}
+use Rattle.durability.specs.Volume.{IsTableEntry, Stands}
+use Rattle.durability.specs.Step.{IsFormat}
+use Rattle.durability.proofs.Formatted.{format_stands}
+use Rattle.durability.proofs.Mediums.{none_take_at}
 use Rattle.udf.specs.Udf.{udf, IsBlock}
-use Rattle.medium.proofs.Torn.{format_torn}
-use Rattle.medium.proofs.Writes.{left_more}
-use Rattle.medium.specs.Torn.{NothingStands}
+use Rattle.durability.proofs.Torn.{format_torn}
+use Rattle.durability.proofs.Writes.{left_more}
+use Rattle.durability.specs.Torn.{NothingStands}
 use Rattle.udf.proofs.Formats.{exact, bounded, distinct}
 use Rattle.udf.proofs.NewVolume.{new_volumes_are_formats}
 use Rattle.formatting.specs.NewVolume.{Words, IsBlockAt, IsFormatOf, IsBegun, IsSeen, AreBlocks, HoldsFronts, IsFormatted, IsCut, Withstands}

@@ -19,7 +19,7 @@ use Rattle.dir.proofs.Sizes.{data_sized}
 use Rattle.vat.specs.Table.{FitsTable, IsTable, table_bytes}
 use Rattle.volume.specs.Front.{IsFrontBlock, IsFront}
 use Rattle.volume.proofs.FrontLaws.{one_front_block}
-use Rattle.medium.specs.Formats.{Block}
+use Rattle.durability.specs.Formats.{Block}
 use Rattle.udf.specs.Udf.{IsBlock}
 use Rattle.udf.specs.NewVolume.{root_fields, first_table, table_fields}
 use Rattle.formatting.specs.NewVolume.{Words, IsFirstTable, IsBlockAt, IsFormatOf, OneFormat}

@@ -10,9 +10,9 @@ use Rattle.volume.specs.Front.{IsFrontBlock}
 use Rattle.drive.specs.Journal.{Event, written, next_of, last_at, held, AddsFront}
 use Rattle.drive.specs.Writes.{IsLeft}
 use Rattle.model.specs.Session.{State, formatted}
-use Rattle.medium.specs.Formats.{Block}
-use Rattle.medium.specs.Volume.{Stands}
-use Rattle.medium.specs.Torn.{NothingStands}
+use Rattle.durability.specs.Formats.{Block}
+use Rattle.durability.specs.Volume.{Stands}
+use Rattle.durability.specs.Torn.{NothingStands}
 use Rattle.udf.specs.Udf.{udf, IsBlock}
 use Rattle.udf.specs.NewVolume.{root_fields, first_table, table_fields, IsNewVolume}
 use Rattle.recover.specs.declared.fault.StoreFault.{StoreFault}

@@ -12,7 +12,7 @@ use Rattle.model.specs.Graph.Body.{Entries}
 use Rattle.model.specs.Change.{with_entries, new_body}
 use Rattle.model.specs.Operation.{code_of}
 use Rattle.model.proofs.Paths.{parent-push, last-push}
-use Rattle.medium.specs.Plan.{Writing, Plans, PlansAddition}
+use Rattle.durability.specs.Plan.{Writing, Plans, PlansAddition}
 use Rattle.request.specs.Numbers.{code_number}
 use Rattle.request.specs.declared.answer.Code.TheVariants as code
 use Rattle.dir.specs.declared.entry.Entry.{Entry as DirEntry}
@@ -22,11 +22,11 @@ use Rattle.planning.specs.declared.change.NewDirectory.{NewDirectory}
 use Rattle.planning.specs.declared.change.Thing.{Thing}
 use Rattle.planning.specs.declared.change.Thing.TheVariants as thing
 use Rattle.directories.specs.declared.content.Content.{Content}
-use Rattle.table.specs.declared.node.Node.{Node}
+use Rattle.next_vat.specs.declared.node.Node.{Node}
 use Rattle.directories.specs.declared.nodes.Placed.{Placed}
 use Rattle.directories.specs.Shows.{IsNodeAt, IsOpened}
 use Rattle.planning.specs.Writings.{directory_writing, new_file, change_writings}
-use Rattle.table.specs.NextTable.{made_by, Takes}
+use Rattle.next_vat.specs.NextTable.{made_by, Takes}
 use Rattle.planning.specs.Changes.{addition, content_of_thing, code_by_names, addresses_in, gone_of, Does}
 use Rattle.directories.proofs.Walks.{node_at, names_stored, directory_stored, said_names, step_some, step_none}
 

@@ -22,14 +22,14 @@ use Rattle.model.proofs.Paths.{parent-push, last-push}
 use Rattle.model.proofs.Codes.{paths_same}
 use Rattle.model.proofs.Made.{reach_one}
 use Rattle.model.proofs.Maps.{not_none}
-use Rattle.medium.specs.Plan.{Writing, turned}
+use Rattle.durability.specs.Plan.{Writing, turned}
 use Rattle.request.specs.Numbers.{code_number}
 use Rattle.request.specs.declared.answer.Code.TheVariants as code
 use Rattle.udf.specs.Said.{said_entry, said_entries}
 use Rattle.planning.specs.declared.change.Change.{Change}
 use Rattle.planning.specs.declared.change.NewDirectory.{NewDirectory}
 use Rattle.directories.specs.declared.content.Content.{Content}
-use Rattle.table.specs.declared.node.Node.{Node}
+use Rattle.next_vat.specs.declared.node.Node.{Node}
 use Rattle.directories.specs.declared.nodes.Placed.{Placed}
 use Rattle.directories.specs.Shows.{IsNodeAt, IsOpened}
 use Rattle.planning.specs.Moves.{IsWithin, IsBetween, Turns}

@@ -4,7 +4,7 @@ use Rattle.std.specs.Int.{div_ceil}
 use Rattle.std.proofs.lemmas.List.{drop-drop, length-drop, length-take, take_all}
 use Rattle.std.specs.Simd.{first_chunks}
 use Rattle.ecma.specs.Descriptor.{padded}
-use Rattle.medium.specs.Plan.{blocks_from, packed}
+use Rattle.durability.specs.Plan.{blocks_from, packed}
 
 -- the first block of bytes that fill it
 filled : (bytes : List ℕ) → 2048 ≤ length bytes → take 2048 bytes ++ replicate (2048 - length (take 2048 bytes)) 0 ≡ take 2048 bytes

@@ -3,16 +3,16 @@ use Rattle.std.proofs.Common.{◌≡◌, ℕ, zero, suc, ◌+◌, ◌<◌, List,
 use Rattle.std.specs.Prelude.{slice_get, Some}
 use Rattle.std.specs.Int.{div_ceil}
 use Rattle.std.proofs.lemmas.List.{length-replicate}
-use Rattle.medium.specs.Formats.{Block}
-use Rattle.medium.specs.Plan.{zeros, packed, Writing, Written, WritesNode, WritesNodes}
-use Rattle.medium.proofs.Packed.{length-packed}
+use Rattle.durability.specs.Formats.{Block}
+use Rattle.durability.specs.Plan.{zeros, packed, Writing, Written, WritesNode, WritesNodes}
+use Rattle.durability.proofs.Packed.{length-packed}
 use Rattle.udf.specs.Udf.{udf}
 use Rattle.planning.specs.declared.layout.PlacedDirectory.{PlacedDirectory}
 use Rattle.planning.specs.declared.change.NewDirectory.{NewDirectory}
 use Rattle.planning.specs.declared.plan.Plan.{Plan}
 use Rattle.vat.specs.Table.{Table}
-use Rattle.table.specs.NextTable.{all_placed}
-use Rattle.table.specs.TableChange.{placed}
+use Rattle.next_vat.specs.NextTable.{all_placed}
+use Rattle.next_vat.specs.TableChange.{placed}
 use Rattle.planning.specs.Needs.{directory_need, directories_need}
 use Rattle.planning.specs.Plan.{directory_list, directories_list, directories_writings, directories_written, node_list, table_data, plan_blocks, IsLaid, AreLaid, IsPlan}
 use Rattle.planning.specs.Writings.{directory_writing}

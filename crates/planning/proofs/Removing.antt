@@ -17,7 +17,7 @@ use Rattle.model.specs.Operation.{code_of, is_other}
 use Rattle.model.specs.Operation.Operation.{Remove}
 use Rattle.model.proofs.Lists.{not_in_nil, not_same, other_apart, keeps_not}
 use Rattle.model.proofs.Paths.{parent-push, last-push}
-use Rattle.medium.specs.Plan.{Writing}
+use Rattle.durability.specs.Plan.{Writing}
 use Rattle.request.specs.Numbers.{code_number}
 use Rattle.request.specs.declared.answer.Code.TheVariants as code
 use Rattle.dir.specs.declared.entry.Kind.{Kind}
@@ -27,11 +27,11 @@ use Rattle.udf.specs.Words.{name_kind}
 use Rattle.planning.specs.declared.change.Change.{Change}
 use Rattle.planning.specs.declared.change.NewDirectory.{NewDirectory}
 use Rattle.directories.specs.declared.content.Content.{Content}
-use Rattle.table.specs.declared.node.Node.{Node}
+use Rattle.next_vat.specs.declared.node.Node.{Node}
 use Rattle.directories.specs.declared.nodes.Placed.{Placed}
 use Rattle.directories.specs.Shows.{IsNodeAt, IsOpened}
 use Rattle.planning.specs.Writings.{directory_writing, new_file, change_writings}
-use Rattle.table.specs.NextTable.{Takes}
+use Rattle.next_vat.specs.NextTable.{Takes}
 use Rattle.planning.specs.Changes.{addresses_in, gone_of, Does}
 use Rattle.planning.proofs.Adding.{not_empty}
 use Rattle.directories.proofs.Walks.{node_at, names_stored, directory_stored, texts_exact}

@@ -6,8 +6,8 @@ use Rattle.model.specs.Graph.{Graph, MakesTree, whole}
 use Rattle.model.specs.Graph.Body.{Bytes}
 use Rattle.model.specs.Operation.{Operation, code_of}
 use Rattle.model.specs.Operation.Operation.{Replace}
-use Rattle.medium.specs.Plan.{Writing}
-use Rattle.medium.proofs.Stored.{stored_one}
+use Rattle.durability.specs.Plan.{Writing}
+use Rattle.durability.proofs.Stored.{stored_one}
 use Rattle.drive.specs.Journal.{Event, held}
 use Rattle.request.specs.Numbers.{code_number}
 use Rattle.request.specs.declared.answer.Code.{Code}
@@ -17,7 +17,7 @@ use Rattle.udf.specs.Said.{names_directory}
 use Rattle.udf.proofs.Formats.{exact}
 use Rattle.planning.specs.declared.change.Change.{Change}
 use Rattle.planning.specs.declared.change.NewFile.{NewFile}
-use Rattle.table.specs.declared.node.Node.{Node}
+use Rattle.next_vat.specs.declared.node.Node.{Node}
 use Rattle.directories.specs.Shows.{graph_below, IsNodeAt}
 use Rattle.planning.specs.Writings.{file_writing, directory_writing, new_file, change_writings}
 use Rattle.planning.specs.Changes.{addresses_in, gone_of, IsRefusal, Does}

@@ -8,19 +8,19 @@ use Rattle.dir.specs.Identifier.{plain_size}
 use Rattle.dir.specs.Size.{name_sizes, plain_sizes}
 use Rattle.model.specs.Tree.{Name}
 use Rattle.model.specs.Graph as graphs
-use Rattle.medium.specs.Formats.{identifier_size}
-use Rattle.medium.specs.Volume.{blocks_for}
-use Rattle.medium.specs.Commit.{table_size}
+use Rattle.durability.specs.Formats.{identifier_size}
+use Rattle.durability.specs.Volume.{blocks_for}
+use Rattle.durability.specs.Commit.{table_size}
 use Rattle.udf.specs.Said.{said_entries}
 use Rattle.udf.specs.Udf.{spelled}
 use Rattle.vat.specs.Table.{Table}
 use Rattle.planning.specs.declared.change.Change.{Change}
 use Rattle.planning.specs.declared.change.NewDirectory.{NewDirectory}
 use Rattle.planning.specs.declared.change.NewFile.{NewFile}
-use Rattle.table.specs.Need.{AreDirectories, AreOf, most_for_bytes, most_for_directories, reckoned}
+use Rattle.next_vat.specs.Need.{AreDirectories, AreOf, most_for_bytes, most_for_directories, reckoned}
 use Rattle.planning.specs.Needs.{change_need, directories_need, file_need}
 use Rattle.planning.specs.Writings.{change_writings, new_directories, new_file}
-use Rattle.table.proofs.Counting.{files_are_counted}
+use Rattle.next_vat.proofs.Counting.{files_are_counted}
 
 -- the bytes of the file that is written, and the names of each directory that is
 abbrev pub bytes_of : Option NewFile → Option (List ℕ)

@@ -5,20 +5,20 @@ use Rattle.std.proofs.lemmas.Bool.{eqb-true, eqb-false}
 use Rattle.std.proofs.lemmas.List.{map-append}
 use Rattle.std.proofs.lemmas.List.Elements.{All-cons}
 use Rattle.std.proofs.lemmas.Option.{slice_get_within}
-use Rattle.medium.specs.Plan.{Writing, Written}
+use Rattle.durability.specs.Plan.{Writing, Written}
 use Rattle.vat.specs.Table.{Table}
 use Rattle.planning.specs.declared.change.Change.{Change}
 use Rattle.planning.specs.declared.change.NewDirectory.{NewDirectory}
 use Rattle.planning.specs.declared.change.NewFile.{NewFile}
 use Rattle.planning.specs.declared.layout.PlacedDirectory.{PlacedDirectory}
 use Rattle.planning.specs.declared.layout.PlacedFile.{PlacedFile}
-use Rattle.table.specs.Below.{IsUsed}
-use Rattle.table.specs.NextTable.{AreTaken, AreUsed, all_placed, with_made}
+use Rattle.next_vat.specs.Below.{IsUsed}
+use Rattle.next_vat.specs.NextTable.{AreTaken, AreUsed, all_placed, with_made}
 use Rattle.planning.specs.Plan.{file_writings, file_written, directories_writings, directories_written}
-use Rattle.table.specs.TableChange.{IsFree, IsRemovable, placed, with_entry}
+use Rattle.next_vat.specs.TableChange.{IsFree, IsRemovable, placed, with_entry}
 use Rattle.planning.specs.Writings.{change_writings, new_directories, new_file}
-use Rattle.table.proofs.EntryChanges.{entry_other}
-use Rattle.table.proofs.NodeChanges.{still_used}
+use Rattle.next_vat.proofs.EntryChanges.{entry_other}
+use Rattle.next_vat.proofs.NodeChanges.{still_used}
 use Rattle.planning.proofs.Plans.{placed_append}
 
 used_within : (xs : List (Option ℕ)) (i : ℕ) → IsUsed i xs → i ≤ length xs

@@ -15,10 +15,10 @@ use Rattle.dir.proofs.Short.{directories_short}
 use Rattle.dir.proofs.Sizes.{data_sized}
 use Rattle.model.specs.Graph.{links_in, Entry as GraphEntry}
 use Rattle.model.specs.Graph.Body.{Entries}
-use Rattle.medium.specs.Formats.{Block}
-use Rattle.medium.specs.Volume.{blocks_for}
-use Rattle.medium.specs.Plan.{zeros, packed, Writing, Written, IsClearStart, IsPlaced, WritesNode, WritesNodes}
-use Rattle.medium.proofs.Packed.{length-packed}
+use Rattle.durability.specs.Formats.{Block}
+use Rattle.durability.specs.Volume.{blocks_for}
+use Rattle.durability.specs.Plan.{zeros, packed, Writing, Written, IsClearStart, IsPlaced, WritesNode, WritesNodes}
+use Rattle.durability.proofs.Packed.{length-packed}
 use Rattle.recover.specs.Nodes.{is_directory, links_of}
 use Rattle.udf.specs.Said.{names_directory, said_entries}
 use Rattle.udf.specs.Udf.{udf, HoldsDirectory}

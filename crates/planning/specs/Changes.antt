@@ -6,14 +6,14 @@ use Rattle.model.specs.Tree.Content.{File as FileContent, Directory as Directory
 use Rattle.model.specs.Graph.{Graph}
 use Rattle.model.specs.Operation.{Operation, code_of}
 use Rattle.model.specs.Operation.Operation.{Create, MakeDir}
-use Rattle.medium.specs.Plan.{Plans}
+use Rattle.durability.specs.Plan.{Plans}
 use Rattle.request.specs.Numbers.{code_number}
 use Rattle.request.specs.declared.answer.Code.{Code}
 use Rattle.planning.specs.declared.change.Change.{Change}
 use Rattle.planning.specs.declared.change.Thing.{Thing}
 use Rattle.planning.specs.declared.change.Thing.TheVariants as thing
-use Rattle.table.specs.declared.node.Node.{Node}
-use Rattle.table.specs.NextTable.{made_by, Takes}
+use Rattle.next_vat.specs.declared.node.Node.{Node}
+use Rattle.next_vat.specs.NextTable.{made_by, Takes}
 use Rattle.planning.specs.Writings.{change_writings}
 
 -- a new path with this at it

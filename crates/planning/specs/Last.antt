@@ -4,7 +4,7 @@ use Rattle.limits.specs.declared.TheConstants.{LEAST_CAPACITY, GREATEST_CAPACITY
 use Rattle.drive.specs.Journal.{Event, next_of}
 use Rattle.vat.specs.Table.{FitsTable, view}
 use Rattle.vat.specs.declared.table.Vat.{Vat}
-use Rattle.table.specs.Below.{AreBelow}
+use Rattle.next_vat.specs.Below.{AreBelow}
 use Rattle.planning.specs.declared.plan.LastTable.{LastTable}
 
 -- a table whose entry stands at this address

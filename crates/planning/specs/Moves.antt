@@ -6,9 +6,9 @@ use Rattle.model.specs.Tree.{Name, Path, Tree, Has, names_at}
 use Rattle.model.specs.Graph.{Graph, Stored, Entry}
 use Rattle.model.specs.Operation.{code_of}
 use Rattle.model.specs.Operation.Operation.{Rename}
-use Rattle.medium.specs.Plan.{Writing, turned}
+use Rattle.durability.specs.Plan.{Writing, turned}
 use Rattle.udf.specs.Said.{names_directory}
-use Rattle.table.specs.declared.node.Node.{Node}
+use Rattle.next_vat.specs.declared.node.Node.{Node}
 use Rattle.directories.specs.Shows.{IsNodeAt}
 
 -- another name in one directory, which does not have it

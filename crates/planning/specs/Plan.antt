@@ -3,13 +3,13 @@ use Rattle.std.specs.Prelude.{◌≡◌, ℕ, ◌+◌, ◌-◌, ◌<◌, ◌≤�
 use Rattle.std.specs.Int.{div_ceil}
 use Rattle.limits.specs.declared.TheConstants.{BLOCK_BYTES, PARTITION_START}
 use Rattle.dir.specs.Directory.{directory_blocks, IsDirectory}
-use Rattle.medium.specs.Formats.{Fields}
-use Rattle.medium.specs.Formats.Kind.{Table}
-use Rattle.medium.specs.Formats.Place.{Extent}
-use Rattle.medium.specs.Plan.{zeros, packed, Writing, Written, IsPlaced, WritesNodes}
+use Rattle.durability.specs.Formats.{Fields}
+use Rattle.durability.specs.Formats.Kind.{Table}
+use Rattle.durability.specs.Formats.Place.{Extent}
+use Rattle.durability.specs.Plan.{zeros, packed, Writing, Written, IsPlaced, WritesNodes}
 use Rattle.udf.specs.Udf.{udf}
 use Rattle.vat.specs.Table.{view, IsTableAt}
-use Rattle.table.specs.Outside.{outside}
+use Rattle.next_vat.specs.Outside.{outside}
 use Rattle.planning.specs.Writings.{file_writing, directory_writing}
 use Rattle.planning.specs.declared.layout.PlacedFile.{PlacedFile}
 use Rattle.planning.specs.declared.layout.PlacedDirectory.{PlacedDirectory}

@@ -7,7 +7,7 @@ use Rattle.dir.specs.declared.entry.Dir.{Dir}
 use Rattle.dir.specs.Directory.{IsEntry}
 use Rattle.model.specs.Graph.{whole}
 use Rattle.model.specs.Graph.Body.{Bytes, Entries}
-use Rattle.medium.specs.Plan.{Writing}
+use Rattle.durability.specs.Plan.{Writing}
 use Rattle.udf.specs.Said.{said_entries}
 use Rattle.planning.specs.declared.change.Change.{Change}
 use Rattle.planning.specs.declared.change.NewFile.{NewFile}

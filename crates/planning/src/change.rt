@@ -14,10 +14,10 @@ ghost use Rattle.model.specs.Operation.Operation.{Remove, Rename, Replace};
 ghost use Rattle.model.specs.Tree.{Path, Tree, begins_with, has_names};
 ghost use Rattle.recover.specs.Faults.{IsShortage, devices};
 ghost use Rattle.recover.specs.declared.fault.StoreFault.TheVariants.{Memory};
-ghost use Rattle.table.specs.Below.{AreBelow};
+ghost use Rattle.next_vat.specs.Below.{AreBelow};
 ghost use Rattle.directories.specs.Cache.{AreKept};
 ghost use Rattle.directories.specs.Asked.{said_operation};
-ghost use Rattle.table.specs.NextTable.{made_by};
+ghost use Rattle.next_vat.specs.NextTable.{made_by};
 ghost use Rattle.planning.specs.Changes.{Does, IsRefusal, addition, code_by_names, content_of_thing};
 ghost use Rattle.planning.specs.Moves.{IsBetween, IsWithin, Turns};
 ghost use Rattle.directories.specs.Shows.{IsNodeAt, Shows, graph_below};
@@ -31,11 +31,11 @@ use directories::{Content, Directories, Nodes};
 use drive::Drive;
 use ecma::Timestamp;
 use indexmap::IndexMap;
+use next_vat::{NewNode, Node};
 use osta::Name;
 use recover::StoreFault;
 use request::{Code, DIRECTORY_NAMES, FileData, Op, Request};
 use std::alloc::Global;
-use table::{NewNode, Node};
 
 /// The greatest number of names in a path of the tree.
 const PATH_NAMES: usize = limits::PATH_NAMES as usize;

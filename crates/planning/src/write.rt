@@ -8,7 +8,7 @@ ghost use Rattle.drive.specs.Sending.{as_write};
 ghost use Rattle.drive.specs.Waiting.{end_of, Takes, Stops};
 ghost use Rattle.dir.specs.Directory.{directory_blocks};
 ghost use Rattle.ecma.specs.Descriptor.{padded};
-ghost use Rattle.medium.specs.Plan.{zeros, packed};
+ghost use Rattle.durability.specs.Plan.{zeros, packed};
 
 use dir::{Dir, Lay, MAX_BLOCKS, MAX_NAMES};
 use drive::{Drive, DriveFault, PACKET, PacketWriter};

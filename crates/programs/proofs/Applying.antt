@@ -8,8 +8,8 @@ use Rattle.drive.proofs.Once.{once-written}
 use Rattle.request.specs.declared.answer.Answer.{Answer}
 use Rattle.request.specs.declared.message.Message.{Message}
 use Rattle.model.specs.Session.{formatted}
-use Rattle.medium.specs.Commit.{need}
-use Rattle.medium.specs.Runs.{Fits}
+use Rattle.durability.specs.Commit.{need}
+use Rattle.durability.specs.Runs.{Fits}
 use Rattle.udf.specs.Udf.{spelled}
 use Rattle.formatting.specs.NewVolume.{words_on, IsFormatted}
 use Rattle.formatting.proofs.NewVolumes.{format_long}

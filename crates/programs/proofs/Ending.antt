@@ -4,10 +4,10 @@ use Rattle.std.specs.Prelude.{bytes_eq, if◌then◌else◌, ◌==◌}
 use Rattle.std.specs.Str.Parse.{digits_value}
 use Rattle.std.proofs.lemmas.List.{take-append-drop}
 use Rattle.model.proofs.Lists.{bytes_same}
-use Rattle.words.specs.declared.command.Command.{Command}
-use Rattle.words.specs.declared.command.Command.TheVariants as commands
-use Rattle.words.specs.declared.command.Storage.TheVariants.{Image, Memory}
-use Rattle.words.specs.Commands.{Asks}
+use Rattle.command_line.specs.declared.command.Command.{Command}
+use Rattle.command_line.specs.declared.command.Command.TheVariants as commands
+use Rattle.command_line.specs.declared.command.Storage.TheVariants.{Image, Memory}
+use Rattle.command_line.specs.Commands.{Asks}
 use Rattle.programs.specs.declared.fault.Fault.{Fault}
 use Rattle.programs.specs.FaultLines.{Reports}
 use Rattle.programs.specs.Status.{status_of}

@@ -6,9 +6,9 @@ use Rattle.drive.specs.FileDrive.{journal_of, capacity_of, BeginsWith}
 use Rattle.drive.specs.declared.file.FileDrive.{FileDrive}
 use Rattle.model.specs.Session.{State}
 use Rattle.model.specs.Tree.{Path, Tree}
-use Rattle.medium.specs.Runs.{told}
-use Rattle.medium.specs.Runs.Answer.{Data, Names}
-use Rattle.medium.specs.Runs.Query.{Get, List_}
+use Rattle.durability.specs.Runs.{told}
+use Rattle.durability.specs.Runs.Answer.{Data, Names}
+use Rattle.durability.specs.Runs.Query.{Get, List_}
 use Rattle.request.specs.Path.{IsPath, path_text}
 use Rattle.request.specs.declared.answer.Listed.{Listed}
 use Rattle.request.specs.declared.path.PathFault.{PathFault}

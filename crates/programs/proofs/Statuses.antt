@@ -1,10 +1,10 @@
 -- A program that has a command's words does not end with the status of other words.
 use Rattle.std.proofs.Common.{◌≡◌, ◌↔◌, ◌≤◌, ℕ, List, Result, Ok, Err, arith}
 use Rattle.std.specs.Prelude.{IfErr}
-use Rattle.words.specs.declared.command.Command.{Command}
-use Rattle.words.specs.declared.command.Command.TheVariants.{Format, Apply, List as Listing, Get, Log, Check, Send}
-use Rattle.words.specs.declared.command.Storage.TheVariants.{Image, Memory}
-use Rattle.words.specs.Commands.{Asks}
+use Rattle.command_line.specs.declared.command.Command.{Command}
+use Rattle.command_line.specs.declared.command.Command.TheVariants.{Format, Apply, List as Listing, Get, Log, Check, Send}
+use Rattle.command_line.specs.declared.command.Storage.TheVariants.{Image, Memory}
+use Rattle.command_line.specs.Commands.{Asks}
 use Rattle.programs.specs.Asked.{IsInRange}
 use Rattle.programs.specs.declared.fault.Fault.{Fault}
 use Rattle.programs.specs.Status.{status_of, IsRefusal}

@@ -7,8 +7,8 @@ use Rattle.request.specs.declared.message.Message.{Message}
 use Rattle.request.specs.Frames.{IsIdle, MessagesAre}
 use Rattle.model.specs.Session.{Request, formatted}
 use Rattle.model.specs.Runs.{AllNew, EachOnce}
-use Rattle.medium.specs.Commit.{need}
-use Rattle.medium.specs.Runs.{Fits}
+use Rattle.durability.specs.Commit.{need}
+use Rattle.durability.specs.Runs.{Fits}
 use Rattle.udf.specs.Udf.{spelled}
 use Rattle.store.specs.declared.store.Store.{Store}
 use Rattle.engine.specs.Situation.{Situation}

@@ -1,9 +1,9 @@
 -- What holds of each command that was read.
 use Rattle.std.specs.Prelude.{◌<◌, ◌≤◌, ⊤}
 use Rattle.limits.specs.declared.TheConstants.{GREATEST_CAPACITY, MOMENT_LIMIT}
-use Rattle.words.specs.declared.command.Command.{Command}
-use Rattle.words.specs.declared.command.Command.TheVariants.{Format, Apply, List, Get, Log, Check, Send}
-use Rattle.words.specs.declared.command.Storage.TheVariants.{Image, Memory}
+use Rattle.command_line.specs.declared.command.Command.{Command}
+use Rattle.command_line.specs.declared.command.Command.TheVariants.{Format, Apply, List, Get, Log, Check, Send}
+use Rattle.command_line.specs.declared.command.Storage.TheVariants.{Image, Memory}
 
 -- a format's moment has a timestamp, and a volume in memory is no larger than one may be
 abbrev pub IsInRange : Command → Type 0

@@ -5,10 +5,10 @@ use Rattle.limits.specs.declared.TheConstants.{GREATEST_CAPACITY}
 use Rattle.drive.specs.Journal.{Event, Once, held}
 use Rattle.model.specs.Session.{State}
 use Rattle.model.specs.Tree.{Name, Path}
-use Rattle.medium.specs.Volume.{Stands}
-use Rattle.medium.specs.Runs.{told}
-use Rattle.medium.specs.Runs.Answer.{Data, Names}
-use Rattle.medium.specs.Runs.Query.{Get, List_}
+use Rattle.durability.specs.Volume.{Stands}
+use Rattle.durability.specs.Runs.{told}
+use Rattle.durability.specs.Runs.Answer.{Data, Names}
+use Rattle.durability.specs.Runs.Query.{Get, List_}
 use Rattle.udf.specs.Udf.{udf}
 use Rattle.request.specs.Path.{IsPath, path_text}
 use Rattle.recover.specs.declared.fault.StoreFault.{StoreFault}

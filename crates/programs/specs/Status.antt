@@ -3,8 +3,8 @@ use Rattle.std.specs.Prelude.{◌≡◌, ℕ, Result, Ok, Err}
 use Rattle.recover.specs.declared.fault.StoreFault.TheVariants as store
 use Rattle.request.specs.declared.path.PathFault.{PathFault}
 use Rattle.request.specs.declared.path.PathFault.TheVariants as paths
-use Rattle.words.specs.declared.daemon.WordsFault.{WordsFault}
-use Rattle.words.specs.declared.daemon.WordsFault.TheVariants as words
+use Rattle.command_line.specs.declared.daemon.WordsFault.{WordsFault}
+use Rattle.command_line.specs.declared.daemon.WordsFault.TheVariants as words
 use Rattle.programs.specs.declared.fault.Fault.{Fault}
 use Rattle.programs.specs.declared.fault.Fault.TheVariants.{Usage, Path, Socket, Store, Stream}
 

@@ -1,9 +1,9 @@
 -- What the words of `udfburn` ask for, by their bytes, and what is done of it.
 use Rattle.std.specs.Prelude.{◌≡◌, ⊤, ℕ, List, take, codes, Option, Some, None, Result}
-use Rattle.words.specs.declared.command.Command.{Command}
-use Rattle.words.specs.declared.command.Command.TheVariants as commands
-use Rattle.words.specs.declared.command.Storage.TheVariants.{Image, Memory}
-use Rattle.words.specs.Commands.{Asks}
+use Rattle.command_line.specs.declared.command.Command.{Command}
+use Rattle.command_line.specs.declared.command.Command.TheVariants as commands
+use Rattle.command_line.specs.declared.command.Storage.TheVariants.{Image, Memory}
+use Rattle.command_line.specs.Commands.{Asks}
 use Rattle.programs.specs.declared.fault.Fault.{Fault}
 use Rattle.programs.specs.Applied.{AppliesToImage, AnswersInMemory}
 use Rattle.programs.specs.Copies.{Sends}

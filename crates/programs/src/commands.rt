@@ -1,7 +1,7 @@
 //! The program `udfburn`.
 
 ghost use Rattle.std.specs.Prelude.{◌≡◌, ◌≤◌, ◌↔◌, map, codes, IfErr};
-ghost use Rattle.words.specs.Commands.{Asks};
+ghost use Rattle.command_line.specs.Commands.{Asks};
 ghost use Rattle.programs.specs.Asked.{IsInRange};
 ghost use Rattle.programs.specs.FaultLines.{TellsOutcome};
 ghost use Rattle.programs.specs.Status.{IsRefusal};
@@ -12,10 +12,10 @@ use crate::questions::{check_image, get_image, list_image, log_image};
 use crate::requests::{apply_in_memory, apply_to_image};
 use crate::sending::send;
 use crate::volumes::format_image;
+use command_line::{Command, Storage, read_command};
 use std::fs::{File, Files};
 use std::io::{Read, Write};
 use std::net::Net;
-use words::{Command, Storage, read_command};
 
 /// Does what the words ask for, from the input to the output. It answers the status, and says on `errors` why it was
 /// refused.

@@ -4,7 +4,7 @@ ghost use Rattle.std.specs.Prelude.{◌≡◌, ◌≤◌, map, codes, IfErr, OnO
 ghost use Rattle.drive.specs.Reads.{Follows};
 ghost use Rattle.engine.specs.Situation.{IsReady, seen_on, situation_on};
 ghost use Rattle.engine.specs.Served.{ServesAll};
-ghost use Rattle.words.specs.Daemon.{AsksDaemon};
+ghost use Rattle.command_line.specs.Daemon.{AsksDaemon};
 ghost use Rattle.programs.specs.Connections.{GoesOn, AreOneRun, ServesFront};
 ghost use Rattle.programs.specs.FaultLines.{TellsOutcome};
 ghost use Rattle.programs.specs.Images.{OnImage};
@@ -12,6 +12,7 @@ ghost use Rattle.programs.specs.Status.{IsRefusal};
 
 use crate::fault::{Fault, report};
 use crate::images::open_image;
+use command_line::{DaemonWords, read_daemon};
 use drive::Drive;
 use engine::{Engine, ServeFault, put_all, serve};
 use std::alloc::Global;
@@ -22,7 +23,6 @@ use std::os::unix::net::{UnixListener, UnixStream};
 use std::time::{Clock, Duration};
 use std::{io, thread};
 use store::StoreFault;
-use words::{DaemonWords, read_daemon};
 
 /// The name under which the daemon's lines stand.
 const NAME: &str = "udfburnd";

@@ -9,13 +9,13 @@ ghost use Rattle.programs.specs.FaultLines as said;
 ghost use Rattle.programs.specs.Status.{status_of, AreWordsTold, IsPathTold};
 ghost use Rattle.programs.specs.declared.fault.Fault.TheVariants.{Store, Stream};
 
+use command_line::WordsFault;
 use engine::{ServeFault, put_all};
 use itoa::Buffer;
 use request::PathFault;
 use std::alloc::AllocError;
 use std::io::Write;
 use store::StoreFault;
-use words::WordsFault;
 
 /// The status of a program that did what it was asked for.
 const DONE: u8 = 0;

@@ -1,7 +1,7 @@
 //! The process of a program: its words and its standard streams.
 
 ghost use Rattle.std.specs.Prelude.{◌≡◌, ◌≤◌, map, codes, IfErr, IfOk, IfSome, IsSomeAnd};
-ghost use Rattle.words.specs.Commands.{Asks};
+ghost use Rattle.command_line.specs.Commands.{Asks};
 ghost use Rattle.programs.specs.Connections.{AreOneRun};
 ghost use Rattle.programs.specs.FaultLines.{TellsOutcome};
 ghost use Rattle.programs.specs.Images.{OnImage};

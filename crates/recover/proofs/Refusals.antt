@@ -12,9 +12,9 @@ use Rattle.model.specs.Graph.{MakesTree}
 use Rattle.model.specs.Identities.{HasIdentities}
 use Rattle.model.specs.Session.{State as ModelState}
 use Rattle.model.proofs.Lists.{bytes_eq-itself}
-use Rattle.medium.specs.Formats.{Fields, Place, Table_}
-use Rattle.medium.specs.Formats.Place.{Nowhere, Extent, Inside}
-use Rattle.medium.specs.Volume.{HasTable, IsWithin, Tells, bytes_in, extent, graph_of}
+use Rattle.durability.specs.Formats.{Fields, Place, Table_}
+use Rattle.durability.specs.Formats.Place.{Nowhere, Extent, Inside}
+use Rattle.durability.specs.Volume.{HasTable, IsWithin, Tells, bytes_in, extent, graph_of}
 use Rattle.udf.specs.Said.{said_fields, said_table}
 use Rattle.udf.specs.Udf.{udf}
 use Rattle.udf.specs.Words.{fields_of, kind_of, table_of}

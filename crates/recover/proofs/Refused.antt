@@ -16,9 +16,9 @@ use Rattle.model.specs.Graph.{Body, Entry, Graph, HasParent, IsUnder, MakesTree,
 use Rattle.model.specs.Graph.Body.{Bytes, Entries}
 use Rattle.model.specs.Identities.{HasIdentities}
 use Rattle.model.specs.Tree.{IsTree, Node, Path, Tree, found_directory, found_identity, has_names}
-use Rattle.medium.specs.Formats.{Fields, Place}
-use Rattle.medium.specs.Formats.Place.{Nowhere, Extent as MediumExtent, Inside}
-use Rattle.medium.specs.Volume.{HoldsBody, HoldsDirectory, HoldsFile, IsStoredAt, extent, graph_of}
+use Rattle.durability.specs.Formats.{Fields, Place}
+use Rattle.durability.specs.Formats.Place.{Nowhere, Extent as MediumExtent, Inside}
+use Rattle.durability.specs.Volume.{HoldsBody, HoldsDirectory, HoldsFile, IsStoredAt, extent, graph_of}
 use Rattle.udf.specs.Said.{said_entries, said_entry, names_directory}
 use Rattle.udf.specs.Udf.{IsBlock, udf}
 use Rattle.udf.specs.Words.{entries_of, entry_of, fields_of, kind_of, name_kind, place_of}

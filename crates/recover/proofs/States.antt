@@ -12,8 +12,8 @@ use Rattle.model.specs.Identities.{HasIdentities}
 use Rattle.model.specs.Tree.{files_of, directories_of}
 use Rattle.model.proofs.Lists.{bytes_same}
 use Rattle.model.proofs.Made.{one_tree}
-use Rattle.medium.specs.Volume.{HasTable, bytes_in, extent, graph_of}
-use Rattle.medium.proofs.Stored.{stored_one}
+use Rattle.durability.specs.Volume.{HasTable, bytes_in, extent, graph_of}
+use Rattle.durability.proofs.Stored.{stored_one}
 use Rattle.udf.specs.Said.{said_fields, said_table}
 use Rattle.udf.specs.Udf.{udf}
 use Rattle.udf.proofs.Formats.{bounded, exact}

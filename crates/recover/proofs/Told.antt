@@ -3,9 +3,9 @@ use Rattle.std.proofs.Common.{◌≡◌, ℕ, ◌-◌, ◌≤◌, inl, inr, List
 use Rattle.std.specs.Prelude.{slice_get}
 use Rattle.std.proofs.lemmas.Option.{same_Some, slice_get_within}
 use Rattle.icb.specs.Entry.{Fields as IcbFields, IsEntry}
-use Rattle.medium.specs.Formats.{Table_}
-use Rattle.medium.specs.Volume as volumes
-use Rattle.medium.proofs.One.{table_one}
+use Rattle.durability.specs.Formats.{Table_}
+use Rattle.durability.specs.Volume as volumes
+use Rattle.durability.proofs.One.{table_one}
 use Rattle.udf.specs.Said.{said_table}
 use Rattle.udf.specs.Udf.{udf}
 use Rattle.udf.specs.Words.{fields_of, kind_of, place_of, table_of}

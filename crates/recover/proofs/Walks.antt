@@ -20,8 +20,8 @@ use Rattle.dir.specs.Directory.{IsDirectory}
 use Rattle.model.specs.Tree.{Name}
 use Rattle.model.specs.Graph.{Graph, Stored, Entry, entries_of, is_directory as stored_is_directory}
 use Rattle.model.specs.Graph.Body.{Bytes, Entries}
-use Rattle.medium.specs.Formats.Kind.{File as MediumFile, Directory as MediumDirectory}
-use Rattle.medium.specs.Volume.{HoldsFile, HoldsDirectory, bytes_in, extent, graph_of}
+use Rattle.durability.specs.Formats.Kind.{File as MediumFile, Directory as MediumDirectory}
+use Rattle.durability.specs.Volume.{HoldsFile, HoldsDirectory, bytes_in, extent, graph_of}
 use Rattle.udf.specs.Said.{said_entries, said_entry, said_fields, said_kind, said_place, names_directory}
 use Rattle.udf.specs.Udf.{IsBlock, udf}
 use Rattle.udf.proofs.Said.{entries_agree, directories_agree}

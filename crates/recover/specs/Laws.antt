@@ -1,6 +1,6 @@
 -- What follows from what was read, each the contract of a public function.
 use Rattle.std.specs.Prelude.{ℕ, List, Some}
-use Rattle.medium.specs.Volume.{Stands}
+use Rattle.durability.specs.Volume.{Stands}
 use Rattle.udf.specs.Udf.{udf}
 use Rattle.recover.specs.declared.state.State.{State}
 use Rattle.recover.specs.State.{IsShown}

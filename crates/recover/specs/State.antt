@@ -6,7 +6,7 @@ use Rattle.model.specs.Graph.{MakesTree}
 use Rattle.model.specs.Identities.{HasIdentities}
 use Rattle.model.specs.Session.{State as ModelState}
 use Rattle.model.specs.Tree.{Tree, IsTree, files_of, directories_of}
-use Rattle.medium.specs.Volume.{Tells, graph_of}
+use Rattle.durability.specs.Volume.{Tells, graph_of}
 use Rattle.udf.specs.Said.{said_table}
 use Rattle.udf.specs.Udf.{udf}
 use Rattle.vat.specs.declared.table.Vat.{Vat}

@@ -12,7 +12,7 @@ use Rattle.dir.specs.declared.entry.Kind.{Kind}
 use Rattle.dir.specs.declared.entry.Kind.TheVariants.{File, Directory}
 use Rattle.dir.specs.Directory.{IsDirectory}
 use Rattle.model.specs.Graph.{Graph, Stored, is_directory as stored_is_directory}
-use Rattle.medium.specs.Volume.{graph_of}
+use Rattle.durability.specs.Volume.{graph_of}
 use Rattle.udf.specs.Udf.{IsBlock, udf}
 use Rattle.recover.specs.declared.directory.Extent.{Extent}
 use Rattle.recover.specs.declared.walk.Body.{Body}

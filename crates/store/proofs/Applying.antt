@@ -9,13 +9,13 @@ use Rattle.drive.specs.Sending.{SendsAlone}
 use Rattle.drive.specs.declared.Drive.{Ghosts}
 use Rattle.model.specs.Addresses.{free_address}
 use Rattle.model.specs.Session.{State, after_one, reply_to}
-use Rattle.medium.specs.Commit.{need}
-use Rattle.medium.specs.Formats.{Block}
-use Rattle.medium.specs.Journal.{Advances}
-use Rattle.medium.specs.Plan.{IsPlanned}
-use Rattle.medium.specs.Volume.{Medium, Stands}
-use Rattle.medium.proofs.OnJournals.{torn_advances}
-use Rattle.medium.proofs.Writes.{left_more}
+use Rattle.durability.specs.Commit.{need}
+use Rattle.durability.specs.Formats.{Block}
+use Rattle.durability.specs.Journal.{Advances}
+use Rattle.durability.specs.Plan.{IsPlanned}
+use Rattle.durability.specs.Volume.{Medium, Stands}
+use Rattle.durability.proofs.OnJournals.{torn_advances}
+use Rattle.durability.proofs.Writes.{left_more}
 use Rattle.udf.proofs.Formats.{exact, bounded, distinct}
 use Rattle.recover.specs.Faults.{IsShortage}
 use Rattle.recover.specs.declared.fault.StoreFault.{StoreFault}
@@ -33,14 +33,14 @@ use Rattle.directories.specs.Asked.{said_operation, said_request}
 use Rattle.directories.specs.Cache.{AreKept}
 use Rattle.store.specs.Calls.{Applies, IsDone, IsFailed, Knows, Refuses, Withstands}
 use Rattle.planning.specs.Changes.{Does}
-use Rattle.table.specs.Commits.{IsPart, IsWholeCommit}
+use Rattle.next_vat.specs.Commits.{IsPart, IsWholeCommit}
 use Rattle.planning.specs.Needs.{change_need}
-use Rattle.table.specs.NextTable.{begun}
+use Rattle.next_vat.specs.NextTable.{begun}
 use Rattle.planning.specs.Plan.{IsPlan, node_list, plan_blocks, table_data}
 use Rattle.store.specs.Putting.{Makes}
 use Rattle.store.specs.Sessions.{reply_said}
 use Rattle.directories.specs.Shows.{graph_below}
-use Rattle.table.proofs.Committed.{commits_are_part, commits_are_whole, tables_stand}
+use Rattle.next_vat.proofs.Committed.{commits_are_part, commits_are_whole, tables_stand}
 use Rattle.store.proofs.Knowing.{at_is, commits, need_is, next_is, planned, planned_blocks, planned_table}
 
 module _ (capacity volume : ℕ) (J : List Event) (S : State) (store : Store) (knows : Knows capacity volume J S store) where

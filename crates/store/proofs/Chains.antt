@@ -3,11 +3,11 @@ use Rattle.std.proofs.Common.{◌≡◌, ℕ, zero, suc, ◌+◌, ◌-◌, ◌<�
 use Rattle.std.specs.Prelude.{IfSome, slice_get}
 use Rattle.std.proofs.lemmas.List.{length-take, take-take}
 use Rattle.std.proofs.lemmas.Option.{same_Some, slice_get_within}
-use Rattle.medium.specs.Formats.{Block, Table_}
-use Rattle.medium.specs.Volume.{IsTableEntry, LastTable, Medium, Stands, StoodBefore, Tells}
-use Rattle.medium.specs.Volume as volumes
-use Rattle.medium.proofs.History.{last_table_one}
-use Rattle.medium.proofs.One.{last_one}
+use Rattle.durability.specs.Formats.{Block, Table_}
+use Rattle.durability.specs.Volume.{IsTableEntry, LastTable, Medium, Stands, StoodBefore, Tells}
+use Rattle.durability.specs.Volume as volumes
+use Rattle.durability.proofs.History.{last_table_one}
+use Rattle.durability.proofs.One.{last_one}
 use Rattle.model.specs.Session as model
 use Rattle.model.proofs.Lists.{get-take}
 use Rattle.udf.specs.Udf.{udf}

@@ -13,7 +13,7 @@ use Rattle.planning.specs.declared.change.Change.{Change}
 use Rattle.planning.specs.declared.plan.Plan.{Plan}
 use Rattle.store.specs.declared.store.Store.{Store}
 use Rattle.vat.specs.Table.{view}
-use Rattle.table.specs.NextTable.{next_table}
+use Rattle.next_vat.specs.NextTable.{next_table}
 use Rattle.planning.specs.Plan.{IsPlan, plan_blocks, plan_written, plan_writings}
 use Rattle.planning.specs.Writings.{change_writings}
 use Rattle.store.specs.Putting.{IsRefused, Makes, WritesPlan}

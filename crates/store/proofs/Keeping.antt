@@ -7,8 +7,8 @@ use Rattle.drive.specs.Journal.{Event, held, next_of, written, Once, AddsFront}
 use Rattle.drive.proofs.Once.{next_once}
 use Rattle.drive.proofs.Fronts.{begins_after, held_write}
 use Rattle.dir.specs.Directory.{IsDirectory}
-use Rattle.medium.specs.Formats.{Block}
-use Rattle.medium.proofs.Lists.{part-append}
+use Rattle.durability.specs.Formats.{Block}
+use Rattle.durability.proofs.Lists.{part-append}
 use Rattle.recover.specs.declared.directory.Extent.{Extent}
 use Rattle.recover.specs.Nodes.{data_of}
 use Rattle.recover.proofs.Held.{length-held}

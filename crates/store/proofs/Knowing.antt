@@ -10,12 +10,12 @@ use Rattle.model.specs.Operation.{code_of}
 use Rattle.model.specs.Session.{State}
 use Rattle.model.specs.Session as model
 use Rattle.model.proofs.Counts.{len_both}
-use Rattle.medium.specs.Commit.{need}
-use Rattle.medium.specs.Formats.{Table_}
-use Rattle.medium.specs.Formats.Kind.{Table as TableEntry}
-use Rattle.medium.specs.Formats.Place.{Extent}
-use Rattle.medium.specs.Plan.{Writing, Written, WritesNodes, IsPlaced, IsPlanned}
-use Rattle.medium.proofs.OnJournals.{length-held}
+use Rattle.durability.specs.Commit.{need}
+use Rattle.durability.specs.Formats.{Table_}
+use Rattle.durability.specs.Formats.Kind.{Table as TableEntry}
+use Rattle.durability.specs.Formats.Place.{Extent}
+use Rattle.durability.specs.Plan.{Writing, Written, WritesNodes, IsPlaced, IsPlanned}
+use Rattle.durability.proofs.OnJournals.{length-held}
 use Rattle.udf.specs.Said.{said_table}
 use Rattle.udf.specs.Udf.{udf, spelled}
 use Rattle.udf.proofs.Formats.{bounded}
@@ -29,18 +29,18 @@ use Rattle.directories.specs.Asked.{said_operation, said_request}
 use Rattle.directories.specs.Cache.{AreKept}
 use Rattle.store.specs.Calls.{Knows}
 use Rattle.planning.specs.Changes.{Does, gone_of}
-use Rattle.table.specs.Need.{reckoned}
+use Rattle.next_vat.specs.Need.{reckoned}
 use Rattle.planning.specs.Needs.{change_need}
-use Rattle.table.specs.NextTable.{AreTaken, Changes, begun, next_table}
-use Rattle.table.specs.Pieces.{IsTableBehind}
+use Rattle.next_vat.specs.NextTable.{AreTaken, Changes, begun, next_table}
+use Rattle.next_vat.specs.Pieces.{IsTableBehind}
 use Rattle.planning.specs.Plan.{IsPlan, node_list, table_data, plan_written}
 use Rattle.store.specs.Putting.{Makes}
 use Rattle.directories.specs.Shows.{Shows, graph_below}
-use Rattle.table.specs.TableChange.{committed}
+use Rattle.next_vat.specs.TableChange.{committed}
 use Rattle.planning.specs.Writings.{change_writings}
-use Rattle.table.proofs.ChangesTaken.{changes_are_taken}
-use Rattle.table.proofs.PlanPieces.{nodes_are_written, pieces_are_planned, pieces_table}
-use Rattle.table.proofs.Reckoning.{need_is_reckoned}
+use Rattle.next_vat.proofs.ChangesTaken.{changes_are_taken}
+use Rattle.next_vat.proofs.PlanPieces.{nodes_are_written, pieces_are_planned, pieces_table}
+use Rattle.next_vat.proofs.Reckoning.{need_is_reckoned}
 use Rattle.planning.proofs.Sizing.{all_names, bytes_of, change_is_of, change_reckoned}
 use Rattle.planning.proofs.Taking.{IsTakenBy, bare, bare_addresses}
 

@@ -4,11 +4,11 @@ use Rattle.std.specs.Prelude.{Some, slice_get, Result, Ok, Err, IfErr, IsErr}
 use Rattle.std.proofs.lemmas.Bool.{false≢true}
 use Rattle.std.proofs.lemmas.Option.{same_Some}
 use Rattle.drive.specs.Journal.{Event, Once, held}
-use Rattle.medium.specs.Formats.{Block}
-use Rattle.medium.specs.Volume.{HasTable, Medium, Stands, Tells}
-use Rattle.medium.specs.Volume as volumes
-use Rattle.medium.proofs.History.{last_table_one}
-use Rattle.medium.proofs.One.{last_one}
+use Rattle.durability.specs.Formats.{Block}
+use Rattle.durability.specs.Volume.{HasTable, Medium, Stands, Tells}
+use Rattle.durability.specs.Volume as volumes
+use Rattle.durability.proofs.History.{last_table_one}
+use Rattle.durability.proofs.One.{last_one}
 use Rattle.model.specs.Session as model
 use Rattle.recover.specs.Faults.{IsShortage}
 use Rattle.recover.specs.declared.fault.StoreFault.{StoreFault}

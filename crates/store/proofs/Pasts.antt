@@ -2,9 +2,9 @@
 use Rattle.std.proofs.Common.{◌≡◌, ℕ, suc, ◌+◌, ◌-◌, ◌<◌, ◌≤◌, List, take, Some, refl, sym, ap, subst, ◌∙◌, arith}
 use Rattle.std.specs.Prelude.{slice_get}
 use Rattle.drive.specs.Journal.{Event, held, next_of}
-use Rattle.medium.specs.Formats.{Table_}
-use Rattle.medium.specs.Volume.{LastTable, Past, StoodBefore}
-use Rattle.medium.specs.Volume as volumes
+use Rattle.durability.specs.Formats.{Table_}
+use Rattle.durability.specs.Volume.{LastTable, Past, StoodBefore}
+use Rattle.durability.specs.Volume as volumes
 use Rattle.model.specs.Graph.{MakesTree}
 use Rattle.model.specs.Session as model
 use Rattle.udf.specs.Said.{said_table}

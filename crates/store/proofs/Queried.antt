@@ -5,9 +5,9 @@ use Rattle.drive.specs.Journal.{Event, Once}
 use Rattle.model.specs.Tree.{Content, Node, Path, Tree}
 use Rattle.model.specs.Tree.Content.{File, Directory}
 use Rattle.model.specs.Session.{State}
-use Rattle.medium.specs.Runs.{Answer, got, listed, shown, told}
-use Rattle.medium.specs.Runs as runs
-use Rattle.medium.specs.Runs.Query.{Get, List_, Stat}
+use Rattle.durability.specs.Runs.{Answer, got, listed, shown, told}
+use Rattle.durability.specs.Runs as runs
+use Rattle.durability.specs.Runs.Query.{Get, List_, Stat}
 use Rattle.recover.specs.declared.fault.StoreFault.{StoreFault}
 use Rattle.request.specs.declared.answer.Listed.{Listed}
 use Rattle.request.specs.declared.answer.NodeStatus.{NodeStatus}

@@ -4,7 +4,7 @@ use Rattle.std.proofs.lemmas.List.{length-take, take-take}
 use Rattle.drive.specs.Journal.{Event, Once, blocks_of, held, next_of}
 use Rattle.drive.proofs.Once.{held_front, held_once, next_once, once-take}
 use Rattle.model.specs.Graph.{MakesTree}
-use Rattle.medium.specs.Volume.{graph_of}
+use Rattle.durability.specs.Volume.{graph_of}
 use Rattle.udf.specs.Udf.{udf}
 use Rattle.store.specs.Past.{SnapshotsStay}
 

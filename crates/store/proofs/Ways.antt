@@ -1,7 +1,7 @@
 -- Where a chain of tables breaks off.
 use Rattle.std.proofs.Common.{◌≡◌, ℕ, ◌+◌, ◌<◌, ◌≤◌, inl, inr, List, Option, Some, None, IsNone, ◌↔◌, refl, sym, ap, subst, ◌∙◌, arith, eq-or-lt_of_le}
 use Rattle.std.proofs.lemmas.Option.{same_Some}
-use Rattle.medium.specs.Formats.{Table_}
+use Rattle.durability.specs.Formats.{Table_}
 use Rattle.vat.specs.Table.{Table}
 use Rattle.recover.specs.declared.fault.StoreFault.{StoreFault}
 use Rattle.recover.specs.declared.fault.StoreFault.TheVariants.{Device, Memory, Damaged}

@@ -2,8 +2,8 @@
 use Rattle.std.proofs.Common.{◌≡◌, ℕ, zero, suc, ◌+◌, ◌-◌, ◌<◌, ◌≤◌, inl, inr, List, [], ◌∷◌, length, Option, Some, None, IsNone, refl, sym, ap, subst, ◌∙◌, arith, slice_index_or}
 use Rattle.std.proofs.lemmas.Option.{none-some, same_Some}
 use Rattle.drive.specs.Journal.{Event, held}
-use Rattle.medium.specs.Formats.{Table_}
-use Rattle.medium.specs.Volume.{Medium, StoodBefore}
+use Rattle.durability.specs.Formats.{Table_}
+use Rattle.durability.specs.Volume.{Medium, StoodBefore}
 use Rattle.model.specs.Session as model
 use Rattle.udf.specs.Udf.{udf}
 use Rattle.vat.specs.Table.{Table}

@@ -10,12 +10,12 @@ use Rattle.recover.specs.declared.fault.StoreFault.TheVariants as fault
 use Rattle.recover.specs.Faults.{IsShortage}
 use Rattle.model.specs.Tree.{Path}
 use Rattle.model.specs.Session.{State, Request, reply_to, after_one, after}
-use Rattle.medium.specs.Volume.{Stands}
-use Rattle.medium.specs.Commit.{need}
-use Rattle.medium.specs.Journal.{Advances}
-use Rattle.medium.specs.Runs.{Answer, told as shows}
-use Rattle.medium.specs.Runs.Answer.{NotFound, IsDirectory, NotDirectory, Data, Names, NodeIs}
-use Rattle.medium.specs.Runs.Query.{Get, List_, Stat}
+use Rattle.durability.specs.Volume.{Stands}
+use Rattle.durability.specs.Commit.{need}
+use Rattle.durability.specs.Journal.{Advances}
+use Rattle.durability.specs.Runs.{Answer, told as shows}
+use Rattle.durability.specs.Runs.Answer.{NotFound, IsDirectory, NotDirectory, Data, Names, NodeIs}
+use Rattle.durability.specs.Runs.Query.{Get, List_, Stat}
 use Rattle.udf.specs.Udf.{udf, spelled}
 use Rattle.udf.specs.Said.{said_table}
 use Rattle.vat.specs.Table.{view}

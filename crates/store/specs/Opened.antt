@@ -2,7 +2,7 @@
 use Rattle.std.specs.Prelude.{⊤, ℕ, ◌≤◌, List}
 use Rattle.limits.specs.declared.TheConstants.{PARTITION_START}
 use Rattle.model.specs.Session.{State}
-use Rattle.medium.specs.Volume.{Stands}
+use Rattle.durability.specs.Volume.{Stands}
 use Rattle.recover.specs.declared.fault.StoreFault.{StoreFault}
 use Rattle.recover.specs.declared.fault.StoreFault.TheVariants.{Device, Memory, NotFormatted, Damaged}
 use Rattle.recover.specs.Tables.{HasEntry, HasNoneFrom}

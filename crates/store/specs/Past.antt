@@ -4,7 +4,7 @@ use Rattle.drive.specs.Journal.{Event, Once, held, next_of}
 use Rattle.model.specs.Graph.{MakesTree}
 use Rattle.model.specs.Session.{State}
 use Rattle.model.specs.Tree.{IsTree, Tree, identity_at}
-use Rattle.medium.specs.Volume.{Past}
+use Rattle.durability.specs.Volume.{Past}
 use Rattle.udf.specs.Said.{said_table}
 use Rattle.udf.specs.Udf.{udf}
 use Rattle.vat.specs.declared.table.Vat.{Vat}

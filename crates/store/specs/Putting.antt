@@ -7,7 +7,7 @@ use Rattle.request.specs.Numbers.{code_number}
 use Rattle.request.specs.declared.answer.Reply.{Reply}
 use Rattle.request.specs.declared.message.Request.{Request}
 use Rattle.vat.specs.Table.{view}
-use Rattle.table.specs.NextTable.{next_table}
+use Rattle.next_vat.specs.NextTable.{next_table}
 use Rattle.planning.specs.Plan.{IsPlan, plan_blocks, plan_writings, plan_written}
 use Rattle.planning.specs.Writings.{change_writings}
 use Rattle.planning.specs.declared.change.Change.{Change}

@@ -12,7 +12,7 @@ ghost use Rattle.store.specs.Calls.{Applies, Knows, Withstands};
 ghost use Rattle.directories.specs.Cache.{AreKept};
 ghost use Rattle.planning.specs.Plan.{IsPlan, table_data, node_list, plan_blocks};
 ghost use Rattle.store.specs.Putting.{WritesPlan, IsRefused};
-ghost use Rattle.table.specs.TableChange.{IsNext};
+ghost use Rattle.next_vat.specs.TableChange.{IsNext};
 ghost use Rattle.recover.specs.declared.fault.StoreFault.TheVariants.{Device, Stopped};
 
 use crate::store::Store;

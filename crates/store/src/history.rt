@@ -11,7 +11,7 @@ ghost use Rattle.recover.specs.declared.state.State.{State};
 ghost use Rattle.recover.specs.declared.fault.StoreFault.TheVariants.{NoCommit, Stopped};
 ghost use Rattle.std.proofs.Props.{props};
 ghost use Rattle.store.specs.Agrees.{Agrees};
-ghost use Rattle.table.specs.Below.{AreBelow};
+ghost use Rattle.next_vat.specs.Below.{AreBelow};
 ghost use Rattle.store.specs.Calls.{Knows};
 ghost use Rattle.store.specs.History.{IsChecked, IsHistory, IsHistoryRefused, IsTableOf, IsUnchecked, IsWayRefused, told_of};
 ghost use Rattle.store.specs.Past.{AllStood, IsCheckRefused, IsPast, IsPastRefused};
@@ -71,7 +71,7 @@ impl Snapshot {
     ghost use Rattle.std.specs.Prelude.{◌≡◌, ◌≤◌, IsTrue, IfOk, IfErr, Err, false};
     ghost use Rattle.drive.specs.Journal.{Once, next_of};
     ghost use Rattle.drive.specs.Reads.{Reads};
-    ghost use Rattle.medium.specs.Runs as runs;
+    ghost use Rattle.durability.specs.Runs as runs;
     ghost use Rattle.model.specs.Tree.{Tree};
     ghost use Rattle.vat.specs.Table.{view};
     ghost use Rattle.recover.specs.Faults.{devices};

@@ -22,6 +22,6 @@ pub use due::Due;
 pub use formatting::{format, one_format};
 pub use history::{Commit, Snapshot};
 pub use laws::snapshots_stay;
+pub use next_vat::{commits_are_planned, need_is_reckoned, next_tables_follow, pieces_are_planned};
 pub use recover::StoreFault;
 pub use store::Store;
-pub use table::{commits_are_planned, need_is_reckoned, next_tables_follow, pieces_are_planned};

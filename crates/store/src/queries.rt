@@ -3,7 +3,7 @@
 ghost use Rattle.std.specs.Prelude.{◌≡◌, ◌≤◌, IsTrue, IfOk, IfErr, OnOk, Err, false, length};
 ghost use Rattle.drive.specs.Journal.{Once};
 ghost use Rattle.drive.specs.Reads.{Reads};
-ghost use Rattle.medium.specs.Runs as runs;
+ghost use Rattle.durability.specs.Runs as runs;
 ghost use Rattle.model.specs.Tree.{Tree};
 ghost use Rattle.recover.specs.Faults.{devices};
 ghost use Rattle.recover.specs.declared.fault.StoreFault.TheVariants.{Stopped};

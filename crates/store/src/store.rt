@@ -4,7 +4,7 @@ ghost use Rattle.std.specs.Prelude.{◌≡◌, ℕ, IsTrue, IfOk, IfErr, false};
 ghost use Rattle.recover.specs.Faults.{devices};
 ghost use Rattle.drive.specs.Journal.{held, Once};
 ghost use Rattle.drive.specs.Reads.{Reads};
-ghost use Rattle.medium.specs.Volume.{Stands};
+ghost use Rattle.durability.specs.Volume.{Stands};
 ghost use Rattle.model.specs.Session as said;
 ghost use Rattle.store.specs.Agrees.{Agrees};
 ghost use Rattle.store.specs.Calls.{Knows, Opens};

@@ -10,7 +10,7 @@ use Rattle.ecma.specs.Numbers.{u16_at}
 use Rattle.osta.specs.Compressed.{compressed}
 use Rattle.model.specs.Tree.{Name}
 use Rattle.model.specs.Graph.{Entry}
-use Rattle.medium.specs.Formats.{Block, AreExact, AreBounded, AreDistinct, AreShort, identifier_size}
+use Rattle.durability.specs.Formats.{Block, AreExact, AreBounded, AreDistinct, AreShort, identifier_size}
 use Rattle.icb.specs.Entry.{Fields as IcbFields, IsEntry}
 use Rattle.icb.proofs.VatIcbs.{one_entry}
 use Rattle.ecma.proofs.Seals.{begins}

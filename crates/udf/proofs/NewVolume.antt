@@ -7,12 +7,12 @@ use Rattle.ecma.specs.Descriptor.{padded}
 use Rattle.ecma.specs.Numbers.{u16_at}
 use Rattle.model.specs.Graph.{whole}
 use Rattle.model.specs.Graph.Body.{Entries}
-use Rattle.medium.specs.Formats.{Block}
-use Rattle.medium.specs.Formats.Kind.{Directory, Table}
-use Rattle.medium.specs.Volume.{partition_start, extent, bytes_in, IsTableEntry, NoneImitates, IsStoredAt, HasTable}
-use Rattle.medium.specs.Step.{IsFormat}
-use Rattle.medium.proofs.Lists.{get_past}
-use Rattle.medium.proofs.Mediums.{none_from, none-append}
+use Rattle.durability.specs.Formats.{Block}
+use Rattle.durability.specs.Formats.Kind.{Directory, Table}
+use Rattle.durability.specs.Volume.{partition_start, extent, bytes_in, IsTableEntry, NoneImitates, IsStoredAt, HasTable}
+use Rattle.durability.specs.Step.{IsFormat}
+use Rattle.durability.proofs.Lists.{get_past}
+use Rattle.durability.proofs.Mediums.{none_from, none-append}
 use Rattle.vat.proofs.TableReads.{takes_so_many}
 use Rattle.udf.specs.Udf.{IsBlock, udf, HoldsDirectory}
 use Rattle.udf.specs.Words.{fields_of}

@@ -3,11 +3,11 @@ use Rattle.std.proofs.Common.{◌≡◌, ℕ, zero, suc, ◌+◌, ◌*◌, ◌-�
 use Rattle.std.proofs.lemmas.List.{drop-drop, take_all}
 use Rattle.std.proofs.lemmas.Option.{same_Some, slice_get_within}
 use Rattle.ecma.specs.Descriptor.{padded}
-use Rattle.medium.specs.Formats.{Block}
-use Rattle.medium.specs.Volume.{blocks_for, partition_start, IsTableEntry, NoneImitates}
-use Rattle.medium.specs.Plan.{blocks_from, packed}
-use Rattle.medium.proofs.Mediums.{none_from, none_take_at}
-use Rattle.medium.proofs.Packed.{length-packed}
+use Rattle.durability.specs.Formats.{Block}
+use Rattle.durability.specs.Volume.{blocks_for, partition_start, IsTableEntry, NoneImitates}
+use Rattle.durability.specs.Plan.{blocks_from, packed}
+use Rattle.durability.proofs.Mediums.{none_from, none_take_at}
+use Rattle.durability.proofs.Packed.{length-packed}
 use Rattle.icb.specs.declared.entry.Kind.{Kind as IcbKind}
 use Rattle.icb.specs.declared.entry.Kind.TheVariants as icb_kinds
 use Rattle.icb.specs.Entry.{Place as IcbPlace, Fields as IcbFields, IsEntry, blocks_of}

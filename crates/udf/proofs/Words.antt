@@ -2,9 +2,9 @@
 use Rattle.std.proofs.Common.{◌≡◌, ℕ, Bool, true, false, List, [], ◌∷◌, map, refl, ap}
 use Rattle.model.specs.Graph.{Entry}
 use Rattle.model.specs.Session.{Reply, ClientRecord}
-use Rattle.medium.specs.Formats.{Kind, Place, Fields, Table_}
-use Rattle.medium.specs.Formats.Kind.{Directory, File, Table}
-use Rattle.medium.specs.Formats.Place.{Nowhere, Extent, Inside}
+use Rattle.durability.specs.Formats.{Kind, Place, Fields, Table_}
+use Rattle.durability.specs.Formats.Kind.{Directory, File, Table}
+use Rattle.durability.specs.Formats.Place.{Nowhere, Extent, Inside}
 use Rattle.icb.specs.Entry.{Fields as IcbFields}
 use Rattle.dir.specs.declared.entry.Entry.{Entry as DirEntry}
 use Rattle.vat.specs.declared.record.Record.{Record as VatRecord}

@@ -4,13 +4,13 @@ use Rattle.limits.specs.declared.TheConstants.{FORMAT_BLOCKS}
 use Rattle.drive.specs.Journal.{Event, held, Once, AddsFront}
 use Rattle.model.specs.Session.{State, Request, after_one, formatted}
 use Rattle.model.specs.Laws.{IsSound}
-use Rattle.medium.specs.Formats.{Block}
-use Rattle.medium.specs.Volume.{Medium, NoneImitates, Stands, Past}
-use Rattle.medium.specs.Step.{CarriesOut, IsFormat}
-use Rattle.medium.specs.Plan.{IsPlanned}
-use Rattle.medium.specs.Commit.{need}
-use Rattle.medium.specs.Journal.{Advances, HoldsOnJournal}
-use Rattle.medium.specs.Runs.{Delivery, Answer, Runs, Holds}
+use Rattle.durability.specs.Formats.{Block}
+use Rattle.durability.specs.Volume.{Medium, NoneImitates, Stands, Past}
+use Rattle.durability.specs.Step.{CarriesOut, IsFormat}
+use Rattle.durability.specs.Plan.{IsPlanned}
+use Rattle.durability.specs.Commit.{need}
+use Rattle.durability.specs.Journal.{Advances, HoldsOnJournal}
+use Rattle.durability.specs.Runs.{Delivery, Answer, Runs, Holds}
 use Rattle.udf.specs.Udf.{udf, spelled}
 
 -- ---- what stands

@@ -2,8 +2,8 @@
 use Rattle.std.specs.Prelude.{◌≡◌, ℕ, ◌≤◌, List, [], ◌∷◌, ◌++◌, Some, None}
 use Rattle.limits.specs.declared.TheConstants.{FIRST_UNIQUE}
 use Rattle.ecma.specs.Descriptor.{padded}
-use Rattle.medium.specs.Formats.{Block}
-use Rattle.medium.specs.Step.{IsFormat}
+use Rattle.durability.specs.Formats.{Block}
+use Rattle.durability.specs.Step.{IsFormat}
 use Rattle.icb.specs.declared.entry.Kind.TheVariants.{Directory, Vat}
 use Rattle.icb.specs.Entry.{Fields, IsEntry}
 use Rattle.icb.specs.Entry.Place.{Extent}

@@ -3,11 +3,11 @@ use Rattle.std.specs.Prelude.{◌≡◌, ◌↔◌, ℕ, ◌+◌, ◌-◌, ◌<�
 use Rattle.limits.specs.declared.TheConstants.{PARTITION_BLOCKS}
 use Rattle.model.specs.Graph.{Entry}
 use Rattle.model.specs.Session.{Reply, ClientRecord}
-use Rattle.medium.specs.Formats.{Block, Kind, Place, Fields, Table_}
-use Rattle.medium.specs.Formats.Kind.{Directory, File, Table}
-use Rattle.medium.specs.Formats.Place.{Nowhere, Extent, Inside}
-use Rattle.medium.specs.Volume.{partition_start, blocks_for, IsTableEntry}
-use Rattle.medium.specs.Plan.{packed, IsClearStart}
+use Rattle.durability.specs.Formats.{Block, Kind, Place, Fields, Table_}
+use Rattle.durability.specs.Formats.Kind.{Directory, File, Table}
+use Rattle.durability.specs.Formats.Place.{Nowhere, Extent, Inside}
+use Rattle.durability.specs.Volume.{partition_start, blocks_for, IsTableEntry}
+use Rattle.durability.specs.Plan.{packed, IsClearStart}
 use Rattle.icb.specs.declared.entry.Kind.{Kind as IcbKind}
 use Rattle.icb.specs.declared.entry.Kind.TheVariants as icb_kinds
 use Rattle.icb.specs.Entry.{Place as IcbPlace, Fields as IcbFields, IsEntry, blocks_of}

@@ -4,17 +4,17 @@ use Rattle.drive.specs.Journal.{Event, held, written, Once}
 use Rattle.drive.specs.Writes.{joined, LastIsAlone, IsLeft, torn_by}
 use Rattle.model.specs.Session.{State, Request, due, after, after_one, formatted}
 use Rattle.model.specs.Session.Due.{New}
-use Rattle.medium.specs.Formats.{Block}
-use Rattle.medium.specs.Volume.{Medium, Stands}
-use Rattle.medium.specs.Step.{Moves, IsFormat}
-use Rattle.medium.specs.Plan.{zeros, IsPlanned}
-use Rattle.medium.specs.Torn.{AreAlike, NothingStands, Endures, AreTried, AreCommitted}
-use Rattle.medium.specs.Commit.{need}
-use Rattle.medium.specs.Journal.{Advances}
-use Rattle.medium.specs.Runs.{Delivery, Answer, Runs}
-use Rattle.medium.specs.Runs.Message.{Asks}
-use Rattle.medium.specs.Runs.Delivery.{Delivered}
-use Rattle.medium.specs.Runs.Answer.{Fault}
+use Rattle.durability.specs.Formats.{Block}
+use Rattle.durability.specs.Volume.{Medium, Stands}
+use Rattle.durability.specs.Step.{Moves, IsFormat}
+use Rattle.durability.specs.Plan.{zeros, IsPlanned}
+use Rattle.durability.specs.Torn.{AreAlike, NothingStands, Endures, AreTried, AreCommitted}
+use Rattle.durability.specs.Commit.{need}
+use Rattle.durability.specs.Journal.{Advances}
+use Rattle.durability.specs.Runs.{Delivery, Answer, Runs}
+use Rattle.durability.specs.Runs.Message.{Asks}
+use Rattle.durability.specs.Runs.Delivery.{Delivered}
+use Rattle.durability.specs.Runs.Answer.{Fault}
 use Rattle.udf.specs.Udf.{udf, spelled}
 
 -- ---- what may be left

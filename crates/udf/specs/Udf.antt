@@ -4,7 +4,7 @@ use Rattle.limits.specs.declared.TheConstants.{BLOCK_BYTES, PARTITION_BLOCKS}
 use Rattle.osta.specs.Compressed.{compressed}
 use Rattle.model.specs.Tree.{Name}
 use Rattle.model.specs.Graph.{Entry}
-use Rattle.medium.specs.Formats.{Block, Formats}
+use Rattle.durability.specs.Formats.{Block, Formats}
 use Rattle.icb.specs.Entry.{IsEntry}
 use Rattle.icb.specs.FileSet.{IsFileSet}
 use Rattle.dir.specs.Directory.{IsDirectory}

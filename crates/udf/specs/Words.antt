@@ -2,9 +2,9 @@
 use Rattle.std.specs.Prelude.{ℕ, Bool, true, false, List, map}
 use Rattle.model.specs.Graph.{Entry}
 use Rattle.model.specs.Session.{Reply, ClientRecord}
-use Rattle.medium.specs.Formats.{Kind, Place, Fields, Table_}
-use Rattle.medium.specs.Formats.Kind.{Directory, File, Table}
-use Rattle.medium.specs.Formats.Place.{Nowhere, Extent, Inside}
+use Rattle.durability.specs.Formats.{Kind, Place, Fields, Table_}
+use Rattle.durability.specs.Formats.Kind.{Directory, File, Table}
+use Rattle.durability.specs.Formats.Place.{Nowhere, Extent, Inside}
 use Rattle.icb.specs.declared.entry.Kind.{Kind as IcbKind}
 use Rattle.icb.specs.declared.entry.Kind.TheVariants as icb_kinds
 use Rattle.icb.specs.Entry.{Place as IcbPlace, Fields as IcbFields}

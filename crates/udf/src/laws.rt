@@ -1,6 +1,6 @@
 //! What holds of these formats, and of every medium by them. Nothing here runs: each function's contract is a law.
 
-ghost use Rattle.medium.specs.Formats.{AreExact, AreBounded, AreDistinct, AreShort};
+ghost use Rattle.durability.specs.Formats.{AreExact, AreBounded, AreDistinct, AreShort};
 ghost use Rattle.udf.specs.Udf.{udf, spelled};
 ghost use Rattle.udf.specs.Said.{EntriesAgree, DirectoriesAgree, TablesAgree, SizesAgree, ImitationAgrees, DataAgrees, ClearStartsAgree};
 ghost use Rattle.udf.specs.NewVolume.{NewVolumesAreFormats};

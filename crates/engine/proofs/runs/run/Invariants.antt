@@ -1,7 +1,7 @@
 use Rattle.std.proofs.Common.{◌≤◌, ℕ, None, IsTrue, length, take, vec_len}
 use Rattle.std.specs.Vec.{vec_capacity}
 use Rattle.drive.specs.Journal.{held, Once}
-use Rattle.medium.specs.Volume.{Stands}
+use Rattle.durability.specs.Volume.{Stands}
 use Rattle.model.specs.Session.{State}
 use Rattle.udf.specs.Udf.{udf}
 use Rattle.drive.specs.Reads.{Follows}

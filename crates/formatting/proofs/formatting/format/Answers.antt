@@ -1,6 +1,6 @@
 use Rattle.std.proofs.Common.{◌≡◌, ◌≤◌, ◌++◌, min, IsTrue, List, ◌∙◌, subst, ap, inr, arith, rules}
 use Rattle.drive.specs.Journal.{written, AddsFront}
-use Rattle.medium.specs.Formats.{Block}
+use Rattle.durability.specs.Formats.{Block}
 use Rattle.formatting.specs.NewVolume.{Words, words_of, IsFormatted, IsCut, Withstands}
 use Rattle.formatting.proofs.FormatJournals.{cut_is, formatted_is, withstands_is, same_words}
 use Rattle.formatting.proofs.formatting.format.Goals as goal

@@ -1,5 +1,5 @@
 use Rattle.std.proofs.Common.{List, ◌+◌, sym, subst}
-use Rattle.medium.specs.Formats.{Block}
+use Rattle.durability.specs.Formats.{Block}
 use Rattle.formatting.specs.NewVolume.{words_of, AreBlocks}
 use Rattle.formatting.proofs.FormatJournals.{blocks_more}
 use Rattle.formatting.proofs.formatting.rest.Goals as goal

@@ -1,12 +1,12 @@
 use Rattle.std.proofs.Common.{ℕ, List, length, refl, ap, subst}
 use Rattle.icb.specs.Entry.{place_of, Fields}
 use Rattle.icb.specs.declared.entry.Kind.TheVariants.{File as IcbFile}
-use Rattle.medium.specs.Formats.Kind.{File}
-use Rattle.medium.specs.Plan.{IsPlaced, PlacesFile}
+use Rattle.durability.specs.Formats.Kind.{File}
+use Rattle.durability.specs.Plan.{IsPlaced, PlacesFile}
 use Rattle.udf.specs.Said.{said_place}
 use Rattle.udf.specs.Udf.{udf}
 use Rattle.udf.proofs.Said.{entries_agree}
-use Rattle.table.specs.Outside.{outside}
+use Rattle.next_vat.specs.Outside.{outside}
 use Rattle.planning.proofs.places.file_entry.Goals as goal
 
 pub returns : goal.returns

@@ -1,10 +1,10 @@
 use Rattle.std.proofs.Common.{◌≡◌, ◌<◌, List, ℕ, length, ap, subst, refl, arith}
 use Rattle.std.specs.Prelude.{if◌then◌else◌, []}
 use Rattle.std.proofs.lemmas.Bool.{lt-ltb}
-use Rattle.medium.specs.Plan.{IsPlaced}
-use Rattle.medium.specs.Plan.PlacesFile.{outside as beyond}
+use Rattle.durability.specs.Plan.{IsPlaced}
+use Rattle.durability.specs.Plan.PlacesFile.{outside as beyond}
 use Rattle.udf.specs.Udf.{udf}
-use Rattle.table.specs.Outside.{outside}
+use Rattle.next_vat.specs.Outside.{outside}
 use Rattle.planning.proofs.places.place_of_bytes.Goals as goal
 
 pub returns-else-bytes-le-INSIDE_BYTES-clause-places : goal.returns-else-bytes-le-INSIDE_BYTES-clause-places

@@ -2,18 +2,18 @@ use Rattle.std.proofs.Common.{◌≡◌, ℕ, Option, List, [], ◌∷◌, ◌++
 use Rattle.std.specs.Prelude.{All}
 use Rattle.std.proofs.lemmas.Bool.{false≢true}
 use Rattle.std.specs.Vec.Iter.{into_iter_items}
-use Rattle.medium.specs.Plan.{Writing, WritesNodes}
+use Rattle.durability.specs.Plan.{Writing, WritesNodes}
 use Rattle.udf.specs.Udf.{udf}
 use Rattle.planning.specs.declared.change.NewDirectory.{NewDirectory}
 use Rattle.planning.specs.declared.layout.PlacedDirectory.{PlacedDirectory}
 use Rattle.vat.specs.Table.{Table, view}
-use Rattle.table.specs.Below.{IsUsed}
+use Rattle.next_vat.specs.Below.{IsUsed}
 use Rattle.planning.specs.Needs.{directories_need}
-use Rattle.table.specs.NextTable.{all_placed}
-use Rattle.table.specs.TableChange.{placed}
+use Rattle.next_vat.specs.NextTable.{all_placed}
+use Rattle.next_vat.specs.TableChange.{placed}
 use Rattle.planning.specs.Plan.{AreLaid, directory_list, directories_list, directories_writings, directories_written}
 use Rattle.planning.specs.Writings.{IsProper, directory_writing, new_directories}
-use Rattle.table.proofs.BelowLemmas.{below_later}
+use Rattle.next_vat.proofs.BelowLemmas.{below_later}
 use Rattle.planning.proofs.Names.{all_next, nothing}
 use Rattle.planning.proofs.Plans.{list_push, writings_push, written_push, laid_push, table_push}
 use Rattle.planning.proofs.Taking.{still_all}

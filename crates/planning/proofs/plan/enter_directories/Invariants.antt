@@ -1,13 +1,13 @@
 use Rattle.std.proofs.Common.{◌≡◌, ◌+◌, ◌≤◌, ◌++◌, length}
 use Rattle.std.specs.Prelude.{All}
 use Rattle.std.specs.Vec.Iter.{into_iter_items, into_iter_len}
-use Rattle.medium.specs.Plan.{WritesNodes}
+use Rattle.durability.specs.Plan.{WritesNodes}
 use Rattle.udf.specs.Udf.{udf}
 use Rattle.vat.specs.Table.{FitsTable, view}
-use Rattle.table.specs.Below.{AreBelow, IsUsed}
+use Rattle.next_vat.specs.Below.{AreBelow, IsUsed}
 use Rattle.planning.specs.Plan.{AreLaid, directories_list, directories_writings, directories_written}
 use Rattle.planning.specs.Needs.{table_need, directories_need}
-use Rattle.table.specs.NextTable.{all_placed}
+use Rattle.next_vat.specs.NextTable.{all_placed}
 use Rattle.planning.specs.Writings.{IsProper, new_directories}
 use Rattle.planning.proofs.plan.enter_directories.Given as goal
 

@@ -1,10 +1,10 @@
 use Rattle.std.proofs.Common.{◌+◌, ◌≤◌, ◌++◌, ◌∷◌, ◌∙◌, [], ℕ, List, sym, ap, arith}
 use Rattle.model.specs.Graph.{whole}
 use Rattle.model.specs.Graph.Body.{Bytes}
-use Rattle.medium.specs.Plan.{Writing}
+use Rattle.durability.specs.Plan.{Writing}
 use Rattle.planning.specs.Needs.{file_need}
 use Rattle.planning.specs.Plan.{file_data}
-use Rattle.table.proofs.BelowLemmas.{below_later}
+use Rattle.next_vat.proofs.BelowLemmas.{below_later}
 use Rattle.planning.proofs.Writings.{node_ends}
 use Rattle.planning.specs.Writings.{file_writing, new_file}
 use Rattle.planning.proofs.plan.enter_file.Goals as goal

@@ -1,11 +1,11 @@
 use Rattle.std.proofs.Common.{◌++◌, ◌+◌, replicate, ◌≡◌, ◌-◌, ◌≤◌, List, ℕ, length, ap, ◌∙◌, sym, subst, arith}
 use Rattle.std.specs.Int.{div_ceil}
 use Rattle.vat.specs.Table.{view, IsTableAt}
-use Rattle.medium.specs.Formats.Kind.{Table}
-use Rattle.medium.specs.Formats.Place.{Extent}
-use Rattle.medium.specs.Plan.{zeros, packed, IsClearStart, IsPlaced}
+use Rattle.durability.specs.Formats.Kind.{Table}
+use Rattle.durability.specs.Formats.Place.{Extent}
+use Rattle.durability.specs.Plan.{zeros, packed, IsClearStart, IsPlaced}
 use Rattle.udf.specs.Udf.{udf}
-use Rattle.table.proofs.Tables.{table_few, table_long, table_some, table_at}
+use Rattle.next_vat.proofs.Tables.{table_few, table_long, table_some, table_at}
 use Rattle.planning.proofs.Writings.{placed_at, length-placed}
 use Rattle.planning.proofs.plan.place_table.Goals as goal
 

@@ -4,7 +4,7 @@ use Rattle.std.proofs.lemmas.Result.{err_from_is_err_and}
 use Rattle.drive.proofs.Packing.{takes_finished, takes_front}
 use Rattle.drive.proofs.Sending.{one_waits}
 use Rattle.drive.specs.Waiting.{Waiting}
-use Rattle.medium.specs.Plan.{zeros, packed}
+use Rattle.durability.specs.Plan.{zeros, packed}
 use Rattle.planning.specs.Plan.{table_data}
 use Rattle.planning.proofs.Plans.{length-padded}
 use Rattle.planning.proofs.Puttings.{takes_both, stops_same, stops_second}

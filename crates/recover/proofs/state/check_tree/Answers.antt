@@ -1,7 +1,7 @@
 use Rattle.std.proofs.Common.{ℕ, List, Option, take, subst, ◌∙◌, arith}
 use Rattle.std.proofs.lemmas.Result.{err_from_is_err_and}
 use Rattle.drive.specs.Journal.{Event, held}
-use Rattle.medium.specs.Volume.{graph_of}
+use Rattle.durability.specs.Volume.{graph_of}
 use Rattle.udf.specs.Udf.{udf}
 use Rattle.recover.specs.Refused.{IsVisitRefused}
 use Rattle.recover.specs.Walk.{Visits}

@@ -1,4 +1,4 @@
-use Rattle.medium.proofs.Mediums.{stands_both, past_both}
+use Rattle.durability.proofs.Mediums.{stands_both, past_both}
 use Rattle.udf.specs.Udf.{udf}
 use Rattle.udf.proofs.laws.blocks_are_appended.Goals as goal
 

@@ -1,4 +1,4 @@
-use Rattle.medium.proofs.OnJournals.{commit_advances}
+use Rattle.durability.proofs.OnJournals.{commit_advances}
 use Rattle.udf.specs.Udf.{udf}
 use Rattle.udf.proofs.Formats.{exact, bounded, distinct}
 use Rattle.udf.proofs.laws.commits_advance.Goals as goal

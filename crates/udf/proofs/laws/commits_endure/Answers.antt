@@ -1,6 +1,6 @@
-use Rattle.medium.specs.Commit.{need}
-use Rattle.medium.proofs.Needs.{planned_short}
-use Rattle.medium.proofs.Torn.{endures, answered_endure, torn_runs}
+use Rattle.durability.specs.Commit.{need}
+use Rattle.durability.proofs.Needs.{planned_short}
+use Rattle.durability.proofs.Torn.{endures, answered_endure, torn_runs}
 use Rattle.udf.specs.Udf.{udf, spelled}
 use Rattle.udf.proofs.Formats.{exact, bounded, distinct, short}
 use Rattle.udf.proofs.laws.commits_endure.Goals as goal

@@ -1,4 +1,4 @@
-use Rattle.medium.proofs.Formatted.{none_before, format_stands}
+use Rattle.durability.proofs.Formatted.{none_before, format_stands}
 use Rattle.udf.specs.Udf.{udf}
 use Rattle.udf.proofs.Formats.{exact}
 use Rattle.udf.proofs.laws.formats_stand.Goals as goal

@@ -1,5 +1,5 @@
-use Rattle.medium.proofs.One.{stands_one}
-use Rattle.medium.proofs.Sound.{stands_sound}
+use Rattle.durability.proofs.One.{stands_one}
+use Rattle.durability.proofs.Sound.{stands_sound}
 use Rattle.udf.specs.Udf.{udf}
 use Rattle.udf.proofs.Formats.{exact, bounded}
 use Rattle.udf.proofs.laws.one_state_stands.Goals as goal

@@ -1,4 +1,4 @@
-use Rattle.medium.proofs.History.{past_one, past_within, past_now}
+use Rattle.durability.proofs.History.{past_one, past_within, past_now}
 use Rattle.udf.specs.Udf.{udf}
 use Rattle.udf.proofs.Formats.{exact}
 use Rattle.udf.proofs.laws.one_state_stood.Goals as goal

@@ -1,5 +1,5 @@
-use Rattle.medium.proofs.Planned.{planned_carries}
-use Rattle.medium.proofs.Needs.{planned_short}
+use Rattle.durability.proofs.Planned.{planned_carries}
+use Rattle.durability.proofs.Needs.{planned_short}
 use Rattle.udf.specs.Udf.{udf, spelled}
 use Rattle.udf.proofs.Formats.{exact, bounded, distinct, short}
 use Rattle.udf.proofs.laws.planned_blocks_carry.Goals as goal

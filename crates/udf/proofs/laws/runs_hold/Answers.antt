@@ -1,6 +1,6 @@
-use Rattle.medium.specs.Commit.{need}
-use Rattle.medium.proofs.Runs.{holds}
-use Rattle.medium.proofs.OnJournals.{holds_on_journal}
+use Rattle.durability.specs.Commit.{need}
+use Rattle.durability.proofs.Runs.{holds}
+use Rattle.durability.proofs.OnJournals.{holds_on_journal}
 use Rattle.udf.specs.Udf.{udf, spelled}
 use Rattle.udf.proofs.laws.runs_hold.Goals as goal
 

@@ -1,8 +1,8 @@
 use Rattle.std.proofs.Common.{arith}
-use Rattle.medium.proofs.Needs.{planned_short}
-use Rattle.medium.proofs.OnJournals.{torn_advances}
-use Rattle.medium.proofs.Writes.{writes_short}
-use Rattle.medium.proofs.Torn.{part_alike, mark_decides, commit_torn}
+use Rattle.durability.proofs.Needs.{planned_short}
+use Rattle.durability.proofs.OnJournals.{torn_advances}
+use Rattle.durability.proofs.Writes.{writes_short}
+use Rattle.durability.proofs.Torn.{part_alike, mark_decides, commit_torn}
 use Rattle.udf.specs.Udf.{udf, spelled}
 use Rattle.udf.proofs.Formats.{exact, bounded, distinct, short}
 use Rattle.udf.proofs.laws.torn_commits_move.Goals as goal

@@ -1,4 +1,4 @@
-use Rattle.medium.proofs.Torn.{format_part, format_torn}
+use Rattle.durability.proofs.Torn.{format_part, format_torn}
 use Rattle.udf.specs.Udf.{udf}
 use Rattle.udf.proofs.Formats.{exact, bounded, distinct}
 use Rattle.udf.proofs.laws.torn_formats_stand.Goals as goal

@@ -1,4 +1,4 @@
-use Rattle.medium.proofs.Writes.{fronts_left, left_more, choices_left}
+use Rattle.durability.proofs.Writes.{fronts_left, left_more, choices_left}
 use Rattle.udf.proofs.laws.torn_images_are_left.Goals as goal
 
 pub returns-clause-fronts : goal.returns-clause-fronts

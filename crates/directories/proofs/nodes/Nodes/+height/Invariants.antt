@@ -2,7 +2,7 @@ use Rattle.std.proofs.Common.{◌≡◌, ◌≤◌, true, IsTrue}
 use Rattle.drive.specs.Reads.{Reads}
 use Rattle.model.specs.Tree.{Path, Tree}
 use Rattle.udf.specs.Said.{names_directory}
-use Rattle.table.specs.declared.node.Node.{Node}
+use Rattle.next_vat.specs.declared.node.Node.{Node}
 use Rattle.directories.specs.Cache.{AreKept}
 use Rattle.directories.specs.Heights.{IsHeightSoFar}
 use Rattle.directories.specs.Shows.{Shows, IsNodeAt, graph_below}

@@ -1,6 +1,6 @@
 use Rattle.std.proofs.Common.{◌+◌, ◌<◌, Some, None, arith, rules, ◌∙◌, ap}
 use Rattle.std.proofs.lemmas.Option.{slice_get-get_or}
-use Rattle.table.proofs.BelowLemmas.{used_below}
+use Rattle.next_vat.proofs.BelowLemmas.{used_below}
 use Rattle.directories.proofs.StoredNodes.{entry_there}
 use Rattle.directories.proofs.nodes.Nodes.entry_block.Goals as goal
 

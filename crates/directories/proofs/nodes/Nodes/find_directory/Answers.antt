@@ -1,6 +1,6 @@
 use Rattle.std.proofs.Common.{◌∙◌, sym, ap, subst, refl, Option, Some}
 use Rattle.model.specs.Tree.{found_directory}
-use Rattle.table.specs.declared.node.Node.{Node}
+use Rattle.next_vat.specs.declared.node.Node.{Node}
 use Rattle.directories.specs.Shows.{IsFound, graph_below}
 use Rattle.directories.proofs.Walks.{no_directory}
 use Rattle.directories.proofs.nodes.Nodes.find_directory.Goals as goal

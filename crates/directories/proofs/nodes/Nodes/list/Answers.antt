@@ -3,7 +3,7 @@ use Rattle.std.proofs.lemmas.Result.{err_from_is_err_and}
 use Rattle.drive.specs.Journal.{Event}
 use Rattle.recover.specs.Faults.{IsShortage}
 use Rattle.recover.specs.declared.fault.StoreFault.{StoreFault}
-use Rattle.medium.specs.Runs.Answer.{Names}
+use Rattle.durability.specs.Runs.Answer.{Names}
 use Rattle.directories.specs.Cache.{AreKept, LiesThere}
 use Rattle.directories.proofs.Walks.{shows_before}
 use Rattle.directories.proofs.Asking.{there_too}

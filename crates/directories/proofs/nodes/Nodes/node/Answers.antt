@@ -1,6 +1,6 @@
 use Rattle.std.proofs.Common.{subst, refl, Option, inl}
 use Rattle.model.specs.Tree.{Path}
-use Rattle.table.specs.declared.node.Node.{Node}
+use Rattle.next_vat.specs.declared.node.Node.{Node}
 use Rattle.directories.specs.Shows.{IsFound, graph_below}
 use Rattle.directories.proofs.nodes.Nodes.node.Goals as goal
 

@@ -9,8 +9,8 @@ use Rattle.std.proofs.lemmas.Result.{err_from_is_err_and}
 use Rattle.drive.proofs.Reading.{reads_then}
 use Rattle.drive.specs.Journal.{Event, held}
 use Rattle.dir.specs.declared.entry.Entry.{Entry}
-use Rattle.medium.specs.Plan.{Writing}
-use Rattle.medium.proofs.Stored.{stored_one}
+use Rattle.durability.specs.Plan.{Writing}
+use Rattle.durability.proofs.Stored.{stored_one}
 use Rattle.model.specs.Addresses.{free_address}
 use Rattle.model.specs.Change.{new_body}
 use Rattle.model.specs.Graph.{whole}
@@ -20,11 +20,11 @@ use Rattle.request.specs.contracts.answer.Code.{the_type}
 use Rattle.request.specs.declared.answer.Code.TheVariants as code
 use Rattle.directories.specs.Cache.{AreKept}
 use Rattle.planning.specs.Changes.{addition, code_by_names, content_of_thing}
-use Rattle.table.specs.NextTable.{made_by}
+use Rattle.next_vat.specs.NextTable.{made_by}
 use Rattle.directories.specs.Shows.{IsFoundDirectory, graph_below}
 use Rattle.planning.specs.declared.change.Change.{Change}
 use Rattle.directories.specs.declared.content.Content.{Content}
-use Rattle.table.specs.declared.node.Node.{Node}
+use Rattle.next_vat.specs.declared.node.Node.{Node}
 use Rattle.udf.specs.Udf.{udf}
 use Rattle.udf.proofs.Formats.{exact}
 use Rattle.planning.proofs.Adding.{add_there, adds, stored_directory, unlisted_yet}

@@ -2,7 +2,7 @@ use Rattle.std.proofs.Common.{◌∙◌, [], ◌∷◌, ◌++◌, Bool, if◌the
 use Rattle.std.proofs.lemmas.Bool.{true≢false}
 use Rattle.std.proofs.lemmas.Result.{err_from_is_err_and}
 use Rattle.drive.specs.Journal.{Event, held}
-use Rattle.medium.proofs.Stored.{stored_one}
+use Rattle.durability.proofs.Stored.{stored_one}
 use Rattle.model.specs.Addresses.{free_address}
 use Rattle.model.specs.Operation.Operation.{Remove}
 use Rattle.model.specs.Tree.{Has}
@@ -14,7 +14,7 @@ use Rattle.directories.specs.Shows.{IsNodeAt, IsFound, IsFoundDirectory, graph_b
 use Rattle.planning.specs.declared.change.Change.{Change}
 use Rattle.planning.specs.declared.change.NewDirectory.{NewDirectory}
 use Rattle.directories.specs.declared.content.Content.{Content}
-use Rattle.table.specs.declared.node.Node.{Node}
+use Rattle.next_vat.specs.declared.node.Node.{Node}
 use Rattle.udf.specs.Udf.{udf}
 use Rattle.udf.proofs.Formats.{exact}
 use Rattle.planning.proofs.Adding.{stored_directory}

@@ -12,7 +12,7 @@ use Rattle.model.specs.Operation.Operation.{Rename}
 use Rattle.model.specs.Tree.{Path, Tree}
 use Rattle.request.specs.declared.answer.Code.TheVariants as code
 use Rattle.udf.specs.Said.{names_directory}
-use Rattle.table.specs.declared.node.Node.{Node}
+use Rattle.next_vat.specs.declared.node.Node.{Node}
 use Rattle.planning.specs.Changes.{Does}
 use Rattle.planning.specs.Moves.{IsWithin, IsBetween}
 use Rattle.directories.specs.Shows.{IsNodeAt, Shows, graph_below}

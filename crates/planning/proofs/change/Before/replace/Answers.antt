@@ -4,7 +4,7 @@ use Rattle.model.specs.Operation.Operation.{Replace}
 use Rattle.request.specs.declared.answer.Code.TheVariants as code
 use Rattle.planning.specs.declared.change.Change.{Change}
 use Rattle.planning.specs.declared.change.NewFile.{NewFile}
-use Rattle.table.specs.declared.node.Node.{Node}
+use Rattle.next_vat.specs.declared.node.Node.{Node}
 use Rattle.directories.specs.Shows.{IsFound, graph_below}
 use Rattle.planning.proofs.Replacing.{refuses, replace_root, replace_missing, replace_directory, replaces}
 use Rattle.planning.proofs.change.Before.replace.Goals as goal

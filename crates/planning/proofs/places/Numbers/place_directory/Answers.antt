@@ -2,7 +2,7 @@ use Rattle.std.proofs.Common.{◌≡◌, ◌+◌, ◌/◌, ◌++◌, ◌∷◌, 
 use Rattle.std.specs.Int.{div_ceil}
 use Rattle.dir.specs.Directory.{directory_size, directory_blocks}
 use Rattle.dir.specs.Layout.{blocks_of}
-use Rattle.medium.specs.Plan.{WritesNode}
+use Rattle.durability.specs.Plan.{WritesNode}
 use Rattle.udf.specs.Udf.{udf}
 use Rattle.planning.specs.Writings.{directory_writing}
 use Rattle.planning.proofs.Writings.{laid_there, directory_short}

@@ -4,19 +4,19 @@ use Rattle.std.proofs.lemmas.Bool.{false≢true}
 use Rattle.std.proofs.lemmas.Result.{err_from_is_err_and}
 use Rattle.drive.specs.Journal.{next_of}
 use Rattle.drive.specs.Reads.{Reads}
-use Rattle.medium.specs.Plan.{Writing, WritesNodes}
+use Rattle.durability.specs.Plan.{Writing, WritesNodes}
 use Rattle.request.specs.Numbers.{code_number}
 use Rattle.udf.specs.Udf.{udf}
 use Rattle.vat.specs.declared.table.Vat.{Vat}
 use Rattle.vat.specs.Table.{Table, FitsTable, view}
-use Rattle.table.specs.Below.{AreBelow, IsUsed}
+use Rattle.next_vat.specs.Below.{AreBelow, IsUsed}
 use Rattle.planning.specs.Plan.{AreLaid, IsTablePlaced, file_list, file_writings, file_written, directories_list, directories_writings, directories_written}
 use Rattle.planning.specs.Needs.{change_need}
-use Rattle.table.specs.NextTable.{all_placed, without_gone}
-use Rattle.table.specs.TableChange.{IsRemovable, committed}
+use Rattle.next_vat.specs.NextTable.{all_placed, without_gone}
+use Rattle.next_vat.specs.TableChange.{IsRemovable, committed}
 use Rattle.planning.specs.Writings.{new_file}
 use Rattle.planning.specs.declared.change.NewDirectory.{NewDirectory}
-use Rattle.table.proofs.BelowLemmas.{below_later}
+use Rattle.next_vat.proofs.BelowLemmas.{below_later}
 use Rattle.planning.proofs.Plans.{length-padded, placed_append}
 use Rattle.planning.proofs.Taking.{directories_used, file_used, gone_there, made_free}
 use Rattle.planning.proofs.Writings.{writes-append}

@@ -1,7 +1,7 @@
 use Rattle.std.proofs.Common.{replicate}
 use Rattle.std.proofs.lemmas.Result.{err_from_is_err_and}
 use Rattle.drive.proofs.Packing.{takes-append, stops_after, stops_longer}
-use Rattle.medium.specs.Plan.{zeros, packed}
+use Rattle.durability.specs.Plan.{zeros, packed}
 use Rattle.planning.proofs.write.Writer.put_bytes.Goals as goal
 
 pub returns-in_err-put_zeros-clause-err : goal.returns-in_err-put_zeros-clause-err

@@ -1,6 +1,6 @@
 use Rattle.std.proofs.Common.{◌≡◌, ◌++◌}
 use Rattle.std.proofs.lemmas.Result.{err_from_is_err_and}
-use Rattle.medium.specs.Plan.{packed}
+use Rattle.durability.specs.Plan.{packed}
 use Rattle.planning.proofs.Packing.{packed_split}
 use Rattle.planning.proofs.Puttings.{stops_first, stops_second, takes_both}
 use Rattle.planning.proofs.write.Writer.put_data.Goals as goal

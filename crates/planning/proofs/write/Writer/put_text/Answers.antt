@@ -3,7 +3,7 @@ use Rattle.std.specs.Prelude.{OnErr, OnOk}
 use Rattle.std.proofs.lemmas.Bool.Decides.{nat_tests}
 use Rattle.drive.specs.Waiting.{Stops, Takes}
 use Rattle.drive.proofs.Packing.{stops_before}
-use Rattle.medium.specs.Plan.{packed}
+use Rattle.durability.specs.Plan.{packed}
 use Rattle.planning.proofs.Packing.{packed_short}
 use Rattle.planning.proofs.Puttings.{err_weaker}
 use Rattle.planning.proofs.write.Writer.put_text.Goals as goal

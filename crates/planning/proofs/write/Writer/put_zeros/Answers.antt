@@ -3,7 +3,7 @@ use Rattle.std.proofs.lemmas.List.{length-replicate, get_or-replicate, length-ta
 use Rattle.std.proofs.lemmas.Result.{err_from_is_err_and}
 use Rattle.drive.proofs.Packing.{stops_before}
 use Rattle.drive.proofs.Reading.{writes_then}
-use Rattle.medium.specs.Plan.{zeros}
+use Rattle.durability.specs.Plan.{zeros}
 use Rattle.planning.proofs.Puttings.{takes_item, stops_item, takes_whole}
 use Rattle.planning.proofs.write.Writer.put_zeros.Goals as goal
 

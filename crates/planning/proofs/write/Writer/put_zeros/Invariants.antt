@@ -1,7 +1,7 @@
 use Rattle.std.proofs.Common.{false, take, replicate}
 use Rattle.drive.specs.Reads.{Writes}
 use Rattle.drive.specs.Waiting.{Takes}
-use Rattle.medium.specs.Plan.{zeros}
+use Rattle.durability.specs.Plan.{zeros}
 use Rattle.planning.proofs.write.Writer.put_zeros.Given as goal
 
 -- so many of the blocks were taken

@@ -14,10 +14,10 @@ use Rattle.vat.specs.Table.{view}
 use Rattle.store.specs.declared.store.Store.{Store}
 use Rattle.directories.specs.Cache.{AreKept}
 use Rattle.planning.specs.Needs.{change_need}
-use Rattle.table.specs.NextTable.{begun}
+use Rattle.next_vat.specs.NextTable.{begun}
 use Rattle.planning.specs.Plan.{IsPlan}
 use Rattle.store.specs.Putting.{Makes}
-use Rattle.table.specs.TableChange.{committed}
+use Rattle.next_vat.specs.TableChange.{committed}
 use Rattle.store.proofs.Commits.{if_ok, makes_plan, plan_is, writes_plan, has_failed, goes_on, open_is_ok, some_is}
 use Rattle.store.proofs.Applying.{applies, full, short, unwritten, withstands}
 use Rattle.store.proofs.Knowing.{does_lent, few, knows_again, nodes, shows_lent, takes}

@@ -2,14 +2,14 @@ use Rattle.std.proofs.Common.{◌≤◌, ℕ, List, refl, sym, ap, subst, ◌∙
 use Rattle.std.proofs.lemmas.Result.{err_from_is_err_and}
 use Rattle.drive.proofs.Reading.{reads_then}
 use Rattle.drive.specs.Journal.{Event, held}
-use Rattle.medium.specs.Formats.{Table_}
+use Rattle.durability.specs.Formats.{Table_}
 use Rattle.vat.specs.Table.{view}
 use Rattle.recover.proofs.Told.{one_read}
 use Rattle.recover.specs.declared.fault.StoreFault.{StoreFault}
 use Rattle.recover.specs.State.{IsStateRefused}
 use Rattle.store.specs.Past.{IsPastRefused}
 use Rattle.store.proofs.Pasts.{past_shown, state_refused, way_refused}
-use Rattle.table.proofs.BelowLemmas.{below_entry}
+use Rattle.next_vat.proofs.BelowLemmas.{below_entry}
 use Rattle.store.proofs.store.Store.as_of.Goals as goal
 
 pub invariant_of-result : goal.invariant_of-result

@@ -3,7 +3,7 @@ use Rattle.std.proofs.lemmas.Result.{err_from_is_err_and}
 use Rattle.drive.proofs.Reading.{reads_then}
 use Rattle.drive.specs.Journal.{Event, held, next_of}
 use Rattle.vat.specs.Table.{view}
-use Rattle.medium.specs.Formats.{Table_}
+use Rattle.durability.specs.Formats.{Table_}
 use Rattle.recover.proofs.Told.{one_read}
 use Rattle.recover.specs.Tables.{IsLinkRefused}
 use Rattle.store.proofs.Histories.{link_below, next_behind, no_link, one_before}

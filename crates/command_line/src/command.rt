@@ -1,0 +1,159 @@
+//! The words of `udfburn`.
+
+ghost use Rattle.std.specs.Prelude.{◌≡◌, ◌≤◌, ℕ, List, [], ◌∷◌, map, length, Some, IfSome, IfNone};
+ghost use Rattle.command_line.specs.Number.{Says};
+ghost use Rattle.command_line.specs.Commands.{Asks, AsksApply, AsksFormat, IsCapacity};
+
+use crate::number::read_number;
+
+/// The least and the greatest capacity of a volume, in blocks.
+const LEAST_CAPACITY: u64 = limits::LEAST_CAPACITY as u64;
+
+const GREATEST_CAPACITY: u64 = limits::GREATEST_CAPACITY as u64;
+
+/// The last moment that has a timestamp, in microseconds from 1970-01-01 UTC.
+const LAST_MOMENT: u64 = limits::MOMENT_LIMIT - 1;
+
+/// What requests are applied to.
+#[derive(Clone, Copy, Debug, PartialEq, Eq)]
+pub enum Storage<'w> {
+    /// The volume on the image at this path.
+    Image(&'w str),
+    /// A new volume in memory, with a capacity of so many blocks: 512 to 450,000.
+    Memory(u32),
+}
+
+/// What the words ask for.
+#[derive(Clone, Copy, Debug, PartialEq, Eq)]
+pub enum Command<'w> {
+    /// A new volume on an image.
+    Format {
+        image: &'w str,
+        label: &'w str,
+        /// Microseconds from 1970-01-01 UTC.
+        moment: u64,
+        /// In blocks: 512 to 450,000.
+        capacity: u32,
+    },
+    /// Answers to the messages of the standard input.
+    Apply(Storage<'w>),
+    /// The names in a directory.
+    List {
+        image: &'w str,
+        path: &'w str,
+    },
+    /// The bytes of a file.
+    Get {
+        image: &'w str,
+        path: &'w str,
+    },
+    /// All commits of the volume on an image.
+    Log {
+        image: &'w str,
+    },
+    /// Whether the state after each commit stands.
+    Check {
+        image: &'w str,
+    },
+    /// The standard input for a daemon, and its answers.
+    Send {
+        socket: &'w str,
+    },
+}
+
+/// What the words ask for, where they are exactly one of the commands.
+pub fn read_command<'w>(words: &[&'w str]) -> Option<Command<'w>>
+    // They are the words of the command, and of no other words is one read.
+    ensures found { IfSome result (Asks (map (λ w. w.now) words.now)) }
+    ensures only { IfNone result ((command : _) → Asks (map (λ w. w.now) words.now) command → ⊥) }
+{
+    let (name, rest) = words.split_first()?;
+    match *name {
+        "format" => read_format(rest),
+        "apply" => read_apply(rest),
+        "ls" => {
+            let (image, path) = two(rest)?;
+            Some(Command::List { image, path })
+        }
+        "get" => {
+            let (image, path) = two(rest)?;
+            Some(Command::Get { image, path })
+        }
+        "log" => {
+            let image = one(rest)?;
+            Some(Command::Log { image })
+        }
+        "check" => {
+            let image = one(rest)?;
+            Some(Command::Check { image })
+        }
+        "send" => {
+            let socket = one(rest)?;
+            Some(Command::Send { socket })
+        }
+        _ => None,
+    }
+}
+
+/// The one word.
+fn one<'w>(words: &[&'w str]) -> Option<&'w str>
+    ensures some { IfSome result (λ word. words.now ≡ word ∷ []) }
+    ensures none { IfNone result (length words.now ≡ 1 → ⊥) }
+{
+    match words {
+        [word] => Some(*word),
+        _ => None,
+    }
+}
+
+/// The two words.
+fn two<'w>(words: &[&'w str]) -> Option<(&'w str, &'w str)>
+    ensures some { IfSome result (λ pair. words.now ≡ pair.0 ∷ pair.1 ∷ []) }
+    ensures none { IfNone result (length words.now ≡ 2 → ⊥) }
+{
+    match words {
+        [first, second] => Some((*first, *second)),
+        _ => None,
+    }
+}
+
+/// `IMAGE LABEL MOMENT CAPACITY`.
+fn read_format<'w>(words: &[&'w str]) -> Option<Command<'w>>
+    ensures found { IfSome result (AsksFormat (map (λ w. w.now) words.now)) }
+    ensures only { IfNone result ((command : _) → AsksFormat (map (λ w. w.now) words.now) command → ⊥) }
+{
+    match words {
+        [image, label, moment, capacity] => Some(Command::Format {
+            image,
+            label,
+            moment: read_number(moment, LAST_MOMENT)?,
+            capacity: read_capacity(capacity)?,
+        }),
+        _ => None,
+    }
+}
+
+/// `IMAGE`, or `mem:N`.
+fn read_apply<'w>(words: &[&'w str]) -> Option<Command<'w>>
+    ensures found { IfSome result (AsksApply (map (λ w. w.now) words.now)) }
+    ensures only { IfNone result ((command : _) → AsksApply (map (λ w. w.now) words.now) command → ⊥) }
+{
+    let word = one(words)?;
+    let medium = match word.strip_prefix("mem:") {
+        Some(capacity) => Storage::Memory(read_capacity(capacity)?),
+        None => Storage::Image(word),
+    };
+    Some(Command::Apply(medium))
+}
+
+/// A capacity in blocks.
+fn read_capacity(word: &str) -> Option<u32>
+    ensures some { IfSome result (λ n. Says word.now n × IsCapacity n) }
+    ensures only { (n : ℕ) → Says word.now n → IsCapacity n → result ≡ Some n }
+{
+    let capacity = read_number(word, GREATEST_CAPACITY)?;
+    if capacity < LEAST_CAPACITY {
+        return None;
+    }
+    Some(capacity as u32)
+}

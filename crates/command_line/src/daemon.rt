@@ -1,0 +1,109 @@
+//! The words of `udfburnd`.
+
+ghost use Rattle.std.specs.Prelude.{◌≡◌, ℕ, Option, IfErr, IfOk, codes, map};
+ghost use Rattle.clap.specs.Words.{app_of, first_value, found_of, kind_of};
+ghost use Rattle.command_line.specs.Daemon.{AsksDaemon, IsCount, daemon_app, fault_for};
+ghost use Rattle.command_line.specs.declared.daemon.WordsFault.TheVariants.{Memory, Usage};
+
+use crate::number::read_number;
+use clap::error::ErrorKind;
+use clap::{Arg, ArgAction, ArgMatches, Command, Error};
+use std::alloc::{AllocError, Global};
+
+/// The greatest number of connections after which a daemon can be told to end.
+const MOST_CONNECTIONS: u64 = 1_000_000;
+
+const IMAGE: &str = "IMAGE";
+
+const SOCKET: &str = "SOCKET";
+
+const CONNECTIONS: &str = "connections";
+
+/// What the daemon is to serve, and where.
+#[derive(Clone, Copy, Debug, PartialEq, Eq)]
+pub struct DaemonWords<'w> {
+    /// The path of the image.
+    pub image: &'w str,
+    /// The path of the socket.
+    pub socket: &'w str,
+    /// After how many connections it ends, at most 1,000,000. None where it goes on.
+    pub connections: Option<u64>,
+}
+
+/// Why words ask nothing of the daemon.
+#[derive(Clone, Copy, Debug, PartialEq, Eq)]
+pub enum WordsFault {
+    /// They are not its words.
+    Usage,
+    /// There was no memory.
+    Memory,
+}
+
+impl From<AllocError> for WordsFault {
+    ghost from_gives = { λ _ f. f ≡ Memory };
+
+    fn from(_error: AllocError) -> WordsFault {
+        WordsFault::Memory
+    }
+}
+
+impl From<Error> for WordsFault {
+    ghost from_gives = { λ error f. f ≡ fault_for (kind_of error) };
+
+    fn from(error: Error) -> WordsFault {
+        match error.kind() {
+            ErrorKind::OutOfMemory => WordsFault::Memory,
+            _ => WordsFault::Usage,
+        }
+    }
+}
+
+/// Reads `IMAGE SOCKET [--connections N]`. The first of the words is the program's own name.
+pub fn read_daemon<'w>(alloc: Global, words: &'w [&'w str]) -> Result<DaemonWords<'w>, WordsFault>
+    // The words ask for this; words that are refused as others ask for nothing.
+    ensures read { IfOk result (AsksDaemon (map (λ w. w.now) words.now)) }
+    ensures usage { IfErr result (λ fault. fault ≡ Usage → (asked : _) → AsksDaemon (map (λ w. w.now) words.now) asked → ⊥) }
+{
+    let matches = daemon_command(alloc)?.try_get_matches_from(words)?;
+    match (matches.get_str(IMAGE), matches.get_str(SOCKET)) {
+        (Some(image), Some(socket)) => Ok(DaemonWords {
+            image,
+            socket,
+            connections: connections(&matches)?,
+        }),
+        _ => Err(WordsFault::Usage),
+    }
+}
+
+/// How many connections the words name, if they do.
+fn connections(matches: &ArgMatches<'_>) -> Result<Option<u64>, WordsFault>
+    ensures read { IfOk result (IsCount (first_value (found_of matches.now) (codes "connections"))) }
+    ensures usage { IfErr result (λ _. (number : Option ℕ) → IsCount (first_value (found_of matches.now) (codes "connections")) number → ⊥) }
+{
+    match matches.get_str(CONNECTIONS) {
+        None => Ok(None),
+        Some(word) => match read_number(word, MOST_CONNECTIONS) {
+            Some(number) => Ok(Some(number)),
+            None => Err(WordsFault::Usage),
+        },
+    }
+}
+
+/// The words that the daemon takes.
+fn daemon_command<'w>(alloc: Global) -> Result<Command<'w>, AllocError>
+    ensures { IfOk result (λ command. app_of command ≡ daemon_app) }
+{
+    let image = Arg::new(alloc, IMAGE).required(true).action(ArgAction::Set);
+    let socket = Arg::new(alloc, SOCKET)
+        .required(true)
+        .action(ArgAction::Set);
+    let connections = Arg::new(alloc, CONNECTIONS)
+        .long(CONNECTIONS)
+        .action(ArgAction::Set);
+    Command::new(alloc, "udfburnd")
+        .disable_help_flag(true)
+        .disable_version_flag(true)
+        .arg(image)?
+        .arg(socket)?
+        .arg(connections)
+}

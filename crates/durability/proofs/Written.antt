@@ -1,0 +1,158 @@
+-- Nodes that are written: they are stored where their entries lead, and none of their blocks imitates.
+use Rattle.std.proofs.Common.{◌≡◌, ◌⊎◌, inl, inr, ℕ, zero, suc, ◌+◌, ◌-◌, ◌≤◌, ◌<◌, List, [], ◌∷◌, ◌++◌, length, take, drop, replicate, slice_get, Option, Some, refl, sym, ◌∙◌, ap, subst, arith, append_assoc, append-nil, length-append}
+use Rattle.std.specs.Prelude.{Contains}
+use Rattle.std.proofs.lemmas.List.{length-replicate}
+use Rattle.std.proofs.lemmas.Option.{none-some, same_Some}
+use Rattle.model.specs.Graph.{Graph, Stored, Body, Entry}
+use Rattle.model.specs.Graph.Body.{Bytes, Entries}
+use Rattle.model.proofs.Lists.{contains_here, contains_there}
+use Rattle.durability.specs.Formats.{Block, Kind, Place, Fields, Formats, AreDistinct}
+use Rattle.durability.specs.Formats.Kind.{Directory, File, Table}
+use Rattle.durability.specs.Formats.Place.{Nowhere, Extent, Inside}
+use Rattle.durability.specs.Volume.{Medium, partition_start, blocks_for, IsWithin, extent, bytes_in, HoldsFile, HoldsDirectory, HoldsBody, IsStoredAt, graph_of, IsTableEntry, NoneImitates}
+use Rattle.durability.specs.Plan.{zeros, packed, kind_of_body, Writing, Written, IsPlaced, PlacesFile, PlacesBody, WritesNode, WritesNodes}
+use Rattle.durability.specs.Plan.PlacesFile.{nowhere, inside, outside}
+use Rattle.durability.proofs.Lists.{get_past}
+use Rattle.durability.proofs.Packed.{part_at, length-packed, bytes-packed}
+use Rattle.durability.proofs.Mediums.{none-append}
+use Rattle.durability.proofs.Stored.{stored_more}
+
+-- the table's entries of these addresses lead to where they were written
+abbrev pub Lead : List (Option ℕ) → List Written → Type 0
+Lead table [] = Unit {0}
+Lead table (w ∷ written) = (slice_get table w.address ≡ Some (Some w.number)) × Lead table written
+
+found : (xs : List Block) (k : ℕ) (block : Block) → slice_get xs k ≡ Some block → Contains xs block
+found [] k block e = absurd (none-some block e)
+found (x ∷ xs) zero block e = subst (λ (y : Block). Contains (x ∷ xs) y) (same_Some x block e) (contains_here x xs)
+found (x ∷ xs) (suc k) block e = contains_there x xs block (found xs k block e)
+
+-- what was written stands under its addresses
+abbrev pub AllIn : Graph → List Writing → Type 0
+AllIn graph [] = Unit {0}
+AllIn graph (node ∷ nodes) = graph node.address node.stored × AllIn graph nodes
+
+module _ (formats : Formats) where
+  -- data that was placed is read back
+  pub placed_extent : (B : Medium) (bytes : List ℕ) (from first : ℕ) (blocks more : List Block) → partition_start ≤ length B → from ≡ length B - partition_start → IsPlaced formats bytes from first blocks
+      → IsWithin (B ++ (blocks ++ more)) first (length bytes) × (extent (B ++ (blocks ++ more)) first (length bytes) ≡ packed bytes)
+  placed_extent B bytes from first blocks more low is placed =
+      let gap : List Block = replicate (first - from) zeros in
+      let size = length-packed bytes in
+      let front : first + partition_start ≡ length (B ++ gap) = omega (arith, length-append B gap, length-replicate (first - from) zeros, placed.start.low) in
+      let whole : B ++ (blocks ++ more) ≡ (B ++ gap) ++ (packed bytes ++ more) =
+      ap (λ (xs : List Block). B ++ (xs ++ more)) placed.whole ∙ ap (λ (xs : List Block). B ++ xs) (append_assoc gap (packed bytes) more) ∙ sym (append_assoc B gap (packed bytes ++ more)) in (
+        omega (arith, ap (λ (M : Medium). length M) whole, length-append (B ++ gap) (packed bytes ++ more), length-append (packed bytes) more, front, size),
+        ap (λ (M : Medium). take (blocks_for (length bytes)) (drop (first + partition_start) M)) whole ∙ part_at (first + partition_start) (blocks_for (length bytes)) (B ++ gap) (packed bytes) more front (sym size),
+      )
+
+  file_held : (B : Medium) (bytes : List ℕ) (from : ℕ) (before : List Block) (place : Place) (more : List Block) → partition_start ≤ length B → from ≡ length B - partition_start
+      → PlacesFile formats bytes from before place → HoldsFile (B ++ (before ++ more)) (length bytes) place bytes
+  file_held B bytes from before place more low is (nowhere size blocks at) = subst (λ p. HoldsFile (B ++ (before ++ more)) (length bytes) p bytes) (sym at) (empty bytes size)
+    where
+      empty : (xs : List ℕ) → length xs ≡ 0 → xs ≡ []
+      empty [] e = refl
+      empty (x ∷ xs) e = absurd (omega arith)
+  file_held B bytes from before place more low is (inside some few blocks at) = subst (λ p. HoldsFile (B ++ (before ++ more)) (length bytes) p bytes) (sym at) refl
+  file_held B bytes from before place more low is (outside many first placed at) =
+      let held = placed_extent B bytes from first before more low is placed in
+      subst (λ p. HoldsFile (B ++ (before ++ more)) (length bytes) p bytes) (sym at) (held.0, sym (ap (λ (xs : List Block). bytes_in (length bytes) xs) held.1 ∙ bytes-packed bytes))
+
+  directory_held : (B : Medium) (parent : ℕ) (entries : List Entry) (from : ℕ) (before : List Block) (place : Place) (size : ℕ) (more : List Block) → partition_start ≤ length B → from ≡ length B - partition_start
+      → (place ≡ Extent from) × (length before ≡ blocks_for size) × formats.IsDirectory parent entries from size before → HoldsDirectory formats (B ++ (before ++ more)) size place parent entries
+  directory_held B parent entries from before place size more low is (at, count, holds) =
+      let front : from + partition_start ≡ length B = omega arith in
+      let same : extent (B ++ (before ++ more)) from size ≡ before = part_at (from + partition_start) (blocks_for size) B before more front (sym count) in
+      subst (λ p. HoldsDirectory formats (B ++ (before ++ more)) size p parent entries) (sym at)
+      (omega (arith, length-append B (before ++ more), length-append before more), subst (λ (xs : List Block). formats.IsDirectory parent entries from size xs) (sym same) holds)
+
+  body_held : (B : Medium) (body : Body) (from : ℕ) (before : List Block) (place : Place) (size : ℕ) (more : List Block) (moment links identity : ℕ) → partition_start ≤ length B → from ≡ length B - partition_start
+      → PlacesBody formats body from before place size
+      → HoldsBody formats (B ++ (before ++ more)) (record { kind = kind_of_body body; moment = moment; links = links; identity = identity; size = size; place = place }) body
+  body_held B (Bytes bytes) from before place size more moment links identity low is (count, places) =
+      (refl, subst (λ n. HoldsFile (B ++ (before ++ more)) n place bytes) (sym count) (file_held B bytes from before place more low is places))
+  body_held B (Entries parent entries) from before place size more moment links identity low is places = (refl, directory_held B parent entries from before place size more low is places)
+
+  -- a node that was written is stored where its entry leads
+  node_stored : (B : Medium) (node : Writing) (from : ℕ) (blocks : List Block) (number : ℕ) (table : List (Option ℕ)) → partition_start ≤ length B → from ≡ length B - partition_start
+      → WritesNode formats node from blocks number → slice_get table node.address ≡ Some (Some number) → IsStoredAt formats (B ++ blocks) table node.address node.stored
+  node_stored B node from blocks number table low is w used =
+      let there : slice_get (B ++ (w.before ++ w.entry ∷ [])) (number + partition_start) ≡ Some w.entry =
+      get_past B (w.before ++ w.entry ∷ []) (number + partition_start) (length w.before) (omega (arith, w.number_is)) ∙ get_past w.before (w.entry ∷ []) (length w.before) 0 (omega arith) in
+      subst (λ (xs : List Block). IsStoredAt formats (B ++ xs) table node.address node.stored) (sym w.blocks_are) (record {
+        number = number;
+        used = used;
+        block = w.entry;
+        there = there;
+        fields = record { kind = kind_of_body node.stored.body; moment = node.stored.moment; links = node.stored.links; identity = node.stored.identity; size = w.size; place = w.place };
+        entry = w.is;
+        moment = refl;
+        identity = refl;
+        links = refl;
+        body = body_held B node.stored.body from w.before w.place w.size (w.entry ∷ []) node.stored.moment node.stored.links node.stored.identity low is w.body;
+      })
+
+  -- nodes that were written one behind the other are stored
+  pub nodes_stored : (nodes : List Writing) (B : Medium) (from : ℕ) (blocks : List Block) (written : List Written) (more : List Block) (table : List (Option ℕ)) → partition_start ≤ length B → from ≡ length B - partition_start
+      → WritesNodes formats nodes from blocks written → Lead table written → AllIn (graph_of formats (B ++ (blocks ++ more)) table) nodes
+  nodes_stored [] B from blocks written more table low is w lead = tt
+  nodes_stored (node ∷ nodes) B from blocks written more table low is (first, others, number, rest, blocks_are, written_is, one, all) lead =
+      let leads = subst (λ (ws : List Written). Lead table ws) written_is lead in
+      let whole : B ++ (blocks ++ more) ≡ (B ++ first) ++ (others ++ more) =
+      ap (λ (xs : List Block). B ++ (xs ++ more)) blocks_are ∙ ap (λ (xs : List Block). B ++ xs) (append_assoc first others more) ∙ sym (append_assoc B first (others ++ more)) in
+      subst (λ (M : Medium). AllIn (graph_of formats M table) (node ∷ nodes)) (sym whole) (
+        stored_more formats (B ++ first) (others ++ more) table table node.address refl node.stored (node_stored B node from first number table low is one leads.0),
+        nodes_stored nodes (B ++ first) (from + length first) others rest more table (omega (arith, length-append B first)) (omega (arith, length-append B first)) all leads.1,
+      )
+
+  module _ (distinct : AreDistinct formats) where
+    is_table : Kind → ℕ
+    is_table Directory = 0
+    is_table File = 0
+    is_table Table = 1
+
+    -- an entry of a file or a directory imitates nowhere
+    plain_entry : (body : Body) (fields : Fields) (block : Block) (location at : ℕ) → fields.kind ≡ kind_of_body body → formats.IsEntry fields block location → IsTableEntry formats block at → ⊥
+    unfolding is_table
+    plain_entry (Bytes bytes) fields block location at kind e (low, other, table, is) =
+        let same = sym table ∙ sym (distinct.kind block location (at - partition_start) fields other e is) ∙ kind in omega (arith, ap is_table same)
+    plain_entry (Entries parent entries) fields block location at kind e (low, other, table, is) =
+        let same = sym table ∙ sym (distinct.kind block location (at - partition_start) fields other e is) ∙ kind in omega (arith, ap is_table same)
+
+    none_zeros : (n at : ℕ) → NoneImitates formats at (replicate n zeros)
+    none_zeros zero at = tt
+    none_zeros (suc n) at = ((λ (low, fields, table, is). distinct.zeros (at - partition_start) fields is), none_zeros n (suc at))
+
+    pub none_placed : (bytes : List ℕ) (from first : ℕ) (blocks : List Block) (at : ℕ) → at ≡ from + partition_start → IsPlaced formats bytes from first blocks → NoneImitates formats at blocks
+    none_placed bytes from first blocks at is placed =
+        let gap : List Block = replicate (first - from) zeros in
+        let behind : first + partition_start ≡ at + length gap = omega (arith, placed.start.low, length-replicate (first - from) zeros) in
+        subst (λ (xs : List Block). NoneImitates formats at xs) (sym placed.whole)
+        (none-append formats at gap (packed bytes) (none_zeros (first - from) at) (subst (λ n. NoneImitates formats n (packed bytes)) behind placed.start.clear))
+
+    none_all : (blocks : List Block) (at : ℕ) → ((block : Block) → (k : ℕ) → slice_get blocks k ≡ Some block → (location : ℕ) (fields : Fields) → formats.IsEntry fields block location → ⊥) → NoneImitates formats at blocks
+    none_all [] at h = tt
+    none_all (b ∷ blocks) at h = ((λ (low, fields, table, is). h b 0 refl (at - partition_start) fields is), none_all blocks (suc at) (λ block k e. h block (suc k) e))
+
+    none_file : (bytes : List ℕ) (from : ℕ) (blocks : List Block) (place : Place) (at : ℕ) → at ≡ from + partition_start → PlacesFile formats bytes from blocks place → NoneImitates formats at blocks
+    none_file bytes from blocks place at is (nowhere size blocks_are p) = subst (λ (xs : List Block). NoneImitates formats at xs) (sym blocks_are) tt
+    none_file bytes from blocks place at is (inside some few blocks_are p) = subst (λ (xs : List Block). NoneImitates formats at xs) (sym blocks_are) tt
+    none_file bytes from blocks place at is (outside many first placed p) = none_placed bytes from first blocks at is placed
+
+    none_body : (body : Body) (from : ℕ) (blocks : List Block) (place : Place) (size at : ℕ) → at ≡ from + partition_start → PlacesBody formats body from blocks place size → NoneImitates formats at blocks
+    none_body (Bytes bytes) from blocks place size at is (count, places) = none_file bytes from blocks place at is places
+    none_body (Entries parent entries) from blocks place size at is (p, count, holds) =
+        none_all blocks at (λ block k e location fields entry. distinct.directory parent from size entries blocks holds block (found blocks k block e) location fields entry)
+
+    -- none of a node's blocks imitates
+    none_node : (node : Writing) (from : ℕ) (blocks : List Block) (number at : ℕ) → at ≡ from + partition_start → WritesNode formats node from blocks number → NoneImitates formats at blocks
+    none_node node from blocks number at is w =
+        subst (λ (xs : List Block). NoneImitates formats at xs) (sym w.blocks_are)
+        (none-append formats at w.before (w.entry ∷ []) (none_body node.stored.body from w.before w.place w.size at is w.body)
+        ((λ t. plain_entry node.stored.body _ w.entry node.address (at + length w.before) refl w.is t), tt))
+
+    pub none_nodes : (nodes : List Writing) (from : ℕ) (blocks : List Block) (written : List Written) (at : ℕ) → at ≡ from + partition_start → WritesNodes formats nodes from blocks written → NoneImitates formats at blocks
+    none_nodes [] from blocks written at is (blocks_are, written_is) = subst (λ (xs : List Block). NoneImitates formats at xs) (sym blocks_are) tt
+    none_nodes (node ∷ nodes) from blocks written at is (first, others, number, rest, blocks_are, written_is, one, all) =
+        subst (λ (xs : List Block). NoneImitates formats at xs) (sym blocks_are)
+        (none-append formats at first others (none_node node from first number at is one) (none_nodes nodes (from + length first) others rest (at + length first) (omega arith) all))
