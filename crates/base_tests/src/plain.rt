@@ -236,46 +236,62 @@ fn replies_after_one_directory(rt: HostRuntime) -> Result<(), Fail> {
     Ok(())
 }
 
+/// An operation by its name, and the names of its paths.
+fn operation(alloc: Global, kind: &str, at: &str, to: &str) -> Result<Operation, AllocError> {
+    match kind {
+        "create" => create(alloc, at),
+        "replace" => replace(alloc, at),
+        "make" => make(alloc, at),
+        "rename" => rename(alloc, at, to),
+        _ => remove(alloc, at),
+    }
+}
+
+/// The codes of an operation where there is a directory with a file, beside a file.
+fn codes_there(alloc: Global, operation: Operation) -> Result<Vec<Code>, Fail> {
+    let operations = vec![in alloc;
+        make(alloc, "d")?,
+        create(alloc, "f")?,
+        create(alloc, "d/x")?,
+        operation,
+    ]?;
+    let (_state, codes) = after(alloc, operations)?;
+    Ok(codes)
+}
+
 #[test]
 fn the_first_check_that_holds_gives_the_code(rt: HostRuntime) -> Result<(), Fail> {
     let alloc = rt.alloc();
     let deep = "q/a/a/a/a/a/a/a/a/a/a/a/a/a/a/a/a";
-    for (operation, want) in [
-        (create(alloc, "")?, Code::Root),
-        (create(alloc, deep)?, Code::TooDeep),
-        (create(alloc, "q/x")?, Code::NoParent),
-        (create(alloc, "f/x")?, Code::NoParent),
-        (make(alloc, "d")?, Code::Exists),
-        (make(alloc, "g")?, Code::Done),
-        (replace(alloc, "")?, Code::Root),
-        (replace(alloc, deep)?, Code::NotFound),
-        (replace(alloc, "d")?, Code::IsDirectory),
-        (replace(alloc, "f")?, Code::Done),
-        (rename(alloc, "q", "")?, Code::Root),
-        (rename(alloc, "", "q")?, Code::Root),
-        (rename(alloc, "q", "q/x")?, Code::NotFound),
-        (rename(alloc, "f", "f/x")?, Code::IntoItself),
-        (rename(alloc, "d", "d/q/x")?, Code::IntoItself),
-        (rename(alloc, "f", deep)?, Code::NoParent),
-        (rename(alloc, "d/x", "d")?, Code::Exists),
-        (rename(alloc, "d", "g")?, Code::Done),
-        (remove(alloc, "")?, Code::Root),
-        (remove(alloc, deep)?, Code::NotFound),
-        (remove(alloc, "d")?, Code::NotEmpty),
-        (remove(alloc, "d/x")?, Code::Done),
+    for (kind, at, to, want) in [
+        ("create", "", "", Code::Root),
+        ("create", deep, "", Code::TooDeep),
+        ("create", "q/x", "", Code::NoParent),
+        ("create", "f/x", "", Code::NoParent),
+        ("make", "d", "", Code::Exists),
+        ("make", "g", "", Code::Done),
+        ("replace", "", "", Code::Root),
+        ("replace", deep, "", Code::NotFound),
+        ("replace", "d", "", Code::IsDirectory),
+        ("replace", "f", "", Code::Done),
+        ("rename", "q", "", Code::Root),
+        ("rename", "", "q", Code::Root),
+        ("rename", "q", "q/x", Code::NotFound),
+        ("rename", "f", "f/x", Code::IntoItself),
+        ("rename", "d", "d/q/x", Code::IntoItself),
+        ("rename", "f", deep, Code::NoParent),
+        ("rename", "d/x", "d", Code::Exists),
+        ("rename", "d", "g", Code::Done),
+        ("remove", "", "", Code::Root),
+        ("remove", deep, "", Code::NotFound),
+        ("remove", "d", "", Code::NotEmpty),
+        ("remove", "d/x", "", Code::Done),
     ] {
-        let (_state, codes) = after(
-            alloc,
-            vec![in alloc;
-                make(alloc, "d")?,
-                create(alloc, "f")?,
-                create(alloc, "d/x")?,
-                operation,
-            ]?,
-        )?;
+        let codes = codes_there(alloc, operation(alloc, kind, at, to)?)?;
         assert_eq!(rt;
             codes.as_slice(),
-            [Code::Done, Code::Done, Code::Done, want].as_slice()
+            [Code::Done, Code::Done, Code::Done, want].as_slice(),
+            "{kind} {at} {to}"
         );
     }
     Ok(())
