@@ -143,7 +143,6 @@ impl Entries {
     }
 
     /// What the entry there says, if it is kept.
-    #[inline(always)]
     pub(crate) fn find(&self, place: EntryPlace) -> Option<NodeEntry>
         ensures { (medium : List (List ℕ)) → AreEntries medium self.now → IfSome result (IsEntrySaid medium place) }
     {

@@ -101,7 +101,6 @@ impl Known {
     }
 
     /// What the entry there says.
-    #[inline(always)]
     pub(crate) fn entry<D: Drive>(
         &mut self,
         drive: &mut D,

@@ -37,7 +37,7 @@ impl Marks {
     }
 
     /// Puts a number in, and says whether it was not there.
-    #[inline(always)]
+    #[inline]
     pub(crate) fn insert(&mut self, number: u32) -> Result<bool, AllocError>
         ensures put { IfOk result (λ is. IsTrue is → Puts (marked self.old) number (marked self.new)) }
         ensures there { IfOk result (λ is. is ≡ false → marked self.old number ≡ true) }
@@ -60,7 +60,7 @@ fn put(numbers: &mut HashSet<u32>, number: u32) -> Result<bool, AllocError>
 }
 
 /// Marks the flag at this place, and says whether it was not marked.
-#[inline(always)]
+#[inline]
 fn mark(flags: &mut Vec<bool>, place: usize) -> Result<bool, AllocError>
     requires { place < 2 ^ 32 }
     ensures put { IfOk result (λ is. IsTrue is → Puts (λ n. get_or flags.old.items n false) place (λ n. get_or flags.new.items n false)) }

@@ -8,7 +8,7 @@ use std::alloc::AllocError;
 const SPARE: usize = 1_024;
 
 /// Makes the table reach this place, with what stands for none in the places that are new.
-#[inline(always)]
+#[inline]
 pub(crate) fn reach<T: Copy>(table: &mut Vec<T>, place: usize, none: T) -> Result<(), AllocError>
     requires { place < 2 ^ 32 }
     ensures within { OnOk result (place < vec_len table.new) }

@@ -170,7 +170,6 @@ pub fn linked<D: Drive>(
 }
 
 /// The address to which a table's entry for a virtual address leads, if that is below `at`.
-#[inline(always)]
 pub(crate) fn address_below(entries: &[Option<u32>], address: u32, at: u32) -> Option<u32>
     requires low { 257 ≤ at }
     ensures some { IfSome result (LeadsTo entries.now address) }

@@ -69,7 +69,6 @@ impl Named {
     }
 
     /// The node that an entry of this directory names. The directory's data begin at `named_at`.
-    #[inline(always)]
     fn child(&self, entry: &Entry, named_at: u32) -> Named
         requires { self.now.depth + 1 < 2 ^ 32 }
         ensures kind { result.kind ≡ entry.now.kind }
@@ -198,7 +197,6 @@ impl<'a> Walk<'a> {
     }
 
     /// The address of the node's entry, to which no name led before.
-    #[inline(always)]
     fn reach(&mut self, node: &Named) -> Result<u32, StoreFault>
         requires { 257 ≤ self.old.at }
         ensures below { IfOk result (λ entry_at. (257 ≤ entry_at) × (entry_at < self.old.at)) }
@@ -228,7 +226,6 @@ impl<'a> Walk<'a> {
     }
 
     /// Holds the node's entry beside what its directory says.
-    #[inline(always)]
     fn read_entry<D: Drive>(
         &mut self,
         drive: &mut D,
@@ -275,7 +272,6 @@ impl<'a> Walk<'a> {
     }
 
     /// Whether the unique ID is one that the node may have, and no node before it had.
-    #[inline(always)]
     fn is_new_unique(&mut self, node: &Named) -> Result<bool, StoreFault>
         ensures drawn { IfOk result (λ is. IsTrue is → IsDrawn self.old.next_unique node.now.address node.now.unique) }
         ensures uniques { IfOk result (λ is. IsTrue is → Puts (uniques_in self.old) node.now.unique (uniques_in self.new)) }
@@ -331,7 +327,6 @@ fn read_names<D: Drive>(
 }
 
 /// Whether an entry is of what the directory says.
-#[inline(always)]
 fn is_kind(named: Kind, kind: icb::Kind) -> bool
     ensures { IsTrue result ↔ (kind ≡ icb_kind named) }
 {
@@ -342,7 +337,6 @@ fn is_kind(named: Kind, kind: icb::Kind) -> bool
 }
 
 /// Whether a node of this kind may have so many links, beside those of the directories in it: a file has one.
-#[inline(always)]
 fn has_links(named: Kind, links: u16) -> bool
     ensures { IsTrue result ↔ (named ≡ File → links ≡ 1) }
 {
@@ -353,7 +347,6 @@ fn has_links(named: Kind, links: u16) -> bool
 }
 
 /// Whether the bytes lie below an address.
-#[inline(always)]
 fn is_below(extent: Option<Extent>, at: u32) -> bool
     ensures { IsTrue result ↔ IfSome extent (λ e. e.first + 257 + div_ceil e.size 2048 ≤ at) }
 {
