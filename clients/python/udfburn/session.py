@@ -19,8 +19,7 @@ from .line import DAMAGE, Line
 from .operations import Operation, Outcome, after_all, confirmed, paths_of, surely
 from .protocol import (
     CLIENTS_FULL, DAMAGED, FAULT, FULL, MEMORY, Answer, AnyRequest, BadAnswer, Code, Committed, Gap, Malformed, Path, Remove, Stale,
-    Stat, decode_answer, decode_message, encode_answer, encode_message, frame, limits,
-    show,
+    Stat, decode_answer, decode_message, encode_answer, encode_message, frame, limits, show,
 )
 
 AT_ONCE = 1 << 17
