@@ -1,3 +1,4 @@
+ghost use Rattle.limits.specs.declared.TheConstants.{BLOCK_BYTES};
 ghost use Rattle.std.specs.Prelude.{◌≡◌, ◌↔◌, ◌+◌, ◌<◌, ◌^◌, IsTrue, EachIndex, slice_index, length};
 
 use crate::characteristics::Characteristics;
@@ -98,7 +99,7 @@ impl Fid<'_> {
     /// place of its block and the data behind it.
     pub(crate) fn is_padded(&self, at: usize, behind: &[u8]) -> bool
         requires whole { IsWholeIdentifier self.now }
-        requires room { at + length self.now.bytes.now ≤ 2048 }
+        requires room { at + length self.now.bytes.now ≤ BLOCK_BYTES }
         ensures { IsTrue result ↔ IsPadded at self.now.bytes.now behind.now }
     {
         if !self.has_zeros() {
@@ -141,7 +142,7 @@ impl Fid<'_> {
     /// behind it was not to be put into that block.
     fn is_lengthened(&self, at: usize, behind: &[u8]) -> bool
         requires whole { IsWholeIdentifier self.now }
-        requires room { at + length self.now.bytes.now ≤ 2048 }
+        requires room { at + length self.now.bytes.now ≤ BLOCK_BYTES }
         ensures { IsTrue result ↔ IsLengthened at self.now.bytes.now behind.now }
     {
         let size = self.implementation_use.len();
@@ -178,7 +179,7 @@ pub struct Fids<'a> {
     at: usize,
     /// How many blocks lie before that block.
     index: usize,
-    ghost in_block: { at < 2048 },
+    ghost in_block: { at < BLOCK_BYTES },
     ghost small: { index + length data.now < 2 ^ 64 },
 }
 
@@ -189,7 +190,7 @@ impl<'a> Fids<'a> {
 
     /// The identifiers of `size` bytes of data in these blocks.
     pub fn new(blocks: &'a [Block], size: usize) -> Fids<'a>
-        requires { size ≤ 2048 * length blocks.now }
+        requires { size ≤ BLOCK_BYTES * length blocks.now }
         ensures data { result.data.now ≡ take size (concat blocks.now) }
         ensures length { length result.data.now ≡ size }
         ensures bytes { AreBytes result.data.now }
@@ -219,8 +220,8 @@ impl<'a> Fids<'a> {
         ensures exactly { IsOk result ↔ IsSplit self.old.at self.old.data.now }
         ensures shows { IfOk result (λ fid. Shows fid self.old.data.now) }
         ensures data { OnOk result (self.new.data.now ≡ drop (size_of self.old.data.now) self.old.data.now) }
-        ensures at { OnOk result (let end = self.old.at + size_of self.old.data.now in self.new.at ≡ (if end == 2048 then 0 else end)) }
-        ensures index { OnOk result (let end = self.old.at + size_of self.old.data.now in self.new.index ≡ (if end == 2048 then self.old.index + 1 else self.old.index)) }
+        ensures at { OnOk result (let end = self.old.at + size_of self.old.data.now in self.new.at ≡ (if end == BLOCK_BYTES then 0 else end)) }
+        ensures index { OnOk result (let end = self.old.at + size_of self.old.data.now in self.new.index ≡ (if end == BLOCK_BYTES then self.old.index + 1 else self.old.index)) }
         ensures err { OnErr result (self.new ≡ self.old) }
     {
         let data = self.data;

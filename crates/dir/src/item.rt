@@ -1,5 +1,6 @@
 //! One file identifier, as it is written.
 
+ghost use Rattle.limits.specs.declared.TheConstants.{BLOCK_BYTES};
 ghost use Rattle.std.specs.Prelude.{◌≡◌, length};
 ghost use Rattle.dir.specs.Identifier.{use_of};
 
@@ -90,7 +91,7 @@ impl Item<'_> {
     /// the bytes.
     pub(crate) fn write(&self, number: u32, more: u16, into: &mut [u8])
         requires name { length self.now.name.now ≤ 255 }
-        requires more { more ≤ 2048 }
+        requires more { more ≤ BLOCK_BYTES }
         requires size { length into.old ≡ plain_size (length self.now.name.now) + more }
         ensures { into.new ≡ identifier number (said self.now) more }
     {
@@ -101,7 +102,7 @@ impl Item<'_> {
     /// Writes what stands behind the tag, over all of the bytes.
     fn write_body(&self, more: u16, into: &mut [u8])
         requires name { length self.now.name.now ≤ 255 }
-        requires more { more ≤ 2048 }
+        requires more { more ≤ BLOCK_BYTES }
         requires size { length into.old + 16 ≡ plain_size (length self.now.name.now) + more }
         ensures { into.new ≡ body_of (said self.now) more }
     {

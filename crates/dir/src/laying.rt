@@ -1,5 +1,6 @@
 //! A directory as blocks, one by one.
 
+ghost use Rattle.limits.specs.declared.TheConstants.{BLOCK_BYTES, DIRECTORY_NAMES, PARTITION_BLOCKS};
 ghost use Rattle.std.specs.Prelude.{◌+◌, ◌≤◌, length};
 
 use crate::entry::Dir;
@@ -21,9 +22,9 @@ pub struct Lay<'a> {
     next: usize,
     /// The number of the next block.
     number: u32,
-    ghost few: { length dir.now.entries.entries ≤ 512 },
+    ghost few: { length dir.now.entries.entries ≤ DIRECTORY_NAMES },
     ghost laid: { next ≤ length dir.now.entries.entries + 1 },
-    ghost numbers: { number ≤ 449_743 + next },
+    ghost numbers: { number ≤ PARTITION_BLOCKS + next },
 }
 
 impl<'a> Lay<'a> {
@@ -86,12 +87,12 @@ impl<'a> Lay<'a> {
     fn put(&mut self, item: &Item<'a>, at: usize, block: &mut Block) -> usize
         requires next { slice_get (identifiers_of self.old.dir.now) self.old.next ≡ Some (said item.now) }
         requires short { length item.now.name.now ≤ 255 }
-        requires room { at + plain_size (length item.now.name.now) ≤ 2048 }
+        requires room { at + plain_size (length item.now.name.now) ≤ BLOCK_BYTES }
         ensures dir { self.new.dir ≡ self.old.dir }
         ensures next { self.new.next ≡ self.old.next + 1 }
         ensures number { self.new.number ≡ self.old.number }
         ensures end { result ≡ end_of at (said item.now) (identifiers_left self.new) }
-        ensures within { result ≤ 2048 }
+        ensures within { result ≤ BLOCK_BYTES }
         ensures onward { at + plain_size (length item.now.name.now) ≤ result }
         ensures block { block.new ≡ take at block.old ++ (identifier self.old.number (said item.now) (result - (at + plain_size (length item.now.name.now))) ++ drop result block.old) }
     {

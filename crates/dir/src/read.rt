@@ -1,5 +1,6 @@
 //! A directory from its blocks.
 
+ghost use Rattle.limits.specs.declared.TheConstants.{BLOCK_BYTES};
 ghost use Rattle.std.specs.Prelude.{◌≡◌, ◌≢◌, ◌+◌, ◌-◌, ◌*◌, ◌<◌, ◌≤◌, ◌↔◌, ℕ, List, length, drop, replicate, IsTrue, IfOk, IfErr};
 ghost use Rattle.std.specs.List.{concat};
 ghost use Rattle.dir.specs.Directory.{IsDirectory};
@@ -44,8 +45,8 @@ pub fn read_dir(alloc: Global, blocks: &[Block], size: u32, first: u32) -> Resul
 
 /// Whether the bytes of the blocks behind the data are zeros.
 fn ends_in_zeros(blocks: &[Block], size: usize) -> bool
-    requires { size ≤ 2048 * length blocks.now }
-    ensures { IsTrue result ↔ (drop size (concat blocks.now) ≡ replicate (2048 * length blocks.now - size) 0) }
+    requires { size ≤ BLOCK_BYTES * length blocks.now }
+    ensures { IsTrue result ↔ (drop size (concat blocks.now) ≡ replicate (BLOCK_BYTES * length blocks.now - size) 0) }
 {
     let (_, behind) = blocks.as_flattened().split_at(size);
     are_zeros(behind)

@@ -1,5 +1,6 @@
 //! How many bytes identifiers take, and which of them share a block.
 
+ghost use Rattle.limits.specs.declared.TheConstants.{BLOCK_BYTES};
 ghost use Rattle.std.specs.Prelude.{◌≡◌, ◌+◌, ◌<◌, ◌≤◌, ◌^◌};
 ghost use Rattle.dir.specs.Identifier as identifier;
 ghost use Rattle.dir.specs.Layout as layout;
@@ -38,7 +39,7 @@ pub struct DataSize {
     full: u32,
     used: u32,
     ghost some: { 0 < used },
-    ghost in_block: { used ≤ 2048 },
+    ghost in_block: { used ≤ BLOCK_BYTES },
 }
 
 impl DataSize {

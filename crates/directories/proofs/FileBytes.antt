@@ -10,8 +10,8 @@ use Rattle.icb.specs.Entry as icb
 use Rattle.model.specs.Tree.{has_names}
 use Rattle.model.specs.Graph.{Stored, Body, is_directory, content_in}
 use Rattle.model.specs.Graph.Body.{Bytes, Entries}
-use Rattle.durability.specs.Formats.{Block, Place, Fields}
-use Rattle.durability.specs.Formats.Place.{Nowhere, Extent, Inside}
+use Rattle.durability.specs.Formats.{Block, NodePlace, NodeFields}
+use Rattle.durability.specs.Formats.NodePlace.{Nowhere, Extent, Inside}
 use Rattle.durability.specs.Volume.{Medium, HoldsBody, HoldsFile, IsWithin, bytes_in, extent}
 use Rattle.udf.specs.Udf.{udf}
 use Rattle.udf.specs.Words.{fields_of, place_of}
@@ -19,19 +19,19 @@ use Rattle.directories.specs.Shows.{graph_below}
 use Rattle.directories.proofs.StoredNodes.{shorter, part_below}
 
 -- a file that is stored has these bytes
-pub record HasBytes (medium : Medium) (s : Stored) (fields : Fields) : Type 0 where
+pub record HasBytes (medium : Medium) (s : Stored) (fields : NodeFields) : Type 0 where
   pub bytes : List ℕ
   pub body : s.body ≡ Bytes bytes
   pub holds : HoldsFile medium fields.size fields.place bytes
 
-bytes_in_body : (medium : Medium) (s : Stored) (fields : Fields) (body : Body) → s.body ≡ body → has_names (content_in body) ≡ false → HoldsBody udf medium fields body → HasBytes medium s fields
+bytes_in_body : (medium : Medium) (s : Stored) (fields : NodeFields) (body : Body) → s.body ≡ body → has_names (content_in body) ≡ false → HoldsBody udf medium fields body → HasBytes medium s fields
 bytes_in_body medium s fields (Bytes bytes) e file h = record { bytes = bytes; body = e; holds = h.1 }
 bytes_in_body medium s fields (Entries parent entries) e file h = absurd (true≢false file)
 
 pub has_bytes : (at : ℕ) (entries : List (Option ℕ)) (J : List Event) (address : ℕ) (s : Stored) (there : graph_below at entries J address s) → is_directory s ≡ false → HasBytes (take at (held J)) s there.fields
 has_bytes at entries J address s there file = bytes_in_body (take at (held J)) s there.fields s.body refl file there.body
 
-nowhere : (medium : Medium) (size : ℕ) (place : Place) (bytes : List ℕ) → HoldsFile medium size place bytes → icb.Place.Nowhere ≡ place_of place → bytes ≡ []
+nowhere : (medium : Medium) (size : ℕ) (place : NodePlace) (bytes : List ℕ) → HoldsFile medium size place bytes → icb.Place.Nowhere ≡ place_of place → bytes ≡ []
 nowhere medium size Nowhere bytes h e = h
 nowhere medium size (Inside inside) bytes h e = cc
 nowhere medium size (Extent first) bytes h e = cc
@@ -46,19 +46,19 @@ first_of icb.Place.Nowhere = 0
 first_of (icb.Place.Extent first) = first
 first_of (icb.Place.Inside bytes) = 0
 
-within_entry : (medium : Medium) (size : ℕ) (place : Place) (bytes inside : List ℕ) → HoldsFile medium size place bytes → icb.Place.Inside inside ≡ place_of place → bytes ≡ inside
+within_entry : (medium : Medium) (size : ℕ) (place : NodePlace) (bytes inside : List ℕ) → HoldsFile medium size place bytes → icb.Place.Inside inside ≡ place_of place → bytes ≡ inside
 unfolding inside_of
 within_entry medium size Nowhere bytes inside h e = cc
 within_entry medium size (Inside there) bytes inside h e = h ∙ sym (ap inside_of e)
 within_entry medium size (Extent first) bytes inside h e = cc
 
-behind : (medium : Medium) (size : ℕ) (place : Place) (bytes : List ℕ) (first : ℕ) → HoldsFile medium size place bytes → icb.Place.Extent first ≡ place_of place → IsWithin medium first size × (bytes ≡ bytes_in size (extent medium first size))
+behind : (medium : Medium) (size : ℕ) (place : NodePlace) (bytes : List ℕ) (first : ℕ) → HoldsFile medium size place bytes → icb.Place.Extent first ≡ place_of place → IsWithin medium first size × (bytes ≡ bytes_in size (extent medium first size))
 unfolding first_of
 behind medium size Nowhere bytes first h e = cc
 behind medium size (Inside inside) bytes first h e = cc
 behind medium size (Extent there) bytes first h e = subst (λ (n : ℕ). IsWithin medium n size × (bytes ≡ bytes_in size (extent medium n size))) (sym (ap first_of e)) h
 
-module _ (at : ℕ) (J : List Event) (s : Stored) (fields : Fields) (read : FileEntry) (h : HasBytes (take at (held J)) s fields) (same : icb.fields_of read ≡ fields_of fields) where
+module _ (at : ℕ) (J : List Event) (s : Stored) (fields : NodeFields) (read : FileEntry) (h : HasBytes (take at (held J)) s fields) (same : icb.fields_of read ≡ fields_of fields) where
   place_is : icb.place_of read.place ≡ place_of fields.place
   place_is = ap (λ (f : icb.Fields). f.place) same
 

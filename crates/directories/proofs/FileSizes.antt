@@ -15,7 +15,7 @@ use Rattle.icb.specs.declared.entry.Place.TheVariants as places
 use Rattle.icb.specs.Entry as icb
 use Rattle.model.specs.Graph.{Stored, Body}
 use Rattle.model.specs.Graph.Body.{Bytes, Entries}
-use Rattle.durability.specs.Formats.{Block, Fields}
+use Rattle.durability.specs.Formats.{Block, NodeFields}
 use Rattle.udf.specs.Words.{fields_of}
 use Rattle.directories.proofs.FileBytes.{HasBytes, stored_nowhere, stored_inside, stored_extent}
 
@@ -41,7 +41,7 @@ abbrev bytes_of : Body → List ℕ
 bytes_of (Bytes bytes) = bytes
 bytes_of (Entries parent entries) = []
 
-pub size_is : (at : ℕ) (J : List Event) (s : Stored) (fields : Fields) (read : FileEntry) (kind : Kind) → HasBytes (take at (held J)) s fields → icb.fields_of read ≡ fields_of fields → icb.FitsPlace kind read.size (icb.place_of read.place)
+pub size_is : (at : ℕ) (J : List Event) (s : Stored) (fields : NodeFields) (read : FileEntry) (kind : Kind) → HasBytes (take at (held J)) s fields → icb.fields_of read ≡ fields_of fields → icb.FitsPlace kind read.size (icb.place_of read.place)
     → Once J → AreWhole J → at ≤ length (held J) → (bytes : List ℕ) → s.body ≡ Bytes bytes → read.size ≡ length bytes
 size_is at J s fields read kind h same fits once are_whole within bytes body = by read.place refl fits
   where

@@ -18,8 +18,8 @@ use Rattle.model.specs.Tree.{has_names}
 use Rattle.model.specs.Addresses.{used_first, free_address}
 use Rattle.model.specs.Graph.{Stored, Body, Entry, is_directory, content_in}
 use Rattle.model.specs.Graph.Body.{Bytes, Entries}
-use Rattle.durability.specs.Formats.{Block, Place, Fields}
-use Rattle.durability.specs.Formats.Place.{Nowhere, Extent as Extent_, Inside}
+use Rattle.durability.specs.Formats.{Block, NodePlace, NodeFields}
+use Rattle.durability.specs.Formats.NodePlace.{Nowhere, Extent as Extent_, Inside}
 use Rattle.durability.specs.Volume.{Medium, HoldsBody, HoldsDirectory}
 use Rattle.durability.proofs.Lists.{get-take, part-append}
 use Rattle.udf.specs.Udf.{udf}
@@ -61,13 +61,13 @@ pub record HasData (at : ℕ) (J : List Event) (s : Stored) (e : icb.Fields) : T
 pub part_below : (M : Medium) (at s c : ℕ) → s + c ≤ length (take at M) → take c (drop s (take at M)) ≡ take c (drop s M)
 part_below M at s c h = sym (part-append s c (take at M) (drop at M) h) ∙ ap (λ (xs : List Block). take c (drop s xs)) (take-append-drop at M)
 
-data_in : (at : ℕ) (J : List Event) (s : Stored) (fields : Fields) (place : Place) (body : Body) → fields.place ≡ place → s.body ≡ body → is_directory s ≡ true → fields.moment ≡ s.moment → HoldsBody udf (take at (held J)) fields body
+data_in : (at : ℕ) (J : List Event) (s : Stored) (fields : NodeFields) (place : NodePlace) (body : Body) → fields.place ≡ place → s.body ≡ body → is_directory s ≡ true → fields.moment ≡ s.moment → HoldsBody udf (take at (held J)) fields body
     → HasData at J s (fields_of fields)
 data_in at J s fields place (Bytes bytes) e b d m h = absurd (false≢true (sym (ap (λ (y : Body). has_names (content_in y)) b) ∙ d))
-data_in at J s fields Nowhere (Entries parent entries) e b d m h = absurd (subst (λ (p : Place). HoldsDirectory udf (take at (held J)) fields.size p parent entries) e h.1)
-data_in at J s fields (Inside inside) (Entries parent entries) e b d m h = absurd (subst (λ (p : Place). HoldsDirectory udf (take at (held J)) fields.size p parent entries) e h.1)
+data_in at J s fields Nowhere (Entries parent entries) e b d m h = absurd (subst (λ (p : NodePlace). HoldsDirectory udf (take at (held J)) fields.size p parent entries) e h.1)
+data_in at J s fields (Inside inside) (Entries parent entries) e b d m h = absurd (subst (λ (p : NodePlace). HoldsDirectory udf (take at (held J)) fields.size p parent entries) e h.1)
 data_in at J s fields (Extent_ first) (Entries parent entries) e b d m h =
-    let holds : HoldsDirectory udf (take at (held J)) fields.size (Extent_ first) parent entries = subst (λ (p : Place). HoldsDirectory udf (take at (held J)) fields.size p parent entries) e h.1 in
+    let holds : HoldsDirectory udf (take at (held J)) fields.size (Extent_ first) parent entries = subst (λ (p : NodePlace). HoldsDirectory udf (take at (held J)) fields.size p parent entries) e h.1 in
     record {
       first = first;
       place = ap place_of e;
@@ -120,7 +120,7 @@ extent_of at J s e read h same =
     (d.first, place_extent read.place d.first d.place)
 
 -- what was decoded
-pub decoded : (block there : Block) (address : ℕ) (fields : Fields) (read : Result FileEntry IcbFault) → there ≡ block → udf.IsEntry fields there address
+pub decoded : (block there : Block) (address : ℕ) (fields : NodeFields) (read : Result FileEntry IcbFault) → there ≡ block → udf.IsEntry fields there address
     → ((e : icb.Fields) → icb.IsEntry e address block → IsOkAnd read (λ r. icb.fields_of r ≡ e)) → IsOkAnd read (λ r. icb.fields_of r ≡ fields_of fields)
 decoded block there address fields read same is only = only (fields_of fields) (subst (λ (b : Block). icb.IsEntry (fields_of fields) address b) same is)
 

@@ -15,8 +15,8 @@ abbrev pub IsMissing : Tree → Path → StoreFault → Type 0
 IsMissing tree path fault = ((fault ≡ NotFound) × (get tree path ≡ None)) ⊎ IsShortage fault
 
 -- the refusal is the answer, or the answer could not be read
-abbrev pub IsRefused : Answer → StoreFault → Type 0
-IsRefused told fault =
+abbrev pub IsQueryRefused : Answer → StoreFault → Type 0
+IsQueryRefused told fault =
     ((fault ≡ NotFound) × (told ≡ runs.Answer.NotFound))
     ⊎ (((fault ≡ IsDirectory) × (told ≡ runs.Answer.IsDirectory))
     ⊎ (((fault ≡ NotDirectory) × (told ≡ runs.Answer.NotDirectory)) ⊎ IsShortage fault))

@@ -1,5 +1,6 @@
 //! A directory apart from where it lies.
 
+ghost use Rattle.limits.specs.declared.TheConstants.{DIRECTORY_NAMES};
 ghost use Rattle.std.specs.Prelude.{◌≡◌, [], ◌∷◌, ◌++◌, ◌<◌, ◌≤◌, IfErr, IfSome, None, OnErr, OnOk, length, nat_eq};
 ghost use Rattle.std.specs.Cmp.Lexicographic.{pointwise};
 ghost use Rattle.std.specs.Map.{lookup, remove_entry};
@@ -14,13 +15,13 @@ use recover::StoreFault;
 #[derive(Drop)]
 pub struct Content {
     pub dir: Dir,
-    pub ghost few: { length dir.entries.entries ≤ 512 },
+    pub ghost few: { length dir.entries.entries ≤ DIRECTORY_NAMES },
 }
 
 impl Content {
     /// Adds a name behind the others.
     pub fn add(&mut self, name: Name, entry: Entry) -> Result<(), StoreFault>
-        requires room { length self.old.dir.entries.entries < 512 }
+        requires room { length self.old.dir.entries.entries < DIRECTORY_NAMES }
         ensures added { OnOk result (lookup (pointwise nat_eq name) self.old.dir.entries.entries ≡ None → self.new.dir.entries.entries ≡ self.old.dir.entries.entries ++ (name, entry) ∷ []) }
         ensures parent { self.new.dir.parent ≡ self.old.dir.parent }
         ensures unchanged { OnErr result (self.new.dir.entries.entries ≡ self.old.dir.entries.entries) }
@@ -36,7 +37,7 @@ impl Content {
         ensures said { result ≡ lookup (pointwise nat_eq name.now) self.old.dir.entries.entries }
         ensures entries { self.new.dir.entries.entries ≡ remove_entry (pointwise nat_eq name.now) self.old.dir.entries.entries }
         ensures parent { self.new.dir.parent ≡ self.old.dir.parent }
-        ensures room { IfSome result (λ _. length self.new.dir.entries.entries < 512) }
+        ensures room { IfSome result (λ _. length self.new.dir.entries.entries < DIRECTORY_NAMES) }
     {
         self.dir.entries.shift_remove(name)
     }

@@ -1,5 +1,6 @@
 //! The directories that were used last.
 
+ghost use Rattle.limits.specs.declared.TheConstants.{BLOCK_BYTES, PARTITION_BLOCKS, PARTITION_START};
 ghost use Rattle.std.specs.Prelude.{◌≡◌, ◌+◌, ◌<◌, ◌≤◌, List, IsTrue, IfOk, IfErr, nat_eq};
 ghost use Rattle.std.specs.Int.{div_ceil};
 ghost use Rattle.drive.specs.Journal.{Event, held, next_of};
@@ -51,8 +52,8 @@ impl Directories {
         extent: Extent,
     ) -> Result<Content, StoreFault>
         requires some { 0 < extent.size }
-        requires first { extent.first ≤ 449_743 }
-        requires within { extent.first + 257 + div_ceil extent.size 2048 ≤ next_of (D.journal drive.old) }
+        requires first { extent.first ≤ PARTITION_BLOCKS }
+        requires within { extent.first + PARTITION_START + div_ceil extent.size BLOCK_BYTES ≤ next_of (D.journal drive.old) }
         ensures lies { IfOk result (λ content. IsTrue (D.honest drive.new) → AreKept (D.journal drive.old) self.old → LiesThere (D.journal drive.old) extent content) }
         ensures refused { IfErr result (λ fault. IsTrue (D.honest drive.new) → IsDirectoryRefused extent (data_of (held (D.journal drive.old)) extent) fault) }
         ensures kept { (journal : List Event) → AreKept journal self.old → AreKept journal self.new }
@@ -82,8 +83,8 @@ impl Directories {
         name: &Name,
     ) -> Result<Option<Entry>, StoreFault>
         requires some { 0 < extent.size }
-        requires first { extent.first ≤ 449_743 }
-        requires within { extent.first + 257 + div_ceil extent.size 2048 ≤ next_of (D.journal drive.old) }
+        requires first { extent.first ≤ PARTITION_BLOCKS }
+        requires within { extent.first + PARTITION_START + div_ceil extent.size BLOCK_BYTES ≤ next_of (D.journal drive.old) }
         ensures found { IfOk result (λ found. IsTrue (D.honest drive.new) → AreKept (D.journal drive.old) self.old → (content : Content) × LiesThere (D.journal drive.old) extent content × (found ≡ lookup (pointwise nat_eq name.now) content.dir.entries.entries)) }
         ensures refused { IfErr result (λ fault. IsTrue (D.honest drive.new) → IsDirectoryRefused extent (data_of (held (D.journal drive.old)) extent) fault) }
         ensures kept { IsTrue (D.honest drive.new) → AreKept (D.journal drive.old) self.old → AreKept (D.journal drive.old) self.new }

@@ -1,5 +1,6 @@
 //! The nodes of a state, by their virtual addresses.
 
+ghost use Rattle.limits.specs.declared.TheConstants.{BLOCK_BYTES, PARTITION_BLOCKS, PARTITION_START};
 ghost use Rattle.std.specs.Prelude.{◌≡◌, ◌+◌, ◌<◌, ◌≤◌, IsTrue, IfOk, IfErr, length, true};
 ghost use Rattle.std.specs.Int.{div_ceil};
 ghost use Rattle.drive.specs.Journal.{AreWhole, next_of};
@@ -41,7 +42,7 @@ impl Nodes<'_> {
         requires below { AreBelow self.now.at self.now.entries.now }
         requires within { self.now.at ≤ next_of (D.journal drive.old) }
         // What is stored there is read from it.
-        ensures block { IfOk result (λ read. IsTrue (D.honest drive.new) → (s : Stored) (there : graph_below self.now.at self.now.entries.now (D.journal drive.old) address s) → (there.block ≡ read.0) × (read.1 ≡ there.number + 257)) }
+        ensures block { IfOk result (λ read. IsTrue (D.honest drive.new) → (s : Stored) (there : graph_below self.now.at self.now.entries.now (D.journal drive.old) address s) → (there.block ≡ read.0) × (read.1 ≡ there.number + PARTITION_START)) }
         ensures refused { IfErr result (λ fault. (s : Stored) → graph_below self.now.at self.now.entries.now (D.journal drive.old) address s → fault ≡ Device) }
         ensures used { IfOk result (λ _. IsUsed address self.now.entries.now) }
         ensures whole { IfOk result (λ _. AreWhole (D.journal drive.old)) }
@@ -66,7 +67,7 @@ impl Nodes<'_> {
         ensures placed { IfOk result (λ placed. IsTrue (D.honest drive.new) → (s : Stored) → graph_below self.now.at self.now.entries.now (D.journal drive.old) address s → is_directory s ≡ true → LiesIn (D.journal drive.old) placed s) }
         ensures refused { IfErr result (λ fault. IsTrue (D.honest drive.new) → (s : Stored) → graph_below self.now.at self.now.entries.now (D.journal drive.old) address s → is_directory s ≡ true → fault ≡ Device) }
         ensures used { IfOk result (λ _. IsUsed address self.now.entries.now) }
-        ensures data { IfOk result (λ p. (0 < p.extent.size) × (p.extent.first ≤ 449_743) × (p.extent.first + 257 + div_ceil p.extent.size 2048 ≤ self.now.at)) }
+        ensures data { IfOk result (λ p. (0 < p.extent.size) × (p.extent.first ≤ PARTITION_BLOCKS) × (p.extent.first + PARTITION_START + div_ceil p.extent.size BLOCK_BYTES ≤ self.now.at)) }
         ensures reads { Reads D.Drive (devices result) drive.old drive.new }
     {
         let (block, at) = self.entry_block(drive, address)?;

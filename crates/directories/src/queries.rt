@@ -14,7 +14,7 @@ ghost use Rattle.next_vat.specs.Below.{AreBelow};
 ghost use Rattle.directories.specs.Cache.{AreKept};
 ghost use Rattle.directories.specs.Asked.{said_names};
 ghost use Rattle.directories.specs.Asked as asked;
-ghost use Rattle.directories.specs.Queries.{IsMissing, IsRefused, name_told};
+ghost use Rattle.directories.specs.Queries.{IsMissing, IsQueryRefused, name_told};
 ghost use Rattle.directories.specs.Shows.{IsNodeAt, Shows, graph_below};
 
 use crate::content::Content;
@@ -40,7 +40,7 @@ impl Nodes<'_> {
         requires below { AreBelow self.now.at self.now.entries.now }
         requires within { self.now.at ≤ next_of (D.journal drive.old) }
         ensures told { (tree : Tree) → Shows (D.honest drive.new) (D.journal drive.old) directories.old self.now.at self.now.entries.now tree → IfOk result (λ bytes. runs.told tree (runs.Query.Get path.now) ≡ runs.Answer.Data bytes) }
-        ensures refused { (tree : Tree) → Shows (D.honest drive.new) (D.journal drive.old) directories.old self.now.at self.now.entries.now tree → IfErr result (IsRefused (runs.told tree (runs.Query.Get path.now))) }
+        ensures refused { (tree : Tree) → Shows (D.honest drive.new) (D.journal drive.old) directories.old self.now.at self.now.entries.now tree → IfErr result (IsQueryRefused (runs.told tree (runs.Query.Get path.now))) }
         ensures kept { IsTrue (D.honest drive.new) → AreKept (D.journal drive.old) directories.old → AreKept (D.journal drive.old) directories.new }
         ensures reads { Reads D.Drive (devices result) drive.old drive.new }
     {
@@ -62,7 +62,7 @@ impl Nodes<'_> {
         requires below { AreBelow self.now.at self.now.entries.now }
         requires within { self.now.at ≤ next_of (D.journal drive.old) }
         ensures told { (tree : Tree) → Shows (D.honest drive.new) (D.journal drive.old) directories.old self.now.at self.now.entries.now tree → IfOk result (λ listing. runs.told tree (runs.Query.List_ path.now) ≡ runs.Answer.Names (said_names listing)) }
-        ensures refused { (tree : Tree) → Shows (D.honest drive.new) (D.journal drive.old) directories.old self.now.at self.now.entries.now tree → IfErr result (IsRefused (runs.told tree (runs.Query.List_ path.now))) }
+        ensures refused { (tree : Tree) → Shows (D.honest drive.new) (D.journal drive.old) directories.old self.now.at self.now.entries.now tree → IfErr result (IsQueryRefused (runs.told tree (runs.Query.List_ path.now))) }
         ensures kept { IsTrue (D.honest drive.new) → AreKept (D.journal drive.old) directories.old → AreKept (D.journal drive.old) directories.new }
         ensures reads { Reads D.Drive (devices result) drive.old drive.new }
     {
@@ -87,7 +87,7 @@ impl Nodes<'_> {
         requires below { AreBelow self.now.at self.now.entries.now }
         requires within { self.now.at ≤ next_of (D.journal drive.old) }
         ensures told { (tree : Tree) → Once (D.journal drive.old) → Shows (D.honest drive.new) (D.journal drive.old) directories.old self.now.at self.now.entries.now tree → IfOk result (λ status. runs.told tree (runs.Query.Stat path.now) ≡ runs.Answer.NodeIs (asked.is_directory status.kind) status.moment status.size) }
-        ensures refused { (tree : Tree) → Shows (D.honest drive.new) (D.journal drive.old) directories.old self.now.at self.now.entries.now tree → IfErr result (IsRefused (runs.told tree (runs.Query.Stat path.now))) }
+        ensures refused { (tree : Tree) → Shows (D.honest drive.new) (D.journal drive.old) directories.old self.now.at self.now.entries.now tree → IfErr result (IsQueryRefused (runs.told tree (runs.Query.Stat path.now))) }
         ensures kept { IsTrue (D.honest drive.new) → AreKept (D.journal drive.old) directories.old → AreKept (D.journal drive.old) directories.new }
         ensures reads { Reads D.Drive (devices result) drive.old drive.new }
     {

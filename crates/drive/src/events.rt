@@ -1,4 +1,5 @@
 //! What was written to a drive in memory.
+ghost use Rattle.limits.specs.declared.TheConstants.{BLOCK_BYTES};
 ghost use Rattle.std.specs.Prelude.{◌≡◌, ◌+◌, ◌^◌, ◌≤◌, ◌<◌, ◌++◌, [], ℕ, length, take, All, IsTrue, IfOk, OnOk, OnErr};
 ghost use Rattle.std.specs.Option.{option_copied};
 ghost use Rattle.drive.specs.Journal.{written, next_of, last_at, AreWhole, InOrder};
@@ -123,7 +124,7 @@ fn last_block(events: &[(u32, Block)], at: u32) -> Option<&Block>
 
 fn push_all(events: &mut Vec<(u32, Block)>, at: u32, blocks: &[Block]) -> Result<(), AllocError>
     requires { at + length blocks.now < 2 ^ 32 }
-    ensures blocks { All (λ block. length block ≡ 2048) blocks.now }
+    ensures blocks { All (λ block. length block ≡ BLOCK_BYTES) blocks.now }
     ensures ok { OnOk result (events.new.items ≡ events.old.items ++ written at blocks.now) }
     ensures err { OnErr result (events.new.items ≡ events.old.items) }
 {

@@ -9,6 +9,7 @@
 //! A file that is only read is neither locked nor synced, so that it may be one that another writes, or that
 //! nobody may write.
 
+ghost use Rattle.limits.specs.declared.TheConstants.{BLOCK_BYTES};
 ghost use Rattle.std.specs.Prelude.{◌+◌, ◌<◌, ◌^◌, length, IfOk};
 
 use crate::{Block, DriveFault};
@@ -88,7 +89,7 @@ impl Image {
 
     /// The bytes behind the last whole block, at the front of `into`: how many they are, at most 2,047.
     pub(crate) fn part(&self, into: &mut Block) -> Result<usize, DriveFault>
-        ensures { IfOk result (λ n. n < 2048) }
+        ensures { IfOk result (λ n. n < BLOCK_BYTES) }
     {
         let found = fault_of(self.file.metadata())?;
         let len = (found.len() % BLOCK_BYTES) as usize;

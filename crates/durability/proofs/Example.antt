@@ -5,7 +5,7 @@ use Rattle.std.proofs.lemmas.Bool.{true≢false}
 use Rattle.model.specs.Graph.{Entry}
 use Rattle.model.specs.Session.{after_one, formatted}
 use Rattle.model.proofs.Fresh.{sound_fresh, no_files, one_directory}
-use Rattle.durability.specs.Formats.{Block, Kind, Fields, Table_, AreExact, AreBounded}
+use Rattle.durability.specs.Formats.{Block, Kind, NodeFields, Table_, AreExact, AreBounded}
 use Rattle.durability.specs.Formats.Kind.{Directory, File, Table}
 use Rattle.durability.specs.Volume.{IsTableEntry, NoneImitates, Stands, LastTable}
 use Rattle.durability.specs.Step.{CarriesOut, IsFormat, Moves}
@@ -30,7 +30,7 @@ exact = record {
   table = λ icb bytes t u a b. table_one icb t u a b;
 }
   where
-    entry_one : (block : Block) (location : ℕ) (f g : Fields) → small.IsEntry f block location → small.IsEntry g block location → f ≡ g
+    entry_one : (block : Block) (location : ℕ) (f g : NodeFields) → small.IsEntry f block location → small.IsEntry g block location → f ≡ g
     entry_one block location f g (inl a) (inl b) = a.1 ∙ sym b.1
     entry_one block location f g (inl a) (inr b) = absurd (omega (arith, apart block 4 248 (ap head a.0) (ap head b.0)))
     entry_one block location f g (inr a) (inl b) = absurd (omega (arith, apart block 248 4 (ap head a.0) (ap head b.0)))
@@ -63,7 +63,7 @@ is_table Table = true
 -- a block that does not begin with 248 does not imitate
 plain : (block : Block) (at : ℕ) → (head block ≡ 248 → ⊥) → IsTableEntry small block at → ⊥
 unfolding head is_table
-plain block at h (far, fields, kind, inl a) = true≢false (sym (ap is_table kind) ∙ ap (λ (f : Fields). is_table f.kind) a.1)
+plain block at h (far, fields, kind, inl a) = true≢false (sym (ap is_table kind) ∙ ap (λ (f : NodeFields). is_table f.kind) a.1)
 plain block at h (far, fields, kind, inr a) = h (ap head a.0)
 
 none_empty : (n at : ℕ) → NoneImitates small at (replicate n [])

@@ -4,12 +4,12 @@ use Rattle.std.proofs.lemmas.Option.{same_Some}
 use Rattle.model.specs.Session.{State}
 use Rattle.model.specs.Graph.{MakesTree}
 use Rattle.model.proofs.Made.{one_tree}
-use Rattle.durability.specs.Formats.{Block, Place, Fields, Table_, Formats, AreExact}
-use Rattle.durability.specs.Formats.Place.{Nowhere, Extent, Inside}
+use Rattle.durability.specs.Formats.{Block, NodePlace, NodeFields, Table_, Formats, AreExact}
+use Rattle.durability.specs.Formats.NodePlace.{Nowhere, Extent, Inside}
 use Rattle.durability.specs.Volume.{Medium, partition_start, extent, bytes_in, graph_of, IsLast, HasTable, Tells, Stands}
 use Rattle.durability.proofs.Lists.{side}
 
-first_of : Place → ℕ
+first_of : NodePlace → ℕ
 first_of Nowhere = 0
 first_of (Inside bytes) = 0
 first_of (Extent first) = first
@@ -36,11 +36,11 @@ module _ (formats : Formats) where
     pub table_one : (M : Medium) (at : ℕ) (block : Block) (t u : Table_) (v w : ℕ) → HasTable formats M at block t v → HasTable formats M at block u w → (t ≡ u) × (v ≡ w)
     table_one M at block t u v w a b =
         let fields = fields_one M at block t u v w a b in
-        let size : a.fields.size ≡ b.fields.size = ap (λ (f : Fields). f.size) fields in
-        let first : a.first ≡ b.first = same_Extent a.first b.first (sym a.place ∙ ap (λ (f : Fields). f.place) fields ∙ b.place) in (
+        let size : a.fields.size ≡ b.fields.size = ap (λ (f : NodeFields). f.size) fields in
+        let first : a.first ≡ b.first = same_Extent a.first b.first (sym a.place ∙ ap (λ (f : NodeFields). f.place) fields ∙ b.place) in (
           exact.table (at - partition_start) (bytes_in a.fields.size (extent M a.first a.fields.size)) t u a.is
               (subst₂ (λ m n. formats.IsTable u (at - partition_start) (bytes_in n (extent M m n))) (sym first) (sym size) b.is),
-          sym a.moment_is ∙ ap (λ (f : Fields). f.moment) fields ∙ b.moment_is,
+          sym a.moment_is ∙ ap (λ (f : NodeFields). f.moment) fields ∙ b.moment_is,
         )
 
     -- a table entry says one state, whatever drive and volume it is read in

@@ -24,7 +24,7 @@ use Rattle.model.proofs.Operations.{not_into, counted}
 use Rattle.model.proofs.Made.{reach_has, reach_one}
 use Rattle.durability.specs.Formats.{Block, Table_, Formats, AreExact, AreBounded, AreDistinct}
 use Rattle.durability.specs.Formats.Kind.{Table as TableEntry}
-use Rattle.durability.specs.Formats.Place.{Extent}
+use Rattle.durability.specs.Formats.NodePlace.{Extent}
 use Rattle.durability.specs.Step.{FollowsRequest, CarriesOut}
 use Rattle.std.proofs.lemmas.Grind.{div_ceil_times}
 use Rattle.durability.specs.Volume.{Medium, partition_start, IsWithin, extent, bytes_in, HasTable, NoneImitates, IsStoredAt, graph_of, Stands}

@@ -8,17 +8,17 @@ use Rattle.model.specs.Graph.{Body, Entry, content_in}
 use Rattle.model.specs.Graph.Body.{Bytes, Entries}
 use Rattle.model.specs.Laws.{IsSound}
 use Rattle.model.proofs.Counts.{len_both}
-use Rattle.durability.specs.Formats.{Place, Fields, Formats, AreBounded}
-use Rattle.durability.specs.Formats.Place.{Nowhere, Extent, Inside}
+use Rattle.durability.specs.Formats.{NodePlace, NodeFields, Formats, AreBounded}
+use Rattle.durability.specs.Formats.NodePlace.{Nowhere, Extent, Inside}
 use Rattle.durability.specs.Volume.{Medium, HoldsDirectory, HoldsBody, extent, Stands}
 
 module _ (formats : Formats) (bounded : AreBounded formats) where
-  few_entries : (M : Medium) (size : ℕ) (place : Place) (parent : ℕ) (es : List Entry) → HoldsDirectory formats M size place parent es → length es ≤ 512
+  few_entries : (M : Medium) (size : ℕ) (place : NodePlace) (parent : ℕ) (es : List Entry) → HoldsDirectory formats M size place parent es → length es ≤ 512
   few_entries M size Nowhere parent es h = absurd h
   few_entries M size (Inside inside) parent es h = absurd h
   few_entries M size (Extent first) parent es h = bounded.names parent first size es (extent M first size) h.1
 
-  few_names : (M : Medium) (fields : Fields) (body : Body) → HoldsBody formats M fields body → length (names_in (content_in body)) ≤ 512
+  few_names : (M : Medium) (fields : NodeFields) (body : Body) → HoldsBody formats M fields body → length (names_in (content_in body)) ≤ 512
   few_names M fields (Bytes bytes) h = omega arith
   few_names M fields (Entries parent es) h = omega (arith, few_entries M fields.size fields.place parent es h.1, length-map es (λ (e : Entry). e.name))
 

@@ -6,9 +6,9 @@ use Rattle.std.proofs.lemmas.Option.{none-some, same_Some}
 use Rattle.model.specs.Graph.{Graph, Stored, Body, Entry}
 use Rattle.model.specs.Graph.Body.{Bytes, Entries}
 use Rattle.model.proofs.Lists.{contains_here, contains_there}
-use Rattle.durability.specs.Formats.{Block, Kind, Place, Fields, Formats, AreDistinct}
+use Rattle.durability.specs.Formats.{Block, Kind, NodePlace, NodeFields, Formats, AreDistinct}
 use Rattle.durability.specs.Formats.Kind.{Directory, File, Table}
-use Rattle.durability.specs.Formats.Place.{Nowhere, Extent, Inside}
+use Rattle.durability.specs.Formats.NodePlace.{Nowhere, Extent, Inside}
 use Rattle.durability.specs.Volume.{Medium, partition_start, blocks_for, IsWithin, extent, bytes_in, HoldsFile, HoldsDirectory, HoldsBody, IsStoredAt, graph_of, IsTableEntry, NoneImitates}
 use Rattle.durability.specs.Plan.{zeros, packed, kind_of_body, Writing, Written, IsPlaced, PlacesFile, PlacesBody, WritesNode, WritesNodes}
 use Rattle.durability.specs.Plan.PlacesFile.{nowhere, inside, outside}
@@ -46,7 +46,7 @@ module _ (formats : Formats) where
         ap (λ (M : Medium). take (blocks_for (length bytes)) (drop (first + partition_start) M)) whole ∙ part_at (first + partition_start) (blocks_for (length bytes)) (B ++ gap) (packed bytes) more front (sym size),
       )
 
-  file_held : (B : Medium) (bytes : List ℕ) (from : ℕ) (before : List Block) (place : Place) (more : List Block) → partition_start ≤ length B → from ≡ length B - partition_start
+  file_held : (B : Medium) (bytes : List ℕ) (from : ℕ) (before : List Block) (place : NodePlace) (more : List Block) → partition_start ≤ length B → from ≡ length B - partition_start
       → PlacesFile formats bytes from before place → HoldsFile (B ++ (before ++ more)) (length bytes) place bytes
   file_held B bytes from before place more low is (nowhere size blocks at) = subst (λ p. HoldsFile (B ++ (before ++ more)) (length bytes) p bytes) (sym at) (empty bytes size)
     where
@@ -58,7 +58,7 @@ module _ (formats : Formats) where
       let held = placed_extent B bytes from first before more low is placed in
       subst (λ p. HoldsFile (B ++ (before ++ more)) (length bytes) p bytes) (sym at) (held.0, sym (ap (λ (xs : List Block). bytes_in (length bytes) xs) held.1 ∙ bytes-packed bytes))
 
-  directory_held : (B : Medium) (parent : ℕ) (entries : List Entry) (from : ℕ) (before : List Block) (place : Place) (size : ℕ) (more : List Block) → partition_start ≤ length B → from ≡ length B - partition_start
+  directory_held : (B : Medium) (parent : ℕ) (entries : List Entry) (from : ℕ) (before : List Block) (place : NodePlace) (size : ℕ) (more : List Block) → partition_start ≤ length B → from ≡ length B - partition_start
       → (place ≡ Extent from) × (length before ≡ blocks_for size) × formats.IsDirectory parent entries from size before → HoldsDirectory formats (B ++ (before ++ more)) size place parent entries
   directory_held B parent entries from before place size more low is (at, count, holds) =
       let front : from + partition_start ≡ length B = omega arith in
@@ -66,7 +66,7 @@ module _ (formats : Formats) where
       subst (λ p. HoldsDirectory formats (B ++ (before ++ more)) size p parent entries) (sym at)
       (omega (arith, length-append B (before ++ more), length-append before more), subst (λ (xs : List Block). formats.IsDirectory parent entries from size xs) (sym same) holds)
 
-  body_held : (B : Medium) (body : Body) (from : ℕ) (before : List Block) (place : Place) (size : ℕ) (more : List Block) (moment links identity : ℕ) → partition_start ≤ length B → from ≡ length B - partition_start
+  body_held : (B : Medium) (body : Body) (from : ℕ) (before : List Block) (place : NodePlace) (size : ℕ) (more : List Block) (moment links identity : ℕ) → partition_start ≤ length B → from ≡ length B - partition_start
       → PlacesBody formats body from before place size
       → HoldsBody formats (B ++ (before ++ more)) (record { kind = kind_of_body body; moment = moment; links = links; identity = identity; size = size; place = place }) body
   body_held B (Bytes bytes) from before place size more moment links identity low is (count, places) =
@@ -112,7 +112,7 @@ module _ (formats : Formats) where
     is_table Table = 1
 
     -- an entry of a file or a directory imitates nowhere
-    plain_entry : (body : Body) (fields : Fields) (block : Block) (location at : ℕ) → fields.kind ≡ kind_of_body body → formats.IsEntry fields block location → IsTableEntry formats block at → ⊥
+    plain_entry : (body : Body) (fields : NodeFields) (block : Block) (location at : ℕ) → fields.kind ≡ kind_of_body body → formats.IsEntry fields block location → IsTableEntry formats block at → ⊥
     unfolding is_table
     plain_entry (Bytes bytes) fields block location at kind e (low, other, table, is) =
         let same = sym table ∙ sym (distinct.kind block location (at - partition_start) fields other e is) ∙ kind in omega (arith, ap is_table same)
@@ -130,16 +130,16 @@ module _ (formats : Formats) where
         subst (λ (xs : List Block). NoneImitates formats at xs) (sym placed.whole)
         (none-append formats at gap (packed bytes) (none_zeros (first - from) at) (subst (λ n. NoneImitates formats n (packed bytes)) behind placed.start.clear))
 
-    none_all : (blocks : List Block) (at : ℕ) → ((block : Block) → (k : ℕ) → slice_get blocks k ≡ Some block → (location : ℕ) (fields : Fields) → formats.IsEntry fields block location → ⊥) → NoneImitates formats at blocks
+    none_all : (blocks : List Block) (at : ℕ) → ((block : Block) → (k : ℕ) → slice_get blocks k ≡ Some block → (location : ℕ) (fields : NodeFields) → formats.IsEntry fields block location → ⊥) → NoneImitates formats at blocks
     none_all [] at h = tt
     none_all (b ∷ blocks) at h = ((λ (low, fields, table, is). h b 0 refl (at - partition_start) fields is), none_all blocks (suc at) (λ block k e. h block (suc k) e))
 
-    none_file : (bytes : List ℕ) (from : ℕ) (blocks : List Block) (place : Place) (at : ℕ) → at ≡ from + partition_start → PlacesFile formats bytes from blocks place → NoneImitates formats at blocks
+    none_file : (bytes : List ℕ) (from : ℕ) (blocks : List Block) (place : NodePlace) (at : ℕ) → at ≡ from + partition_start → PlacesFile formats bytes from blocks place → NoneImitates formats at blocks
     none_file bytes from blocks place at is (nowhere size blocks_are p) = subst (λ (xs : List Block). NoneImitates formats at xs) (sym blocks_are) tt
     none_file bytes from blocks place at is (inside some few blocks_are p) = subst (λ (xs : List Block). NoneImitates formats at xs) (sym blocks_are) tt
     none_file bytes from blocks place at is (outside many first placed p) = none_placed bytes from first blocks at is placed
 
-    none_body : (body : Body) (from : ℕ) (blocks : List Block) (place : Place) (size at : ℕ) → at ≡ from + partition_start → PlacesBody formats body from blocks place size → NoneImitates formats at blocks
+    none_body : (body : Body) (from : ℕ) (blocks : List Block) (place : NodePlace) (size at : ℕ) → at ≡ from + partition_start → PlacesBody formats body from blocks place size → NoneImitates formats at blocks
     none_body (Bytes bytes) from blocks place size at is (count, places) = none_file bytes from blocks place at is places
     none_body (Entries parent entries) from blocks place size at is (p, count, holds) =
         none_all blocks at (λ block k e location fields entry. distinct.directory parent from size entries blocks holds block (found blocks k block e) location fields entry)

@@ -3,16 +3,16 @@ use Rattle.std.specs.Prelude.{◌≡◌, ◌⊎◌, ℕ, ◌-◌, List, [], ◌�
 use Rattle.limits.specs.declared.TheConstants.{FIRST_UNIQUE}
 use Rattle.model.specs.Operation.Operation.{Remove}
 use Rattle.model.specs.Session.{Request, ClientRecord, after_one, formatted}
-use Rattle.durability.specs.Formats.{Block, Fields, Table_, Formats, AreExact, AreBounded}
+use Rattle.durability.specs.Formats.{Block, NodeFields, Table_, Formats, AreExact, AreBounded}
 use Rattle.durability.specs.Formats.Kind.{Directory, Table}
-use Rattle.durability.specs.Formats.Place.{Extent}
+use Rattle.durability.specs.Formats.NodePlace.{Extent}
 use Rattle.durability.specs.Volume.{Medium, Stands, Past}
 
-abbrev pub root_fields : Fields
+abbrev pub root_fields : NodeFields
 root_fields = record { kind = Directory; moment = 0; links = 1; identity = 0; size = 40; place = Extent 1 }
 
 -- a table's data lie in the block before its entry
-abbrev pub table_fields : ℕ → Fields
+abbrev pub table_fields : ℕ → NodeFields
 table_fields location = record { kind = Table; moment = 0; links = 0; identity = 0; size = 204; place = Extent (location - 1) }
 
 abbrev pub refusal : Request

@@ -10,9 +10,9 @@ use Rattle.model.specs.Addresses.{free_address}
 use Rattle.model.specs.Graph.{Graph, Stored, Entry, Body, whole, entries_of, is_directory}
 use Rattle.model.specs.Graph.Body.{Bytes, Entries}
 use Rattle.model.specs.Change.{Found, with_entries, with_parent, new_body, without, renamed}
-use Rattle.durability.specs.Formats.{Block, Kind, Place, Table_, Formats}
+use Rattle.durability.specs.Formats.{Block, Kind, NodePlace, Table_, Formats}
 use Rattle.durability.specs.Formats.Kind.{File as FileEntry, Directory as DirectoryEntry, Table as TableEntry}
-use Rattle.durability.specs.Formats.Place.{Nowhere, Extent, Inside}
+use Rattle.durability.specs.Formats.NodePlace.{Nowhere, Extent, Inside}
 use Rattle.durability.specs.Volume.{Medium, partition_start, blocks_for, NoneImitates, Stands, graph_of}
 use Rattle.durability.specs.Commit.{most_inside, table_size}
 
@@ -144,13 +144,13 @@ module _ (formats : Formats) where
     pub whole : blocks ≡ replicate (first - from) zeros ++ packed bytes
 
   -- the blocks before a file's entry, and where the entry says that its bytes are
-  pub data PlacesFile (bytes : List ℕ) (from : ℕ) (blocks : List Block) (place : Place) : Type 0 where
+  pub data PlacesFile (bytes : List ℕ) (from : ℕ) (blocks : List Block) (place : NodePlace) : Type 0 where
     nowhere : length bytes ≡ 0 → blocks ≡ [] → place ≡ Nowhere → PlacesFile bytes from blocks place
     inside : 1 ≤ length bytes → length bytes ≤ most_inside → blocks ≡ [] → place ≡ Inside bytes → PlacesFile bytes from blocks place
     outside : most_inside < length bytes → (first : ℕ) → IsPlaced bytes from first blocks → place ≡ Extent first → PlacesFile bytes from blocks place
 
   -- the blocks before a node's entry, from a block number on, and what the entry says of them
-  abbrev pub PlacesBody : Body → ℕ → List Block → Place → ℕ → Type 0
+  abbrev pub PlacesBody : Body → ℕ → List Block → NodePlace → ℕ → Type 0
   PlacesBody (Bytes bytes) from blocks place size = (size ≡ length bytes) × PlacesFile bytes from blocks place
   PlacesBody (Entries parent entries) from blocks place size = (place ≡ Extent from) × (length blocks ≡ blocks_for size) × formats.IsDirectory parent entries from size blocks
 
@@ -160,7 +160,7 @@ module _ (formats : Formats) where
     pub entry : Block
     pub blocks_are : blocks ≡ before ++ entry ∷ []
     pub number_is : number ≡ from + length before
-    pub place : Place
+    pub place : NodePlace
     pub size : ℕ
     pub body : PlacesBody node.stored.body from before place size
     pub is : formats.IsEntry (record { kind = kind_of_body node.stored.body; moment = node.stored.moment; links = node.stored.links; identity = node.stored.identity; size = size; place = place }) entry node.address

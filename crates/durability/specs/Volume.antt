@@ -8,9 +8,9 @@ use Rattle.model.specs.Session.{State}
 use Rattle.model.specs.Graph.{Graph, Stored, Body, Entry, MakesTree}
 use Rattle.model.specs.Graph.Body.{Bytes, Entries}
 use Rattle.model.specs.Identities.{HasIdentities}
-use Rattle.durability.specs.Formats.{Block, Place, Fields, Table_, Formats}
+use Rattle.durability.specs.Formats.{Block, NodePlace, NodeFields, Table_, Formats}
 use Rattle.durability.specs.Formats.Kind.{Directory, File, Table}
-use Rattle.durability.specs.Formats.Place.{Nowhere, Extent, Inside}
+use Rattle.durability.specs.Formats.NodePlace.{Nowhere, Extent, Inside}
 
 -- a medium: its blocks from address 0 on
 abbrev pub Medium : Type 0
@@ -35,18 +35,18 @@ abbrev pub bytes_in : ℕ → List Block → List ℕ
 bytes_in size blocks = take size (flat_map (λ b. b) blocks)
 
 -- the bytes of a file
-abbrev pub HoldsFile : Medium → ℕ → Place → List ℕ → Type 0
+abbrev pub HoldsFile : Medium → ℕ → NodePlace → List ℕ → Type 0
 HoldsFile medium size Nowhere bytes = bytes ≡ []
 HoldsFile medium size (Inside inside) bytes = bytes ≡ inside
 HoldsFile medium size (Extent first) bytes = IsWithin medium first size × (bytes ≡ bytes_in size (extent medium first size))
 
 module _ (formats : Formats) where
-  abbrev pub HoldsDirectory : Medium → ℕ → Place → ℕ → List Entry → Type 0
+  abbrev pub HoldsDirectory : Medium → ℕ → NodePlace → ℕ → List Entry → Type 0
   HoldsDirectory medium size Nowhere parent entries = ⊥
   HoldsDirectory medium size (Inside inside) parent entries = ⊥
   HoldsDirectory medium size (Extent first) parent entries = IsWithin medium first size × formats.IsDirectory parent entries first size (extent medium first size)
 
-  abbrev pub HoldsBody : Medium → Fields → Body → Type 0
+  abbrev pub HoldsBody : Medium → NodeFields → Body → Type 0
   HoldsBody medium fields (Bytes bytes) = (fields.kind ≡ File) × HoldsFile medium fields.size fields.place bytes
   HoldsBody medium fields (Entries parent entries) = (fields.kind ≡ Directory) × HoldsDirectory medium fields.size fields.place parent entries
 
@@ -56,7 +56,7 @@ module _ (formats : Formats) where
     pub used : slice_get table address ≡ Some (Some number)
     pub block : Block
     pub there : slice_get medium (number + partition_start) ≡ Some block
-    pub fields : Fields
+    pub fields : NodeFields
     pub entry : formats.IsEntry fields block address
     pub moment : fields.moment ≡ stored.moment
     pub identity : fields.identity ≡ stored.identity
@@ -68,7 +68,7 @@ module _ (formats : Formats) where
 
   -- The block imitates where it would stand at this address: it is the entry of a table there.
   abbrev pub IsTableEntry : Block → ℕ → Type 0
-  IsTableEntry block address = (partition_start ≤ address) × (fields : Fields) × (fields.kind ≡ Table) × formats.IsEntry fields block (address - partition_start)
+  IsTableEntry block address = (partition_start ≤ address) × (fields : NodeFields) × (fields.kind ≡ Table) × formats.IsEntry fields block (address - partition_start)
 
   -- none of the blocks, which lie from this address on, imitates
   abbrev pub NoneImitates : ℕ → List Block → Type 0
@@ -83,7 +83,7 @@ module _ (formats : Formats) where
 
   -- the table whose entry this block is at this address, of this moment; its data are on the blocks below
   pub record HasTable (below : Medium) (at : ℕ) (block : Block) (table : Table_) (moment : ℕ) : Type 0 where
-    pub fields : Fields
+    pub fields : NodeFields
     pub kind : fields.kind ≡ Table
     pub entry : formats.IsEntry fields block (at - partition_start)
     pub moment_is : fields.moment ≡ moment

@@ -29,7 +29,7 @@ use Rattle.udf.specs.Udf.{udf, spelled}
 use Rattle.udf.specs.Said.{said_record}
 use Rattle.store.specs.declared.store.Store.{Store}
 use Rattle.store.specs.Asked.{said_request, said_query}
-use Rattle.store.specs.Calls.{Knows, StillKnows, Applies, IsDone, IsFailed, IsLeft, Gets, Lists, Stats}
+use Rattle.store.specs.Calls.{Knows, StillKnows, Applies, IsDone, IsFailed, IsLeftBehind, Gets, Lists, Stats}
 use Rattle.engine.specs.Situation.{Situation, IsOpen}
 use Rattle.engine.specs.Answered.{due_of}
 use Rattle.engine.specs.Delivered.{with_store}
@@ -195,7 +195,7 @@ module _ (volume : ℕ) where
           whether (inl none) = inl none
           whether (inr (one, some)) = inr (one, omega (arith, some))
 
-      when_left : Once during.journal → Stands udf during.capacity volume (held during.journal) S → IsLeft during.capacity volume during.journal S behind.journal kept → IsNew nothing → (S' : State) × IsStep volume delivery S during (Some (said_answer a)) S' behind
+      when_left : Once during.journal → Stands udf during.capacity volume (held during.journal) S → IsLeftBehind during.capacity volume during.journal S behind.journal kept → IsNew nothing → (S' : State) × IsStep volume delivery S during (Some (said_answer a)) S' behind
       when_left once stands left row =
           (S, quiet delivery (Some (said_answer a)) S during behind (new_row nothing row) once stands left.journal capacity (knows_kept S left.knows))
 

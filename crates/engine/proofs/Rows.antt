@@ -12,7 +12,7 @@ use Rattle.request.specs.declared.message.Request.{Request}
 use Rattle.store.specs.declared.store.Store.{Store}
 use Rattle.store.specs.Calls.{Knows}
 use Rattle.engine.specs.Situation.{Situation, AddsBlocks, situation}
-use Rattle.engine.specs.Answered.{Answered, due_of, IsCommitted, IsDue, Opens, Row, faults}
+use Rattle.engine.specs.Answered.{Answered, due_of, IsCommitted, IsDue, OpensStore, MessageRow, faults}
 use Rattle.engine.specs.Called.{Calls, IsApplied, IsDealt, IsRead, IsShort, Uses}
 
 -- the same store beside a drive that was not called
@@ -23,7 +23,7 @@ same_situation j f c h w s t d e p q =
 
 -- The store was opened, and did not change the medium.
 pub record Opened (before during : Situation) (store : Store) : Type 0 where
-  pub opens : Opens before during store
+  pub opens : OpensStore before during store
   pub capacity : during.capacity ≡ before.capacity
   pub honest : IsTrue during.honest → IsTrue before.honest
   pub failures : Counts 0 before.failures during.failures
@@ -45,7 +45,7 @@ pub request_answered : (asked : Message) (request : Request) (before during afte
 request_answered asked request before during after store a e o due follows failures = record {
   follows = follows_behind before during after store o follows;
   failures = counts_behind (faults a) before.failures during.failures after.failures o.failures failures;
-  row = subst (λ (m : Message). Row m before a after) (sym e) (inr (during, store, o.opens, due));
+  row = subst (λ (m : Message). MessageRow m before a after) (sym e) (inr (during, store, o.opens, due));
 }
 
 -- what holds of a new request, where that is what is due

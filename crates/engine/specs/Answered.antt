@@ -63,28 +63,28 @@ IsDue ClientsFull before a after = (a ≡ answer.ClientsFull) × (after ≡ befo
 IsDue New before a after = IsCommitted before a after
 
 -- The store is open, or is opened, by which nothing is written.
-pub record Opens (before during : Situation) (store : Store) : Type 0 where
+pub record OpensStore (before during : Situation) (store : Store) : Type 0 where
   pub opened : IsOpen during store
   pub journal : during.journal ≡ before.journal
   pub stays : (kept : Store) → IsOpen before kept → during ≡ before
 
 -- The store was not open, and could not be opened. Nothing was written.
-abbrev pub IsRefused : Situation → Answer → Situation → Type 0
-IsRefused before a after = FailsOrIsDamaged a × (after.journal ≡ before.journal) × ((store : Store) → IsOpen before store → ⊥)
+abbrev pub IsNotOpened : Situation → Answer → Situation → Type 0
+IsNotOpened before a after = FailsOrIsDamaged a × (after.journal ≡ before.journal) × ((store : Store) → IsOpen before store → ⊥)
 
 -- one row for each kind of message
-abbrev pub Row : Message → Situation → Answer → Situation → Type 0
-Row (message.Malformed cause) before a after = (a ≡ answer.Malformed cause) × (after ≡ before)
-Row message.NoMemory before a after = (a ≡ answer.Memory) × (after ≡ before)
-Row (message.Query asked) before a after = CanBeTold asked a × (after.journal ≡ before.journal)
-Row (message.Request request) before a after = IsRefused before a after
-    ⊎ ((during : Situation) × (store : Store) × Opens before during store × IsDue (due_of store request.client request.number) during a after)
+abbrev pub MessageRow : Message → Situation → Answer → Situation → Type 0
+MessageRow (message.Malformed cause) before a after = (a ≡ answer.Malformed cause) × (after ≡ before)
+MessageRow message.NoMemory before a after = (a ≡ answer.Memory) × (after ≡ before)
+MessageRow (message.Query asked) before a after = CanBeTold asked a × (after.journal ≡ before.journal)
+MessageRow (message.Request request) before a after = IsNotOpened before a after
+    ⊎ ((during : Situation) × (store : Store) × OpensStore before during store × IsDue (due_of store request.client request.number) during a after)
 
 -- A message was answered.
 pub record Answered (asked : Message) (before : Situation) (a : Answer) (after : Situation) : Type 0 where
   pub follows : AddsBlocks before after
   pub failures : Counts (faults a) before.failures after.failures
-  pub row : Row asked before a after
+  pub row : MessageRow asked before a after
 
 -- Where nothing stands, and no store is open, what needs the volume is refused: the drive failed, memory was short, or
 -- there is no sound volume. Nothing is written, and no store is kept.

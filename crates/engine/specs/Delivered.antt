@@ -29,5 +29,5 @@ AllDelivered (d ∷ deliveries) before answers after =
     × AllDelivered deliveries during rest after
 
 -- a run from one medium to another
-abbrev pub Runs : List Delivery → List Answer → Situation → Situation → Type 0
-Runs deliveries answers before after = (kept : Option Store) × AllDelivered deliveries before answers (with_store kept after)
+abbrev pub RunsDeliveries : List Delivery → List Answer → Situation → Situation → Type 0
+RunsDeliveries deliveries answers before after = (kept : Option Store) × AllDelivered deliveries before answers (with_store kept after)

@@ -8,7 +8,7 @@ ghost use Rattle.drive.specs.Reads.{Counts, Follows};
 ghost use Rattle.udf.specs.Udf.{udf};
 ghost use Rattle.engine.specs.Answered.{faults};
 ghost use Rattle.engine.specs.Situation.{IsReady, seen_on, situation_on};
-ghost use Rattle.engine.specs.Delivered.{Delivers, Runs};
+ghost use Rattle.engine.specs.Delivered.{Delivers, RunsDeliveries};
 ghost use Rattle.engine.specs.Headline.{DeliversBy, RunHolds};
 ghost use Rattle.engine.specs.Steps.{HoldsState};
 ghost use Rattle.engine.specs.Withstanding.{Withstands, Brings, AllWithstand};
@@ -34,7 +34,7 @@ pub fn run<D: Drive>(
     drive: &mut D,
     deliveries: &[Delivery],
 ) -> Result<Vec<Answer>, AllocError>
-    ensures ok { IfOk result (λ answers. Runs deliveries.now answers.items (situation_on D.Drive None drive.old) (situation_on D.Drive None drive.new)) }
+    ensures ok { IfOk result (λ answers. RunsDeliveries deliveries.now answers.items (situation_on D.Drive None drive.old) (situation_on D.Drive None drive.new)) }
     // On an honest drive where a state stands: what stands at each front of what was written.
     ensures holds { (volume : ℕ) (S : State) → IsTrue (D.honest drive.new) → Once (D.journal drive.old) → Stands udf (D.capacity drive.old) volume (held (D.journal drive.old)) S
         → IfOk result (λ answers. RunHolds volume (D.capacity drive.old) deliveries.now S (D.journal drive.old) answers.items (D.journal drive.new)) }

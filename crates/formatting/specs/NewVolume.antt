@@ -120,17 +120,17 @@ pub record Withstands (capacity : ℕ) (words : Words) (before : List Event) (wr
       → NothingStands udf (held (before ++ written (next_of before) left)) ⊎ Stands udf capacity words.volume (held (before ++ written (next_of before) left)) (formatted words.moment))
 
 -- What each refusal leaves. Where the drive is honest, `NotBlank` says that it has other blocks than these words give.
-abbrev pub IsRefused : ℕ → Words → List Event → List Event → Bool → StoreFault → Type 0
-IsRefused capacity words before behind honest NotBlank = (behind ≡ before) × (IsTrue honest → IsBegun words (held before) → ⊥)
-IsRefused capacity words before behind honest Label = behind ≡ before
-IsRefused capacity words before behind honest Small = behind ≡ before
-IsRefused capacity words before behind honest Memory = behind ≡ before
-IsRefused capacity words before behind honest Device = (behind ≡ before) ⊎ IsCut capacity words before behind honest
-IsRefused capacity words before behind honest NotFormatted = ⊥
-IsRefused capacity words before behind honest (Damaged block cause) = ⊥
-IsRefused capacity words before behind honest Full = ⊥
-IsRefused capacity words before behind honest Stopped = ⊥
-IsRefused capacity words before behind honest NoCommit = ⊥
-IsRefused capacity words before behind honest NotFound = ⊥
-IsRefused capacity words before behind honest IsDirectoryFault = ⊥
-IsRefused capacity words before behind honest NotDirectory = ⊥
+abbrev pub IsFormatRefused : ℕ → Words → List Event → List Event → Bool → StoreFault → Type 0
+IsFormatRefused capacity words before behind honest NotBlank = (behind ≡ before) × (IsTrue honest → IsBegun words (held before) → ⊥)
+IsFormatRefused capacity words before behind honest Label = behind ≡ before
+IsFormatRefused capacity words before behind honest Small = behind ≡ before
+IsFormatRefused capacity words before behind honest Memory = behind ≡ before
+IsFormatRefused capacity words before behind honest Device = (behind ≡ before) ⊎ IsCut capacity words before behind honest
+IsFormatRefused capacity words before behind honest NotFormatted = ⊥
+IsFormatRefused capacity words before behind honest (Damaged block cause) = ⊥
+IsFormatRefused capacity words before behind honest Full = ⊥
+IsFormatRefused capacity words before behind honest Stopped = ⊥
+IsFormatRefused capacity words before behind honest NoCommit = ⊥
+IsFormatRefused capacity words before behind honest NotFound = ⊥
+IsFormatRefused capacity words before behind honest IsDirectoryFault = ⊥
+IsFormatRefused capacity words before behind honest NotDirectory = ⊥

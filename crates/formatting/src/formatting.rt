@@ -1,5 +1,6 @@
 //! A new volume.
 
+ghost use Rattle.limits.specs.declared.TheConstants.{BLOCK_BYTES, FORMAT_BLOCKS, GREATEST_CAPACITY, LEAST_CAPACITY};
 ghost use Rattle.std.specs.Prelude.{◌≡◌, ◌↔◌, ℕ, ◌<◌, ◌≤◌, ◌∷◌, [], Ok, Err, IsTrue, None, IsSome, IsNone, IfOk, IfErr, IfSome, OnOk, is_err, length, slice_index};
 ghost use Rattle.drive.specs.Journal.{counted, held, next_of};
 ghost use Rattle.drive.specs.Reads.{Follows, Reads};
@@ -11,7 +12,7 @@ ghost use Rattle.osta.specs.FirstFault.{first_fault};
 ghost use Rattle.osta.specs.Label.{IsLabel, label_faults};
 ghost use Rattle.recover.specs.Faults.{devices};
 ghost use Rattle.recover.specs.declared.fault.StoreFault.TheVariants as fault;
-ghost use Rattle.formatting.specs.NewVolume.{words_of, words_on, IsBlockAt, IsSeen, IsBegun, AreBlocks, IsFormatted, IsRefused, Withstands, OneFormat};
+ghost use Rattle.formatting.specs.NewVolume.{words_of, words_on, IsBlockAt, IsSeen, IsBegun, AreBlocks, IsFormatted, IsFormatRefused, Withstands, OneFormat};
 ghost use Rattle.udf.specs.Udf.{IsBlock};
 ghost use Rattle.udf.specs.NewVolume as udf;
 ghost use Rattle.udf.specs.NewVolume.{root_fields, table_fields};
@@ -57,11 +58,11 @@ pub fn format<D: Drive>(
 ) -> Result<(), StoreFault>
     requires moment { moment < 4_102_444_800_000_000 }
     ensures ok { OnOk result (IsFormatted (D.capacity drive.old) (words_on (D.capacity drive.old) label.now moment) (D.journal drive.old) (D.journal drive.new) (D.honest drive.new)) }
-    ensures err { IfErr result (IsRefused (D.capacity drive.old) (words_on (D.capacity drive.old) label.now moment) (D.journal drive.old) (D.journal drive.new) (D.honest drive.new)) }
+    ensures err { IfErr result (IsFormatRefused (D.capacity drive.old) (words_on (D.capacity drive.old) label.now moment) (D.journal drive.old) (D.journal drive.new) (D.honest drive.new)) }
     // Whatever part of its writes a loss of power leaves, where a disk keeps any choice of the blocks of the last one that it was given.
     ensures withstands { Withstands (D.capacity drive.old) (words_on (D.capacity drive.old) label.now moment) (D.journal drive.old) (D.writes drive.old) (D.writes drive.new) (D.honest drive.new) }
     ensures label { (result ≡ Err fault.Label) ↔ IsSome (first_fault (label_faults label.now)) }
-    ensures small { (result ≡ Err fault.Small) ↔ (IsNone (first_fault (label_faults label.now)) × (D.capacity drive.old < 512)) }
+    ensures small { (result ≡ Err fault.Small) ↔ (IsNone (first_fault (label_faults label.now)) × (D.capacity drive.old < LEAST_CAPACITY)) }
     ensures follows { Follows D.Drive (devices result) drive.old drive.new }
 {
     let label = match Label::read(label) {
@@ -103,8 +104,8 @@ fn parts_of(
     capacity: u32,
 ) -> Result<Parts, AllocError>
     requires label { IsLabel label }
-    requires low { 512 ≤ capacity }
-    requires high { capacity ≤ 450_000 }
+    requires low { LEAST_CAPACITY ≤ capacity }
+    requires high { capacity ≤ GREATEST_CAPACITY }
     ensures { IfOk result (λ parts. words_of parts ≡ record { volume = capacity; label = label; moment = moment }) }
 {
     Ok(Parts {
@@ -129,7 +130,7 @@ fn root_names(alloc: Global) -> Block
 
 /// How many blocks of a format a drive has, and nothing else; none where it has another block.
 fn begun<D: Drive>(drive: &mut D, parts: &Parts) -> Result<Option<u32>, DriveFault>
-    ensures next { IfOk result (λ found. IfSome found (λ next. (next ≡ next_of (D.journal drive.old)) × (next ≤ 262))) }
+    ensures next { IfOk result (λ found. IfSome found (λ next. (next ≡ next_of (D.journal drive.old)) × (next ≤ FORMAT_BLOCKS))) }
     ensures seen { IfOk result (λ found. IfSome found (IsSeen (words_of parts.now) (D.journal drive.old) (D.honest drive.new))) }
     ensures other { result ≡ Ok None → IsTrue (D.honest drive.new) → IsBegun (words_of parts.now) (held (D.journal drive.old)) → ⊥ }
     ensures reads { Reads D.Drive 0 drive.old drive.new }
@@ -159,8 +160,8 @@ fn begun<D: Drive>(drive: &mut D, parts: &Parts) -> Result<Option<u32>, DriveFau
 
 /// The blocks of a format from an address on.
 fn rest(alloc: Global, parts: &Parts, next: u32) -> Result<Vec<Block>, AllocError>
-    requires { next ≤ 262 }
-    ensures { IfOk result (λ blocks. AreBlocks (words_of parts.now) next 262 blocks.items) }
+    requires { next ≤ FORMAT_BLOCKS }
+    ensures { IfOk result (λ blocks. AreBlocks (words_of parts.now) next FORMAT_BLOCKS blocks.items) }
 {
     let mut blocks = Vec::new(alloc);
     for n in next..FORMAT_BLOCKS {
@@ -185,7 +186,7 @@ fn are_bytes(bytes: &[u8])
 
 /// The block that a format writes at an address.
 fn format_block(parts: &Parts, n: u32) -> Block
-    requires { n < 262 }
+    requires { n < FORMAT_BLOCKS }
     ensures { IsBlockAt (words_of parts.now) n result }
 {
     if n < FRONT_BLOCKS {
@@ -235,7 +236,7 @@ fn table_entry_block(moment: Timestamp) -> Block
 
 /// The block of the first table.
 fn table_block(table: &[u8]) -> Block
-    requires { length table.now ≤ 2048 }
+    requires { length table.now ≤ BLOCK_BYTES }
     ensures { result ≡ padded table.now }
 {
     let mut block = [0; 2048];

@@ -1,5 +1,6 @@
 //! What the blocks of a new volume are made from.
 
+ghost use Rattle.limits.specs.declared.TheConstants.{GREATEST_CAPACITY, LEAST_CAPACITY};
 ghost use Rattle.std.specs.Prelude.{◌≡◌, ◌≤◌, ◌∷◌, []};
 ghost use Rattle.dir.specs.Directory.{identifiers};
 ghost use Rattle.dir.specs.Layout.{identifier_blocks};
@@ -21,8 +22,8 @@ pub(crate) struct Parts {
     pub(crate) root: Block,
     pub(crate) table: Vec<u8>,
     ghost named: { IsLabel label } by { Prim.hlevel props },
-    ghost low: { 512 ≤ capacity },
-    ghost high: { capacity ≤ 450_000 },
+    ghost low: { LEAST_CAPACITY ≤ capacity },
+    ghost high: { capacity ≤ GREATEST_CAPACITY },
     ghost names: { root ∷ [] ≡ identifier_blocks 1 (identifiers 1 []) },
     ghost first: { table.items ≡ table_bytes (first_table label) },
 }

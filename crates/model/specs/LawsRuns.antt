@@ -11,7 +11,7 @@ abbrev pub AfterTwice : Type 0
 AfterTwice = (state : State) (first second : List Request) → after state (first ++ second) ≡ after (after state first) second
 
 -- What a refusal leaves as it was, and what it moves.
-pub record IsRefused (state : State) (request : Request) : Type 0 where
+pub record RefusalStays (state : State) (request : Request) : Type 0 where
   pub tree : (after_one state request).tree ≡ state.tree
   pub next_identity : (after_one state request).next_identity ≡ state.next_identity
   pub table_length : (after_one state request).table_length ≡ state.table_length
@@ -20,7 +20,7 @@ pub record IsRefused (state : State) (request : Request) : Type 0 where
   pub moment : (after_one state request).moment ≡ request.moment
 
 abbrev pub RefusalsStay : Type 0
-RefusalsStay = (state : State) (request : Request) → IsSound state → (code_of request.operation state.tree ≡ 0 → ⊥) → IsRefused state request
+RefusalsStay = (state : State) (request : Request) → IsSound state → (code_of request.operation state.tree ≡ 0 → ⊥) → RefusalStays state request
 
 -- what is asked of names and of files' bytes holds behind each list of requests that meet it
 abbrev pub RunsPass : Type 0

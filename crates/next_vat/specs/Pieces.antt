@@ -4,7 +4,7 @@ use Rattle.model.specs.Operation.{code_of}
 use Rattle.model.specs.Session.{State, Request}
 use Rattle.durability.specs.Formats.{Block}
 use Rattle.durability.specs.Formats.Kind.{Table as TableEntry}
-use Rattle.durability.specs.Formats.Place.{Extent}
+use Rattle.durability.specs.Formats.NodePlace.{Extent}
 use Rattle.durability.specs.Volume.{Medium, partition_start, Stands}
 use Rattle.durability.specs.Plan.{Writing, Written, WritesNodes, IsPlaced, IsPlanned}
 use Rattle.udf.specs.Udf.{udf}

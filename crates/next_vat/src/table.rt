@@ -1,5 +1,6 @@
 //! The table that a commit writes: the one before, with the reply and the nodes.
 
+ghost use Rattle.limits.specs.declared.TheConstants.{PARTITION_START};
 ghost use Rattle.std.specs.Prelude.{◌≡◌, ◌≢◌, ◌+◌, ◌^◌, ◌<◌, ◌≤◌, ◌↔◌, ℕ, length, slice_index_or, Some, IsTrue, IfOk, IfErr, IfSome, IfNone, All, AllPairs, if◌then◌else◌, false};
 ghost use Rattle.recover.specs.Faults.{devices};
 ghost use Rattle.recover.specs.declared.fault.StoreFault.TheVariants.{Memory};
@@ -174,7 +175,7 @@ pub fn add_node(vat: &mut Vat, kind: Kind, address: u32, number: u32) -> Result<
     ensures free { IfOk result (λ made. IsTrue made ↔ spec.IsFree address vat.old.entries.items) }
     ensures table { IfOk result (λ made. view vat.new ≡ (if made then spec.added kind address number (view vat.old) else view vat.old)) }
     ensures fits { IfOk result (λ _. FitsTable (view vat.new)) }
-    ensures below { IfOk result (λ _. (at : ℕ) → number + 257 < at → AreBelow at vat.old.entries.items → AreBelow at vat.new.entries.items) }
+    ensures below { IfOk result (λ _. (at : ℕ) → number + PARTITION_START < at → AreBelow at vat.old.entries.items → AreBelow at vat.new.entries.items) }
     ensures full { is_full result ≡ false }
     ensures failures { devices result ≡ 0 }
     ensures memory { IfErr result (λ fault. fault ≡ Memory) }
@@ -200,7 +201,7 @@ pub fn place_node(vat: &mut Vat, address: u32, number: u32) -> bool
     ensures fits { FitsTable (view vat.new) }
     ensures commits { vat.new.sessions.commits ≡ vat.old.sessions.commits }
     ensures unique { vat.new.sessions.next_unique ≡ vat.old.sessions.next_unique }
-    ensures below { (at : ℕ) → number + 257 < at → AreBelow at vat.old.entries.items → AreBelow at vat.new.entries.items }
+    ensures below { (at : ℕ) → number + PARTITION_START < at → AreBelow at vat.old.entries.items → AreBelow at vat.new.entries.items }
 {
     set_entry(&mut vat.entries, address, Some(number))
 }

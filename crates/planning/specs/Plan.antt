@@ -3,9 +3,9 @@ use Rattle.std.specs.Prelude.{◌≡◌, ℕ, ◌+◌, ◌-◌, ◌<◌, ◌≤�
 use Rattle.std.specs.Int.{div_ceil}
 use Rattle.limits.specs.declared.TheConstants.{BLOCK_BYTES, PARTITION_START}
 use Rattle.dir.specs.Directory.{directory_blocks, IsDirectory}
-use Rattle.durability.specs.Formats.{Fields}
+use Rattle.durability.specs.Formats.{NodeFields}
 use Rattle.durability.specs.Formats.Kind.{Table}
-use Rattle.durability.specs.Formats.Place.{Extent}
+use Rattle.durability.specs.Formats.NodePlace.{Extent}
 use Rattle.durability.specs.Plan.{zeros, packed, Writing, Written, IsPlaced, WritesNodes}
 use Rattle.udf.specs.Udf.{udf}
 use Rattle.vat.specs.Table.{view, IsTableAt}
@@ -82,7 +82,7 @@ abbrev pub plan_written : Plan → List Written
 plan_written p = file_written p.file ++ directories_written p.directories.items
 
 -- what the entry of a table says
-abbrev pub table_fields : ℕ → PlacedTable → Fields
+abbrev pub table_fields : ℕ → PlacedTable → NodeFields
 table_fields moment t = record { kind = Table; moment = moment; links = 0; identity = 0; size = length t.bytes.items; place = Extent t.first }
 
 -- The table, its bytes behind block numbers from one on, and its entry.

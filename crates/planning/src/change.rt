@@ -1,5 +1,6 @@
 //! What a request does to the nodes, before any place is chosen.
 
+ghost use Rattle.limits.specs.declared.TheConstants.{DIRECTORY_NAMES};
 ghost use Rattle.std.specs.Prelude.{◌≡◌, ◌<◌, ◌≤◌, ℕ, [], ◌∷◌, ◌&&◌, IsTrue, IfOk, IfErr, OnOk, None, is_some, length, nat_eq, nat_lt};
 ghost use Rattle.std.specs.Cmp.Lexicographic.{pointwise};
 ghost use Rattle.std.specs.FinMap.{len};
@@ -559,7 +560,7 @@ impl<'r> Change<'r> {
 /// Whether a name can be added to a directory.
 fn code_of_addition(before: &Before<'_>, content: &Content, name: &Name) -> Code
     ensures code { code_number result ≡ code_by_names (is_some (lookup (pointwise nat_eq name.now) content.now.dir.entries.entries)) (length content.now.dir.entries.entries) before.now.node_count }
-    ensures room { result ≡ Done → length content.now.dir.entries.entries < 512 }
+    ensures room { result ≡ Done → length content.now.dir.entries.entries < DIRECTORY_NAMES }
 {
     if content.dir.entries.contains_key(name) {
         return Code::Exists;

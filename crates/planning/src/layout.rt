@@ -1,5 +1,6 @@
 //! The nodes of a commit with their places.
 
+ghost use Rattle.limits.specs.declared.TheConstants.{PARTITION_BLOCKS};
 ghost use Rattle.std.specs.Prelude.{◌≤◌};
 
 use crate::change::{NewDirectory, NewFile};
@@ -26,7 +27,7 @@ pub struct PlacedDirectory {
     pub entry: Block,
     /// The number of its entry.
     pub number: u32,
-    pub ghost room: { extent.first ≤ 449_743 },
+    pub ghost room: { extent.first ≤ PARTITION_BLOCKS },
 }
 
 /// A table with its place.

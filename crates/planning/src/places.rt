@@ -1,5 +1,6 @@
 //! Where the blocks of a commit lie.
 
+ghost use Rattle.limits.specs.declared.TheConstants.{BLOCK_BYTES, PARTITION_BLOCKS};
 ghost use Rattle.std.specs.Prelude.{◌≡◌, ℕ, ◌+◌, ◌*◌, ◌<◌, ◌≤◌, List, [], ◌∷◌, ◌++◌, length, Some};
 ghost use Rattle.std.specs.Int.{div_ceil};
 ghost use Rattle.icb.specs.Entry.{FitsPlace, place_of};
@@ -31,14 +32,14 @@ pub(crate) struct Numbers {
     /// How many blocks the partition has.
     end: u32,
     ghost within: { next ≤ end },
-    ghost partition: { end ≤ 449_743 },
+    ghost partition: { end ≤ PARTITION_BLOCKS },
 }
 
 impl Numbers {
     /// The numbers from one on. The partition has so many blocks.
     pub(crate) fn new(next: u32, end: u32) -> Numbers
         requires within { next ≤ end }
-        requires partition { end ≤ 449_743 }
+        requires partition { end ≤ PARTITION_BLOCKS }
         ensures next { result.next ≡ next }
         ensures end { result.end ≡ end }
     {
@@ -49,7 +50,7 @@ impl Numbers {
     pub(crate) fn next(&self) -> u32
         ensures next { result ≡ self.now.next }
         ensures room { result ≤ self.now.end }
-        ensures partition { self.now.end ≤ 449_743 }
+        ensures partition { self.now.end ≤ PARTITION_BLOCKS }
     {
         self.next
     }
@@ -66,10 +67,10 @@ impl Numbers {
     /// Places bytes at the least clear start, and says where it is.
     pub(crate) fn place_bytes(&mut self, bytes: &[u8]) -> u32
         requires few { length bytes.now ≤ 1_048_576 }
-        requires room { self.old.next + 2 * div_ceil (length bytes.now) 2048 ≤ self.old.end }
+        requires room { self.old.next + 2 * div_ceil (length bytes.now) BLOCK_BYTES ≤ self.old.end }
         ensures start { IsClearStart udf (packed bytes.now) self.old.next result }
-        ensures next { self.new.next ≡ result + div_ceil (length bytes.now) 2048 }
-        ensures most { self.new.next ≤ self.old.next + 2 * div_ceil (length bytes.now) 2048 }
+        ensures next { self.new.next ≡ result + div_ceil (length bytes.now) BLOCK_BYTES }
+        ensures most { self.new.next ≤ self.old.next + 2 * div_ceil (length bytes.now) BLOCK_BYTES }
         ensures end { self.new.end ≡ self.old.end }
     {
         let start = self.next;
@@ -132,7 +133,7 @@ impl Numbers {
 
 /// The entry of a file whose bytes, where they are outside of it, begin at the block of this number.
 fn file_entry(file: &NewFile<'_>, moment: Timestamp, first: u32) -> Block
-    requires { first + div_ceil (length (outside file.now.bytes.now)) 2048 ≤ 449_743 }
+    requires { first + div_ceil (length (outside file.now.bytes.now)) BLOCK_BYTES ≤ PARTITION_BLOCKS }
     ensures { (from : ℕ) (blocks : List (List ℕ)) → IsPlaced udf (outside file.now.bytes.now) from first blocks → WritesNode udf (file_writing moment file.now) from (blocks ++ result ∷ []) (from + length blocks) }
 {
     let bytes = file.bytes.as_slice();
@@ -153,9 +154,9 @@ fn directory_entry(directory: &NewDirectory, extent: Extent) -> Block
     requires size { extent.size ≡ directory_size directory.now.content.dir }
     requires some { 0 < extent.size }
     requires few { extent.size ≤ 1_048_576 }
-    requires room { extent.first + div_ceil extent.size 2048 ≤ 449_743 }
-    requires blocks { length (directory_blocks directory.now.content.dir extent.first) ≡ div_ceil extent.size 2048 }
-    ensures { WritesNode udf (directory_writing directory.now) extent.first (directory_blocks directory.now.content.dir extent.first ++ result ∷ []) (extent.first + div_ceil extent.size 2048) }
+    requires room { extent.first + div_ceil extent.size BLOCK_BYTES ≤ PARTITION_BLOCKS }
+    requires blocks { length (directory_blocks directory.now.content.dir extent.first) ≡ div_ceil extent.size BLOCK_BYTES }
+    ensures { WritesNode udf (directory_writing directory.now) extent.first (directory_blocks directory.now.content.dir extent.first ++ result ∷ []) (extent.first + div_ceil extent.size BLOCK_BYTES) }
 {
     // Read so that the proof has that it is of 32 bits.
     let _parent = directory.content.dir.parent;
@@ -183,7 +184,7 @@ pub(crate) fn outside_of(bytes: &[u8]) -> &[u8]
 
 /// Where the bytes of a file stand, the first block of those outside its entry having this number.
 fn place_of_bytes(bytes: &[u8], first: u32) -> Place<'_>
-    requires { first + div_ceil (length (outside bytes.now)) 2048 ≤ 449_743 }
+    requires { first + div_ceil (length (outside bytes.now)) BLOCK_BYTES ≤ PARTITION_BLOCKS }
     ensures fits { FitsPlace File (length bytes.now) (place_of result) }
     ensures places { (from : ℕ) (blocks : List (List ℕ)) → IsPlaced udf (outside bytes.now) from first blocks → PlacesFile udf bytes.now from blocks (said_place (place_of result)) }
 {

@@ -1,5 +1,6 @@
 //! A commit, planned whole: which blocks it writes, and where; and the writes.
 
+ghost use Rattle.limits.specs.declared.TheConstants.{BLOCK_BYTES, PARTITION_BLOCKS, PARTITION_START};
 ghost use Rattle.std.specs.Prelude.{min, ◌≡◌, ℕ, ◌+◌, ◌-◌, ◌*◌, ◌<◌, ◌≤◌, ◌^◌, ◌++◌, [], ◌∷◌, Some, IfOk, IfErr, OnOk, OnErr, IfSome, All, Err, false, is_err, length, map, List, ◌⊎◌};
 ghost use Rattle.std.specs.Int.{div_ceil};
 ghost use Rattle.drive.specs.Journal.{next_of, written, AddsFront};
@@ -11,7 +12,7 @@ ghost use Rattle.dir.specs.Directory.{IsEntry};
 ghost use Rattle.dir.specs.Identifier.{plain_size};
 ghost use Rattle.dir.specs.Size.{name_sizes, plain_sizes};
 ghost use Rattle.durability.specs.Formats.Kind.{Table};
-ghost use Rattle.durability.specs.Formats.Place.{Extent};
+ghost use Rattle.durability.specs.Formats.NodePlace.{Extent};
 ghost use Rattle.durability.specs.Plan.{WritesNodes, Written};
 ghost use Rattle.recover.specs.declared.fault.StoreFault.TheVariants.{Full, Memory};
 ghost use Rattle.udf.specs.Udf.{udf};
@@ -253,7 +254,7 @@ impl LastTable<'_> {
         ensures table { IfOk result (λ vat. view vat ≡ begun self.now.at request.now.client request.now.number (code_number change.now.code) change.now.made (view self.now.vat.now)) }
         ensures fits { IfOk result (λ vat. FitsTable (view vat)) }
         ensures below { IfOk result (λ vat. AreBelow self.now.at vat.entries.items) }
-        ensures previous { IfOk result (λ vat. vat.previous ≡ Some (self.now.at - 257)) }
+        ensures previous { IfOk result (λ vat. vat.previous ≡ Some (self.now.at - PARTITION_START)) }
         ensures commits { IfOk result (λ vat. vat.sessions.commits ≡ self.now.vat.now.sessions.commits + 1) }
         ensures unique { IfOk result (λ vat. vat.sessions.next_unique ≤ 16 + vat.sessions.commits) }
         ensures free { IfSome change.now.made (λ node. IsFree node.address self.now.vat.now.entries.items) → IfErr result (λ fault. fault ≡ Memory) }
@@ -362,7 +363,7 @@ fn enter_file<'r>(
     requires fits { FitsTable (view vat.old) }
     requires room { numbers.old.next + needs.file_need file ≤ numbers.old.end }
     ensures fits { OnOk result (FitsTable (view vat.new)) }
-    ensures below { OnOk result (AreBelow (numbers.old.next + 257) vat.old.entries.items → AreBelow (numbers.new.next + 257) vat.new.entries.items) }
+    ensures below { OnOk result (AreBelow (numbers.old.next + PARTITION_START) vat.old.entries.items → AreBelow (numbers.new.next + PARTITION_START) vat.new.entries.items) }
     ensures previous { OnOk result (vat.new.previous ≡ vat.old.previous) }
     ensures commits { OnOk result (vat.new.sessions.commits ≡ vat.old.sessions.commits) }
     ensures unique { OnOk result (vat.new.sessions.next_unique ≡ vat.old.sessions.next_unique) }
@@ -401,7 +402,7 @@ fn enter_directories(
     requires proper { All (λ d. IsProper d.content.dir) directories.items }
     requires room { numbers.old.next + needs.directories_need directories.items ≤ numbers.old.end }
     ensures fits { OnOk result (FitsTable (view vat.new)) }
-    ensures below { OnOk result (AreBelow (numbers.old.next + 257) vat.old.entries.items → AreBelow (numbers.new.next + 257) vat.new.entries.items) }
+    ensures below { OnOk result (AreBelow (numbers.old.next + PARTITION_START) vat.old.entries.items → AreBelow (numbers.new.next + PARTITION_START) vat.new.entries.items) }
     ensures previous { OnOk result (vat.new.previous ≡ vat.old.previous) }
     ensures commits { OnOk result (vat.new.sessions.commits ≡ vat.old.sessions.commits) }
     ensures unique { OnOk result (vat.new.sessions.next_unique ≡ vat.old.sessions.next_unique) }
@@ -460,13 +461,13 @@ fn place_table(
     moment: Timestamp,
 ) -> Result<PlacedTable, StoreFault>
     requires fits { FitsTable (view vat) }
-    requires below { AreBelow (numbers.old.next + 257) vat.entries.items }
+    requires below { AreBelow (numbers.old.next + PARTITION_START) vat.entries.items }
     requires previous { IfSome vat.previous (λ previous. previous < numbers.old.next) }
     requires room { numbers.old.next + needs.table_need (view vat) ≤ numbers.old.end }
     ensures vat { IfOk result (λ t. t.vat ≡ vat) }
     ensures placed { IfOk result (IsTablePlaced numbers.old.next moment) }
     ensures some { IfOk result (λ t. 0 < length t.bytes.items) }
-    ensures within { IfOk result (λ t. t.at < numbers.old.end + 257) }
+    ensures within { IfOk result (λ t. t.at < numbers.old.end + PARTITION_START) }
     ensures memory { IfErr result (λ fault. fault ≡ Memory) }
     ensures full { is_full result ≡ false }
     ensures device { devices result ≡ 0 }
@@ -491,7 +492,7 @@ fn place_table(
 fn table_entry(size: u32, first: u32, number: u32, moment: Timestamp) -> Block
     requires some { 0 < size }
     requires few { size ≤ 1_048_576 }
-    requires room { first + div_ceil size 2048 ≤ 449_743 }
+    requires room { first + div_ceil size BLOCK_BYTES ≤ PARTITION_BLOCKS }
     ensures { udf.IsEntry (record { kind = Table; moment = moment; links = 0; identity = 0; size = size; place = Extent first }) result number }
 {
     let entry = FileEntry {

@@ -1,5 +1,6 @@
 //! Blocks on their way to the drive, and how many of them are held.
 
+ghost use Rattle.limits.specs.declared.TheConstants.{BLOCK_BYTES};
 ghost use Rattle.std.specs.Prelude.{◌≡◌, ◌+◌, ◌<◌, ◌≤◌, ◌^◌, [], ◌∷◌, ◌++◌, length, replicate, is_err, IfOk, OnOk, OnErr};
 ghost use Rattle.std.specs.Int.{div_ceil};
 ghost use Rattle.drive.specs.Journal.{next_of, written, AddsFront};
@@ -100,7 +101,7 @@ impl Writer {
     fn put_data<D: Drive>(&mut self, drive: &mut D, bytes: &[u8]) -> Result<(), DriveFault>
         requires begins { self.old.packets.at ≤ next_of (D.journal drive.old) }
         requires size { length bytes.now < 2 ^ 32 }
-        requires fits { end_of self.old.packets + div_ceil (length bytes.now) 2048 ≤ D.capacity drive.old }
+        requires fits { end_of self.old.packets + div_ceil (length bytes.now) BLOCK_BYTES ≤ D.capacity drive.old }
         ensures ok { OnOk result (Takes D.Drive drive.old self.old.packets (packed bytes.now) drive.new self.new.packets) }
         ensures err { OnErr result (Stops D.Drive drive.old self.old.packets (packed bytes.now) drive.new) }
         ensures writes { Writes D.Drive (is_err result) drive.old drive.new }
@@ -114,8 +115,8 @@ impl Writer {
     /// Less than a block of bytes, with zeros behind them. No bytes take no block.
     fn put_text<D: Drive>(&mut self, drive: &mut D, text: &[u8]) -> Result<(), DriveFault>
         requires begins { self.old.packets.at ≤ next_of (D.journal drive.old) }
-        requires size { length text.now < 2048 }
-        requires fits { end_of self.old.packets + div_ceil (length text.now) 2048 ≤ D.capacity drive.old }
+        requires size { length text.now < BLOCK_BYTES }
+        requires fits { end_of self.old.packets + div_ceil (length text.now) BLOCK_BYTES ≤ D.capacity drive.old }
         ensures ok { OnOk result (Takes D.Drive drive.old self.old.packets (packed text.now) drive.new self.new.packets) }
         ensures err { OnErr result (Stops D.Drive drive.old self.old.packets (packed text.now) drive.new) }
         ensures writes { Writes D.Drive (is_err result) drive.old drive.new }
@@ -135,7 +136,7 @@ impl Writer {
     ) -> Result<(), DriveFault>
         requires begins { self.old.packets.at ≤ next_of (D.journal drive.old) }
         requires size { length bytes.now < 2 ^ 32 }
-        requires fits { end_of self.old.packets + (gap + div_ceil (length bytes.now) 2048) ≤ D.capacity drive.old }
+        requires fits { end_of self.old.packets + (gap + div_ceil (length bytes.now) BLOCK_BYTES) ≤ D.capacity drive.old }
         ensures ok { OnOk result (Takes D.Drive drive.old self.old.packets (replicate gap zeros ++ packed bytes.now) drive.new self.new.packets) }
         ensures err { OnErr result (Stops D.Drive drive.old self.old.packets (replicate gap zeros ++ packed bytes.now) drive.new) }
         ensures writes { Writes D.Drive (is_err result) drive.old drive.new }
@@ -183,7 +184,7 @@ impl Writer {
 
 /// A block that begins with a text, and has zeros behind it.
 fn block_of(text: &[u8]) -> Block
-    requires { length text.now ≤ 2048 }
+    requires { length text.now ≤ BLOCK_BYTES }
     ensures { result ≡ padded text.now }
 {
     let mut block = ZEROS;

@@ -4,7 +4,7 @@ use Rattle.std.specs.Prelude.{IsErrAnd, IsErr, IfErr}
 use Rattle.drive.specs.Journal.{Event}
 use Rattle.drive.specs.FileDrive.{journal_of, capacity_of, BeginsWith}
 use Rattle.drive.specs.declared.file.FileDrive.{FileDrive}
-use Rattle.formatting.specs.NewVolume.{words_on, IsFormatted, IsRefused}
+use Rattle.formatting.specs.NewVolume.{words_on, IsFormatted, IsFormatRefused}
 use Rattle.recover.specs.declared.fault.StoreFault.{StoreFault}
 use Rattle.engine.specs.Situation.{Situation}
 use Rattle.programs.specs.declared.fault.Fault.{Fault}
@@ -23,7 +23,7 @@ makes_put label moment capacity (Err (Store fault)) J K honest o w puts made = a
 makes_put label moment capacity (Err (Stream fault)) J K honest o w puts made = (made, puts)
 
 pub makes_refused : {T : Type 0} (label : List ℕ) (moment capacity : ℕ) (outcome : Result T Fault) (J K : List Event) (honest : Bool) (o : Option (List ℕ)) (fault : StoreFault) → IsErrAnd outcome (λ f. f ≡ Store fault)
-    → IsRefused capacity (words_on capacity label moment) J K honest fault → Makes label moment capacity outcome J K honest o o
+    → IsFormatRefused capacity (words_on capacity label moment) J K honest fault → Makes label moment capacity outcome J K honest o o
 makes_refused {T} label moment capacity (Ok x) J K honest o fault is refused = absurd is
 makes_refused {T} label moment capacity (Err f) J K honest o fault is refused =
     subst (λ (g : Fault). Makes {T = T} label moment capacity (Err g) J K honest o o) (sym is) (refused, keeps_self o)

@@ -22,7 +22,7 @@ use Rattle.store.specs.Calls.{Knows}
 use Rattle.store.specs.History.{IsHistory, IsHistoryRefused}
 use Rattle.store.specs.Opened.{IsOpenRefused}
 use Rattle.store.specs.Past.{AllStood, IsCheckRefused}
-use Rattle.store.specs.Queries.{IsRefused as QueryRefused}
+use Rattle.store.specs.Queries.{IsQueryRefused as QueryRefused}
 use Rattle.store.specs.Shows.{Shows as TreeShows}
 use Rattle.store.proofs.Knowing.{shows}
 use Rattle.store.proofs.Queried.{gets, lists}
@@ -30,7 +30,7 @@ use Rattle.engine.specs.Situation.{Situation}
 use Rattle.programs.specs.declared.fault.Fault.{Fault}
 use Rattle.programs.specs.declared.fault.Fault.TheVariants as faults
 use Rattle.programs.specs.Lines.{Puts, names_text, commits_text, sound_text}
-use Rattle.programs.specs.Questions.{Question, Says, Refuses, IsQuestionAnswered, IsRefused, Shows, ShowsImage, ShowsPath}
+use Rattle.programs.specs.Questions.{Question, Says, Refuses, IsQuestionAnswered, IsQuestionRefused, Shows, ShowsImage, ShowsPath}
 use Rattle.programs.specs.Questions.Question.{Names_at, Bytes_at, Commits, Soundness}
 use Rattle.programs.specs.Status.{IsPathTold}
 use Rattle.programs.proofs.Opening.{begins_on, keeps_self}
@@ -47,7 +47,7 @@ shows_put question (Err (faults.Store fault)) capacity J honest o w bytes puts s
 shows_put question (Err (faults.Stream fault)) capacity J honest o w bytes puts said = record { bytes = bytes; front = puts; said = said }
 
 pub shows_refused : {T : Type 0} (question : Question) (outcome : Result T Fault) (capacity : ℕ) (J : List Event) (honest : Bool) (o : Option (List ℕ)) (fault : StoreFault) → IsErrAnd outcome (λ f. f ≡ faults.Store fault)
-    → (IsTrue honest → Once J → IsOpenRefused capacity (held J) fault ⊎ IsRefused question capacity J fault) → Shows question outcome capacity J honest o o
+    → (IsTrue honest → Once J → IsOpenRefused capacity (held J) fault ⊎ IsQuestionRefused question capacity J fault) → Shows question outcome capacity J honest o o
 shows_refused {T} question (Ok x) capacity J honest o fault is refused = absurd is
 shows_refused {T} question (Err f) capacity J honest o fault is refused =
     subst (λ (g : Fault). Shows {T = T} question (Err g) capacity J honest o o) (sym is) (record { unwritten = keeps_self o; refused = refused })
@@ -61,7 +61,7 @@ module _ (capacity : ℕ) (J : List Event) (store : Store) where
   said_of : (question : Question) (bytes : List ℕ) (known : Standing) → Says question capacity store.capacity (held J) known.0 known.1.stands.at bytes → IsQuestionAnswered question capacity J bytes
   said_of question bytes known says = record { volume = store.capacity; state = known.0; stands = known.1.stands; says = says }
 
-  refused_of : (question : Question) (fault : StoreFault) (known : Standing) → Refuses question capacity store.capacity (held J) known.0 known.1.stands.at fault → IsRefused question capacity J fault
+  refused_of : (question : Question) (fault : StoreFault) (known : Standing) → Refuses question capacity store.capacity (held J) known.0 known.1.stands.at fault → IsQuestionRefused question capacity J fault
   refused_of question fault known refuses = record { volume = store.capacity; state = known.0; stands = known.1.stands; refuses = refuses }
 
   module _ (K : List Event) (opened later : Bool) (journal : K ≡ J) (still : IsTrue later → IsTrue opened) (stands : IsTrue opened → Once J → (S : State) × Knows capacity store.capacity J S store) where
@@ -80,11 +80,11 @@ module _ (capacity : ℕ) (J : List Event) (store : Store) where
 
     pub names_refused : (path : Path) (fault : StoreFault) → store.is_stopped ≡ false
         → ((tree : Tree) → TreeShows later K store.directories store.at store.vat.entries.items tree → store.is_stopped ≡ false → QueryRefused (told tree (List_ path)) fault)
-        → IsTrue later → Once J → IsOpenRefused capacity (held J) fault ⊎ IsRefused (Names_at path) capacity J fault
+        → IsTrue later → Once J → IsOpenRefused capacity (held J) fault ⊎ IsQuestionRefused (Names_at path) capacity J fault
     names_refused path fault going refused honest once = let known = known_at honest once in
         inr (refused_of (Names_at path) fault known (lists known.0 path (Err fault) tt (refused known.0.tree (shown_at honest once) going)))
 
-    pub names_short : (path : Path) → IsTrue later → Once J → IsOpenRefused capacity (held J) Memory ⊎ IsRefused (Names_at path) capacity J Memory
+    pub names_short : (path : Path) → IsTrue later → Once J → IsOpenRefused capacity (held J) Memory ⊎ IsQuestionRefused (Names_at path) capacity J Memory
     names_short path honest once = inr (refused_of (Names_at path) Memory (known_at honest once) (inl (inr refl)))
 
     pub bytes_said : (path : Path) (data_ bytes : List ℕ) → ((tree : Tree) → TreeShows later K store.directories store.at store.vat.entries.items tree → told tree (Get path) ≡ Data data_)
@@ -94,7 +94,7 @@ module _ (capacity : ℕ) (J : List Event) (store : Store) where
 
     pub bytes_refused : (path : Path) (fault : StoreFault) → store.is_stopped ≡ false
         → ((tree : Tree) → TreeShows later K store.directories store.at store.vat.entries.items tree → store.is_stopped ≡ false → QueryRefused (told tree (Get path)) fault)
-        → IsTrue later → Once J → IsOpenRefused capacity (held J) fault ⊎ IsRefused (Bytes_at path) capacity J fault
+        → IsTrue later → Once J → IsOpenRefused capacity (held J) fault ⊎ IsQuestionRefused (Bytes_at path) capacity J fault
     bytes_refused path fault going refused honest once = let known = known_at honest once in
         inr (refused_of (Bytes_at path) fault known (gets known.0 path (Err fault) tt (refused known.0.tree (shown_at honest once) going)))
 
@@ -118,12 +118,12 @@ module _ (capacity : ℕ) (J : List Event) (store : Store) where
         )
 
     pub commits_refused : (fault : StoreFault) → (IsTrue later → IsHistoryRefused (held K) store.at fault)
-        → IsTrue later → Once J → IsOpenRefused capacity (held J) fault ⊎ IsRefused Commits capacity J fault
+        → IsTrue later → Once J → IsOpenRefused capacity (held J) fault ⊎ IsQuestionRefused Commits capacity J fault
     commits_refused fault refused honest once =
         inr (refused_of Commits fault (known_at honest once)
         (subst (λ (a : ℕ). IsHistoryRefused (held J) a fault) (here honest once) (subst (λ (j : List Event). IsHistoryRefused (held j) store.at fault) journal (refused honest))))
 
-    pub commits_short : IsTrue later → Once J → IsOpenRefused capacity (held J) Memory ⊎ IsRefused Commits capacity J Memory
+    pub commits_short : IsTrue later → Once J → IsOpenRefused capacity (held J) Memory ⊎ IsQuestionRefused Commits capacity J Memory
     commits_short honest once = inr (refused_of Commits Memory (known_at honest once) tt)
 
     pub sound_said : (size n : ℕ) (bytes : List ℕ) → size ≡ capacity
@@ -140,14 +140,14 @@ module _ (capacity : ℕ) (J : List Event) (store : Store) where
 
     pub sound_refused : (size : ℕ) (fault : StoreFault) → size ≡ capacity → store.is_stopped ≡ false
         → ((volume : ℕ) (T : State) → IsTrue later → Knows size volume K T store → store.is_stopped ≡ false → IsCheckRefused size volume (held K) T.commits fault)
-        → IsTrue later → Once J → IsOpenRefused capacity (held J) fault ⊎ IsRefused Soundness capacity J fault
+        → IsTrue later → Once J → IsOpenRefused capacity (held J) fault ⊎ IsQuestionRefused Soundness capacity J fault
     sound_refused size fault same going refused honest once =
         let known = known_at honest once in
         inr (refused_of Soundness fault known
         (subst (λ (c : ℕ). IsCheckRefused c store.capacity (held J) known.0.commits fault) same
         (subst (λ (j : List Event). IsCheckRefused size store.capacity (held j) known.0.commits fault) journal (refused store.capacity known.0 honest (knows_here size same honest once) going))))
 
-    pub sound_short : IsTrue later → Once J → IsOpenRefused capacity (held J) Memory ⊎ IsRefused Soundness capacity J Memory
+    pub sound_short : IsTrue later → Once J → IsOpenRefused capacity (held J) Memory ⊎ IsQuestionRefused Soundness capacity J Memory
     sound_short honest once = inr (refused_of Soundness Memory (known_at honest once) tt)
 
 -- ---- on an image

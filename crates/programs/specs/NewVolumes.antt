@@ -6,7 +6,7 @@ use Rattle.drive.specs.Journal.{Event, next_of}
 use Rattle.osta.specs.FirstFault.{first_fault}
 use Rattle.osta.specs.Label.{label_faults}
 use Rattle.recover.specs.declared.fault.StoreFault.TheVariants as stores
-use Rattle.formatting.specs.NewVolume.{Words, words_on, IsFormatOf, IsFormatted, IsRefused}
+use Rattle.formatting.specs.NewVolume.{Words, words_on, IsFormatOf, IsFormatted, IsFormatRefused}
 use Rattle.engine.specs.Streams.{PutsFront}
 use Rattle.engine.specs.Situation.{Situation}
 use Rattle.programs.specs.declared.fault.Fault.{Fault}
@@ -23,7 +23,7 @@ Makes label moment capacity (Err Usage) before behind honest output written = �
 Makes label moment capacity (Err Path) before behind honest output written = ⊥
 Makes label moment capacity (Err Socket) before behind honest output written = ⊥
 Makes label moment capacity (Err (Store fault)) before behind honest output written =
-    IsRefused capacity (words_on capacity label moment) before behind honest fault × Keeps output written
+    IsFormatRefused capacity (words_on capacity label moment) before behind honest fault × Keeps output written
 Makes label moment capacity (Err (Stream fault)) before behind honest output written =
     IsFormatted capacity (words_on capacity label moment) before behind honest × PutsFront output written formatted_text
 

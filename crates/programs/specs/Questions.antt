@@ -53,7 +53,7 @@ pub record IsQuestionAnswered (question : Question) (capacity : ℕ) (journal : 
   pub says : Says question capacity volume (held journal) state stands.at bytes
 
 -- a state stands, and gives no answer
-pub record IsRefused (question : Question) (capacity : ℕ) (journal : List Event) (fault : StoreFault) : Type 0 where
+pub record IsQuestionRefused (question : Question) (capacity : ℕ) (journal : List Event) (fault : StoreFault) : Type 0 where
   pub volume : ℕ
   pub state : State
   pub stands : Stands udf capacity volume (held journal) state
@@ -73,7 +73,7 @@ pub record PrintsFront (question : Question) (capacity : ℕ) (journal : List Ev
 -- Nothing was printed. On an honest drive none stands, or the one that does gives no answer, or the drive failed or memory was short.
 pub record PrintsNothing (question : Question) (capacity : ℕ) (journal : List Event) (honest : Bool) (fault : StoreFault) (output written : Option (List ℕ)) : Type 0 where
   pub unwritten : Keeps output written
-  pub refused : IsTrue honest → Once journal → IsOpenRefused capacity (held journal) fault ⊎ IsRefused question capacity journal fault
+  pub refused : IsTrue honest → Once journal → IsOpenRefused capacity (held journal) fault ⊎ IsQuestionRefused question capacity journal fault
 
 -- by the outcome
 abbrev pub Shows : {T : Type 0} → Question → Result T Fault → ℕ → List Event → Bool → Option (List ℕ) → Option (List ℕ) → Type 0

@@ -1,5 +1,6 @@
 //! The program `udfburnd`.
 
+ghost use Rattle.limits.specs.declared.TheConstants.{GREATEST_CAPACITY};
 ghost use Rattle.std.specs.Prelude.{◌≡◌, ◌≤◌, map, codes, IfErr, OnOk, OnErr, IfSome, IsSomeAnd};
 ghost use Rattle.drive.specs.Reads.{Follows};
 ghost use Rattle.engine.specs.Situation.{IsReady, seen_on, situation_on};
@@ -44,7 +45,7 @@ where
     E: Write,
     ensures status { result ≤ 2 }
     // Where it ends by itself, all connections were one run.
-    ensures run { result ≡ 0 → OnImage 450_000 AreOneRun }
+    ensures run { result ≡ 0 → OnImage GREATEST_CAPACITY AreOneRun }
     // The status of other words is 2, or 1 where memory is short.
     ensures usage { result ≡ 2 → (asked : _) → AsksDaemon (map (λ w. w.now) words.now) asked → ⊥ }
     ensures refused { ((asked : _) → AsksDaemon (map (λ w. w.now) words.now) asked → ⊥) → 1 ≤ result }
@@ -65,7 +66,7 @@ where
     E: Write,
     ensures refusal { IfErr result IsRefusal }
     // All of them together are one run.
-    ensures run { OnOk result (OnImage 450_000 AreOneRun) }
+    ensures run { OnOk result (OnImage GREATEST_CAPACITY AreOneRun) }
     ensures unsaid { OnErr result (E.contents errors.new ≡ E.contents errors.old) }
 {
     let mut drive = open_image(rt, asked.image)?;

@@ -1,5 +1,6 @@
 //! The image files on which volumes lie.
 
+ghost use Rattle.limits.specs.declared.TheConstants.{GREATEST_CAPACITY};
 ghost use Rattle.std.specs.Prelude.{◌≡◌, List, ℕ, IfOk, IfErr};
 ghost use Rattle.drive.specs.FileDrive.{capacity_of, BeginsWith};
 ghost use Rattle.programs.specs.Status.{IsRefusal};
@@ -17,7 +18,7 @@ pub(crate) fn open_image<R: Files<File = File>>(rt: &R, path: &str) -> Result<Fi
     ensures refusal { IfErr result IsRefusal }
     ensures device { IfErr result (λ fault. fault ≡ Fault.Store StoreFault.Device) }
     ensures image { IfOk result (λ drive. (image : List (List ℕ)) × BeginsWith image drive) }
-    ensures capacity { IfOk result (λ drive. capacity_of drive ≡ 450_000) }
+    ensures capacity { IfOk result (λ drive. capacity_of drive ≡ GREATEST_CAPACITY) }
 {
     match FileDrive::open(rt, path, GREATEST_CAPACITY) {
         Ok(drive) => Ok(drive),
@@ -30,7 +31,7 @@ pub(crate) fn read_image<R: Files<File = File>>(rt: &R, path: &str) -> Result<Fi
     ensures refusal { IfErr result IsRefusal }
     ensures device { IfErr result (λ fault. fault ≡ Fault.Store StoreFault.Device) }
     ensures image { IfOk result (λ drive. (image : List (List ℕ)) × BeginsWith image drive) }
-    ensures capacity { IfOk result (λ drive. capacity_of drive ≡ 450_000) }
+    ensures capacity { IfOk result (λ drive. capacity_of drive ≡ GREATEST_CAPACITY) }
 {
     match FileDrive::open_to_read(rt, path, GREATEST_CAPACITY) {
         Ok(drive) => Ok(drive),

@@ -1,5 +1,6 @@
 //! The process of a program: its words and its standard streams.
 
+ghost use Rattle.limits.specs.declared.TheConstants.{GREATEST_CAPACITY};
 ghost use Rattle.std.specs.Prelude.{◌≡◌, ◌≤◌, map, codes, IfErr, IfOk, IfSome, IsSomeAnd};
 ghost use Rattle.command_line.specs.Commands.{Asks};
 ghost use Rattle.programs.specs.Connections.{AreOneRun};
@@ -52,7 +53,7 @@ where
     E: Write,
     ensures status { result ≤ 2 }
     // Where it ends by itself, all connections were one run.
-    ensures run { result ≡ 0 → OnImage 450_000 AreOneRun }
+    ensures run { result ≡ 0 → OnImage GREATEST_CAPACITY AreOneRun }
     // Where it was refused, it said why, and nothing else.
     ensures tells { 1 ≤ result → TellsOutcome (codes "udfburnd") result (E.contents errors.old) (E.contents errors.new) }
 {
@@ -131,7 +132,7 @@ where
     E: Write,
     ensures unsaid { IfErr result (λ _. E.contents errors.new ≡ E.contents errors.old) }
     ensures status { IfOk result (λ status. status ≤ 2) }
-    ensures run { IfOk result (λ status. status ≡ 0 → OnImage 450_000 AreOneRun) }
+    ensures run { IfOk result (λ status. status ≡ 0 → OnImage GREATEST_CAPACITY AreOneRun) }
     ensures tells { IfOk result (λ status. 1 ≤ status → TellsOutcome (codes "udfburnd") status (E.contents errors.old) (E.contents errors.new)) }
 {
     hold_standard_streams(rt)?;

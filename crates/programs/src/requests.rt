@@ -1,5 +1,6 @@
 //! The messages of the input, answered in turn on a volume.
 
+ghost use Rattle.limits.specs.declared.TheConstants.{GREATEST_CAPACITY};
 ghost use Rattle.std.specs.Prelude.{◌≤◌, IfErr};
 ghost use Rattle.engine.specs.Situation.{situation_on};
 ghost use Rattle.programs.specs.Applied.{Applies, AppliesToImage, AnswersInMemory};
@@ -42,7 +43,7 @@ pub(crate) fn apply_in_memory<I: Read, O: Write>(
     input: &mut I,
     output: &mut O,
 ) -> Result<(), Fault>
-    requires { capacity ≤ 450_000 }
+    requires { capacity ≤ GREATEST_CAPACITY }
     ensures refusal { IfErr result IsRefusal }
     ensures answers { AnswersInMemory result capacity (I.remaining input.old) (I.remaining input.new) (O.contents output.old) (O.contents output.new) }
 {

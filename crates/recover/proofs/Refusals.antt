@@ -12,8 +12,8 @@ use Rattle.model.specs.Graph.{MakesTree}
 use Rattle.model.specs.Identities.{HasIdentities}
 use Rattle.model.specs.Session.{State as ModelState}
 use Rattle.model.proofs.Lists.{bytes_eq-itself}
-use Rattle.durability.specs.Formats.{Fields, Place, Table_}
-use Rattle.durability.specs.Formats.Place.{Nowhere, Extent, Inside}
+use Rattle.durability.specs.Formats.{NodeFields, NodePlace, Table_}
+use Rattle.durability.specs.Formats.NodePlace.{Nowhere, Extent, Inside}
 use Rattle.durability.specs.Volume.{HasTable, IsWithin, Tells, bytes_in, extent, graph_of}
 use Rattle.udf.specs.Said.{said_fields, said_table}
 use Rattle.udf.specs.Udf.{udf}
@@ -34,7 +34,7 @@ use Rattle.recover.specs.State.{HasFileSet, HasTree, IsFrontRefused, IsSetRefuse
 use Rattle.recover.specs.Tables.{HasDataBelow, HasEntry, IsEntryAt, IsEntryRefused, IsTableRefused, data_of, table_fields}
 use Rattle.recover.proofs.Walks.{part_below}
 
-first_of : Place → ℕ
+first_of : NodePlace → ℕ
 first_of Nowhere = 0
 first_of (Extent first) = first
 first_of (Inside bytes) = 0
@@ -55,10 +55,10 @@ module _ (M : List (List ℕ)) (at : ℕ) (low : 257 ≤ at) (long : at < length
 
     same_first : h.first ≡ e.first
     unfolding first_of
-    same_first = ap first_of (sym h.place ∙ ap (λ (f : Fields). f.place) same_fields)
+    same_first = ap first_of (sym h.place ∙ ap (λ (f : NodeFields). f.place) same_fields)
 
     same_size : h.fields.size ≡ e.size
-    same_size = ap (λ (f : Fields). f.size) same_fields
+    same_size = ap (λ (f : NodeFields). f.size) same_fields
 
     pub data_below : HasDataBelow at e
     data_below =

@@ -16,8 +16,8 @@ use Rattle.model.specs.Graph.{Body, Entry, Graph, HasParent, IsUnder, MakesTree,
 use Rattle.model.specs.Graph.Body.{Bytes, Entries}
 use Rattle.model.specs.Identities.{HasIdentities}
 use Rattle.model.specs.Tree.{IsTree, Node, Path, Tree, found_directory, found_identity, has_names}
-use Rattle.durability.specs.Formats.{Fields, Place}
-use Rattle.durability.specs.Formats.Place.{Nowhere, Extent as MediumExtent, Inside}
+use Rattle.durability.specs.Formats.{NodeFields, NodePlace}
+use Rattle.durability.specs.Formats.NodePlace.{Nowhere, Extent as MediumExtent, Inside}
 use Rattle.durability.specs.Volume.{HoldsBody, HoldsDirectory, HoldsFile, IsStoredAt, extent, graph_of}
 use Rattle.udf.specs.Said.{said_entries, said_entry, names_directory}
 use Rattle.udf.specs.Udf.{IsBlock, udf}
@@ -39,7 +39,7 @@ use Rattle.recover.proofs.Walks.{Begun, links_said, part_below}
 
 -- ---- what the entry of a node says
 
-kind_held : (M : List (List ℕ)) (fields : Fields) (body : Body) (kind : Kind) → HoldsBody udf M fields body → has_names (content_in body) ≡ is_directory kind → kind_of fields.kind ≡ icb_kind kind
+kind_held : (M : List (List ℕ)) (fields : NodeFields) (body : Body) (kind : Kind) → HoldsBody udf M fields body → has_names (content_in body) ≡ is_directory kind → kind_of fields.kind ≡ icb_kind kind
 kind_held M fields (Bytes bytes) File h d = ap kind_of h.0
 kind_held M fields (Bytes bytes) Directory h d = absurd (false≢true d)
 kind_held M fields (Entries parent entries) File h d = absurd (true≢false d)
@@ -50,23 +50,23 @@ file_links (Bytes bytes) kind d file = refl
 file_links (Entries parent entries) kind d file = absurd (true≢false (d ∙ ap is_directory file))
 
 module _ (M : List (List ℕ)) (at : ℕ) (long : length M ≤ at) where
-  file_within : (size : ℕ) (place : Place) (bytes : List ℕ) → HoldsFile M size place bytes → IfSome (extent_in size (place_of place)) (λ (e : Extent). e.first + 257 + div_ceil e.size 2048 ≤ at)
+  file_within : (size : ℕ) (place : NodePlace) (bytes : List ℕ) → HoldsFile M size place bytes → IfSome (extent_in size (place_of place)) (λ (e : Extent). e.first + 257 + div_ceil e.size 2048 ≤ at)
   file_within size Nowhere bytes h = tt
   file_within size (MediumExtent first) bytes h = (let w = h.0 in omega (arith, w, long))
   file_within size (Inside inside) bytes h = tt
 
-  directory_within : (size : ℕ) (place : Place) (parent : ℕ) (entries : List Entry) → HoldsDirectory udf M size place parent entries
+  directory_within : (size : ℕ) (place : NodePlace) (parent : ℕ) (entries : List Entry) → HoldsDirectory udf M size place parent entries
       → IfSome (extent_in size (place_of place)) (λ (e : Extent). e.first + 257 + div_ceil e.size 2048 ≤ at)
   directory_within size Nowhere parent entries h = tt
   directory_within size (MediumExtent first) parent entries h = (let w = h.0 in omega (arith, w, long))
   directory_within size (Inside inside) parent entries h = tt
 
-  body_within : (fields : Fields) (body : Body) → HoldsBody udf M fields body → IfSome (extent_in fields.size (place_of fields.place)) (λ (e : Extent). e.first + 257 + div_ceil e.size 2048 ≤ at)
+  body_within : (fields : NodeFields) (body : Body) → HoldsBody udf M fields body → IfSome (extent_in fields.size (place_of fields.place)) (λ (e : Extent). e.first + 257 + div_ceil e.size 2048 ≤ at)
   body_within fields (Bytes bytes) h = file_within fields.size fields.place bytes h.1
   body_within fields (Entries parent entries) h = directory_within fields.size fields.place parent entries h.1
 
 -- the blocks of a directory hold it
-directory_at : (M : List (List ℕ)) (size : ℕ) (place : Place) (parent : ℕ) (entries : List Entry) (e : Extent) → extent_in size (place_of place) ≡ Some e → HoldsDirectory udf M size place parent entries
+directory_at : (M : List (List ℕ)) (size : ℕ) (place : NodePlace) (parent : ℕ) (entries : List Entry) (e : Extent) → extent_in size (place_of place) ≡ Some e → HoldsDirectory udf M size place parent entries
     → All IsBlock (extent M e.first e.size) × IsDirectory parent (entries_of entries) e.first e.size (extent M e.first e.size)
 directory_at M size Nowhere parent entries e some h = absurd h
 directory_at M size (Inside inside) parent entries e some h = absurd h

@@ -20,7 +20,7 @@ use Rattle.recover.specs.declared.fault.StoreFault.{StoreFault}
 use Rattle.recover.specs.declared.fault.StoreFault.TheVariants.{Damaged, Device}
 use Rattle.recover.specs.declared.table.TableEntry.{TableEntry}
 use Rattle.recover.specs.Faults.{IsShortage}
-use Rattle.recover.specs.Tables.{HasDataBelow, HasEntry, HasNoneFrom, HasTable, IsEntryAt, IsEntryRefused, IsTableRefused, data_of}
+use Rattle.recover.specs.Tables.{HasDataBelow, HasEntry, HasNoneFrom, HasTableAt, IsEntryAt, IsEntryRefused, IsTableRefused, data_of}
 
 -- a number below that of a table's entry lies below the entry's address
 pub below_entry : (previous : Option ℕ) (at : ℕ) → 257 ≤ at → IfSome previous (λ p. p < at - 257) → IfSome previous (λ p. p + 257 < at)
@@ -90,7 +90,7 @@ table_refused icb e bytes stored fault cause same number never told =
 
 -- a table that was read, by its entry
 pub has_table : (M : List (List ℕ)) (at : ℕ) (e : TableEntry) (t : Table) (bytes : List ℕ) → IsEntryAt M at e → HasDataBelow at e → bytes ≡ data_of M e
-    → IsTableAt (at - 257) t bytes → HasTable M at t
+    → IsTableAt (at - 257) t bytes → HasTableAt M at t
 has_table M at e t bytes is below same table = record { entry = e; is_entry = is; below = below; is = subst (IsTableAt (at - 257) t) same table }
 
 -- bytes that stand nowhere or inside an entry are a file's

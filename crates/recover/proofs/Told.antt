@@ -14,7 +14,7 @@ use Rattle.udf.proofs.Said.{tables_agree}
 use Rattle.vat.specs.Table.{Table}
 use Rattle.recover.specs.declared.fault.StoreFault.TheVariants.{Damaged}
 use Rattle.recover.specs.declared.table.TableEntry.{TableEntry}
-use Rattle.recover.specs.Tables.{HasTable, IsAtRefused, IsEntryAt, data_of, table_fields}
+use Rattle.recover.specs.Tables.{HasTableAt, IsAtRefused, IsEntryAt, data_of, table_fields}
 use Rattle.recover.proofs.Refusals.{data_below, entry_is_read, table_is_read, told_table}
 use Rattle.recover.proofs.States.{has_table}
 use Rattle.recover.proofs.Tables.{fields_are}
@@ -28,7 +28,7 @@ module _ (M : List (List ℕ)) (at : ℕ) where
     pub there : slice_get M at ≡ Some block
     pub has : volumes.HasTable udf (take at M) at block table moment
 
-  pub told : (t : Table) → HasTable M at t → IsTableTold (said_table t)
+  pub told : (t : Table) → HasTableAt M at t → IsTableTold (said_table t)
   told t h =
       let within = slice_get_within M at h.is_entry.block h.is_entry.there in
       let below = h.below in
@@ -41,7 +41,7 @@ module _ (M : List (List ℕ)) (at : ℕ) where
       }
 
   -- what is told was read
-  pub read : (table : Table_) → IsTableTold table → (t : Table) × HasTable M at t × (said_table t ≡ table)
+  pub read : (table : Table_) → IsTableTold table → (t : Table) × HasTableAt M at t × (said_table t ≡ table)
   read table is =
       let h = is.has in
       let e : TableEntry = record { moment = h.fields.moment; first = h.first; size = h.fields.size } in
@@ -64,11 +64,11 @@ module _ (M : List (List ℕ)) (at : ℕ) where
       (table_one udf exact (take at M) at a.block s t a.moment b.moment a.has (subst (λ (x : List ℕ). volumes.HasTable udf (take at M) at x t b.moment) same b.has)).0
 
   -- and one read
-  pub one_read : (t u : Table) → HasTable M at t → HasTable M at u → said_table t ≡ said_table u
+  pub one_read : (t u : Table) → HasTableAt M at t → HasTableAt M at u → said_table t ≡ said_table u
   one_read t u h k = one_told (said_table t) (said_table u) (told t h) (told u k)
 
   -- a table that is there is not refused
-  pub is_read : (t : Table) → HasTable M at t → (b c : ℕ) → IsAtRefused M at (Damaged b c) → ⊥
+  pub is_read : (t : Table) → HasTableAt M at t → (b c : ℕ) → IsAtRefused M at (Damaged b c) → ⊥
   is_read t h b c refused =
       let is = told t h in
       let within = slice_get_within M at is.block is.there in

@@ -63,7 +63,7 @@ IsTableRefused icb e bytes (Damaged block cause) =
 IsTableRefused icb e bytes _ = ⊥
 
 -- the table whose entry stands at this address
-pub record HasTable (medium : List (List ℕ)) (at : ℕ) (table : Table) : Type 0 where
+pub record HasTableAt (medium : List (List ℕ)) (at : ℕ) (table : Table) : Type 0 where
   pub entry : TableEntry
   pub is_entry : IsEntryAt medium at entry
   pub below : HasDataBelow at entry
@@ -79,17 +79,17 @@ IsAtRefused medium at fault =
 abbrev pub IsLinkRefused : List (List ℕ) → ℕ → ℕ → StoreFault → Type 0
 IsLinkRefused medium at commits fault =
     IsAtRefused medium at fault
-    ⊎ ((fault ≡ Damaged at 78) × (table : Table) × HasTable medium at table × (table.commits + 1 ≡ commits → ⊥))
+    ⊎ ((fault ≡ Damaged at 78) × (table : Table) × HasTableAt medium at table × (table.commits + 1 ≡ commits → ⊥))
 
 -- one step of the chain: none before the first table, else the entry that the table names, of the table with one commit less
 abbrev pub IsBefore : List (List ℕ) → ℕ → Option ℕ → Type 0
-IsBefore medium at None = (table : Table) × HasTable medium at table × (table.previous ≡ None)
+IsBefore medium at None = (table : Table) × HasTableAt medium at table × (table.previous ≡ None)
 IsBefore medium at (Some earlier) =
-    (table : Table) × HasTable medium at table × (number : ℕ) × (table.previous ≡ Some number) × (earlier ≡ number + PARTITION_START)
-    × (before : Table) × HasTable medium earlier before × (before.commits + 1 ≡ table.commits)
+    (table : Table) × HasTableAt medium at table × (number : ℕ) × (table.previous ≡ Some number) × (earlier ≡ number + PARTITION_START)
+    × (before : Table) × HasTableAt medium earlier before × (before.commits + 1 ≡ table.commits)
 
 -- why no step of the chain was taken: no table is at this address, or its link leads to none of one commit less
 abbrev pub IsBeforeRefused : List (List ℕ) → ℕ → StoreFault → Type 0
 IsBeforeRefused medium at fault =
     IsAtRefused medium at fault
-    ⊎ ((table : Table) × HasTable medium at table × (number : ℕ) × (table.previous ≡ Some number) × IsLinkRefused medium (number + PARTITION_START) table.commits fault)
+    ⊎ ((table : Table) × HasTableAt medium at table × (number : ℕ) × (table.previous ≡ Some number) × IsLinkRefused medium (number + PARTITION_START) table.commits fault)

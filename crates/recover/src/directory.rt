@@ -1,5 +1,6 @@
 //! Directories read back from a medium.
 
+ghost use Rattle.limits.specs.declared.TheConstants.{BLOCK_BYTES, PARTITION_START};
 ghost use Rattle.std.specs.Prelude.{◌≡◌, ◌+◌, ◌<◌, ◌≤◌, ◌^◌, ℕ, List, IsTrue, IfOk, IfErr, length, All};
 ghost use Rattle.udf.specs.Udf.{IsBlock};
 ghost use Rattle.std.specs.Int.{div_ceil};
@@ -30,7 +31,7 @@ pub fn read_directory<D: Drive>(
 ) -> Result<Dir, StoreFault>
     requires some { 0 < extent.size }
     requires first { extent.first ≤ MAX_BLOCKS }
-    requires within { extent.first + 257 + div_ceil extent.size 2048 ≤ next_of (D.journal drive.old) }
+    requires within { extent.first + PARTITION_START + div_ceil extent.size BLOCK_BYTES ≤ next_of (D.journal drive.old) }
     ensures directory { IfOk result (λ dir. (blocks : List (List ℕ)) × (IsTrue (D.honest drive.new) → blocks ≡ data_of (held (D.journal drive.old)) extent) × All IsBlock blocks × IsDirectory dir.parent dir.entries.entries extent.first extent.size blocks) }
     ensures refused { IfErr result (λ fault. IsTrue (D.honest drive.new) → IsDirectoryRefused extent (data_of (held (D.journal drive.old)) extent) fault) }
     ensures reads { Reads D.Drive (devices result) drive.old drive.new }

@@ -1,5 +1,6 @@
 //! Nodes as they were read, by where they lie.
 
+ghost use Rattle.limits.specs.declared.TheConstants.{BLOCK_BYTES, DIRECTORY_NAMES, PARTITION_BLOCKS, PARTITION_START};
 ghost use Rattle.std.specs.Prelude.{◌<◌, ◌≤◌, IfSome, length};
 ghost use Rattle.std.proofs.Props.{props};
 
@@ -28,7 +29,7 @@ pub(crate) struct NodeEntry {
     pub links: u16,
     /// None where no block holds the node's bytes.
     pub extent: Option<Extent>,
-    pub ghost fits: { IfSome extent (λ e. (0 < e.size) × (e.first ≤ 449_743)) } by { Prim.hlevel props },
+    pub ghost fits: { IfSome extent (λ e. (0 < e.size) × (e.first ≤ PARTITION_BLOCKS)) } by { Prim.hlevel props },
 }
 
 impl NodeEntry {
@@ -80,7 +81,7 @@ impl NodeEntry {
 #[derive(Drop)]
 pub(crate) struct Names {
     pub dir: Dir,
-    pub ghost few: { length dir.entries.entries ≤ 512 },
+    pub ghost few: { length dir.entries.entries ≤ DIRECTORY_NAMES },
 }
 
 impl Names {
@@ -100,8 +101,8 @@ impl Names {
         extent: Extent,
     ) -> Result<Names, StoreFault>
         requires some { 0 < extent.size }
-        requires first { extent.first ≤ 449_743 }
-        requires within { extent.first + 257 + div_ceil extent.size 2048 ≤ next_of (D.journal drive.old) }
+        requires first { extent.first ≤ PARTITION_BLOCKS }
+        requires within { extent.first + PARTITION_START + div_ceil extent.size BLOCK_BYTES ≤ next_of (D.journal drive.old) }
         ensures named { IfOk result (λ names. IsTrue (D.honest drive.new) → IsNamed (held (D.journal drive.old)) extent names) }
         ensures refused { IfErr result (λ fault. IsTrue (D.honest drive.new) → IsDirectoryRefused extent (data_of (held (D.journal drive.old)) extent) fault) }
         ensures reads { Reads D.Drive (devices result) drive.old drive.new }

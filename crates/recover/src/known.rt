@@ -1,5 +1,6 @@
 //! What was read of a medium while states were looked at one after another, and is not read again.
 
+ghost use Rattle.limits.specs.declared.TheConstants.{BLOCK_BYTES, GREATEST_CAPACITY, LEAST_CAPACITY, PARTITION_BLOCKS, PARTITION_START};
 ghost use Rattle.std.specs.Prelude.{◌≤◌, IfSome};
 ghost use Rattle.std.proofs.Props.{props};
 
@@ -24,7 +25,7 @@ pub struct Known {
     before: Directories,
     /// The directories of this state that were met so far.
     met: Directories,
-    ghost limits: { IfSome front (λ f. (512 ≤ f.capacity) × (f.capacity ≤ 450_000)) } by { Prim.hlevel props },
+    ghost limits: { IfSome front (λ f. (LEAST_CAPACITY ≤ f.capacity) × (f.capacity ≤ GREATEST_CAPACITY)) } by { Prim.hlevel props },
 }
 
 impl Known {
@@ -73,11 +74,11 @@ impl Known {
 
     /// What the front tells.
     pub(crate) fn front<D: Drive>(&mut self, drive: &mut D) -> Result<Front, StoreFault>
-        requires within { 257 ≤ next_of (D.journal drive.old) }
+        requires within { PARTITION_START ≤ next_of (D.journal drive.old) }
         requires known { IsTrue (D.honest drive.old) → IsKnown (held (D.journal drive.old)) self.old }
-        ensures front { IfOk result (λ front. IsTrue (D.honest drive.new) → IsFront front.label front.moment front.capacity (take 257 (held (D.journal drive.old)))) }
-        ensures refused { IfErr result (λ fault. IsTrue (D.honest drive.new) → IsFrontRefused (take 257 (held (D.journal drive.old))) fault) }
-        ensures limits { IfOk result (λ front. (512 ≤ front.capacity) × (front.capacity ≤ 450_000)) }
+        ensures front { IfOk result (λ front. IsTrue (D.honest drive.new) → IsFront front.label front.moment front.capacity (take PARTITION_START (held (D.journal drive.old)))) }
+        ensures refused { IfErr result (λ fault. IsTrue (D.honest drive.new) → IsFrontRefused (take PARTITION_START (held (D.journal drive.old))) fault) }
+        ensures limits { IfOk result (λ front. (LEAST_CAPACITY ≤ front.capacity) × (front.capacity ≤ GREATEST_CAPACITY)) }
         ensures known { IsTrue (D.honest drive.new) → IsKnown (held (D.journal drive.new)) self.new }
         ensures reads { Reads D.Drive (devices result) drive.old drive.new }
     {
@@ -93,9 +94,9 @@ impl Known {
 
     /// Keeps what the front tells.
     fn keep_front(&mut self, front: &Front)
-        requires low { 512 ≤ front.now.capacity }
-        requires high { front.now.capacity ≤ 450_000 }
-        ensures { (medium : List (List ℕ)) → IsFront front.now.label front.now.moment front.now.capacity (take 257 medium) → IsKnown medium self.old → IsKnown medium self.new }
+        requires low { LEAST_CAPACITY ≤ front.now.capacity }
+        requires high { front.now.capacity ≤ GREATEST_CAPACITY }
+        ensures { (medium : List (List ℕ)) → IsFront front.now.label front.now.moment front.now.capacity (take PARTITION_START medium) → IsKnown medium self.old → IsKnown medium self.new }
     {
         self.front = Some(*front);
     }
@@ -140,8 +141,8 @@ impl Known {
         extent: Extent,
     ) -> Result<Names, StoreFault>
         requires some { 0 < extent.size }
-        requires first { extent.first ≤ 449_743 }
-        requires within { extent.first + 257 + div_ceil extent.size 2048 ≤ next_of (D.journal drive.old) }
+        requires first { extent.first ≤ PARTITION_BLOCKS }
+        requires within { extent.first + PARTITION_START + div_ceil extent.size BLOCK_BYTES ≤ next_of (D.journal drive.old) }
         requires known { IsTrue (D.honest drive.old) → IsKnown (held (D.journal drive.old)) self.old }
         ensures named { IfOk result (λ names. IsTrue (D.honest drive.new) → IsNamed (held (D.journal drive.old)) extent names) }
         ensures refused { IfErr result (λ fault. IsTrue (D.honest drive.new) → IsDirectoryRefused extent (data_of (held (D.journal drive.old)) extent) fault) }

@@ -1,5 +1,6 @@
 //! Reads of structures by their addresses. No call writes.
 
+ghost use Rattle.limits.specs.declared.TheConstants.{BLOCK_BYTES};
 ghost use Rattle.std.specs.Prelude.{◌≡◌, ◌+◌, ◌<◌, ◌≤◌, ◌^◌, IsTrue, IfOk, IfErr, Some, vec_len, All, slice_index, ℕ};
 ghost use Rattle.udf.specs.Udf.{IsBlock};
 ghost use Rattle.std.specs.Int.{div_ceil};
@@ -22,7 +23,7 @@ pub const BLOCK_BYTES: u32 = limits::BLOCK_BYTES;
 
 /// How many blocks so many bytes take.
 pub fn block_count(size: u32) -> u32
-    ensures { result ≡ div_ceil size 2048 }
+    ensures { result ≡ div_ceil size BLOCK_BYTES }
 {
     size.div_ceil(BLOCK_BYTES)
 }
@@ -81,8 +82,8 @@ pub fn read_bytes<D: Drive>(
     at: u32,
     size: u32,
 ) -> Result<Vec<u8>, StoreFault>
-    requires within { at + div_ceil size 2048 ≤ next_of (D.journal drive.old) }
-    requires fits { at + div_ceil size 2048 < 2 ^ 32 }
+    requires within { at + div_ceil size BLOCK_BYTES ≤ next_of (D.journal drive.old) }
+    requires fits { at + div_ceil size BLOCK_BYTES < 2 ^ 32 }
     ensures read { IfOk result (λ bytes. IsTrue (D.honest drive.new) → bytes.items ≡ bytes_at (held (D.journal drive.old)) at size) }
     ensures size { IfOk result (λ bytes. vec_len bytes ≡ size) }
     ensures refused { IfErr result IsShortage }

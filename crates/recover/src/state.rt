@@ -1,5 +1,6 @@
 //! The state that stands where a table's entry does.
 
+ghost use Rattle.limits.specs.declared.TheConstants.{GREATEST_CAPACITY, LEAST_CAPACITY, NODES, PARTITION_START};
 ghost use Rattle.std.specs.Prelude.{◌≡◌, ℕ, ◌<◌, ◌≤◌, ◌+◌, ◌-◌, List, IsTrue, IfOk, IfErr, OnOk, take};
 ghost use Rattle.drive.specs.Journal.{held, next_of};
 ghost use Rattle.vat.specs.Table.{IsTableAt, view};
@@ -8,7 +9,7 @@ ghost use Rattle.drive.specs.Reads.{Reads};
 ghost use Rattle.recover.specs.Faults.{devices};
 ghost use Rattle.recover.specs.Known.{IsKnown};
 ghost use Rattle.recover.specs.State.{HasFileSet, HasTree, IsCounted, IsDescribed, IsFrontRefused, IsSetRefused, IsShown, HasSoundTable, IsStateRefused, IsTreeRefused};
-ghost use Rattle.recover.specs.Tables.{HasTable};
+ghost use Rattle.recover.specs.Tables.{HasTableAt};
 
 use crate::cause;
 use crate::fault::{StoreFault, damaged};
@@ -47,7 +48,7 @@ pub struct State {
 /// The state that stands on the blocks up to `at`, where a table's entry stands. Every node is looked at, and each
 /// directory is read once and let go.
 pub fn state_at<D: Drive>(alloc: Global, drive: &mut D, at: u32) -> Result<State, StoreFault>
-    requires low { 257 ≤ at }
+    requires low { PARTITION_START ≤ at }
     requires within { at < next_of (D.journal drive.old) }
     // What is told there.
     ensures shown { IfOk result (λ state. IsTrue (D.honest drive.new) → IsShown (D.capacity drive.old) (held (D.journal drive.old)) at state) }
@@ -55,7 +56,7 @@ pub fn state_at<D: Drive>(alloc: Global, drive: &mut D, at: u32) -> Result<State
     ensures refused { IfErr result (λ fault. IsTrue (D.honest drive.new) → IsStateRefused (D.capacity drive.old) (held (D.journal drive.old)) at fault) }
     ensures sound { IfOk result (HasSoundTable at (D.capacity drive.old)) }
     // The table that it keeps is the one whose entry stands there.
-    ensures table { IfOk result (λ state. IsTrue (D.honest drive.new) → HasTable (held (D.journal drive.old)) at (view state.vat)) }
+    ensures table { IfOk result (λ state. IsTrue (D.honest drive.new) → HasTableAt (held (D.journal drive.old)) at (view state.vat)) }
     ensures reads { Reads D.Drive (devices result) drive.old drive.new }
 {
     let mut known = Known::of_no_nodes(alloc);
@@ -70,13 +71,13 @@ pub fn state_sharing<D: Drive>(
     known: &mut Known,
     at: u32,
 ) -> Result<State, StoreFault>
-    requires low { 257 ≤ at }
+    requires low { PARTITION_START ≤ at }
     requires within { at < next_of (D.journal drive.old) }
     requires known { IsTrue (D.honest drive.old) → IsKnown (held (D.journal drive.old)) known.old }
     ensures shown { IfOk result (λ state. IsTrue (D.honest drive.new) → IsShown (D.capacity drive.old) (held (D.journal drive.old)) at state) }
     ensures refused { IfErr result (λ fault. IsTrue (D.honest drive.new) → IsStateRefused (D.capacity drive.old) (held (D.journal drive.old)) at fault) }
     ensures sound { IfOk result (HasSoundTable at (D.capacity drive.old)) }
-    ensures table { IfOk result (λ state. IsTrue (D.honest drive.new) → HasTable (held (D.journal drive.old)) at (view state.vat)) }
+    ensures table { IfOk result (λ state. IsTrue (D.honest drive.new) → HasTableAt (held (D.journal drive.old)) at (view state.vat)) }
     // What is known stays so, whatever was found.
     ensures known { IsTrue (D.honest drive.new) → IsKnown (held (D.journal drive.new)) known.new }
     ensures reads { Reads D.Drive (devices result) drive.old drive.new }
@@ -94,13 +95,13 @@ fn described<D: Drive>(
     known: &mut Known,
     at: u32,
 ) -> Result<(State, u32), StoreFault>
-    requires low { 257 ≤ at }
+    requires low { PARTITION_START ≤ at }
     requires within { at < next_of (D.journal drive.old) }
     requires known { IsTrue (D.honest drive.old) → IsKnown (held (D.journal drive.old)) known.old }
     ensures described { IfOk result (λ found. IsTrue (D.honest drive.new) → IsDescribed (D.capacity drive.old) (held (D.journal drive.old)) at found.0) }
     ensures refused { IfErr result (λ fault. IsTrue (D.honest drive.new) → IsStateRefused (D.capacity drive.old) (held (D.journal drive.old)) at fault) }
-    ensures limits { IfOk result (λ found. (512 ≤ found.0.capacity) × (found.0.capacity ≤ 450_000) × (found.0.capacity ≤ D.capacity drive.old)) }
-    ensures table { IfOk result (λ found. (bytes : List ℕ) × IsTableAt (at - 257) (view found.0.vat) bytes) }
+    ensures limits { IfOk result (λ found. (LEAST_CAPACITY ≤ found.0.capacity) × (found.0.capacity ≤ GREATEST_CAPACITY) × (found.0.capacity ≤ D.capacity drive.old)) }
+    ensures table { IfOk result (λ found. (bytes : List ℕ) × IsTableAt (at - PARTITION_START) (view found.0.vat) bytes) }
     ensures known { IsTrue (D.honest drive.new) → IsKnown (held (D.journal drive.new)) known.new }
     ensures reads { Reads D.Drive (devices result) drive.old drive.new }
 {
@@ -127,10 +128,10 @@ fn described<D: Drive>(
 /// Reads the front, block by block.
 #[tactic(auto, using(drive::proofs::Reading::reads_then))]
 pub(crate) fn read_front<D: Drive>(drive: &mut D) -> Result<Front, StoreFault>
-    requires within { 257 ≤ next_of (D.journal drive.old) }
-    ensures front { IfOk result (λ front. IsTrue (D.honest drive.new) → IsFront front.label front.moment front.capacity (take 257 (held (D.journal drive.old)))) }
-    ensures refused { IfErr result (λ fault. IsTrue (D.honest drive.new) → IsFrontRefused (take 257 (held (D.journal drive.old))) fault) }
-    ensures limits { IfOk result (λ front. (512 ≤ front.capacity) × (front.capacity ≤ 450_000)) }
+    requires within { PARTITION_START ≤ next_of (D.journal drive.old) }
+    ensures front { IfOk result (λ front. IsTrue (D.honest drive.new) → IsFront front.label front.moment front.capacity (take PARTITION_START (held (D.journal drive.old)))) }
+    ensures refused { IfErr result (λ fault. IsTrue (D.honest drive.new) → IsFrontRefused (take PARTITION_START (held (D.journal drive.old))) fault) }
+    ensures limits { IfOk result (λ front. (LEAST_CAPACITY ≤ front.capacity) × (front.capacity ≤ GREATEST_CAPACITY)) }
     ensures reads { Reads D.Drive (devices result) drive.old drive.new }
 {
     let primary = read_block(drive, PRIMARY)?;
@@ -157,7 +158,7 @@ fn check_file_set<D: Drive>(
     at: u32,
     data_at: u32,
 ) -> Result<(), StoreFault>
-    requires low { 257 ≤ at }
+    requires low { PARTITION_START ≤ at }
     requires within { at < next_of (D.journal drive.old) }
     ensures set { OnOk result (IsTrue (D.honest drive.new) → HasFileSet (take at (held (D.journal drive.old))) vat.now.entries.items front.now.label front.now.moment) }
     ensures refused { IfErr result (λ fault. IsTrue (D.honest drive.new) → IsSetRefused (take at (held (D.journal drive.old))) vat.now.entries.items front.now.label front.now.moment fault) }
@@ -191,11 +192,11 @@ fn check_tree<D: Drive>(
     at: u32,
     data_at: u32,
 ) -> Result<(), StoreFault>
-    requires low { 257 ≤ at }
+    requires low { PARTITION_START ≤ at }
     requires within { at < next_of (D.journal drive.old) }
     requires known { IsTrue (D.honest drive.old) → IsKnown (held (D.journal drive.old)) known.old }
     requires next { 16 ≤ vat.now.sessions.next_unique }
-    requires few { vat.now.files + vat.now.directories ≤ 4_096 }
+    requires few { vat.now.files + vat.now.directories ≤ NODES }
     ensures tree { OnOk result (IsTrue (D.honest drive.new) → HasTree (take at (held (D.journal drive.old))) vat.now) }
     ensures counts { OnOk result (IsCounted at vat.now) }
     ensures refused { IfErr result (λ fault. IsTrue (D.honest drive.new) → IsTreeRefused (take at (held (D.journal drive.old))) at vat.now fault) }

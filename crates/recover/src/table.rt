@@ -1,5 +1,6 @@
 //! The tables of a medium: the last one, and the one before each.
 
+ghost use Rattle.limits.specs.declared.TheConstants.{BLOCK_BYTES, PARTITION_START};
 ghost use Rattle.std.specs.Prelude.{◌≡◌, ℕ, ◌+◌, ◌-◌, ◌^◌, ◌<◌, ◌≤◌, ◌↔◌, List, IsTrue, IsNone, IfOk, IfErr, IfSome, IfNone};
 ghost use Rattle.std.specs.Int.{div_ceil};
 ghost use Rattle.drive.specs.Journal.{held, next_of};
@@ -10,7 +11,7 @@ ghost use Rattle.vat.specs.Table.{IsTableAt, view};
 ghost use Rattle.drive.specs.Reads.{Reads};
 ghost use Rattle.recover.specs.Faults.{devices};
 ghost use Rattle.recover.specs.declared.fault.StoreFault.TheVariants.{Device};
-ghost use Rattle.recover.specs.Tables.{HasDataBelow, IsBefore, IsBeforeRefused, IsEntryAt, IsEntryRefused, IsLast, IsTableRefused, HasTable, IsAtRefused, IsLinkRefused, data_of};
+ghost use Rattle.recover.specs.Tables.{HasDataBelow, IsBefore, IsBeforeRefused, IsEntryAt, IsEntryRefused, IsLast, IsTableRefused, HasTableAt, IsAtRefused, IsLinkRefused, data_of};
 ghost use Rattle.recover.specs.Walk.{LeadsTo};
 
 use crate::cause::{CHAIN, RANGE};
@@ -36,7 +37,7 @@ pub struct TableEntry {
 /// blocks than lie behind it.
 pub fn last<D: Drive>(drive: &mut D) -> Result<Option<u32>, StoreFault>
     ensures last { IfOk result (λ found. IsTrue (D.honest drive.new) → IsLast (held (D.journal drive.old)) found) }
-    ensures within { IfOk result (λ found. IfSome found (λ at. (257 ≤ at) × (at < next_of (D.journal drive.old)))) }
+    ensures within { IfOk result (λ found. IfSome found (λ at. (PARTITION_START ≤ at) × (at < next_of (D.journal drive.old)))) }
     ensures device { IfErr result (λ fault. fault ≡ Device) }
     ensures reads { Reads D.Drive (devices result) drive.old drive.new }
 {
@@ -56,7 +57,7 @@ pub fn last<D: Drive>(drive: &mut D) -> Result<Option<u32>, StoreFault>
 
 /// What the entry of a table at an address says. Where none is there, the chain is broken.
 pub fn table_entry<D: Drive>(drive: &mut D, at: u32) -> Result<TableEntry, StoreFault>
-    requires low { 257 ≤ at }
+    requires low { PARTITION_START ≤ at }
     requires within { at < next_of (D.journal drive.old) }
     ensures found { IfOk result (λ e. IsTrue (D.honest drive.new) → IsEntryAt (held (D.journal drive.old)) at e) }
     ensures refused { IfErr result (λ fault. IsTrue (D.honest drive.new) → IsEntryRefused (held (D.journal drive.old)) at fault) }
@@ -105,12 +106,12 @@ pub fn read_table<D: Drive>(
     at: u32,
     entry: &TableEntry,
 ) -> Result<Vat, StoreFault>
-    requires low { 257 ≤ at }
+    requires low { PARTITION_START ≤ at }
     requires within { at < next_of (D.journal drive.old) }
     requires below { HasDataBelow at entry.now }
-    ensures table { IfOk result (λ vat. (bytes : List ℕ) × (IsTrue (D.honest drive.new) → bytes ≡ data_of (held (D.journal drive.old)) entry.now) × IsTableAt (at - 257) (view vat) bytes) }
-    ensures refused { IfErr result (λ fault. IsTrue (D.honest drive.new) → IsTableRefused (at - 257) entry.now (data_of (held (D.journal drive.old)) entry.now) fault) }
-    ensures previous { IfOk result (λ vat. IfSome vat.previous (λ number. number + 257 < at)) }
+    ensures table { IfOk result (λ vat. (bytes : List ℕ) × (IsTrue (D.honest drive.new) → bytes ≡ data_of (held (D.journal drive.old)) entry.now) × IsTableAt (at - PARTITION_START) (view vat) bytes) }
+    ensures refused { IfErr result (λ fault. IsTrue (D.honest drive.new) → IsTableRefused (at - PARTITION_START) entry.now (data_of (held (D.journal drive.old)) entry.now) fault) }
+    ensures previous { IfOk result (λ vat. IfSome vat.previous (λ number. number + PARTITION_START < at)) }
     ensures reads { Reads D.Drive (devices result) drive.old drive.new }
 {
     let start = entry.first + PARTITION_START;
@@ -124,18 +125,18 @@ pub fn read_table<D: Drive>(
 
 /// Whether so many bytes from a block number on lie below an address.
 pub fn lies_below(first: u32, size: u32, at: u32) -> bool
-    ensures { IsTrue result ↔ (first + 257 + div_ceil size 2048 ≤ at) }
+    ensures { IsTrue result ↔ (first + PARTITION_START + div_ceil size BLOCK_BYTES ≤ at) }
 {
     u64::from(first) + u64::from(PARTITION_START) + u64::from(block_count(size)) <= u64::from(at)
 }
 
 /// The table whose entry stands at an address, by its entry and its data.
 pub fn table_at<D: Drive>(alloc: Global, drive: &mut D, at: u32) -> Result<Vat, StoreFault>
-    requires low { 257 ≤ at }
+    requires low { PARTITION_START ≤ at }
     requires within { at < next_of (D.journal drive.old) }
-    ensures table { IfOk result (λ vat. IsTrue (D.honest drive.new) → HasTable (held (D.journal drive.old)) at (view vat)) }
+    ensures table { IfOk result (λ vat. IsTrue (D.honest drive.new) → HasTableAt (held (D.journal drive.old)) at (view vat)) }
     ensures refused { IfErr result (λ fault. IsTrue (D.honest drive.new) → IsAtRefused (held (D.journal drive.old)) at fault) }
-    ensures previous { IfOk result (λ vat. IfSome vat.previous (λ number. number + 257 < at)) }
+    ensures previous { IfOk result (λ vat. IfSome vat.previous (λ number. number + PARTITION_START < at)) }
     ensures first { IfOk result (λ vat. IsNone vat.previous ↔ (vat.sessions.commits ≡ 0)) }
     ensures reads { Reads D.Drive (devices result) drive.old drive.new }
 {
@@ -152,11 +153,11 @@ pub fn linked<D: Drive>(
     number: u32,
     commits: u32,
 ) -> Result<Vat, StoreFault>
-    requires within { number + 257 < next_of (D.journal drive.old) }
-    requires fits { number + 257 < 2 ^ 32 }
-    ensures table { IfOk result (λ vat. IsTrue (D.honest drive.new) → HasTable (held (D.journal drive.old)) (number + 257) (view vat)) }
+    requires within { number + PARTITION_START < next_of (D.journal drive.old) }
+    requires fits { number + PARTITION_START < 2 ^ 32 }
+    ensures table { IfOk result (λ vat. IsTrue (D.honest drive.new) → HasTableAt (held (D.journal drive.old)) (number + PARTITION_START) (view vat)) }
     ensures commits { IfOk result (λ vat. vat.sessions.commits + 1 ≡ commits) }
-    ensures refused { IfErr result (λ fault. IsTrue (D.honest drive.new) → IsLinkRefused (held (D.journal drive.old)) (number + 257) commits fault) }
+    ensures refused { IfErr result (λ fault. IsTrue (D.honest drive.new) → IsLinkRefused (held (D.journal drive.old)) (number + PARTITION_START) commits fault) }
     ensures previous { IfOk result (λ vat. IfSome vat.previous (λ earlier. earlier < number)) }
     ensures first { IfOk result (λ vat. IsNone vat.previous ↔ (vat.sessions.commits ≡ 0)) }
     ensures reads { Reads D.Drive (devices result) drive.old drive.new }
@@ -171,9 +172,9 @@ pub fn linked<D: Drive>(
 
 /// The address to which a table's entry for a virtual address leads, if that is below `at`.
 pub(crate) fn address_below(entries: &[Option<u32>], address: u32, at: u32) -> Option<u32>
-    requires low { 257 ≤ at }
+    requires low { PARTITION_START ≤ at }
     ensures some { IfSome result (LeadsTo entries.now address) }
-    ensures below { IfSome result (λ there. (257 ≤ there) × (there < at)) }
+    ensures below { IfSome result (λ there. (PARTITION_START ≤ there) × (there < at)) }
     ensures none { IfNone result ((there : ℕ) → LeadsTo entries.now address there → at ≤ there) }
 {
     let entry = match entries.get(address as usize) {
@@ -193,11 +194,11 @@ pub(crate) fn address_below(entries: &[Option<u32>], address: u32, at: u32) -> O
 /// The address of the entry of the table before the one whose entry stands at `at`, by one step of the chain; none where
 /// no request was committed.
 pub fn before<D: Drive>(alloc: Global, drive: &mut D, at: u32) -> Result<Option<u32>, StoreFault>
-    requires low { 257 ≤ at }
+    requires low { PARTITION_START ≤ at }
     requires within { at < next_of (D.journal drive.old) }
     ensures before { IfOk result (λ found. IsTrue (D.honest drive.new) → IsBefore (held (D.journal drive.old)) at found) }
     ensures refused { IfErr result (λ fault. IsTrue (D.honest drive.new) → IsBeforeRefused (held (D.journal drive.old)) at fault) }
-    ensures below { IfOk result (λ found. IfSome found (λ earlier. (257 ≤ earlier) × (earlier < at))) }
+    ensures below { IfOk result (λ found. IfSome found (λ earlier. (PARTITION_START ≤ earlier) × (earlier < at))) }
     ensures reads { Reads D.Drive (devices result) drive.old drive.new }
 {
     let vat = table_at(alloc, drive, at)?;

@@ -1,5 +1,6 @@
 //! The walk through all nodes that a table leads to, depth first and in stored order.
 
+ghost use Rattle.limits.specs.declared.TheConstants.{BLOCK_BYTES, PARTITION_BLOCKS, PARTITION_START};
 ghost use Rattle.std.specs.Prelude.{◌≡◌, ◌↔◌, ◌+◌, ◌<◌, ◌≤◌, ◌^◌, IsTrue, IfOk, IfErr, IfSome, OnOk};
 ghost use Rattle.std.specs.Int.{div_ceil};
 ghost use Rattle.drive.specs.Journal.{held, next_of};
@@ -129,7 +130,7 @@ impl<'a> Walk<'a> {
         entries: &'a [Option<u32>],
         next_unique: u32,
     ) -> Walk<'a>
-        requires { 257 ≤ at }
+        requires { PARTITION_START ≤ at }
         ensures at { result.at ≡ at }
         ensures entries { result.entries.now ≡ entries.now }
         ensures next_unique { result.next_unique ≡ next_unique }
@@ -157,7 +158,7 @@ impl<'a> Walk<'a> {
         known: &mut Known,
         node: &Named,
     ) -> Result<(), StoreFault>
-        requires low { 257 ≤ self.old.at }
+        requires low { PARTITION_START ≤ self.old.at }
         requires within { self.old.at < next_of (D.journal drive.old) }
         requires depth { node.now.depth ≤ 17 }
         requires known { IsTrue (D.honest drive.old) → IsKnown (held (D.journal drive.old)) known.old }
@@ -198,8 +199,8 @@ impl<'a> Walk<'a> {
 
     /// The address of the node's entry, to which no name led before.
     fn reach(&mut self, node: &Named) -> Result<u32, StoreFault>
-        requires { 257 ≤ self.old.at }
-        ensures below { IfOk result (λ entry_at. (257 ≤ entry_at) × (entry_at < self.old.at)) }
+        requires { PARTITION_START ≤ self.old.at }
+        ensures below { IfOk result (λ entry_at. (PARTITION_START ≤ entry_at) × (entry_at < self.old.at)) }
         ensures leads { IfOk result (λ entry_at. LeadsTo self.old.entries.now node.now.address entry_at) }
         ensures reached { OnOk result (Puts (reached_in self.old) node.now.address (reached_in self.new)) }
         ensures depth { OnOk result (node.now.depth ≤ PATH_NAMES) }
@@ -308,8 +309,8 @@ fn read_names<D: Drive>(
     entry_at: u32,
 ) -> Result<Names, StoreFault>
     requires some { 0 < extent.size }
-    requires first { extent.first ≤ 449_743 }
-    requires within { extent.first + 257 + div_ceil extent.size 2048 ≤ next_of (D.journal drive.old) }
+    requires first { extent.first ≤ PARTITION_BLOCKS }
+    requires within { extent.first + PARTITION_START + div_ceil extent.size BLOCK_BYTES ≤ next_of (D.journal drive.old) }
     requires known { IsTrue (D.honest drive.old) → IsKnown (held (D.journal drive.old)) known.old }
     ensures names { IfOk result (λ names. IsTrue (D.honest drive.new) → HasNames (held (D.journal drive.old)) above links extent names.dir) }
     ensures refused { IfErr result (λ fault. IsTrue (D.honest drive.new) → IsNamesRefused (held (D.journal drive.old)) above links extent fault) }
@@ -348,7 +349,7 @@ fn has_links(named: Kind, links: u16) -> bool
 
 /// Whether the bytes lie below an address.
 fn is_below(extent: Option<Extent>, at: u32) -> bool
-    ensures { IsTrue result ↔ IfSome extent (λ e. e.first + 257 + div_ceil e.size 2048 ≤ at) }
+    ensures { IsTrue result ↔ IfSome extent (λ e. e.first + PARTITION_START + div_ceil e.size BLOCK_BYTES ≤ at) }
 {
     match extent {
         Some(extent) => lies_below(extent.first, extent.size, at),

@@ -16,7 +16,7 @@ use Rattle.udf.proofs.Formats.{exact}
 use Rattle.vat.specs.Table.{Table}
 use Rattle.recover.specs.declared.state.State.{State}
 use Rattle.recover.specs.State.{IsShown}
-use Rattle.recover.specs.Tables.{HasTable, IsBefore}
+use Rattle.recover.specs.Tables.{HasTableAt, IsBefore}
 use Rattle.recover.proofs.Told.{IsTableTold, one_read, read, told}
 use Rattle.store.specs.History.{Leads}
 
@@ -79,7 +79,7 @@ module _ (M : Medium) (at : ℕ) (N : Medium) (ends : EndsAt M at N) where
 
 -- ---- one step of the chain
 
-link_less : (M : Medium) (at number : ℕ) (t : Table) → HasTable M at t → t.previous ≡ Some number → number + 257 < at
+link_less : (M : Medium) (at number : ℕ) (t : Table) → HasTableAt M at t → t.previous ≡ Some number → number + 257 < at
 link_less M at number t has link =
     let low = (told M at t has).low in
     let less : number < at - 257 = subst (λ (p : Option ℕ). IfSome p (λ n. n < at - 257)) link has.is.previous in
@@ -94,7 +94,7 @@ module _ (capacity volume : ℕ) (M : Medium) where
   step_back at to steps S (t, has, number, link, there, u, before, fewer) stood N ends =
       let less = link_less M at number t has link in
       let earlier = cut M at N ends number less in
-      let is_before = subst (λ (n : ℕ). HasTable M n u) there before in
+      let is_before = subst (λ (n : ℕ). HasTableAt M n u) there before in
       let there_stood : StoodAt (number + 257) steps S = subst (λ (n : ℕ). StoodAt n steps S) there stood in (
         last_in M at N ends (said_table t) (told M at t has),
         number,
@@ -106,7 +106,7 @@ module _ (capacity volume : ℕ) (M : Medium) where
       )
 
   -- where more steps were taken the chain goes on
-  pub goes_back : (at steps : ℕ) (S : model.State) (N : Medium) → EndsAt M at N → (t : Table) → HasTable M at t → StoodBefore udf (suc steps) capacity volume N S
+  pub goes_back : (at steps : ℕ) (S : model.State) (N : Medium) → EndsAt M at N → (t : Table) → HasTableAt M at t → StoodBefore udf (suc steps) capacity volume N S
       → (to : ℕ) × IsBefore M at (Some to) × (N' : Medium) × EndsAt M to N' × StoodBefore udf steps capacity volume N' S
   goes_back at steps S N ends t has (last, previous, link, before, there, fewer, stood) =
       let same : last.table ≡ said_table t = last_is M at N ends (said_table t) (told M at t has) last in
@@ -162,7 +162,7 @@ module _ (capacity volume : ℕ) (M : Medium) where
             (subst (λ (n : ℕ). Tells udf capacity n (take at M) at shown.block shown.said) size shown.tells);
       }
 
-  pub stood_told : (at : ℕ) (t : Table) (S : model.State) (N : Medium) → HasTable M at t → EndsAt M at N → (stands : Stands udf capacity volume N S)
+  pub stood_told : (at : ℕ) (t : Table) (S : model.State) (N : Medium) → HasTableAt M at t → EndsAt M at N → (stands : Stands udf capacity volume N S)
       → (slice_get M at ≡ Some stands.block) × Tells udf capacity volume (take at M) at stands.block S
   stood_told at t S N has ends stands =
       let is = told M at t has in
@@ -176,14 +176,14 @@ module _ (capacity volume : ℕ) (M : Medium) where
 
 module _ (M : Medium) where
   -- where a chain begins there is a table
-  pub first_there : (from steps to : ℕ) (t : Table) → Leads M from steps to → HasTable M to t → (u : Table) × HasTable M from u
-  first_there from zero to t same has = (t, subst (λ (n : ℕ). HasTable M n t) (sym same) has)
+  pub first_there : (from steps to : ℕ) (t : Table) → Leads M from steps to → HasTableAt M to t → (u : Table) × HasTableAt M from u
+  first_there from zero to t same has = (t, subst (λ (n : ℕ). HasTableAt M n t) (sym same) has)
   first_there from (suc steps) to t (at, leads, before) has = first_there from steps at before.0 leads before.1
 
   -- each step is one commit less
-  pub count_along : (from steps to : ℕ) (t u : Table) → Leads M from steps to → HasTable M to t → HasTable M from u → t.commits + steps ≡ u.commits
+  pub count_along : (from steps to : ℕ) (t u : Table) → Leads M from steps to → HasTableAt M to t → HasTableAt M from u → t.commits + steps ≡ u.commits
   count_along from zero to t u same has first =
-      let one = ap (λ (x : Table_). x.commits) (one_read M from t u (subst (λ (n : ℕ). HasTable M n t) (sym same) has) first) in
+      let one = ap (λ (x : Table_). x.commits) (one_read M from t u (subst (λ (n : ℕ). HasTableAt M n t) (sym same) has) first) in
       omega (arith, one)
   count_along from (suc steps) to t u (at, leads, (x, here, number, link, there, v, before, fewer)) has first =
       let one = ap (λ (y : Table_). y.commits) (one_read M to t v has before) in

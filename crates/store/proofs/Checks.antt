@@ -12,7 +12,7 @@ use Rattle.recover.specs.declared.fault.StoreFault.{StoreFault}
 use Rattle.recover.specs.declared.fault.StoreFault.TheVariants.{Device, Memory, Damaged}
 use Rattle.recover.specs.declared.state.State.{State}
 use Rattle.recover.specs.State.{IsShown, IsStateRefused, IsUntold}
-use Rattle.recover.specs.Tables.{HasTable}
+use Rattle.recover.specs.Tables.{HasTableAt}
 use Rattle.recover.proofs.Told.{one_read}
 use Rattle.store.specs.declared.history.Commit.{Commit}
 use Rattle.store.specs.declared.store.Store.{Store}
@@ -23,8 +23,8 @@ use Rattle.store.proofs.Histories.{GoesOn, ends, goes_on}
 use Rattle.store.proofs.Wholes.{history_stood, unshown}
 
 -- a list ends with all that the chain of a table goes on to
-abbrev pub IsLeft : List (List ℕ) → Table → List Commit → Type 0
-IsLeft M t all = (before : List Commit) × (rest : List Commit) × (all ≡ before ++ rest) × IsChain M t.previous t.commits rest
+abbrev pub IsLeftToCheck : List (List ℕ) → Table → List Commit → Type 0
+IsLeftToCheck M t all = (before : List Commit) × (rest : List Commit) × (all ≡ before ++ rest) × IsChain M t.previous t.commits rest
 
 -- Of these commits the states were shown, the last of them that of this table: with those that its chain goes on to they are
 -- all, and whatever list is all ends with those.
@@ -32,7 +32,7 @@ pub record Seen (M : List (List ℕ)) (capacity at : ℕ) (t : Table) : Type 0 w
   pub seen : List Commit
   pub goes : GoesOn M at t seen
   pub shown : AreShown capacity M seen
-  pub left : (all : List Commit) → IsHistory M at all → IsLeft M t all
+  pub left : (all : List Commit) → IsHistory M at all → IsLeftToCheck M t all
 
 -- what a link leads to, below the address of its table's entry
 pub link_within : (link : Option ℕ) (at : ℕ) → 257 ≤ at → IfSome link (λ n. n < at - 257) → IfSome link (λ n. n + 257 < at)
@@ -49,7 +49,7 @@ module _ (M : List (List ℕ)) (capacity at : ℕ) where
 
   -- ---- the states that were shown
 
-  pub first_seen : (t : Table) → HasTable M at t → (state : State) → IsShown capacity M at state → Seen M capacity at t
+  pub first_seen : (t : Table) → HasTableAt M at t → (state : State) → IsShown capacity M at state → Seen M capacity at t
   first_seen t has state shown = record {
     seen = told_of at t ∷ [];
     goes = λ rest chain. (t, has, rest, refl, chain);
@@ -57,17 +57,17 @@ module _ (M : List (List ℕ)) (capacity at : ℕ) where
     left = λ all (u, there, earlier, is, chain). (told_of at u ∷ [], earlier, is, subst (λ (x : Table_). IsChain M x.previous x.commits earlier) (one_read M at u t there has) chain);
   }
 
-  next_left : (number : ℕ) (t u : Table) → t.previous ≡ Some number → HasTable M (number + 257) u → (all : List Commit) → IsLeft M t all → IsLeft M u all
+  next_left : (number : ℕ) (t u : Table) → t.previous ≡ Some number → HasTableAt M (number + 257) u → (all : List Commit) → IsLeftToCheck M t all → IsLeftToCheck M u all
   next_left number t u link has all (before, rest, same, left) = by rest same left
     where
-      by : (rest : List Commit) → all ≡ before ++ rest → IsChain M t.previous t.commits rest → IsLeft M u all
+      by : (rest : List Commit) → all ≡ before ++ rest → IsChain M t.previous t.commits rest → IsLeftToCheck M u all
       by [] same (none, count) = absurd (none-some number (sym none ∙ link))
       by (c ∷ earlier) same (n, is, v, there, fewer, says, chain) =
           let place : n ≡ number = same_Some n number (sym is ∙ link) in
-          let one = one_read M (number + 257) v u (subst (λ (k : ℕ). HasTable M (k + 257) v) place there) has in
+          let one = one_read M (number + 257) v u (subst (λ (k : ℕ). HasTableAt M (k + 257) v) place there) has in
           (before ++ c ∷ [], earlier, same ∙ sym (append_assoc before (c ∷ []) earlier), subst (λ (x : Table_). IsChain M x.previous x.commits earlier) one chain)
 
-  pub next_seen : (number : ℕ) (t u : Table) → Seen M capacity at t → t.previous ≡ Some number → HasTable M (number + 257) u → u.commits + 1 ≡ t.commits → (state : State) → IsShown capacity M (number + 257) state
+  pub next_seen : (number : ℕ) (t u : Table) → Seen M capacity at t → t.previous ≡ Some number → HasTableAt M (number + 257) u → u.commits + 1 ≡ t.commits → (state : State) → IsShown capacity M (number + 257) state
       → Seen M capacity at u
   next_seen number t u so_far link has fewer state shown =
       let c = told_of (number + 257) u in record {
@@ -97,7 +97,7 @@ module _ (M : List (List ℕ)) (capacity at : ℕ) where
   next_unseen number t so_far link Memory r = tt
   next_unseen number t so_far link (Damaged b cause) r = λ all is. by all (so_far.left all is)
     where
-      by : (all : List Commit) → IsLeft M t all → HasUntold capacity M all
+      by : (all : List Commit) → IsLeftToCheck M t all → HasUntold capacity M all
       by all (before, [], same, (none, count)) = absurd (none-some number (sym none ∙ link))
       by all (before, (c ∷ earlier), same, (n, is, v, there, fewer, says, chain)) =
           let place : number + 257 ≡ c.at = ap (λ (k : ℕ). k + 257) (sym (same_Some n number (sym is ∙ link))) ∙ sym (ap (λ (e : Commit). e.at) says) in (
@@ -109,14 +109,14 @@ module _ (M : List (List ℕ)) (capacity at : ℕ) where
   next_unseen number t so_far link _ r = absurd r
 
   -- a link that leads to no table of one commit less
-  pub link_unseen : (number : ℕ) (t u : Table) → Seen M capacity at t → t.previous ≡ Some number → HasTable M (number + 257) u → (u.commits + 1 ≡ t.commits → ⊥) → (b c : ℕ) → IsUnchecked capacity M at (Damaged b c)
+  pub link_unseen : (number : ℕ) (t u : Table) → Seen M capacity at t → t.previous ≡ Some number → HasTableAt M (number + 257) u → (u.commits + 1 ≡ t.commits → ⊥) → (b c : ℕ) → IsUnchecked capacity M at (Damaged b c)
   link_unseen number t u so_far link has other b c = λ all is. by (so_far.left all is)
     where
-      by : {all : List Commit} → IsLeft M t all → HasUntold capacity M all
+      by : {all : List Commit} → IsLeftToCheck M t all → HasUntold capacity M all
       by (before, [], same, (none, count)) = absurd (none-some number (sym none ∙ link))
       by (before, (d ∷ earlier), same, (n, is, v, there, fewer, says, chain)) =
           let place : n ≡ number = same_Some n number (sym is ∙ link) in
-          let one = one_read M (number + 257) u v has (subst (λ (k : ℕ). HasTable M (k + 257) v) place there) in
+          let one = one_read M (number + 257) u v has (subst (λ (k : ℕ). HasTableAt M (k + 257) v) place there) in
           absurd (other (ap (λ (x : Table_). x.commits + 1) one ∙ fewer))
 
 -- where one of them is not, no state stood after some commit

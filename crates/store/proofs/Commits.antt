@@ -16,7 +16,7 @@ use Rattle.vat.specs.Table.{view}
 use Rattle.next_vat.specs.NextTable.{next_table}
 use Rattle.planning.specs.Plan.{IsPlan, plan_blocks, plan_written, plan_writings}
 use Rattle.planning.specs.Writings.{change_writings}
-use Rattle.store.specs.Putting.{IsRefused, Makes, WritesPlan}
+use Rattle.store.specs.Putting.{IsCommitRefused, Makes, WritesPlan}
 
 pub if_ok : {T E : Type 0} (r : Result T E) (P Q : T → Type 0) → ((x : T) → P x → Q x) → IfOk r P → IfOk r Q
 if_ok (Ok x) P Q f h = f x h
@@ -54,7 +54,7 @@ writes_plan (Ok reply) K J J' before request capacity change plan store same mak
 writes_plan (Err e) K J J' before request capacity change plan store same makes is said at vat journal = said
 
 pub has_failed : {T : Type 0} (r : Result T StoreFault) (K J J' : List Event) (before : Store) (request : Request) (capacity : ℕ) (change : Change) (plan : Plan) (store : Store) → K ≡ J → Makes before request change plan → IsPlan (next_of J) capacity plan
-    → OnErr r (AddsFront K (next_of K) (plan_blocks plan) J') → IfErr r (λ fault. fault ≡ Device) → store.is_stopped ≡ is_err r → IfErr r (IsRefused before request capacity J J' store)
+    → OnErr r (AddsFront K (next_of K) (plan_blocks plan) J') → IfErr r (λ fault. fault ≡ Device) → store.is_stopped ≡ is_err r → IfErr r (IsCommitRefused before request capacity J J' store)
 has_failed (Ok x) K J J' before request capacity change plan store same makes is front device stopped = tt
 has_failed (Err e) K J J' before request capacity change plan store same makes is front device stopped = inr (record {
   device = device;

@@ -2,7 +2,7 @@
 use Rattle.std.proofs.Common.{◌≡◌, ℕ, ◌+◌, ◌<◌, ◌≤◌, List, [], ◌∷◌, ◌++◌, Option, Some, None, IsNone, IfSome, All, ◌↔◌, refl, sym, ap, subst, ◌∙◌, arith, append-nil, append_assoc}
 use Rattle.std.proofs.lemmas.List.Elements.{All-append, All-cons, All-nil}
 use Rattle.vat.specs.Table.{Table}
-use Rattle.recover.specs.Tables.{HasTable, IsBefore}
+use Rattle.recover.specs.Tables.{HasTableAt, IsBefore}
 use Rattle.store.specs.declared.history.Commit.{Commit}
 use Rattle.store.specs.History.{IsChain, IsHistory, told_of}
 
@@ -10,12 +10,12 @@ use Rattle.store.specs.History.{IsChain, IsHistory, told_of}
 abbrev pub GoesOn : List (List ℕ) → ℕ → Table → List Commit → Type 0
 GoesOn M at t found = (rest : List Commit) → IsChain M t.previous t.commits rest → IsHistory M at (found ++ rest)
 
-pub begins : (M : List (List ℕ)) (at : ℕ) (t : Table) (none found : List Commit) (c : Commit) → HasTable M at t → none ≡ [] → c ≡ told_of at t → found ≡ none ++ c ∷ [] → GoesOn M at t found
+pub begins : (M : List (List ℕ)) (at : ℕ) (t : Table) (none found : List Commit) (c : Commit) → HasTableAt M at t → none ≡ [] → c ≡ told_of at t → found ≡ none ++ c ∷ [] → GoesOn M at t found
 begins M at t none found c has empty is_c is = λ rest chain.
     let first : found ≡ told_of at t ∷ [] = is ∙ ap (λ (cs : List Commit). cs ++ c ∷ []) empty ∙ ap (λ (d : Commit). d ∷ []) is_c in
     (t, has, rest, ap (λ (cs : List Commit). cs ++ rest) first, chain)
 
-pub goes_on : (M : List (List ℕ)) (at number : ℕ) (t u : Table) (found more : List Commit) (c : Commit) → GoesOn M at t found → t.previous ≡ Some number → HasTable M (number + 257) u
+pub goes_on : (M : List (List ℕ)) (at number : ℕ) (t u : Table) (found more : List Commit) (c : Commit) → GoesOn M at t found → t.previous ≡ Some number → HasTableAt M (number + 257) u
     → u.commits + 1 ≡ t.commits → c ≡ told_of (number + 257) u → more ≡ found ++ c ∷ [] → GoesOn M at u more
 goes_on M at number t u found more c before link has fewer is_c is = λ rest chain.
     let same : more ++ rest ≡ found ++ c ∷ rest = ap (λ (cs : List Commit). cs ++ rest) is ∙ append_assoc found (c ∷ []) rest in
@@ -55,7 +55,7 @@ next_behind None number less = tt
 next_behind (Some n) number less = omega (arith, less)
 
 -- one step of the chain
-pub one_before : (M : List (List ℕ)) (at number : ℕ) (t u : Table) → HasTable M at t → t.previous ≡ Some number → HasTable M (number + 257) u → u.commits + 1 ≡ t.commits
+pub one_before : (M : List (List ℕ)) (at number : ℕ) (t u : Table) → HasTableAt M at t → t.previous ≡ Some number → HasTableAt M (number + 257) u → u.commits + 1 ≡ t.commits
     → IsBefore M at (Some (number + 257))
 one_before M at number t u has link before fewer = (t, has, number, link, refl, u, before, fewer)
 

@@ -13,7 +13,7 @@ use Rattle.model.proofs.Counts.{len_both}
 use Rattle.durability.specs.Commit.{need}
 use Rattle.durability.specs.Formats.{Table_}
 use Rattle.durability.specs.Formats.Kind.{Table as TableEntry}
-use Rattle.durability.specs.Formats.Place.{Extent}
+use Rattle.durability.specs.Formats.NodePlace.{Extent}
 use Rattle.durability.specs.Plan.{Writing, Written, WritesNodes, IsPlaced, IsPlanned}
 use Rattle.durability.proofs.OnJournals.{length-held}
 use Rattle.udf.specs.Said.{said_table}

@@ -15,7 +15,7 @@ use Rattle.recover.specs.declared.fault.StoreFault.{StoreFault}
 use Rattle.recover.specs.declared.fault.StoreFault.TheVariants.{Device, Memory, NoCommit, Damaged}
 use Rattle.recover.specs.declared.state.State.{State}
 use Rattle.recover.specs.State.{IsShown, IsStateRefused}
-use Rattle.recover.specs.Tables.{HasTable}
+use Rattle.recover.specs.Tables.{HasTableAt}
 use Rattle.recover.proofs.Told.{IsTableTold, one_told, read, told}
 use Rattle.store.specs.declared.store.Store.{Store}
 use Rattle.store.specs.Calls.{Knows}
@@ -44,7 +44,7 @@ module _ (capacity volume : ℕ) (J : List Event) (T : model.State) (store : Sto
   }
 
   -- the table that is kept is there
-  pub table_here : (t : Table) × HasTable (held J) store.at t × (said_table t ≡ said_table (view store.vat))
+  pub table_here : (t : Table) × HasTableAt (held J) store.at t × (said_table t ≡ said_table (view store.vat))
   table_here = read (held J) store.at (said_table (view store.vat)) told_here
 
   pub commits_here : table_here.0.commits ≡ T.commits

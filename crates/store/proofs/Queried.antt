@@ -15,7 +15,7 @@ use Rattle.store.specs.declared.store.Store.{Store}
 use Rattle.directories.specs.Asked.{is_directory, said_names}
 use Rattle.directories.specs.Cache.{AreKept}
 use Rattle.store.specs.Calls.{GetRefuses, Gets, Knows, ListRefuses, Lists, StatRefuses, Stats}
-use Rattle.directories.specs.Queries.{IsRefused}
+use Rattle.directories.specs.Queries.{IsQueryRefused}
 use Rattle.store.specs.Agrees.{SameVolume}
 use Rattle.directories.specs.Shows.{Shows}
 use Rattle.store.proofs.Knowing.{knows_again, shows}
@@ -51,31 +51,31 @@ shown_elsewhere (Some node) e = go node.content e
 
 -- ---- each query at a state
 
-pub gets : (S : State) (path : Path) (result : Result (List ℕ) StoreFault) → IfOk result (λ bytes. told S.tree (Get path) ≡ runs.Answer.Data bytes) → IfErr result (IsRefused (told S.tree (Get path))) → Gets S path result
+pub gets : (S : State) (path : Path) (result : Result (List ℕ) StoreFault) → IfOk result (λ bytes. told S.tree (Get path) ≡ runs.Answer.Data bytes) → IfErr result (IsQueryRefused (told S.tree (Get path))) → Gets S path result
 gets S path (Ok bytes) is refused = is
 gets S path (Err fault) is refused = by refused
   where
-    by : IsRefused (told S.tree (Get path)) fault → GetRefuses (told S.tree (Get path)) fault
+    by : IsQueryRefused (told S.tree (Get path)) fault → GetRefuses (told S.tree (Get path)) fault
     by (inl missing) = inr (inl missing)
     by (inr (inl directory)) = inr (inr directory)
     by (inr (inr (inl other))) = absurd (got_elsewhere _ other.1)
     by (inr (inr (inr short))) = inl short
 
-pub lists : (S : State) (path : Path) (result : Result (List Listed) StoreFault) → IfOk result (λ names. told S.tree (List_ path) ≡ runs.Answer.Names (said_names names)) → IfErr result (IsRefused (told S.tree (List_ path))) → Lists S path result
+pub lists : (S : State) (path : Path) (result : Result (List Listed) StoreFault) → IfOk result (λ names. told S.tree (List_ path) ≡ runs.Answer.Names (said_names names)) → IfErr result (IsQueryRefused (told S.tree (List_ path))) → Lists S path result
 lists S path (Ok names) is refused = is
 lists S path (Err fault) is refused = by refused
   where
-    by : IsRefused (told S.tree (List_ path)) fault → ListRefuses (told S.tree (List_ path)) fault
+    by : IsQueryRefused (told S.tree (List_ path)) fault → ListRefuses (told S.tree (List_ path)) fault
     by (inl missing) = inr (inl missing)
     by (inr (inl other)) = absurd (listed_elsewhere S.tree path _ other.1)
     by (inr (inr (inl file))) = inr (inr file)
     by (inr (inr (inr short))) = inl short
 
-pub stats : (S : State) (path : Path) (result : Result NodeStatus StoreFault) → IfOk result (λ status. told S.tree (Stat path) ≡ runs.Answer.NodeIs (is_directory status.kind) status.moment status.size) → IfErr result (IsRefused (told S.tree (Stat path))) → Stats S path result
+pub stats : (S : State) (path : Path) (result : Result NodeStatus StoreFault) → IfOk result (λ status. told S.tree (Stat path) ≡ runs.Answer.NodeIs (is_directory status.kind) status.moment status.size) → IfErr result (IsQueryRefused (told S.tree (Stat path))) → Stats S path result
 stats S path (Ok status) is refused = is
 stats S path (Err fault) is refused = by refused
   where
-    by : IsRefused (told S.tree (Stat path)) fault → StatRefuses (told S.tree (Stat path)) fault
+    by : IsQueryRefused (told S.tree (Stat path)) fault → StatRefuses (told S.tree (Stat path)) fault
     by (inl missing) = inr missing
     by (inr (inl other)) = absurd (shown_elsewhere _ (inl other.1))
     by (inr (inr (inl other))) = absurd (shown_elsewhere _ (inr other.1))
@@ -93,15 +93,15 @@ module _ (capacity volume : ℕ) (J J' : List Event) (S : State) (h : Bool) (old
 
   pub get_known : (path : Path) (result : Result (List ℕ) StoreFault) → old.is_stopped ≡ false
       → ((tree : Tree) → Shows h J old.directories old.at old.vat.entries.items tree → IfOk result (λ bytes. told tree (Get path) ≡ runs.Answer.Data bytes))
-      → ((tree : Tree) → Shows h J old.directories old.at old.vat.entries.items tree → old.is_stopped ≡ false → IfErr result (IsRefused (told tree (Get path)))) → Gets S path result
+      → ((tree : Tree) → Shows h J old.directories old.at old.vat.entries.items tree → old.is_stopped ≡ false → IfErr result (IsQueryRefused (told tree (Get path)))) → Gets S path result
   get_known path result going is refused = gets S path result (is S.tree shown_tree) (refused S.tree shown_tree going)
 
   pub list_known : (path : Path) (result : Result (List Listed) StoreFault) → old.is_stopped ≡ false
       → ((tree : Tree) → Shows h J old.directories old.at old.vat.entries.items tree → IfOk result (λ names. told tree (List_ path) ≡ runs.Answer.Names (said_names names)))
-      → ((tree : Tree) → Shows h J old.directories old.at old.vat.entries.items tree → old.is_stopped ≡ false → IfErr result (IsRefused (told tree (List_ path)))) → Lists S path result
+      → ((tree : Tree) → Shows h J old.directories old.at old.vat.entries.items tree → old.is_stopped ≡ false → IfErr result (IsQueryRefused (told tree (List_ path)))) → Lists S path result
   list_known path result going is refused = lists S path result (is S.tree shown_tree) (refused S.tree shown_tree going)
 
   pub stat_known : (path : Path) (result : Result NodeStatus StoreFault) → old.is_stopped ≡ false
       → ((tree : Tree) → Once J → Shows h J old.directories old.at old.vat.entries.items tree → IfOk result (λ status. told tree (Stat path) ≡ runs.Answer.NodeIs (is_directory status.kind) status.moment status.size))
-      → ((tree : Tree) → Shows h J old.directories old.at old.vat.entries.items tree → old.is_stopped ≡ false → IfErr result (IsRefused (told tree (Stat path)))) → Stats S path result
+      → ((tree : Tree) → Shows h J old.directories old.at old.vat.entries.items tree → old.is_stopped ≡ false → IfErr result (IsQueryRefused (told tree (Stat path)))) → Stats S path result
   stat_known path result going is refused = stats S path result (is S.tree knows.once shown_tree) (refused S.tree shown_tree going)

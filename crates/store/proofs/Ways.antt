@@ -5,24 +5,24 @@ use Rattle.durability.specs.Formats.{Table_}
 use Rattle.vat.specs.Table.{Table}
 use Rattle.recover.specs.declared.fault.StoreFault.{StoreFault}
 use Rattle.recover.specs.declared.fault.StoreFault.TheVariants.{Device, Memory, Damaged}
-use Rattle.recover.specs.Tables.{HasTable, IsAtRefused, IsBefore, IsLinkRefused}
+use Rattle.recover.specs.Tables.{HasTableAt, IsAtRefused, IsBefore, IsLinkRefused}
 use Rattle.recover.proofs.Told.{is_read, one_read}
 use Rattle.store.specs.History.{IsWayRefused, Leads}
 
 -- no table of one commit less is where a link leads that was refused
-pub link_refused : (M : List (List ℕ)) (there commits : ℕ) (b c : ℕ) → IsLinkRefused M there commits (Damaged b c) → (u : Table) → HasTable M there u → u.commits + 1 ≡ commits → ⊥
+pub link_refused : (M : List (List ℕ)) (there commits : ℕ) (b c : ℕ) → IsLinkRefused M there commits (Damaged b c) → (u : Table) → HasTableAt M there u → u.commits + 1 ≡ commits → ⊥
 link_refused M there commits b c refused u has fewer =
     elim refused [
       | inl none ↦ is_read M there u has b c none
       | inr other ↦ other.3 (ap (λ (x : Table_). x.commits + 1) (one_read M there other.1 u other.2 has) ∙ fewer)
     ]
 
-no_step : (M : List (List ℕ)) (at number : ℕ) (t : Table) → HasTable M at t → t.previous ≡ Some number → (b c : ℕ) → IsLinkRefused M (number + 257) t.commits (Damaged b c) → (earlier : ℕ) → IsBefore M at (Some earlier) → ⊥
+no_step : (M : List (List ℕ)) (at number : ℕ) (t : Table) → HasTableAt M at t → t.previous ≡ Some number → (b c : ℕ) → IsLinkRefused M (number + 257) t.commits (Damaged b c) → (earlier : ℕ) → IsBefore M at (Some earlier) → ⊥
 no_step M at number t has link b c refused earlier (s, here, n, is, there, u, before, fewer) =
     let same = one_read M at s t here has in
     let one : n ≡ number = same_Some n number (sym is ∙ ap (λ (x : Table_). x.previous) same ∙ link) in
     let place : earlier ≡ number + 257 = omega (arith, there, one) in
-    link_refused M (number + 257) t.commits b c refused u (subst (λ (a : ℕ). HasTable M a u) place before) (fewer ∙ ap (λ (x : Table_). x.commits) same)
+    link_refused M (number + 257) t.commits b c refused u (subst (λ (a : ℕ). HasTableAt M a u) place before) (fewer ∙ ap (λ (x : Table_). x.commits) same)
 
 -- the first table was not read
 pub way_first : (M : List (List ℕ)) (from commits : ℕ) (fault : StoreFault) → IsAtRefused M from fault → IsWayRefused M from commits fault
@@ -32,8 +32,8 @@ way_first M from commits (Damaged b c) r = λ t has le. absurd (is_read M from t
 way_first M from commits _ r = elim r [ inl entry ↦ absurd entry | inr table ↦ absurd table.3 ]
 
 -- nor a later one
-pub way_link : (M : List (List ℕ)) (from commits steps at number : ℕ) (t : Table) → Leads M from steps at → HasTable M at t → t.previous ≡ Some number
-    → ((first : Table) → HasTable M from first → commits ≤ first.commits → commits < t.commits) → (fault : StoreFault) → IsLinkRefused M (number + 257) t.commits fault → IsWayRefused M from commits fault
+pub way_link : (M : List (List ℕ)) (from commits steps at number : ℕ) (t : Table) → Leads M from steps at → HasTableAt M at t → t.previous ≡ Some number
+    → ((first : Table) → HasTableAt M from first → commits ≤ first.commits → commits < t.commits) → (fault : StoreFault) → IsLinkRefused M (number + 257) t.commits fault → IsWayRefused M from commits fault
 way_link M from commits steps at number t leads has link more Device r = tt
 way_link M from commits steps at number t leads has link more Memory r = tt
 way_link M from commits steps at number t leads has link more (Damaged b c) r = λ first there le. record {
@@ -50,7 +50,7 @@ way_link M from commits steps at number t leads has link more _ r =
 
 -- at the first table of all, no more commits are wanted
 pub way_end : (M : List (List ℕ)) (from commits : ℕ) (t : Table) → t.previous ≡ None → (IsNone t.previous ↔ (t.commits ≡ 0)) → (t.commits ≡ commits → ⊥)
-    → ((first : Table) → HasTable M from first → commits ≤ first.commits → commits ≤ t.commits) → (b c : ℕ) → IsWayRefused M from commits (Damaged b c)
+    → ((first : Table) → HasTableAt M from first → commits ≤ first.commits → commits ≤ t.commits) → (b c : ℕ) → IsWayRefused M from commits (Damaged b c)
 way_end M from commits t none first other more b c head there le =
     let no_more = more head there le in
     let zero = first.0 (subst (λ (p : Option ℕ). IsNone p) (sym none) refl) in

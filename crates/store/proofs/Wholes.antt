@@ -11,7 +11,7 @@ use Rattle.recover.specs.declared.fault.StoreFault.{StoreFault}
 use Rattle.recover.specs.declared.fault.StoreFault.TheVariants.{Device, Memory, Damaged}
 use Rattle.recover.specs.declared.state.State.{State}
 use Rattle.recover.specs.State.{IsShown, IsUntold}
-use Rattle.recover.specs.Tables.{HasTable, IsAtRefused, IsLinkRefused}
+use Rattle.recover.specs.Tables.{HasTableAt, IsAtRefused, IsLinkRefused}
 use Rattle.recover.proofs.Told.{is_read, one_read}
 use Rattle.store.specs.declared.history.Commit.{Commit}
 use Rattle.store.specs.declared.store.Store.{Store}
@@ -30,18 +30,18 @@ module _ (M : Medium) where
   abbrev pub Goes : Table → Type 0
   Goes t = (rest : List Commit) × IsChain M t.previous t.commits rest
 
-  pub left_first : (at : ℕ) (t : Table) → HasTable M at t → (all : List Commit) → IsHistory M at all → Goes t
+  pub left_first : (at : ℕ) (t : Table) → HasTableAt M at t → (all : List Commit) → IsHistory M at all → Goes t
   left_first at t has all (u, there, earlier, is, chain) =
       (earlier, subst (λ (x : Table_). IsChain M x.previous x.commits earlier) (one_read M at u t there has) chain)
 
-  pub left_next : (number : ℕ) (t u : Table) → t.previous ≡ Some number → HasTable M (number + 257) u → Goes t → Goes u
+  pub left_next : (number : ℕ) (t u : Table) → t.previous ≡ Some number → HasTableAt M (number + 257) u → Goes t → Goes u
   left_next number t u link has (rest, left) = by rest left
     where
       by : (all : List Commit) → IsChain M t.previous t.commits all → Goes u
       by [] (none, count) = absurd (none-some number (sym none ∙ link))
       by (c ∷ earlier) (n, is, v, there, fewer, says, chain) =
           let same : n ≡ number = same_Some n number (sym is ∙ link) in
-          let one = one_read M (number + 257) v u (subst (λ (k : ℕ). HasTable M (k + 257) v) same there) has in
+          let one = one_read M (number + 257) v u (subst (λ (k : ℕ). HasTableAt M (k + 257) v) same there) has in
           (earlier, subst (λ (x : Table_). IsChain M x.previous x.commits earlier) one chain)
 
   none_left : (number : ℕ) (t : Table) → t.previous ≡ Some number → (b c : ℕ) → IsLinkRefused M (number + 257) t.commits (Damaged b c) → Goes t → ⊥
@@ -51,7 +51,7 @@ module _ (M : Medium) where
       by [] (none, count) = none-some number (sym none ∙ link)
       by (d ∷ earlier) (n, is, v, there, fewer, says, chain) =
           let same : n ≡ number = same_Some n number (sym is ∙ link) in
-          link_refused M (number + 257) t.commits b c refused v (subst (λ (k : ℕ). HasTable M (k + 257) v) same there) fewer
+          link_refused M (number + 257) t.commits b c refused v (subst (λ (k : ℕ). HasTableAt M (k + 257) v) same there) fewer
 
   pub history_first : (at : ℕ) (fault : StoreFault) → IsAtRefused M at fault → IsHistoryRefused M at fault
   history_first at Device r = tt
@@ -73,7 +73,7 @@ module _ (M : Medium) where
   chain_length link commits [] (none, count) = sym count
   chain_length link commits (c ∷ earlier) (n, is, v, there, fewer, says, chain) = let one = chain_length v.previous v.commits earlier chain in omega (arith, one, fewer)
 
-  pub history_length : (at : ℕ) (t : Table) (all : List Commit) → HasTable M at t → IsHistory M at all → length all ≡ t.commits + 1
+  pub history_length : (at : ℕ) (t : Table) (all : List Commit) → HasTableAt M at t → IsHistory M at all → length all ≡ t.commits + 1
   history_length at t all has (u, there, earlier, is, chain) =
       let one = chain_length u.previous u.commits earlier chain in
       let same = ap (λ (x : Table_). x.commits) (one_read M at u t there has) in
@@ -82,7 +82,7 @@ module _ (M : Medium) where
   module _ (capacity volume : ℕ) (sized : (a : ℕ) (state : State) → 257 ≤ a → IsShown capacity M a state → state.capacity ≡ volume) where
     -- ---- the states that were shown stood
 
-    stood_in_chain : (at : ℕ) (t : Table) (earlier : List Commit) → HasTable M at t → IsChain M t.previous t.commits earlier → AreShown capacity M earlier → (i : ℕ) → i < length earlier
+    stood_in_chain : (at : ℕ) (t : Table) (earlier : List Commit) → HasTableAt M at t → IsChain M t.previous t.commits earlier → AreShown capacity M earlier → (i : ℕ) → i < length earlier
         → (S : model.State) × chains.StoodAt capacity volume M at (suc i) S
     stood_in_chain at t [] has chain shown i less = absurd (omega (arith, less))
     stood_in_chain at t (c ∷ earlier) has (n, is, v, there, fewer, says, chain) shown zero less =
@@ -105,7 +105,7 @@ module _ (M : Medium) where
   module _ (capacity volume : ℕ) where
     -- ---- none stood where none is told
 
-    not_in_chain : (at : ℕ) (t : Table) (earlier : List Commit) → HasTable M at t → IsChain M t.previous t.commits earlier → (i : ℕ) → i < length earlier → (S : model.State) (N : Medium) → EndsAt M at N
+    not_in_chain : (at : ℕ) (t : Table) (earlier : List Commit) → HasTableAt M at t → IsChain M t.previous t.commits earlier → (i : ℕ) → i < length earlier → (S : model.State) (N : Medium) → EndsAt M at N
         → StoodBefore udf (suc i) capacity volume N S → ((d : Commit) → IsUntold capacity M (slice_index_or earlier i d).at) → ⊥
     not_in_chain at t [] has chain i less S N ends stood untold = absurd (omega (arith, less))
     not_in_chain at t (c ∷ earlier) has (n, is, v, there, fewer, says, chain) zero less S N ends stood untold =
@@ -131,13 +131,13 @@ module _ (M : Medium) where
     none_of None h = refl
     none_of (Some n) h = cc
 
-    chain_of : (steps at : ℕ) (t : Table) (S : model.State) (N : Medium) → HasTable M at t → t.commits ≡ steps → EndsAt M at N → StoodBefore udf steps capacity volume N S → Goes t
+    chain_of : (steps at : ℕ) (t : Table) (S : model.State) (N : Medium) → HasTableAt M at t → t.commits ≡ steps → EndsAt M at N → StoodBefore udf steps capacity volume N S → Goes t
     chain_of zero at t S N has count ends stood = ([], (none_of t.previous (has.is.table.fits.first.1 count), count))
     chain_of (suc steps) at t S N has count ends stood =
         let on = goes_back capacity volume M at steps S N ends t has stood in
         let (s, here, n, is, place, u, before, fewer) = on.1 in
         let same = one_read M at s t here has in
-        let there : HasTable M (n + 257) u = subst (λ (k : ℕ). HasTable M k u) place before in
+        let there : HasTableAt M (n + 257) u = subst (λ (k : ℕ). HasTableAt M k u) place before in
         let less : u.commits + 1 ≡ t.commits = fewer ∙ ap (λ (x : Table_). x.commits) same in
         let link : t.previous ≡ Some n = sym (ap (λ (x : Table_). x.previous) same) ∙ is in
         let rest = chain_of steps on.0 u S on.2 before (omega (arith, less, count)) on.3 on.4 in

@@ -1,7 +1,7 @@
 -- What the calls of a store say on a drive that is honest, of the state that stands on its journal.
 use Rattle.std.specs.Prelude.{◌≡◌, ◌⊎◌, ℕ, ◌+◌, ◌<◌, ◌≤◌, false, List, [], ◌∷◌, ◌++◌, length, Result, Ok, Err}
 use Rattle.drive.specs.Journal.{Event, held, written, Once}
-use Rattle.drive.specs.Writes.{IsLeft as AreLeft}
+use Rattle.drive.specs.Writes.{IsLeft}
 use Rattle.request.specs.declared.answer.Reply as told
 use Rattle.request.specs.declared.answer.Listed.{Listed}
 use Rattle.request.specs.declared.answer.NodeStatus.{NodeStatus}
@@ -66,15 +66,15 @@ pub record IsFailed (capacity volume : ℕ) (before : List Event) (S : State) (r
   pub knows : StillKnows capacity volume behind (after S done) store
 
 -- Nothing was written.
-pub record IsLeft (capacity volume : ℕ) (before : List Event) (S : State) (behind : List Event) (store : Store) : Type 0 where
+pub record IsLeftBehind (capacity volume : ℕ) (before : List Event) (S : State) (behind : List Event) (store : Store) : Type 0 where
   pub journal : behind ≡ before
   pub knows : StillKnows capacity volume behind S store
 
 abbrev pub Refuses : (capacity volume : ℕ) → List Event → State → Request → StoreFault → List Event → Store → Type 0
 Refuses capacity volume before S request refusal behind store =
     ((refusal ≡ fault.Device) × IsFailed capacity volume before S request behind store)
-    ⊎ (((refusal ≡ fault.Memory) × IsLeft capacity volume before S behind store)
-    ⊎ ((refusal ≡ fault.Full) × IsLeft capacity volume before S behind store × (volume < length before + need spelled S request)))
+    ⊎ (((refusal ≡ fault.Memory) × IsLeftBehind capacity volume before S behind store)
+    ⊎ ((refusal ≡ fault.Full) × IsLeftBehind capacity volume before S behind store × (volume < length before + need spelled S request)))
 
 -- what became of a new request at the state that stands
 abbrev pub Applies : (capacity volume : ℕ) → List Event → State → Request → Result told.Reply StoreFault → List Event → Store → Type 0
@@ -85,7 +85,7 @@ Applies capacity volume before S request (Err refusal) behind store = Refuses ca
 pub record Withstands (capacity volume : ℕ) (before : List Event) (S : State) (request : Request) (writes behind : List (List (List ℕ))) : Type 0 where
   pub added : List (List (List ℕ))
   pub writes_are : behind ≡ writes ++ added
-  pub torn : (left : List (List ℕ)) (journal : List Event) → AreLeft added left → journal ≡ before ++ written (length before) left
+  pub torn : (left : List (List ℕ)) (journal : List Event) → IsLeft added left → journal ≡ before ++ written (length before) left
       → Advances udf capacity volume before S journal S ⊎ Advances udf capacity volume before S journal (after_one S request)
 
 -- ---- queries

@@ -7,7 +7,7 @@ use Rattle.recover.specs.declared.fault.StoreFault.{StoreFault}
 use Rattle.recover.specs.declared.fault.StoreFault.TheVariants.{Device, Memory, Damaged}
 use Rattle.recover.specs.State.{IsShown, IsUntold}
 use Rattle.recover.specs.declared.state.State.{State}
-use Rattle.recover.specs.Tables.{HasTable, IsBefore}
+use Rattle.recover.specs.Tables.{HasTableAt, IsBefore}
 use Rattle.store.specs.declared.history.Commit.{Commit}
 
 -- what is told of the commit whose table's entry stands at an address
@@ -18,12 +18,12 @@ told_of at table = record { commit = table.commits; at = at; files = table.files
 abbrev pub IsChain : List (List ℕ) → Option ℕ → ℕ → List Commit → Type 0
 IsChain medium link commits [] = (link ≡ None) × (commits ≡ 0)
 IsChain medium link commits (c ∷ earlier) =
-    (number : ℕ) × (link ≡ Some number) × (table : Table) × HasTable medium (number + PARTITION_START) table × (table.commits + 1 ≡ commits)
+    (number : ℕ) × (link ≡ Some number) × (table : Table) × HasTableAt medium (number + PARTITION_START) table × (table.commits + 1 ≡ commits)
     × (c ≡ told_of (number + PARTITION_START) table) × IsChain medium table.previous table.commits earlier
 
 -- all commits from the one whose table's entry stands at an address down to the format
 abbrev pub IsHistory : List (List ℕ) → ℕ → List Commit → Type 0
-IsHistory medium at commits = (table : Table) × HasTable medium at table × (earlier : List Commit) × (commits ≡ told_of at table ∷ earlier)
+IsHistory medium at commits = (table : Table) × HasTableAt medium at table × (earlier : List Commit) × (commits ≡ told_of at table ∷ earlier)
     × IsChain medium table.previous table.commits earlier
 
 -- so many steps of the chain lead from one address to another
@@ -35,7 +35,7 @@ Leads medium from (suc steps) to = (at : ℕ) × Leads medium from steps at × I
 pub record IsTableOf (medium : List (List ℕ)) (from commits at : ℕ) (vat : Vat) : Type 0 where
   pub steps : ℕ
   pub leads : Leads medium from steps at
-  pub table : HasTable medium at (view vat)
+  pub table : HasTableAt medium at (view vat)
   pub commits_are : vat.sessions.commits ≡ commits
 
 -- the state after each of the commits is told by the blocks, on a drive of this capacity
@@ -61,7 +61,7 @@ pub record BreaksOff (medium : List (List ℕ)) (from commits : ℕ) : Type 0 wh
   pub at : ℕ
   pub leads : Leads medium from steps at
   pub table : Table
-  pub there : HasTable medium at table
+  pub there : HasTableAt medium at table
   pub more : commits < table.commits
   pub none : (earlier : ℕ) → IsBefore medium at (Some earlier) → ⊥
 
@@ -69,7 +69,7 @@ pub record BreaksOff (medium : List (List ℕ)) (from commits : ℕ) : Type 0 wh
 abbrev pub IsWayRefused : List (List ℕ) → ℕ → ℕ → StoreFault → Type 0
 IsWayRefused medium from commits Device = ⊤
 IsWayRefused medium from commits Memory = ⊤
-IsWayRefused medium from commits (Damaged block cause) = (table : Table) → HasTable medium from table → commits ≤ table.commits → BreaksOff medium from commits
+IsWayRefused medium from commits (Damaged block cause) = (table : Table) → HasTableAt medium from table → commits ≤ table.commits → BreaksOff medium from commits
 IsWayRefused medium from commits _ = ⊥
 
 -- at the address of one of the commits no state is told

@@ -53,5 +53,5 @@ pub record IsUntouched (before : Store) (J J' : List Event) (store : Store) : Ty
   pub store_is : store ≡ record before { directories = store.directories }
 
 -- what a refusal leaves
-abbrev pub IsRefused : Store → Request → ℕ → List Event → List Event → Store → StoreFault → Type 0
-IsRefused before request capacity J J' store fault = IsUntouched before J J' store ⊎ HasFailed before request capacity J J' fault store
+abbrev pub IsCommitRefused : Store → Request → ℕ → List Event → List Event → Store → StoreFault → Type 0
+IsCommitRefused before request capacity J J' store fault = IsUntouched before J J' store ⊎ HasFailed before request capacity J J' fault store

@@ -11,7 +11,7 @@ ghost use Rattle.directories.specs.Asked.{said_request};
 ghost use Rattle.store.specs.Calls.{Applies, Knows, Withstands};
 ghost use Rattle.directories.specs.Cache.{AreKept};
 ghost use Rattle.planning.specs.Plan.{IsPlan, table_data, node_list, plan_blocks};
-ghost use Rattle.store.specs.Putting.{WritesPlan, IsRefused};
+ghost use Rattle.store.specs.Putting.{WritesPlan, IsCommitRefused};
 ghost use Rattle.next_vat.specs.TableChange.{IsNext};
 ghost use Rattle.recover.specs.declared.fault.StoreFault.TheVariants.{Device, Stopped};
 
@@ -43,7 +43,7 @@ impl Store {
         ensures commit { IfOk result (λ reply. reply.commit ≡ self.old.vat.sessions.commits + 1) }
         ensures written { IfOk result (λ reply. WritesPlan self.old request.now (D.capacity drive.old) (D.journal drive.old) (D.journal drive.new) self.new reply) }
         // On any drive a refusal leaves store and journal as they were, unless a write failed: then the store is stopped.
-        ensures refused { IfErr result (IsRefused self.old request.now (D.capacity drive.old) (D.journal drive.old) (D.journal drive.new) self.new) }
+        ensures refused { IfErr result (IsCommitRefused self.old request.now (D.capacity drive.old) (D.journal drive.old) (D.journal drive.new) self.new) }
         // A store that a refusal leaves open gave the drive no write, so behind a failed write it is stopped, whatever that left.
         ensures unwritten { OnErr result (self.new.is_stopped ≡ false → D.writes drive.new ≡ D.writes drive.old) }
         ensures stopped { self.old.is_stopped ≡ true → (result ≡ Err Stopped) × (self.new ≡ self.old) × (drive.new ≡ drive.old) }

@@ -1,5 +1,6 @@
 //! The commits of a volume, and the state after each.
 
+ghost use Rattle.limits.specs.declared.TheConstants.{PARTITION_START};
 ghost use Rattle.std.specs.Prelude.{◌≡◌, ◌+◌, ◌<◌, ◌≤◌, ℕ, All, Err, IsTrue, IfOk, IfErr, OnOk, false, length};
 ghost use Rattle.drive.specs.Journal.{held, next_of};
 ghost use Rattle.drive.specs.Reads.{Reads};
@@ -81,7 +82,7 @@ impl Snapshot {
     ghost use Rattle.store.specs.History.{told_of};
     ghost use Rattle.directories.specs.Asked.{said_names};
     ghost use Rattle.directories.specs.Asked as asked;
-    ghost use Rattle.directories.specs.Queries.{IsRefused};
+    ghost use Rattle.directories.specs.Queries.{IsQueryRefused};
     ghost use Rattle.store.specs.Agrees.{SameVolume};
     ghost use Rattle.directories.specs.Shows.{Shows};
 
@@ -110,7 +111,7 @@ impl Snapshot {
         requires agrees { Agrees (D.journal drive.old) (D.capacity drive.old) store.old }
         requires within { self.now.at ≤ next_of (D.journal drive.old) }
         ensures told { (tree : Tree) → Shows (D.honest drive.new) (D.journal drive.old) store.old.directories self.now.at self.now.vat.entries.items tree → IfOk result (λ bytes. runs.told tree (runs.Query.Get path.now) ≡ runs.Answer.Data bytes) }
-        ensures refused { (tree : Tree) → Shows (D.honest drive.new) (D.journal drive.old) store.old.directories self.now.at self.now.vat.entries.items tree → store.old.is_stopped ≡ false → IfErr result (IsRefused (runs.told tree (runs.Query.Get path.now))) }
+        ensures refused { (tree : Tree) → Shows (D.honest drive.new) (D.journal drive.old) store.old.directories self.now.at self.now.vat.entries.items tree → store.old.is_stopped ≡ false → IfErr result (IsQueryRefused (runs.told tree (runs.Query.Get path.now))) }
         ensures kept { IsTrue (D.honest drive.new) → AreKept (D.journal drive.old) store.old.directories → AreKept (D.journal drive.old) store.new.directories }
         ensures stopped { IsTrue store.old.is_stopped → (result ≡ Err Stopped) × (store.new ≡ store.old) × (drive.new ≡ drive.old) }
         ensures same { SameVolume store.old store.new }
@@ -132,7 +133,7 @@ impl Snapshot {
         requires agrees { Agrees (D.journal drive.old) (D.capacity drive.old) store.old }
         requires within { self.now.at ≤ next_of (D.journal drive.old) }
         ensures told { (tree : Tree) → Shows (D.honest drive.new) (D.journal drive.old) store.old.directories self.now.at self.now.vat.entries.items tree → IfOk result (λ listing. runs.told tree (runs.Query.List_ path.now) ≡ runs.Answer.Names (said_names listing)) }
-        ensures refused { (tree : Tree) → Shows (D.honest drive.new) (D.journal drive.old) store.old.directories self.now.at self.now.vat.entries.items tree → store.old.is_stopped ≡ false → IfErr result (IsRefused (runs.told tree (runs.Query.List_ path.now))) }
+        ensures refused { (tree : Tree) → Shows (D.honest drive.new) (D.journal drive.old) store.old.directories self.now.at self.now.vat.entries.items tree → store.old.is_stopped ≡ false → IfErr result (IsQueryRefused (runs.told tree (runs.Query.List_ path.now))) }
         ensures kept { IsTrue (D.honest drive.new) → AreKept (D.journal drive.old) store.old.directories → AreKept (D.journal drive.old) store.new.directories }
         ensures stopped { IsTrue store.old.is_stopped → (result ≡ Err Stopped) × (store.new ≡ store.old) × (drive.new ≡ drive.old) }
         ensures same { SameVolume store.old store.new }
@@ -154,7 +155,7 @@ impl Snapshot {
         requires agrees { Agrees (D.journal drive.old) (D.capacity drive.old) store.old }
         requires within { self.now.at ≤ next_of (D.journal drive.old) }
         ensures told { (tree : Tree) → Once (D.journal drive.old) → Shows (D.honest drive.new) (D.journal drive.old) store.old.directories self.now.at self.now.vat.entries.items tree → IfOk result (λ status. runs.told tree (runs.Query.Stat path.now) ≡ runs.Answer.NodeIs (asked.is_directory status.kind) status.moment status.size) }
-        ensures refused { (tree : Tree) → Shows (D.honest drive.new) (D.journal drive.old) store.old.directories self.now.at self.now.vat.entries.items tree → store.old.is_stopped ≡ false → IfErr result (IsRefused (runs.told tree (runs.Query.Stat path.now))) }
+        ensures refused { (tree : Tree) → Shows (D.honest drive.new) (D.journal drive.old) store.old.directories self.now.at self.now.vat.entries.items tree → store.old.is_stopped ≡ false → IfErr result (IsQueryRefused (runs.told tree (runs.Query.Stat path.now))) }
         ensures kept { IsTrue (D.honest drive.new) → AreKept (D.journal drive.old) store.old.directories → AreKept (D.journal drive.old) store.new.directories }
         ensures stopped { IsTrue store.old.is_stopped → (result ≡ Err Stopped) × (store.new ≡ store.old) × (drive.new ≡ drive.old) }
         ensures same { SameVolume store.old store.new }
@@ -176,7 +177,7 @@ impl Store {
         ensures all { (volume : ℕ) (T : said.State) → IsTrue (D.honest drive.new) → Knows (D.capacity drive.old) volume (D.journal drive.old) T self.now → IfOk result (λ commits. length commits.items ≡ T.commits + 1) }
         // Where it is refused no list is the history, or the drive failed or memory was short.
         ensures refused { self.now.is_stopped ≡ false → IfErr result (λ fault. IsTrue (D.honest drive.new) → IsHistoryRefused (held (D.journal drive.old)) self.now.at fault) }
-        ensures within { IfOk result (λ commits. All (λ c. (257 ≤ c.at) × (c.at < next_of (D.journal drive.old))) commits.items) }
+        ensures within { IfOk result (λ commits. All (λ c. (PARTITION_START ≤ c.at) × (c.at < next_of (D.journal drive.old))) commits.items) }
         ensures reads { Reads D.Drive (devices result) drive.old drive.new }
     {
         if self.is_stopped {
@@ -232,7 +233,7 @@ impl Store {
         requires agrees { Agrees (D.journal drive.old) (D.capacity drive.old) self.now }
         ensures table { IfOk result (λ found. IsTrue (D.honest drive.new) → IsTableOf (held (D.journal drive.old)) self.now.at commit found.0 found.1) }
         ensures refused { IfErr result (λ fault. IsTrue (D.honest drive.new) → IsWayRefused (held (D.journal drive.old)) self.now.at commit fault) }
-        ensures within { IfOk result (λ found. (257 ≤ found.0) × (found.0 < next_of (D.journal drive.old))) }
+        ensures within { IfOk result (λ found. (PARTITION_START ≤ found.0) × (found.0 < next_of (D.journal drive.old))) }
         ensures reads { Reads D.Drive (devices result) drive.old drive.new }
     {
         let mut at = self.at;
@@ -270,7 +271,7 @@ impl Store {
 /// The state after each commit stands, from the one whose table's entry stands at `at` back to the format. The chain is walked
 /// once: each table is that of a state, and what two states that follow one another have alike is read once.
 fn check_states<D: Drive>(alloc: Global, drive: &mut D, at: u32) -> Result<(), StoreFault>
-    requires low { 257 ≤ at }
+    requires low { PARTITION_START ≤ at }
     requires within { at < next_of (D.journal drive.old) }
     ensures checked { OnOk result (IsTrue (D.honest drive.new) → IsChecked (D.capacity drive.old) (held (D.journal drive.old)) at) }
     // Where it is refused no list is the history, or of one of its commits no state is told, or the drive failed or memory was short.

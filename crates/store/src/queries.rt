@@ -11,7 +11,7 @@ ghost use Rattle.store.specs.Agrees.{Agrees};
 ghost use Rattle.directories.specs.Cache.{AreKept};
 ghost use Rattle.directories.specs.Asked.{said_names};
 ghost use Rattle.directories.specs.Asked as asked;
-ghost use Rattle.directories.specs.Queries.{IsRefused};
+ghost use Rattle.directories.specs.Queries.{IsQueryRefused};
 ghost use Rattle.store.specs.Agrees.{SameVolume};
 ghost use Rattle.directories.specs.Shows.{Shows};
 
@@ -32,7 +32,7 @@ impl Store {
     ) -> Result<FileData, StoreFault>
         requires agrees { Agrees (D.journal drive.old) (D.capacity drive.old) self.old }
         ensures told { (tree : Tree) → Shows (D.honest drive.new) (D.journal drive.old) self.old.directories self.old.at self.old.vat.entries.items tree → IfOk result (λ bytes. runs.told tree (runs.Query.Get path.now) ≡ runs.Answer.Data bytes) }
-        ensures refused { (tree : Tree) → Shows (D.honest drive.new) (D.journal drive.old) self.old.directories self.old.at self.old.vat.entries.items tree → self.old.is_stopped ≡ false → IfErr result (IsRefused (runs.told tree (runs.Query.Get path.now))) }
+        ensures refused { (tree : Tree) → Shows (D.honest drive.new) (D.journal drive.old) self.old.directories self.old.at self.old.vat.entries.items tree → self.old.is_stopped ≡ false → IfErr result (IsQueryRefused (runs.told tree (runs.Query.Get path.now))) }
         ensures kept { IsTrue (D.honest drive.new) → AreKept (D.journal drive.old) self.old.directories → AreKept (D.journal drive.old) self.new.directories }
         ensures stopped { IsTrue self.old.is_stopped → (result ≡ Err Stopped) × (self.new ≡ self.old) × (drive.new ≡ drive.old) }
         ensures same { SameVolume self.old self.new }
@@ -52,7 +52,7 @@ impl Store {
     ) -> Result<Listing, StoreFault>
         requires agrees { Agrees (D.journal drive.old) (D.capacity drive.old) self.old }
         ensures told { (tree : Tree) → Shows (D.honest drive.new) (D.journal drive.old) self.old.directories self.old.at self.old.vat.entries.items tree → IfOk result (λ listing. runs.told tree (runs.Query.List_ path.now) ≡ runs.Answer.Names (said_names listing)) }
-        ensures refused { (tree : Tree) → Shows (D.honest drive.new) (D.journal drive.old) self.old.directories self.old.at self.old.vat.entries.items tree → self.old.is_stopped ≡ false → IfErr result (IsRefused (runs.told tree (runs.Query.List_ path.now))) }
+        ensures refused { (tree : Tree) → Shows (D.honest drive.new) (D.journal drive.old) self.old.directories self.old.at self.old.vat.entries.items tree → self.old.is_stopped ≡ false → IfErr result (IsQueryRefused (runs.told tree (runs.Query.List_ path.now))) }
         ensures kept { IsTrue (D.honest drive.new) → AreKept (D.journal drive.old) self.old.directories → AreKept (D.journal drive.old) self.new.directories }
         ensures stopped { IsTrue self.old.is_stopped → (result ≡ Err Stopped) × (self.new ≡ self.old) × (drive.new ≡ drive.old) }
         ensures same { SameVolume self.old self.new }
@@ -72,7 +72,7 @@ impl Store {
     ) -> Result<NodeStatus, StoreFault>
         requires agrees { Agrees (D.journal drive.old) (D.capacity drive.old) self.old }
         ensures told { (tree : Tree) → Once (D.journal drive.old) → Shows (D.honest drive.new) (D.journal drive.old) self.old.directories self.old.at self.old.vat.entries.items tree → IfOk result (λ status. runs.told tree (runs.Query.Stat path.now) ≡ runs.Answer.NodeIs (asked.is_directory status.kind) status.moment status.size) }
-        ensures refused { (tree : Tree) → Shows (D.honest drive.new) (D.journal drive.old) self.old.directories self.old.at self.old.vat.entries.items tree → self.old.is_stopped ≡ false → IfErr result (IsRefused (runs.told tree (runs.Query.Stat path.now))) }
+        ensures refused { (tree : Tree) → Shows (D.honest drive.new) (D.journal drive.old) self.old.directories self.old.at self.old.vat.entries.items tree → self.old.is_stopped ≡ false → IfErr result (IsQueryRefused (runs.told tree (runs.Query.Stat path.now))) }
         ensures kept { IsTrue (D.honest drive.new) → AreKept (D.journal drive.old) self.old.directories → AreKept (D.journal drive.old) self.new.directories }
         ensures stopped { IsTrue self.old.is_stopped → (result ≡ Err Stopped) × (self.new ≡ self.old) × (drive.new ≡ drive.old) }
         ensures same { SameVolume self.old self.new }

@@ -2,9 +2,9 @@
 use Rattle.std.proofs.Common.{◌≡◌, ℕ, Bool, true, false, List, [], ◌∷◌, map, refl, ap}
 use Rattle.model.specs.Graph.{Entry}
 use Rattle.model.specs.Session.{Reply, ClientRecord}
-use Rattle.durability.specs.Formats.{Kind, Place, Fields, Table_}
+use Rattle.durability.specs.Formats.{Kind, NodePlace, NodeFields, Table_}
 use Rattle.durability.specs.Formats.Kind.{Directory, File, Table}
-use Rattle.durability.specs.Formats.Place.{Nowhere, Extent, Inside}
+use Rattle.durability.specs.Formats.NodePlace.{Nowhere, Extent, Inside}
 use Rattle.icb.specs.Entry.{Fields as IcbFields}
 use Rattle.dir.specs.declared.entry.Entry.{Entry as DirEntry}
 use Rattle.vat.specs.declared.record.Record.{Record as VatRecord}
@@ -38,7 +38,7 @@ kind_one Table Directory e = absurd (cc)
 kind_one Table File e = absurd (cc)
 kind_one Table Table e = refl
 
-place_one : (a b : Place) → place_of a ≡ place_of b → a ≡ b
+place_one : (a b : NodePlace) → place_of a ≡ place_of b → a ≡ b
 place_one Nowhere Nowhere e = refl
 place_one Nowhere (Extent m) e = absurd (cc)
 place_one Nowhere (Inside ys) e = absurd (cc)
@@ -49,13 +49,13 @@ place_one (Inside xs) Nowhere e = absurd (cc)
 place_one (Inside xs) (Extent m) e = absurd (cc)
 place_one (Inside xs) (Inside ys) e = let same : xs ≡ ys = cc in ap (λ bytes. Inside bytes) same
 
-same_fields : (f g : Fields) → f.kind ≡ g.kind → f.moment ≡ g.moment → f.links ≡ g.links → f.identity ≡ g.identity → f.size ≡ g.size → f.place ≡ g.place → f ≡ g
+same_fields : (f g : NodeFields) → f.kind ≡ g.kind → f.moment ≡ g.moment → f.links ≡ g.links → f.identity ≡ g.identity → f.size ≡ g.size → f.place ≡ g.place → f ≡ g
 same_fields f g kind moment links identity size place =
-    let made : Fields = record { kind = g.kind; moment = g.moment; links = g.links; identity = g.identity; size = g.size; place = g.place } in
+    let made : NodeFields = record { kind = g.kind; moment = g.moment; links = g.links; identity = g.identity; size = g.size; place = g.place } in
     let from : f ≡ made = rw (← kind, ← moment, ← links, ← identity, ← size, ← place) refl in
     from
 
-pub fields_one : (f g : Fields) → fields_of f ≡ fields_of g → f ≡ g
+pub fields_one : (f g : NodeFields) → fields_of f ≡ fields_of g → f ≡ g
 fields_one f g e =
     same_fields f g (kind_one f.kind g.kind (ap (λ (x : IcbFields). x.kind) e)) (ap (λ (x : IcbFields). x.moment) e) (ap (λ (x : IcbFields). x.links) e)
     (ap (λ (x : IcbFields). x.unique) e) (ap (λ (x : IcbFields). x.size) e) (place_one f.place g.place (ap (λ (x : IcbFields). x.place) e))

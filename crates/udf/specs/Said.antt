@@ -3,9 +3,9 @@ use Rattle.std.specs.Prelude.{◌≡◌, ◌↔◌, ℕ, ◌+◌, ◌-◌, ◌<�
 use Rattle.limits.specs.declared.TheConstants.{PARTITION_BLOCKS}
 use Rattle.model.specs.Graph.{Entry}
 use Rattle.model.specs.Session.{Reply, ClientRecord}
-use Rattle.durability.specs.Formats.{Block, Kind, Place, Fields, Table_}
+use Rattle.durability.specs.Formats.{Block, Kind, NodePlace, NodeFields, Table_}
 use Rattle.durability.specs.Formats.Kind.{Directory, File, Table}
-use Rattle.durability.specs.Formats.Place.{Nowhere, Extent, Inside}
+use Rattle.durability.specs.Formats.NodePlace.{Nowhere, Extent, Inside}
 use Rattle.durability.specs.Volume.{partition_start, blocks_for, IsTableEntry}
 use Rattle.durability.specs.Plan.{packed, IsClearStart}
 use Rattle.icb.specs.declared.entry.Kind.{Kind as IcbKind}
@@ -30,12 +30,12 @@ said_kind icb_kinds.Directory = Directory
 said_kind icb_kinds.File = File
 said_kind icb_kinds.Vat = Table
 
-abbrev pub said_place : IcbPlace → Place
+abbrev pub said_place : IcbPlace → NodePlace
 said_place IcbNowhere = Nowhere
 said_place (IcbExtent first) = Extent first
 said_place (IcbInside bytes) = Inside bytes
 
-abbrev pub said_fields : IcbFields → Fields
+abbrev pub said_fields : IcbFields → NodeFields
 said_fields f = record { kind = said_kind f.kind; moment = f.moment; links = f.links; identity = f.unique; size = f.size; place = said_place f.place }
 
 -- ---- directories

@@ -2,9 +2,9 @@
 use Rattle.std.specs.Prelude.{ℕ, Bool, true, false, List, map}
 use Rattle.model.specs.Graph.{Entry}
 use Rattle.model.specs.Session.{Reply, ClientRecord}
-use Rattle.durability.specs.Formats.{Kind, Place, Fields, Table_}
+use Rattle.durability.specs.Formats.{Kind, NodePlace, NodeFields, Table_}
 use Rattle.durability.specs.Formats.Kind.{Directory, File, Table}
-use Rattle.durability.specs.Formats.Place.{Nowhere, Extent, Inside}
+use Rattle.durability.specs.Formats.NodePlace.{Nowhere, Extent, Inside}
 use Rattle.icb.specs.declared.entry.Kind.{Kind as IcbKind}
 use Rattle.icb.specs.declared.entry.Kind.TheVariants as icb_kinds
 use Rattle.icb.specs.Entry.{Place as IcbPlace, Fields as IcbFields}
@@ -24,12 +24,12 @@ kind_of Directory = icb_kinds.Directory
 kind_of File = icb_kinds.File
 kind_of Table = icb_kinds.Vat
 
-abbrev pub place_of : Place → IcbPlace
+abbrev pub place_of : NodePlace → IcbPlace
 place_of Nowhere = IcbNowhere
 place_of (Extent first) = IcbExtent first
 place_of (Inside bytes) = IcbInside bytes
 
-abbrev pub fields_of : Fields → IcbFields
+abbrev pub fields_of : NodeFields → IcbFields
 fields_of f = record { kind = kind_of f.kind; moment = f.moment; links = f.links; unique = f.identity; size = f.size; place = place_of f.place }
 
 -- ---- directories

@@ -1,5 +1,6 @@
 //! Where data may stand: where none of its blocks looks like the entry of a table.
 
+ghost use Rattle.limits.specs.declared.TheConstants.{BLOCK_BYTES, PARTITION_BLOCKS};
 ghost use Rattle.std.specs.Prelude.{◌≡◌, ℕ, ◌+◌, ◌*◌, ◌<◌, ◌≤◌, ◌↔◌, length, take, drop, IsTrue};
 ghost use Rattle.ecma.specs.Descriptor.{padded};
 ghost use Rattle.icb.specs.Entry.{blocks_of};
@@ -28,7 +29,7 @@ pub fn is_vat_icb(block: &Block, number: u32) -> bool
 /// filled up with zeros, is the entry of a virtual allocation table for the number at which it would stand.
 pub fn clear_start(bytes: &[u8], from: u32) -> u32
     requires size { length bytes.now ≤ 1_048_576 }
-    requires place { from ≤ 449_743 }
+    requires place { from ≤ PARTITION_BLOCKS }
     ensures low { from ≤ result }
     ensures high { result ≤ from + blocks_of (length bytes.now) }
     ensures clear { Imitates bytes.now result → ⊥ }
@@ -59,9 +60,9 @@ fn imitates(bytes: &[u8], start: u32) -> bool
 
 /// What a block of the data has, fewer bytes in the last one.
 fn block_text(bytes: &[u8], i: usize) -> &[u8]
-    requires { 2048 * i ≤ length bytes.now }
-    ensures value { result.now ≡ take 2048 (drop (2048 * i) bytes.now) }
-    ensures size { length result.now ≤ 2048 }
+    requires { BLOCK_BYTES * i ≤ length bytes.now }
+    ensures value { result.now ≡ take BLOCK_BYTES (drop (BLOCK_BYTES * i) bytes.now) }
+    ensures size { length result.now ≤ BLOCK_BYTES }
 {
     let (_, rest) = bytes.split_at(BLOCK_SIZE * i);
     let (text, _) = rest.split_at(rest.len().min(BLOCK_SIZE));
@@ -70,7 +71,7 @@ fn block_text(bytes: &[u8], i: usize) -> &[u8]
 
 /// Whether a block with this text and zeros behind it is the entry of a table.
 fn is_entry(text: &[u8], number: u32) -> bool
-    requires { length text.now ≤ 2048 }
+    requires { length text.now ≤ BLOCK_BYTES }
     ensures { IsTrue result ↔ IsVatIcb (padded text.now) number }
 {
     if text.len() >= LOCATION + 4 && u32_at(text, LOCATION) != number {
@@ -81,7 +82,7 @@ fn is_entry(text: &[u8], number: u32) -> bool
 
 /// The same, with the block made.
 fn is_padded_entry(text: &[u8], number: u32) -> bool
-    requires { length text.now ≤ 2048 }
+    requires { length text.now ≤ BLOCK_BYTES }
     ensures { IsTrue result ↔ IsVatIcb (padded text.now) number }
 {
     let mut block = [0; BLOCK_SIZE];

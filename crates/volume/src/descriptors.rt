@@ -1,5 +1,6 @@
 //! The descriptors of a volume, each as a table of its fields. Each stands at the address that its tag tells.
 
+ghost use Rattle.limits.specs.declared.TheConstants.{FORMAT_BLOCKS, PARTITION_START};
 ghost use Rattle.std.specs.Prelude.{◌≡◌, ◌<◌, ◌≤◌, ◌%◌, ◌++◌, IsAscii};
 ghost use Rattle.osta.specs.Dstring.{dstring};
 ghost use Rattle.ecma.specs.Descriptor.{IsDescriptor};
@@ -146,7 +147,7 @@ pub(crate) fn implementation_use(label: &Label, n: u32) -> Block
 
 /// The partition descriptor (ECMA-167 3/10.5), of a medium that is written once.
 pub(crate) fn partition(capacity: u32, n: u32) -> Block
-    requires { 257 ≤ capacity }
+    requires { PARTITION_START ≤ capacity }
     ensures { IsDescriptor 5 n (spec.partition_fields capacity) result }
 {
     descriptor_block(
@@ -239,7 +240,7 @@ pub(crate) fn terminating(n: u32) -> Block
 /// The logical volume integrity descriptor (ECMA-167 3/10.10, UDF 2.01 2.2.6), which stays open: the counts of a volume as
 /// it stands are those of its virtual allocation table.
 pub(crate) fn integrity(stamp: [u8; 12], capacity: u32, n: u32) -> Block
-    requires { 262 ≤ capacity }
+    requires { FORMAT_BLOCKS ≤ capacity }
     ensures { IsDescriptor 9 n (spec.integrity_fields stamp capacity) result }
 {
     descriptor_block(

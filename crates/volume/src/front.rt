@@ -1,3 +1,4 @@
+ghost use Rattle.limits.specs.declared.TheConstants.{GREATEST_CAPACITY, LEAST_CAPACITY, PARTITION_START};
 ghost use Rattle.std.specs.Prelude.{◌≡◌, ◌≤◌, ◌%◌, IfOk};
 ghost use Rattle.osta.specs.Dstring.{dstring};
 ghost use Rattle.volume.specs.Front.{Holds, IsFront, IsFrontBlock, recognition_content, sequence_content};
@@ -26,8 +27,8 @@ pub struct Front {
 
 /// The block of the front at an address (ECMA-167 2/9.1 and 3/10, UDF 2.01 2.2).
 pub fn front_block(label: &Label, moment: Timestamp, capacity: u32, n: u32) -> Block
-    requires low { 512 ≤ capacity }
-    requires high { capacity ≤ 450_000 }
+    requires low { LEAST_CAPACITY ≤ capacity }
+    requires high { capacity ≤ GREATEST_CAPACITY }
     requires within { n ≤ 256 }
     ensures { IsFrontBlock label.now moment capacity n result }
 {
@@ -50,8 +51,8 @@ pub fn front_blocks(
     moment: Timestamp,
     capacity: u32,
 ) -> Result<Vec<Block>, AllocError>
-    requires low { 512 ≤ capacity }
-    requires high { capacity ≤ 450_000 }
+    requires low { LEAST_CAPACITY ≤ capacity }
+    requires high { capacity ≤ GREATEST_CAPACITY }
     ensures { IfOk result (λ blocks. IsFront label.now moment capacity blocks.items) }
 {
     let mut blocks = Vec::with_capacity(alloc, FRONT_BLOCKS as usize)?;
@@ -93,7 +94,7 @@ fn sequence_block(
     n: u32,
 ) -> Block
     requires volume { volume ≡ dstring 32 label.now }
-    requires capacity { 257 ≤ capacity }
+    requires capacity { PARTITION_START ≤ capacity }
     ensures { Holds n (sequence_content label.now moment stamp capacity (n % 16)) result }
 {
     match n % 16 {

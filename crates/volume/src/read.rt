@@ -1,3 +1,4 @@
+ghost use Rattle.limits.specs.declared.TheConstants.{GREATEST_CAPACITY, LEAST_CAPACITY, PARTITION_BLOCKS, PARTITION_START};
 ghost use Rattle.std.specs.Prelude.{◌≡◌, ◌<◌, ◌≤◌, ◌↔◌, ℕ, List, [], length, slice_index, slice_index_or, take, IsTrue, IfOk, IfErr, IfSome, IfNone};
 ghost use Rattle.ecma.specs.Tag.{Sealed};
 ghost use Rattle.ecma.specs.FirstFault.{IsFirst};
@@ -25,7 +26,7 @@ const PARTITION_DESCRIPTOR: u32 = MAIN + 2;
 /// The front whose blocks these are. Of other blocks it tells the first fault: where the primary volume descriptor or the
 /// partition descriptor can not be read, that field; else the first byte that is not that of the front which they tell.
 pub fn read_front(blocks: &[Block]) -> Result<Front, VolumeFault>
-    requires { length blocks.now ≡ 257 }
+    requires { length blocks.now ≡ PARTITION_START }
     ensures found { IfOk result (λ f. IsFront f.label f.moment f.capacity blocks.now) }
     ensures only { (f : Front) → IsFront f.label f.moment f.capacity blocks.now → result ≡ Ok f }
     ensures fault { IfErr result (IsFaultTold blocks.now (slice_index_or blocks.now 32 []) (slice_index_or blocks.now 34 [])) }
@@ -48,7 +49,7 @@ pub fn read_front(blocks: &[Block]) -> Result<Front, VolumeFault>
 /// The front that its primary volume descriptor, block 32, and its partition descriptor, block 34, tell.
 pub fn front_words(primary: &Block, partition: &Block) -> Result<Front, VolumeFault>
     ensures tells { IfOk result (λ f. DescriptorsTell f primary.now partition.now) }
-    ensures capacity { IfOk result (λ f. (512 ≤ f.capacity) × (f.capacity ≤ 450_000)) }
+    ensures capacity { IfOk result (λ f. (LEAST_CAPACITY ≤ f.capacity) × (f.capacity ≤ GREATEST_CAPACITY)) }
     ensures fault { IfErr result (IsFirst (word_rules primary.now partition.now)) }
 {
     if !has_tag(primary, PRIMARY_VOLUME_TAG, PRIMARY) {
@@ -76,8 +77,8 @@ pub fn front_words(primary: &Block, partition: &Block) -> Result<Front, VolumeFa
 
 /// The first byte of a block that is not that of the front at this address.
 pub fn first_difference(front: &Front, n: u32, block: &Block) -> Option<u32>
-    requires low { 512 ≤ front.now.capacity }
-    requires high { front.now.capacity ≤ 450_000 }
+    requires low { LEAST_CAPACITY ≤ front.now.capacity }
+    requires high { front.now.capacity ≤ GREATEST_CAPACITY }
     requires within { n ≤ 256 }
     ensures none { IfNone result (IsFrontBlock front.now.label front.now.moment front.now.capacity n block.now) }
     ensures some { IfSome result (DiffersAt front.now n block.now) }
@@ -103,7 +104,7 @@ fn first_other(block: &Block, expected: &Block) -> Option<u32>
 
 /// Whether a partition may have so many blocks: as many as one of a medium of 512 to 450,000 blocks.
 fn is_partition_length(length: u32) -> bool
-    ensures { IsTrue result ↔ ((255 ≤ length) × (length ≤ 449_743)) }
+    ensures { IsTrue result ↔ ((255 ≤ length) × (length ≤ PARTITION_BLOCKS)) }
 {
     255 <= length && length <= 449_743
 }

@@ -1,7 +1,7 @@
 use Rattle.std.proofs.Common.{ℕ, ◌∙◌, refl, subst, arith, rules}
 use Rattle.dir.specs.Directory.{directory_blocks}
 use Rattle.durability.specs.Formats.Kind.{Directory}
-use Rattle.durability.specs.Formats.Place.{Extent}
+use Rattle.durability.specs.Formats.NodePlace.{Extent}
 use Rattle.udf.specs.Udf.{udf}
 use Rattle.planning.proofs.Writings.{links_agree, holds_directory}
 use Rattle.planning.proofs.places.directory_entry.Goals as goal

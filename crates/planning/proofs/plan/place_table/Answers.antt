@@ -2,7 +2,7 @@ use Rattle.std.proofs.Common.{◌++◌, ◌+◌, replicate, ◌≡◌, ◌-◌, 
 use Rattle.std.specs.Int.{div_ceil}
 use Rattle.vat.specs.Table.{view, IsTableAt}
 use Rattle.durability.specs.Formats.Kind.{Table}
-use Rattle.durability.specs.Formats.Place.{Extent}
+use Rattle.durability.specs.Formats.NodePlace.{Extent}
 use Rattle.durability.specs.Plan.{zeros, packed, IsClearStart, IsPlaced}
 use Rattle.udf.specs.Udf.{udf}
 use Rattle.next_vat.proofs.Tables.{table_few, table_long, table_some, table_at}
