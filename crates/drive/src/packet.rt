@@ -19,6 +19,7 @@ pub fn write_packets<D: Drive>(drive: &mut D, at: u32, blocks: &[Block]) -> Resu
     ensures sends { Sends D.Drive blocks.now (is_err result) drive.old drive.new }
     ensures writes { Writes D.Drive (is_err result) drive.old drive.new }
 {
+    // Asked so that the proof has the range of a capacity.
     let _capacity = drive.capacity();
     let mut done = 0;
     while done < blocks.len() {
@@ -50,6 +51,7 @@ pub fn write_last_alone<D: Drive>(
     if blocks.is_empty() {
         return Ok(());
     }
+    // Asked so that the proof has the range of a capacity.
     let _capacity = drive.capacity();
     let (before, last) = blocks.split_at(blocks.len() - 1);
     write_packets(drive, at, before)?;
@@ -155,6 +157,7 @@ impl PacketWriter {
         ensures err { OnErr result (Stops D.Drive drive.old self.old blocks.now drive.new) }
         ensures writes { Writes D.Drive (is_err result) drive.old drive.new }
     {
+        // Asked so that the proof has the range of a capacity.
         let _capacity = drive.capacity();
         if blocks.is_empty() {
             return Ok(());
@@ -192,6 +195,7 @@ impl PacketWriter {
         ensures sent { D.writes drive.new ≡ D.writes drive.old ++ as_write self.old.blocks }
         ensures writes { Writes D.Drive (is_err result) drive.old drive.new }
     {
+        // Asked so that the proof has the range of a capacity.
         let _capacity = drive.capacity();
         if self.packet.is_empty() {
             return Ok(());

@@ -117,6 +117,7 @@ impl Path {
                 return Err(PathFault::Memory);
             }
         }
+        // By its type these are names.
         let _names = path.names();
         Ok(path)
     }
