@@ -2,3 +2,4 @@ pub mod FrontLaws
 pub mod Digits
 pub mod ReadingLaws
 pub mod Begins
+pub mod Words

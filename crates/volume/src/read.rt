@@ -8,7 +8,7 @@ ghost use Rattle.volume.specs.Reading.{word_rules, DescriptorsTell, DiffersAt, D
 
 use crate::descriptors::{MAIN, PARTITION, PARTITION_TAG, PRIMARY_VOLUME_TAG};
 use crate::front::{Front, front_block};
-use ecma::{Block, Timestamp, open_tag, u32_at};
+use ecma::{Block, Timestamp, open_tag, u32_at, u64_at};
 use osta::Label;
 
 /// Why blocks are no front.
@@ -94,12 +94,29 @@ fn first_other(block: &Block, expected: &Block) -> Option<u32>
     ensures some { IfSome result (DiffersFirst block.now expected.now) }
     ensures bytes { IfSome result (λ at. ((i : ℕ) → slice_index block.now i < 256) × ((i : ℕ) → slice_index expected.now i < 256)) }
 {
-    for (at, byte) in block.iter().enumerate() {
-        if *byte != expected[at] {
+    let start = same_front(block, expected);
+    for at in start..block.len() {
+        let byte = block[at];
+        if byte != expected[at] {
             return Some(at as u32);
         }
     }
     None
+}
+
+/// How many bytes in front are the same, of those that are looked at eight together.
+fn same_front(block: &Block, expected: &Block) -> usize
+    ensures within { result ≤ 2048 }
+    ensures same { (i : ℕ) → i < result → slice_index block.now i ≡ slice_index expected.now i }
+{
+    let mut at = 0;
+    'words: while at < block.len() - 7 {
+        if u64_at(block, at) != u64_at(expected, at) {
+            return at;
+        }
+        at += 8;
+    }
+    at
 }
 
 /// Whether a partition may have so many blocks: as many as one of a medium of 512 to 450,000 blocks.
