@@ -1,4 +1,4 @@
-ghost use Rattle.std.specs.Prelude.{◌≡◌, ◌≤◌, ◌+◌, ◌*◌, ◌⊎◌, ℕ, IfErr, IfOk, OnOk, MatchResult, length, map};
+ghost use Rattle.std.specs.Prelude.{◌≡◌, ◌≤◌, ◌+◌, ◌*◌, ◌/◌, ◌⊎◌, ℕ, IfErr, IfOk, OnOk, MatchResult, length, map};
 ghost use Rattle.ecma.specs.FirstFault.{IsFirst, AllHold};
 ghost use Rattle.ecma.specs.Numbers as numbers;
 ghost use Rattle.vat.specs.Entry.{entry_of, words};
@@ -116,9 +116,17 @@ fn read_records(alloc: Global, bytes: &[u8]) -> Result<Vec<Record>, AllocError>
 fn read_entries(alloc: Global, text: &[u8]) -> Result<Vec<Option<u32>>, AllocError>
     ensures { IfOk result (λ entries. entries.items ≡ map entry_of (words text.now)) }
 {
-    let mut entries = Vec::with_capacity(alloc, text.len() / 4)?;
-    for i in 0..text.len() / 4 {
-        entries.push(entry(u32_at(text, 4 * i)))?;
-    }
+    let mut entries = Vec::from_elem(alloc, None, text.len() / 4)?;
+    fill_entries(&mut entries, text);
     Ok(entries)
+}
+
+/// Puts them in their places.
+fn fill_entries(entries: &mut [Option<u32>], text: &[u8])
+    requires { length entries.old ≡ length text.now / 4 }
+    ensures { entries.new ≡ map entry_of (words text.now) }
+{
+    for i in 0..entries.len() {
+        entries[i] = entry(u32_at(text, 4 * i));
+    }
 }

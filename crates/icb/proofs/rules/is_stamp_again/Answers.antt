@@ -1,4 +1,4 @@
-use Rattle.std.proofs.Common.{◌≡◌, ℕ, ◌+◌, ◌++◌, ◌<◌, List, get_or, refl, sym, subst, arith}
+use Rattle.std.proofs.Common.{ℕ, ◌+◌, ◌<◌, List, get_or, refl, sym, subst, arith}
 use Rattle.std.proofs.lemmas.Bool.{both_ways}
 use Rattle.std.specs.Int.{w32, w64, to_le_bytes}
 use Rattle.ecma.specs.Field.{IsAt}
@@ -13,7 +13,7 @@ returns-then-not-is_u64_at c =
     let spelled = stamp_is block c.u64_at-front.result c.u32_at-back.result small c.told-block c.u64_at-front.ensures c.u32_at-back.ensures in (
       (λ no. absurd cc),
       (λ all. absurd (both_ways _ c.if-not-is_u64_at.true (c.is_u64_at.ensures.1
-      (front_at c.args.at (to_le_bytes w64 c.u64_at-front.result) (to_le_bytes w32 c.u32_at-back.result) block (subst (λ (x : List ℕ). IsAt c.args.at x block) spelled all))))),
+          (front_at c.args.at (to_le_bytes w64 c.u64_at-front.result) (to_le_bytes w32 c.u32_at-back.result) block (subst (λ (x : List ℕ). IsAt c.args.at x block) spelled all))))),
     )
 
 pub returns : goal.returns

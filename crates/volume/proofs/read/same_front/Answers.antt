@@ -8,5 +8,5 @@ words-preserved c = record {
   whole = omega (arith, c.words.invariant.whole);
   same = same_word c.words.at c.args.block.now c.args.expected.now (λ i. omega (arith, c.fits-block i)) (λ i. omega (arith, c.fits-expected i))
       (omega (arith, c.words-test.true, c.told-block)) (omega (arith, c.words-test.true, c.told-block, c.told-expected))
-      (sym c.u64_at.ensures ∙ c.if-u64_at-u64_at.false ∙ c.u64_at-2.ensures) c.words.invariant.same;
+      (sym c.u64_at.ensures ∙ c.if-u64_at.false ∙ c.u64_at-in-words.ensures) c.words.invariant.same;
 }
