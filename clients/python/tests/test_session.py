@@ -396,8 +396,8 @@ class Ahead(WithServer):
 
         self.server.before = before
         self.assertEqual([outcome.number for outcome in self.client().run(operations())], list(range(1, 21)))
-        # Of four under way the first is at work, and at most four are taken behind them.
-        self.assertIn(max(ahead), range(4, 8))
+        # Of four under way the first is at work, and at most two are taken behind them.
+        self.assertIn(max(ahead), range(4, 6))
 
     def test_numbers_are_those_of_the_volume_that_is_there(self) -> None:
         """Between a conversation that was lost and the next turn another volume is put in place, which knows no number."""
@@ -419,8 +419,8 @@ class Ahead(WithServer):
         with mock.patch("udfburn.line.TURN", 0.0):
             outcomes = list(client.run(creates(7)))
         self.assertEqual([outcome.code for outcome in outcomes], [p.Code.DONE] * 7)
-        self.assertEqual([outcome.number for outcome in outcomes], [1, 2, 3, 4, 1, 2, 3])
-        self.assertEqual(len(self.volume.files()), 3)
+        self.assertEqual([outcome.number for outcome in outcomes], [1, 2, 1, 2, 3, 4, 5])
+        self.assertEqual(len(self.volume.files()), 5)
 
 
 class Foreseen(WithServer):
@@ -447,7 +447,7 @@ class Foreseen(WithServer):
         return [outcome.code for outcome in outcomes], sum(ends)
 
     def test_all_as_foreseen(self) -> None:
-        self.assertEqual(self.done(creates(40)), ([p.Code.DONE] * 40, 9))
+        self.assertEqual(self.done(creates(40)), ([p.Code.DONE] * 40, 18))
 
     def test_answers_one_by_one(self) -> None:
         self.assertEqual(self.done(creates(40), together=False)[0], [p.Code.DONE] * 40)
@@ -458,12 +458,12 @@ class Foreseen(WithServer):
         other.create("/f30", b"")
         codes, foreseen = self.done(creates(40))
         self.assertEqual([index for index, code in enumerate(codes) if code is p.Code.EXISTS], [9, 30])
-        # The first window too, since it has other commits than a new ledger knows of.
-        self.assertEqual(foreseen, 6)
+        # Nor the first two, since they have other commits than a new ledger knows of.
+        self.assertEqual(foreseen, 15)
 
     def test_other_commits_between(self) -> None:
         self.volume.commits = 1000
-        self.assertEqual(self.done(creates(40)), ([p.Code.DONE] * 40, 8))
+        self.assertEqual(self.done(creates(40)), ([p.Code.DONE] * 40, 17))
 
     def test_nothing_of_it_is_kept_before_it_came(self) -> None:
         with closing(Ledger(self.ledger)) as ledger:

@@ -22,8 +22,11 @@ from .protocol import (
     Stat, decode_answer, decode_message, encode_answer, encode_message, frame, limits, show,
 )
 
+PART = limits.REPLIES // 2
+"""Requests that are kept and sent as one. While their replies and the next ones are kept, the program works on the others."""
+
 AT_ONCE = 1 << 17
-"""Bytes of requests under way and of those behind them up to which all answers are likely to come as one piece."""
+"""Bytes of requests under way and of those behind them up to which the answers to a part are likely to come as one piece."""
 
 
 class Flight:
@@ -56,14 +59,14 @@ class Flight:
 
 
 class Foreseen(NamedTuple):
-    """The answers by which all flights of a window are done and the tree agrees, as one piece, and the replies among them."""
+    """The answers by which the first flights of a window are done and the tree agrees, as one piece, and the replies among them."""
 
     answers: bytes
     replies: List[Committed]
 
 
 class Supply:
-    """Operations as they come, of which four are taken ahead, read and made requests, while the program is at work."""
+    """Operations as they come, of which the next are taken ahead, read and made requests, while the program is at work."""
 
     def __init__(self, operations: Iterator[Operation], client: int):
         self.operations = operations
@@ -72,7 +75,7 @@ class Supply:
 
     def look_ahead(self, last: int) -> None:
         """Makes ready what is sent next, behind the request of this number."""
-        while len(self.ahead) < limits.REPLIES and self._take(last + len(self.ahead) + 1):
+        while len(self.ahead) < PART and self._take(last + len(self.ahead) + 1):
             pass
 
     def next(self, number: int, count: int) -> List[Flight]:
@@ -316,15 +319,12 @@ class Session:
         return self.line.get()
 
     def _next(self, supply: Supply, window: Deque[Flight], finished: List[Flight]) -> List[Flight]:
-        """Requests that there is room for, under the next numbers. None where others are to get their turn.
-
-        All of them are kept by one synchronisation, which costs more than what the program could do meanwhile.
-        """
+        """Requests that there is room for, under the next numbers. None where others are to get their turn."""
         if window and self.line.over():
             return []
         last = window[-1] if window else finished[-1] if finished else None
         number = last.number() if last else self.ledger.latest(self.volume())
-        return supply.next(number + 1, limits.REPLIES - len(window))
+        return supply.next(number + 1, min(PART, limits.REPLIES - len(window)))
 
     def _keep(self, finished: List[Flight], fresh: List[Flight]) -> None:
         """Makes replies and new requests durable, in one."""
@@ -343,32 +343,31 @@ class Session:
             return False
 
     def _foresee(self, window: Deque[Flight], supply: Supply) -> None:
-        """Makes ready what is kept next, where all of a full window is likely to be done and answered at once."""
+        """Makes ready what is kept next, where the first part of a full window is likely to be done and answered at once."""
         self._foreseen = None
-        fresh = list(supply.ahead)
+        first, fresh = list(window)[:PART], list(supply.ahead)
         if len(window) < limits.REPLIES or not fresh or sum([len(flight.frames) for flight in (*window, *fresh)]) > AT_ONCE:
             return
         answers: List[bytes] = []
         replies: List[Committed] = []
-        for commit, flight in enumerate(window, self._commit + 1):
+        for commit, flight in enumerate(first, self._commit + 1):
             if flight.sure is None or flight.reply is not None:
                 return
             reply = Committed(Code.DONE, commit)
             replies.append(reply)
             answers += [frame(encode_answer(reply)), frame(flight.sure)]
         self._foreseen = Foreseen(b"".join(answers), replies)
-        self.ledger.foresee(self.volume(), kept(window, replies), [flight.pending for flight in fresh])
+        self.ledger.foresee(self.volume(), kept(first, replies), [flight.pending for flight in fresh])
 
     def _as_foreseen(self, connection: Connection, window: Deque[Flight]) -> List[Flight]:
-        """All flights of the window, where the answers that come are those that were foreseen; else none."""
+        """The first flights of the window, where the answers that come are those that were foreseen; else none."""
         foreseen = self._foreseen
         if foreseen is None or not connection.comes(foreseen.answers):
             return []
-        for flight, reply in zip(window, foreseen.replies):
+        finished = [window.popleft() for _ in foreseen.replies]
+        for flight, reply in zip(finished, foreseen.replies):
             flight.reply = reply
         self._commit = foreseen.replies[-1].commit
-        finished = list(window)
-        window.clear()
         return finished
 
     def _received(self, connection: Connection, window: Deque[Flight]) -> Tuple[List[Flight], bool]:
