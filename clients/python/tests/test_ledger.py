@@ -18,7 +18,7 @@ from unittest import mock
 
 from udfburn import Client, errors as e
 from udfburn import protocol as p
-from udfburn.ledger import Ledger, Lock
+from udfburn.ledger import LOG_BYTES, Ledger, Lock, Pending, Reply, Volume as Known
 from udfburn.operations import Operation
 from udfburn.tree import Options, put_all
 
@@ -247,6 +247,48 @@ class Ledgers(WithServer):
         with self.client() as client:
             done += len(list(client.run(operations[done:])))
         self.assertEqual((done, self.volume.commits, len(self.volume.files())), (90, 90, 90))
+
+    def filled(self, ledger: Ledger, volume: Known, count: int) -> List[int]:
+        """Keeps two requests of 4 KiB at a time, as an import does, and gives the lengths that the log had."""
+        lengths, last, data = [], ledger.latest(volume), bytes(4200)
+        for number in range(last + 1, last + count, 2):
+            fresh = [Pending(number + step, data, f"/{number + step}") for step in range(2)]
+            replies = [Reply(number + step - 2, 0, number + step - 2, True) for step in range(2)] if number > last + 1 else []
+            if replies:
+                ledger.foresee(volume, replies, fresh)
+            ledger.record(volume, replies, fresh)
+            lengths.append(os.path.getsize(self.ledger + "-wal"))
+        ledger.record(volume, [Reply(number + step, 0, number + step, True) for step in range(2)], [])
+        return lengths
+
+    def test_the_log_grows_once(self) -> None:
+        """Behind the first transactions of an import it is written in place, whatever comes."""
+        with closing(Ledger(self.ledger)) as ledger:
+            volume = ledger.learn("way", 0)
+            ledger.record(volume, [], [Pending(1, b"one", "/one")])
+            ledger.record(volume, [Reply(1, 0, 1, True)], [])
+            self.assertLess(os.path.getsize(self.ledger + "-wal"), 100_000, "who stores one file writes no long log")
+            lengths = self.filled(ledger, volume, 400)
+            self.assertEqual(set(lengths[1:]), {LOG_BYTES})
+            self.assertEqual(len(ledger.history(volume)), 401)
+
+    def test_the_log_as_a_crash_leaves_it(self) -> None:
+        """Zeros behind its last page are none, also where it was written from its front again."""
+        with closing(Ledger(self.ledger)) as ledger:
+            volume = ledger.learn("way", 0)
+            for count in (4, 60, 200):
+                self.filled(ledger, volume, count)
+                ledger.record(volume, [], [Pending(ledger.latest(volume) + 1, b"pending", "/pending")])
+                self.assertEqual(self.kept("SELECT payload FROM request JOIN frame ON frame.id = volume * 4 + number % 4 WHERE code IS NULL"), [(b"pending",)])
+                self.assertEqual(self.kept("SELECT count(*) FROM request"), [(len(ledger.history(volume)),)])
+                ledger.withdraw(volume)
+
+    def test_no_room_for_a_long_log(self) -> None:
+        with closing(Ledger(self.ledger)) as ledger, mock.patch("udfburn.ledger.os.pwrite", side_effect=OSError(28, "No space left on device")):
+            volume = ledger.learn("way", 0)
+            lengths = self.filled(ledger, volume, 60)
+            self.assertLess(lengths[1], lengths[-1])
+            self.assertEqual(len(ledger.history(volume)), 60)
 
     def test_a_foreign_reply_before_a_source_is_deleted(self) -> None:
         source = os.path.join(self.room, "source")

@@ -212,6 +212,29 @@ class Changes(Local):
         self.assertEqual((summary.files, summary.failures), (1, [f"{local}: Permission denied"]))
         self.assertTrue(os.path.exists(local))
 
+    def test_the_time_of_access_stays(self) -> None:
+        local = self.write("a")
+        # A file whose access is older than its change gets a new time when it is read, but on a system that keeps none.
+        os.utime(local, ns=(10**18, 2 * 10**18))
+        self.assertEqual(self.put().files, 1)
+        self.assertEqual(os.stat(local).st_atime_ns, 10**18)
+
+    def test_a_user_whose_file_it_is_not(self) -> None:
+        """The system lets nobody else leave the time of access alone."""
+        local, real, flags = self.write("a", b"of another"), os.open, []
+
+        def opened(path: str, how: int, *rest: int) -> int:
+            if path == local:
+                flags.append(how)
+                if how & os.O_NOATIME:
+                    raise PermissionError(1, "Operation not permitted")
+            return real(path, how, *rest)
+
+        with mock.patch("udfburn.sources.os.open", opened):
+            self.assertEqual(self.put().files, 1)
+        self.assertEqual(self.volume.files()[("x", "a")], b"of another")
+        self.assertEqual([bool(how & os.O_NOATIME) for how in flags], [True, False])
+
     def test_bytes_that_differ_on_the_volume(self) -> None:
         local = self.write("a", b"right")
         self.server.before = lambda payload: p.Data(b"wrong") if payload[0] == p.Kind.GET else None

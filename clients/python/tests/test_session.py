@@ -12,13 +12,15 @@ import threading
 import time
 import unittest
 from contextlib import closing
-from typing import Callable, Iterator, List, Optional, Tuple
+from typing import Callable, Deque, Iterator, List, Optional, Tuple
 from unittest import mock
 
 from udfburn import Client, errors as e
 from udfburn import protocol as p
+from udfburn.connection import Connection
 from udfburn.ledger import Ledger, Pending, Reply
 from udfburn.operations import Operation
+from udfburn.session import Flight
 
 from .model import Volume
 from .server import Server, honestly, is_probe, request_of
@@ -398,6 +400,26 @@ class Ahead(WithServer):
         self.assertEqual([outcome.number for outcome in self.client().run(operations())], list(range(1, 21)))
         # Of four under way the first is at work, and at most two are taken behind them.
         self.assertIn(max(ahead), range(4, 6))
+
+    def test_two_go_out_while_two_are_under_way(self) -> None:
+        """So the server is at work while replies are kept: it never has to wait for all four."""
+        steps: List[int] = []
+        client = self.client()
+        session = client.session()
+        send, receive = session._sent, session._received
+
+        def sent(connection: Connection, fresh: List[Flight]) -> bool:
+            steps.append(len(fresh))
+            return send(connection, fresh)
+
+        def received(connection: Connection, window: Deque[Flight]) -> Tuple[List[Flight], bool]:
+            finished, troubled = receive(connection, window)
+            steps.append(-len(finished))
+            return finished, troubled
+
+        with mock.patch.object(session, "_sent", sent), mock.patch.object(session, "_received", received):
+            self.assertEqual(len(list(client.run(creates(12)))), 12)
+        self.assertEqual([step for step in steps if step], [2, 2, -2, 2, -2, 2, -2, 2, -2, 2, -2, -2])
 
     def test_numbers_are_those_of_the_volume_that_is_there(self) -> None:
         """Between a conversation that was lost and the next turn another volume is put in place, which knows no number."""

@@ -53,8 +53,10 @@ KEPT_FRAME = "INSERT INTO frame VALUES (?, ?) ON CONFLICT (id) DO UPDATE SET pay
 """Writes a payload over an older one, in the pages of that where both have one size."""
 
 LOG_PAGES = 128
-"""Pages that the base's log has before they are taken over into the base, and it is written from its front again. While the
-log grows, each synchronisation waits for the journal of the file system, and so for what others have written there."""
+"""Pages that the base's log has before they are taken over into the base, and it is written from its front again."""
+
+LOG_BYTES = 32 + (LOG_PAGES + 16) * (24 + 4096)
+"""Bytes that such a log may take, with what the last transaction adds."""
 
 
 class Volume(NamedTuple):
@@ -114,6 +116,19 @@ def sync_file(path: str) -> None:
     descriptor = os.open(path, os.O_RDWR | os.O_CLOEXEC)
     try:
         os.fsync(descriptor)
+    finally:
+        os.close(descriptor)
+
+
+def lengthen(path: str, size: int) -> None:
+    """Gives a file so many bytes, where it has fewer, and makes them durable. What is written in their place later takes no
+    change of the file system, for which a synchronisation would wait, and with it all others on the same disk."""
+    descriptor = os.open(path, os.O_WRONLY | os.O_CLOEXEC)
+    try:
+        begin = os.fstat(descriptor).st_size
+        if begin < size:
+            os.pwrite(descriptor, bytes(size - begin), begin)
+            os.fsync(descriptor)
     finally:
         os.close(descriptor)
 
@@ -209,8 +224,9 @@ class Ledger:
             if not is_there(self.path):
                 self._make(client)
             self._base, self.client = self._open(client)
-            # About the pages that the log has.
+            # About the pages that the log has, and whether it has room for all that it gets.
             self._logged = 0
+            self._roomy = False
             self._foreseen: Optional[Tuple[Volume, Sequence[Reply], Sequence[Pending]]] = None
         except BaseException:
             # A ledger that was made is there, and one that is there has its lock.
@@ -365,6 +381,8 @@ class Ledger:
         same; whatever else is done with the ledger first sets it back."""
         self.set_back()
         try:
+            if not self._roomy:
+                self._make_room()
             # Else the log would be taken over at the end of a transaction, behind which the program waits for requests.
             if self._logged > LOG_PAGES * 7 // 8:
                 self._base.execute("PRAGMA wal_checkpoint").fetchall()
@@ -375,6 +393,15 @@ class Ledger:
         except sqlite3.Error:
             # `record` meets the same trouble, and tells of it.
             self.set_back()
+
+    def _make_room(self) -> None:
+        """Lengthens the log at once, where it would grow by each transaction. Zeros behind its last page are none to SQLite."""
+        self._roomy = True
+        try:
+            lengthen(self.path + "-wal", LOG_BYTES)
+        except OSError:
+            # It grows then, or is told of where that fails too.
+            pass
 
     def set_back(self) -> None:
         """Undoes what was foreseen and did not come."""

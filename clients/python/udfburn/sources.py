@@ -127,6 +127,16 @@ def names_in(folder: str, into: Scan) -> List[str]:
 
 
 READING = os.O_RDONLY | os.O_NOFOLLOW | os.O_NONBLOCK | os.O_CLOEXEC
+NO_ACCESS_TIME: int = getattr(os, "O_NOATIME", 0)
+
+
+def open_to_read(path: str) -> int:
+    """Opens a file so that its time of access stays, where the system lets this user: a time that changes is one more thing
+    for the disk to write."""
+    try:
+        return os.open(path, READING | NO_ACCESS_TIME)
+    except PermissionError:
+        return os.open(path, READING)
 
 
 def unchanged(source: Source, status: os.stat_result) -> None:
@@ -150,7 +160,7 @@ def read_parts(source: Source) -> Iterator[bytes]:
     """The bytes of a file in parts of a mebibyte; the last is given only where the file did not change meanwhile."""
     left = source.identity.size
     try:
-        descriptor = os.open(source.local, READING)
+        descriptor = open_to_read(source.local)
         try:
             unchanged(source, os.fstat(descriptor))
             while True:
