@@ -221,7 +221,8 @@ class Changes(Local):
 
     def test_a_user_whose_file_it_is_not(self) -> None:
         """The system lets nobody else leave the time of access alone."""
-        local, real, flags = self.write("a", b"of another"), os.open, []
+        local, real = self.write("a", b"of another"), os.open
+        flags: List[int] = []
 
         def opened(path: str, how: int, *rest: int) -> int:
             if path == local:

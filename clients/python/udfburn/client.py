@@ -85,7 +85,7 @@ class Client:
 
     def run(self, operations: Iterable[Operation]) -> Iterator[Outcome]:
         """Does operations in order. An outcome comes once its reply is in the ledger and the tree agrees with it;
-        a refusal is one too. Four operations are under way at once, and four more are taken meanwhile."""
+        a refusal is one too. Four operations are under way at once, and two more are taken meanwhile."""
         with self.held():
             yield from self.session().run(operations)
 
