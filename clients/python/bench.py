@@ -1,10 +1,11 @@
 """1,000 files of 4 KiB through the socket by this client, beside `udfburn apply` on the same frames.
 
-usage: bench.py [--rounds N] [--quiet US] [--folder FOLDER] UDFBURN UDFBURND
-Rounds in turn; prints each, and the ratio of the medians. The client reads the files from a folder, keeps each request
-and reply in its ledger, and confirms each reply by Stat; `apply` gets the frames of the requests alone. On a disk that
-others use, --quiet 250 counts only the rounds before, within and behind which a block was written and synced in 250
-microseconds, and tries 20 times as many rounds at most.
+usage: bench.py [--rounds N] [--quiet US] [--folder FOLDER] [--before CLIENT] UDFBURN UDFBURND
+Rounds in turn; prints each, and the ratios of the medians. The client reads the files from a folder, keeps each request
+and reply in its ledger, and confirms each reply by Stat; `apply` gets the frames of the requests alone. --before names the
+folder clients/python of another state, whose client takes its turn too. On a disk that others use, --quiet 250 counts only
+the rounds before, within and behind which a block was written and synced in 250 microseconds, and tries 20 times as many
+rounds at most.
 """
 
 from __future__ import annotations
@@ -21,12 +22,27 @@ import tempfile
 import time
 from typing import Iterator, List, Tuple
 
-sys.path.insert(0, os.path.dirname(os.path.abspath(__file__)))
+HERE = os.path.dirname(os.path.abspath(__file__))
+sys.path.insert(0, HERE)
 
-from udfburn import Client  # noqa: E402
 from udfburn.protocol import Create, MakeDir, encode_message, frame  # noqa: E402
 
 FILES, SIZE, FOLDER_NAMES = 1000, 4096, 250
+
+IMPORT = """
+import sys, time
+sys.path.insert(0, sys.argv[1])
+from udfburn import Client, ledger, session, tree
+print("loaded", flush=True)
+sys.stdin.readline()
+begin = time.perf_counter()
+with Client("unix:" + sys.argv[2], ledger=sys.argv[3]) as client:
+    client.put_tree(sys.argv[4], "/")
+print(time.perf_counter() - begin, flush=True)
+with Client("unix:" + sys.argv[2], ledger=sys.argv[3]) as client:
+    assert not client.verify_tree(sys.argv[4], "/").differences, "all bytes are there"
+"""
+"""An import by the client of a folder, in a process of its own, which has loaded what it takes before it begins."""
 
 
 def make_sources(room: str) -> Tuple[str, bytes]:
@@ -69,18 +85,18 @@ def by_apply(udfburn: str, room: str, frames: bytes) -> float:
     return seconds
 
 
-def by_client(udfburn: str, udfburnd: str, room: str, local: str) -> float:
-    """Seconds of the client, a new ledger among them, through the socket."""
-    image, path = format_image(udfburn, room), os.path.join(room, "socket")
+def by_client(package: str, udfburn: str, udfburnd: str, room: str, local: str) -> float:
+    """Seconds of the client of a folder, a new ledger among them, through the socket."""
+    image, path, ledger = format_image(udfburn, room), os.path.join(room, "socket"), os.path.join(room, "ledger.sqlite")
     daemon = subprocess.Popen([udfburnd, image, path])
     try:
         wait_for(path)
-        begin = time.perf_counter()
-        with Client(f"unix:{path}", ledger=os.path.join(room, "ledger.sqlite")) as client:
-            client.put_tree(local, "/")
-        seconds = time.perf_counter() - begin
-        with Client(f"unix:{path}", ledger=os.path.join(room, "ledger.sqlite")) as client:
-            assert not client.verify_tree(local, "/").differences, "all bytes are there"  # type: ignore[attr-defined]
+        words = [sys.executable, "-c", IMPORT, package, path, ledger, local]
+        with subprocess.Popen(words, stdin=subprocess.PIPE, stdout=subprocess.PIPE, text=True) as client:
+            assert client.stdin and client.stdout
+            assert client.stdout.readline() == "loaded\n"
+            told, _ = client.communicate("\n")
+        assert not client.returncode, "all bytes are there"
     finally:
         daemon.kill()
         daemon.wait()
@@ -88,7 +104,7 @@ def by_client(udfburn: str, udfburnd: str, room: str, local: str) -> float:
         for name in os.listdir(room):
             if name.startswith("ledger"):
                 os.unlink(os.path.join(room, name))
-    return seconds
+    return float(told)
 
 
 def wait_for(path: str) -> None:
@@ -116,27 +132,37 @@ def sync_time(room: str) -> float:
     return statistics.median(times) * 1e6
 
 
-def rounds_of(words: argparse.Namespace, room: str) -> Iterator[Tuple[float, float]]:
-    """The seconds of client and `apply` in each round that counts."""
+def rounds_of(words: argparse.Namespace, packages: List[str], room: str) -> Iterator[List[float]]:
+    """The seconds of each client and of `apply` in each round that counts."""
     local, frames = make_sources(room)
     udfburn, udfburnd, counted = os.path.abspath(words.udfburn), os.path.abspath(words.udfburnd), 0
 
     def quiet() -> bool:
         return words.quiet is None or sync_time(room) <= words.quiet
 
-    for _ in range(words.rounds if words.quiet is None else 20 * words.rounds):
+    for turn in range(words.rounds if words.quiet is None else 20 * words.rounds):
+        times = [0.0] * len(packages)
         if not quiet():
             time.sleep(0.2)
             continue
-        client = by_client(udfburn, udfburnd, room, local)
-        if not quiet():
-            continue
-        apply = by_apply(udfburn, room, frames)
-        if quiet():
-            counted += 1
-            yield client, apply
+        for index in range(len(packages))[:: -1 if turn % 2 else 1]:
+            times[index] = by_client(packages[index], udfburn, udfburnd, room, local)
+            if not quiet():
+                break
+        else:
+            times.append(by_apply(udfburn, room, frames))
+            if quiet():
+                counted += 1
+                yield times
         if counted == words.rounds:
             return
+
+
+def told(times: List[float]) -> str:
+    """The times of clients and of `apply`, with the ratios."""
+    parts = [f"{name} {seconds * 1000:.1f} ms" for name, seconds in zip(("client", "before"), times[:-1])]
+    ratios = ", ".join(f"{seconds / times[-1]:.2f}" for seconds in times[:-1])
+    return ", ".join(parts) + f", apply {times[-1] * 1000:.1f} ms, ratio {ratios}"
 
 
 def main() -> None:
@@ -147,19 +173,21 @@ def main() -> None:
     parser.add_argument("--rounds", type=int, default=11)
     parser.add_argument("--quiet", type=float)
     parser.add_argument("--folder")
+    parser.add_argument("--before")
     words = parser.parse_args()
     room = tempfile.mkdtemp(dir=words.folder)
-    times: List[Tuple[float, float]] = []
+    packages = [HERE] + ([os.path.abspath(words.before)] if words.before else [])
+    rounds: List[List[float]] = []
     try:
-        for client, apply in rounds_of(words, room):
-            times.append((client, apply))
-            print(f"round {len(times)}: client {client * 1000:.1f} ms, apply {apply * 1000:.1f} ms, ratio {client / apply:.2f}", flush=True)
+        for times in rounds_of(words, packages, room):
+            rounds.append(times)
+            print(f"round {len(rounds)}: {told(times)}", flush=True)
     finally:
         shutil.rmtree(room)
-    if not times:
+    if not rounds:
         raise SystemExit("the disk was never quiet")
-    clients, applies = (statistics.median(column) for column in zip(*times))
-    print(f"{len(times)} rounds, load {os.getloadavg()[0]:.1f}; medians: client {clients * 1000:.1f} ms, apply {applies * 1000:.1f} ms, ratio {clients / applies:.2f}")
+    ratios = ", ".join(f"{statistics.median(times[index] / times[-1] for times in rounds):.2f}" for index in range(len(packages)))
+    print(f"{len(rounds)} rounds, load {os.getloadavg()[0]:.1f}; medians: {told([statistics.median(column) for column in zip(*rounds)])}; of the rounds' ratios {ratios}")
 
 
 if __name__ == "__main__":
