@@ -187,7 +187,8 @@ def main() -> None:
     if not rounds:
         raise SystemExit("the disk was never quiet")
     ratios = ", ".join(f"{statistics.median(times[index] / times[-1] for times in rounds):.2f}" for index in range(len(packages)))
-    print(f"{len(rounds)} rounds, load {os.getloadavg()[0]:.1f}; medians: {told([statistics.median(column) for column in zip(*rounds)])}; of the rounds' ratios {ratios}")
+    medians = told([statistics.median(column) for column in zip(*rounds)])
+    print(f"{len(rounds)} rounds, load {os.getloadavg()[0]:.1f}; median of their ratios {ratios}; medians: {medians}")
 
 
 if __name__ == "__main__":
