@@ -21,7 +21,8 @@ LONG = """examples:
   udfburn-client ls -l /photos --image disc.img
   udfburn-client verify photos /photos --image disc.img
 
-statuses: 0 all is done, 1 something is not, 2 the words are no command.
+statuses: 0 all is done, 1 something is not, 2 the words are no command,
+130 interrupted.
 environment: UDFBURN (the program udfburn), UDFBURN_SOCKET, UDFBURN_LEDGER."""
 
 
