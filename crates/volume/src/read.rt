@@ -1,4 +1,4 @@
-ghost use Rattle.limits.specs.declared.TheConstants.{GREATEST_CAPACITY, LEAST_CAPACITY, PARTITION_BLOCKS, PARTITION_START};
+ghost use Rattle.limits.specs.declared.TheConstants.{BLOCK_BYTES, GREATEST_CAPACITY, LEAST_CAPACITY, PARTITION_BLOCKS, PARTITION_START};
 ghost use Rattle.std.specs.Prelude.{◌≡◌, ◌<◌, ◌≤◌, ◌↔◌, ℕ, List, [], length, slice_index, slice_index_or, take, IsTrue, IfOk, IfErr, IfSome, IfNone};
 ghost use Rattle.ecma.specs.Tag.{Sealed};
 ghost use Rattle.ecma.specs.FirstFault.{IsFirst};
@@ -106,7 +106,7 @@ fn first_other(block: &Block, expected: &Block) -> Option<u32>
 
 /// How many bytes in front are the same, of those that are looked at eight together.
 fn same_front(block: &Block, expected: &Block) -> usize
-    ensures within { result ≤ 2048 }
+    ensures within { result ≤ BLOCK_BYTES }
     ensures same { (i : ℕ) → i < result → slice_index block.now i ≡ slice_index expected.now i }
 {
     let mut at = 0;
