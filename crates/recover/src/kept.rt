@@ -7,7 +7,7 @@ ghost use Rattle.std.proofs.Props.{props};
 use crate::directory::{Extent, read_directory};
 use crate::fault::{StoreFault, damaged};
 use crate::places::reach;
-use crate::reading::read_block;
+use crate::reading::read_into;
 use dir::Dir;
 use drive::Drive;
 use icb::{FileEntry, Kind, Place, decode_fe};
@@ -50,7 +50,8 @@ impl NodeEntry {
         ensures refused { IfErr result (λ fault. IsTrue (D.honest drive.new) → IsUnsaid (held (D.journal drive.old)) place fault) }
         ensures reads { Reads D.Drive (devices result) drive.old drive.new }
     {
-        let block = read_block(drive, place.at)?;
+        let mut block = [0; 2048];
+        read_into(drive, place.at, &mut block)?;
         match decode_fe(&block, place.address) {
             Ok(entry) => Ok(NodeEntry {
                 kind: entry.kind,

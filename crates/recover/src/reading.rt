@@ -1,7 +1,7 @@
 //! Reads of structures by their addresses. No call writes.
 
 ghost use Rattle.limits.specs.declared.TheConstants.{BLOCK_BYTES};
-ghost use Rattle.std.specs.Prelude.{◌≡◌, ◌+◌, ◌<◌, ◌≤◌, ◌^◌, IsTrue, IfOk, IfErr, Some, vec_len, All, slice_index, ℕ};
+ghost use Rattle.std.specs.Prelude.{◌≡◌, ◌+◌, ◌<◌, ◌≤◌, ◌^◌, IsTrue, IfOk, IfErr, OnOk, Some, vec_len, All, slice_index, ℕ};
 ghost use Rattle.udf.specs.Udf.{IsBlock};
 ghost use Rattle.std.specs.Int.{div_ceil};
 ghost use Rattle.drive.specs.Journal.{AreWhole, held, last_at, next_of};
@@ -38,10 +38,29 @@ pub fn read_block<D: Drive>(drive: &mut D, at: u32) -> Result<Block, StoreFault>
     ensures reads { Reads D.Drive (devices result) drive.old drive.new }
 {
     let mut block = [0; 2048];
-    match drive.read(at, &mut block) {
+    match read_into(drive, at, &mut block) {
+        Ok(()) => Ok(block),
+        Err(fault) => Err(fault),
+    }
+}
+
+/// Reads the block at an address into one that is there, so that it is not moved.
+pub(crate) fn read_into<D: Drive>(
+    drive: &mut D,
+    at: u32,
+    block: &mut Block,
+) -> Result<(), StoreFault>
+    requires { at < next_of (D.journal drive.old) }
+    ensures read { OnOk result (IsTrue (D.honest drive.new) → last_at (D.journal drive.old) at ≡ Some block.new) }
+    ensures block { OnOk result (IsBlock block.new) }
+    ensures whole { AreWhole (D.journal drive.old) }
+    ensures device { IfErr result (λ fault. fault ≡ Device) }
+    ensures reads { Reads D.Drive (devices result) drive.old drive.new }
+{
+    match drive.read(at, block) {
         Ok(()) => {
-            are_bytes(&block);
-            Ok(block)
+            are_bytes(block);
+            Ok(())
         }
         Err(_) => Err(StoreFault::Device),
     }

@@ -121,7 +121,7 @@ impl<'a> Walk<'a> {
     ghost use Rattle.recover.specs.Known.{IsKnown};
     ghost use Rattle.recover.specs.Refused.{IsBodyRefused, IsReachRefused, IsVisitRefused};
     ghost use Rattle.recover.specs.Walk.{HasEntry, LeadsTo, LiesBelow, Visits, nodes_of, reached_in, uniques_in};
-    ghost use Rattle.dir.specs.declared.entry.Kind.TheVariants.{Directory};
+    ghost use Rattle.dir.specs.declared.entry.Kind.TheVariants.{Directory, File};
 
     /// Nothing is seen yet of the tree of a table whose entry stands at `at`.
     pub(crate) fn new(
@@ -151,6 +151,7 @@ impl<'a> Walk<'a> {
     }
 
     /// Looks at a node, and at all below it. What is known is not read.
+    #[cycle(visit)]
     pub(crate) fn visit<D: Drive>(
         &mut self,
         alloc: Global,
@@ -191,9 +192,66 @@ impl<'a> Walk<'a> {
         for index in 0..names.dir.entries.len() {
             let (_, entry) = names.dir.entries.get_index(index).unwrap();
             let child = node.child(entry, extent.first + PARTITION_START);
-            self.visit(alloc, drive, known, &child)?;
+            self.visit_child(alloc, drive, known, &child)?;
         }
         known.keep_directory(extent, names);
+        Ok(())
+    }
+
+    /// Looks at a node, and at all below it. (A file needs no room for names.)
+    #[cycle(visit)]
+    fn visit_child<D: Drive>(
+        &mut self,
+        alloc: Global,
+        drive: &mut D,
+        known: &mut Known,
+        node: &Named,
+    ) -> Result<(), StoreFault>
+        requires low { 257 ≤ self.old.at }
+        requires within { self.old.at < next_of (D.journal drive.old) }
+        requires depth { node.now.depth ≤ 17 }
+        requires known { IsTrue (D.honest drive.old) → IsKnown (held (D.journal drive.old)) known.old }
+        ensures refused { IfErr result (λ fault. IsTrue (D.honest drive.new) → IsVisitRefused (nodes_of (D.journal drive.old) self.old) self.old node.now fault) }
+        ensures visits { OnOk result (IsTrue (D.honest drive.new) → Visits (nodes_of (D.journal drive.old) self.old) self.old self.new node.now) }
+        ensures at { self.new.at ≡ self.old.at }
+        ensures entries { self.new.entries.now ≡ self.old.entries.now }
+        ensures next_unique { self.new.next_unique ≡ self.old.next_unique }
+        ensures counted { OnOk result (node.now.kind ≡ Directory → 1 ≤ self.new.directories) }
+        ensures more { self.old.directories ≤ self.new.directories }
+        ensures known { IsTrue (D.honest drive.new) → IsKnown (held (D.journal drive.new)) known.new }
+        ensures reads { Reads D.Drive (devices result) drive.old drive.new }
+    {
+        match node.kind {
+            Kind::File => self.visit_file(drive, known, node),
+            Kind::Directory => self.visit(alloc, drive, known, node),
+        }
+    }
+
+    /// Looks at a file.
+    fn visit_file<D: Drive>(
+        &mut self,
+        drive: &mut D,
+        known: &mut Known,
+        node: &Named,
+    ) -> Result<(), StoreFault>
+        requires low { 257 ≤ self.old.at }
+        requires within { self.old.at < next_of (D.journal drive.old) }
+        requires depth { node.now.depth ≤ 17 }
+        requires known { IsTrue (D.honest drive.old) → IsKnown (held (D.journal drive.old)) known.old }
+        requires kind { node.now.kind ≡ File }
+        ensures refused { IfErr result (λ fault. IsTrue (D.honest drive.new) → IsVisitRefused (nodes_of (D.journal drive.old) self.old) self.old node.now fault) }
+        ensures visits { OnOk result (IsTrue (D.honest drive.new) → Visits (nodes_of (D.journal drive.old) self.old) self.old self.new node.now) }
+        ensures at { self.new.at ≡ self.old.at }
+        ensures entries { self.new.entries.now ≡ self.old.entries.now }
+        ensures next_unique { self.new.next_unique ≡ self.old.next_unique }
+        ensures counted { OnOk result (node.now.kind ≡ Directory → 1 ≤ self.new.directories) }
+        ensures more { self.old.directories ≤ self.new.directories }
+        ensures known { IsTrue (D.honest drive.new) → IsKnown (held (D.journal drive.new)) known.new }
+        ensures reads { Reads D.Drive (devices result) drive.old drive.new }
+    {
+        let entry_at = self.reach(node)?;
+        self.read_entry(drive, known, node, entry_at)?;
+        self.files = self.files.saturating_add(1);
         Ok(())
     }
 

@@ -12,8 +12,8 @@ invariant_of-result g c = record { fits = subst (λ (o : Option Extent). IfSome 
 
 pub returns-in-Ok-clause-said : goal.returns-in-Ok-clause-said
 returns-in-Ok-clause-said g c = λ h. record {
-  block = c.in_ok-block.block;
-  there = held_at _ _ _ c.requires (c.in_ok-block.ensures.read h);
+  block = c.read_into.new.block;
+  there = held_at _ _ _ c.requires (c.in_ok-read_into.ensures.read h);
   fields = fields_of c.in-Ok.entry;
   is = c.in-Ok.ensures.found;
   kind = refl;
@@ -26,6 +26,6 @@ pub returns-in-Err-clause-refused : goal.returns-in-Err-clause-refused
 returns-in-Err-clause-refused g c = rw c.damaged.ensures (λ h. (
   refl,
   λ block fields there is.
-      let same = same_Some block c.in_ok-block.block (sym there ∙ held_at _ _ _ c.requires (c.in_ok-block.ensures.read h)) in
+      let same = same_Some block c.read_into.new.block (sym there ∙ held_at _ _ _ c.requires (c.in_ok-read_into.ensures.read h)) in
       c.in-Err.ensures.only fields (subst (IsEntry fields c.args.place.address) same is),
 ))

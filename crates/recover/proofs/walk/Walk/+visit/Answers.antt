@@ -15,8 +15,8 @@ use Rattle.recover.proofs.Refused.{body_refused, child_refused, names_refused, r
 use Rattle.recover.proofs.Walks.{begun_all, begun_more, begun_none, directory_seen, file_seen, file_visits, visits_same}
 use Rattle.recover.proofs.walk.Walk.+visit.Goals as goal
 
-pub returns-in-File-clause-visits : goal.returns-in-File-clause-visits
-returns-in-File-clause-visits g t c = λ h.
+pub visit-returns-in-File-clause-visits : goal.visit-returns-in-File-clause-visits
+visit-returns-in-File-clause-visits g t c = λ h.
     let J : List Event = g.D.Drive.journal c.args.drive.now in
     let long : c.args.self.now.at ≤ length (take c.args.self.now.at (held J)) = omega (arith, length-take c.args.self.now.at (held J), length-held J, c.requires.within) in
     let entry = subst (λ (n : ℕ). HasEntry (take n (held J)) c.in_ok-entry_at.entry_at c.args.node.now c.in_ok-body.body) c.reach.ensures.at (c.in_ok-body.ensures.entry h) in
@@ -35,8 +35,8 @@ returns-in-File-clause-visits g t c = λ h.
     (subst (λ u. Puts (marked u) c.args.node.now.unique (uniques_in c.read_entry.new.self)) c.reach.ensures.uniques c.in_ok-body.ensures.uniques) (λ x. refl)
     files directories
 
-pub loop-index-init : goal.loop-index-init
-loop-index-init g t c = record {
+pub visit-loop-index-init : goal.visit-loop-index-init
+visit-loop-index-init g t c = record {
   begun = λ h.
       let J : List Event = g.D.Drive.journal c.args.drive.now in
       let long : c.args.self.now.at ≤ length (take c.args.self.now.at (held J)) = omega (arith, length-take c.args.self.now.at (held J), length-held J, c.requires.within) in
@@ -70,43 +70,43 @@ loop-index-init g t c = record {
   reads = reads_then c.in_ok-body.ensures.reads c.in_ok-names.ensures.reads;
 }
 
-pub loop-index-preserved : goal.loop-index-preserved
-loop-index-preserved g t c = record {
+pub visit-loop-index-preserved : goal.visit-loop-index-preserved
+visit-loop-index-preserved g t c = record {
   begun = λ h.
-      let visits = visits_same _ _ c.loop-index.self c.args.self.now _ _ _ c.loop-index.invariant.reads.journal c.loop-index.invariant.at c.loop-index.invariant.entries (c.in_ok-visit.ensures.visits h) in
+      let visits = visits_same _ _ c.loop-index.self c.args.self.now _ _ _ c.loop-index.invariant.reads.journal c.loop-index.invariant.at c.loop-index.invariant.entries (c.in_ok-visit_child.ensures.visits h) in
       let there : slice_get c.in_ok-names.names.dir.entries.entries c.loop-index.index ≡ Some (c.unwrap.result.0.now, c.unwrap.result.1.now) = sym c.get_index.ensures.entry ∙ ap (option_map deref_pair) c.unwrap.ensures in
-      begun_more (nodes_of (g.D.Drive.journal c.args.drive.now) c.args.self.now) c.args.self.now c.loop-index.self c.visit.new.self c.args.node.now c.child-child.result c.in_ok-names.names.dir.entries.entries c.loop-index.index
+      begun_more (nodes_of (g.D.Drive.journal c.args.drive.now) c.args.self.now) c.args.self.now c.loop-index.self c.visit_child.new.self c.args.node.now c.child-child.result c.in_ok-names.names.dir.entries.entries c.loop-index.index
       c.unwrap.result.0.now c.unwrap.result.1.now there c.child-child.ensures.kind c.child-child.ensures.address c.child-child.ensures.unique c.child-child.ensures.above c.child-child.ensures.depth
-      c.loop-index.invariant.next_unique (c.loop-index.invariant.begun (c.visit.ensures.reads.honest h)) visits;
-  at = c.visit.ensures.at ∙ c.loop-index.invariant.at;
-  entries = c.visit.ensures.entries ∙ c.loop-index.invariant.entries;
-  next_unique = c.visit.ensures.next_unique ∙ c.loop-index.invariant.next_unique;
-  more = omega (arith, c.visit.ensures.more, c.loop-index.invariant.more);
-  counted = omega (arith, c.visit.ensures.more, c.loop-index.invariant.counted);
-  known = c.visit.ensures.known;
-  names = λ h. c.loop-index.invariant.names (c.visit.ensures.reads.honest h);
-  reads = reads_then c.loop-index.invariant.reads c.in_ok-visit.ensures.reads;
+      c.loop-index.invariant.next_unique (c.loop-index.invariant.begun (c.visit_child.ensures.reads.honest h)) visits;
+  at = c.visit_child.ensures.at ∙ c.loop-index.invariant.at;
+  entries = c.visit_child.ensures.entries ∙ c.loop-index.invariant.entries;
+  next_unique = c.visit_child.ensures.next_unique ∙ c.loop-index.invariant.next_unique;
+  more = omega (arith, c.visit_child.ensures.more, c.loop-index.invariant.more);
+  counted = omega (arith, c.visit_child.ensures.more, c.loop-index.invariant.counted);
+  known = c.visit_child.ensures.known;
+  names = λ h. c.loop-index.invariant.names (c.visit_child.ensures.reads.honest h);
+  reads = reads_then c.loop-index.invariant.reads c.in_ok-visit_child.ensures.reads;
 }
 
-pub returns-clause-visits : goal.returns-clause-visits
-returns-clause-visits g t c = λ h.
+pub visit-returns-clause-visits : goal.visit-returns-clause-visits
+visit-returns-clause-visits g t c = λ h.
     let long : length c.in_ok-names.names.dir.entries.entries ≤ c.loop-index.index = omega (arith, c.loop-index-test.false, c.len-index-end.ensures.len) in
     begun_all (nodes_of (g.D.Drive.journal c.args.drive.now) c.args.self.now) c.args.self.now c.loop-index.self c.args.node.now c.in_ok-names.names.dir.entries.entries c.loop-index.index long c.in-Directory.is (c.loop-index.invariant.begun h)
 
-pub returns-clause-known : goal.returns-clause-known
-returns-clause-known g t c = λ h.
+pub visit-returns-clause-known : goal.visit-returns-clause-known
+visit-returns-clause-known g t c = λ h.
     c.keep_directory.ensures (held (g.D.Drive.journal c.loop-index.drive))
     (subst (λ (K : List Event). IsNamed (held K) c.in-Some.extent c.in_ok-names.names) (sym c.loop-index.invariant.reads.journal) (c.loop-index.invariant.names h)) (c.loop-index.invariant.known h)
 
-pub returns-in_err-entry_at-clause-refused : goal.returns-in_err-entry_at-clause-refused
-returns-in_err-entry_at-clause-refused g t c =
+pub visit-returns-in_err-entry_at-clause-refused : goal.visit-returns-in_err-entry_at-clause-refused
+visit-returns-in_err-entry_at-clause-refused g t c =
     let J : List Event = g.D.Drive.journal c.args.drive.now in
     let long : length (take c.args.self.now.at (held J)) ≤ c.args.self.now.at = omega (arith, length-take c.args.self.now.at (held J)) in
     let q = err_from_is_err_and c.from_residual.result c.from_residual.ensures.1 in
     rw (q.1, q.2) (λ h. reach_refused (take c.args.self.now.at (held J)) c.args.self.now long c.args.node.now _ c.in_err-entry_at.ensures.refused)
 
-pub returns-in_err-body-clause-refused : goal.returns-in_err-body-clause-refused
-returns-in_err-body-clause-refused g t c =
+pub visit-returns-in_err-body-clause-refused : goal.visit-returns-in_err-body-clause-refused
+visit-returns-in_err-body-clause-refused g t c =
     let J : List Event = g.D.Drive.journal c.args.drive.now in
     let long : length (take c.args.self.now.at (held J)) ≤ c.args.self.now.at = omega (arith, length-take c.args.self.now.at (held J)) in
     let q = err_from_is_err_and c.from_residual-in_err-body.result c.from_residual-in_err-body.ensures.1 in
@@ -114,8 +114,8 @@ returns-in_err-body-clause-refused g t c =
     body_refused (take c.args.self.now.at (held J)) c.args.self.now long c.args.node.now c.in_ok-entry_at.entry_at c.in_ok-entry_at.ensures.leads c.reach.new.self c.reach.ensures.at c.reach.ensures.next_unique c.reach.ensures.uniques _
     (subst (λ (n : ℕ). IsBodyRefused (take n (held J)) c.reach.new.self c.in_ok-entry_at.entry_at c.args.node.now c.in_err-body.field-0.0) c.reach.ensures.at (c.in_err-body.ensures.refused h)))
 
-pub returns-in_err-names-clause-refused : goal.returns-in_err-names-clause-refused
-returns-in_err-names-clause-refused g t c =
+pub visit-returns-in_err-names-clause-refused : goal.visit-returns-in_err-names-clause-refused
+visit-returns-in_err-names-clause-refused g t c =
     let J : List Event = g.D.Drive.journal c.args.drive.now in
     let q = err_from_is_err_and c.from_residual-in_err-names.result c.from_residual-in_err-names.ensures.1 in
     rw (q.1, q.2) (λ h.
@@ -124,18 +124,18 @@ returns-in_err-names-clause-refused g t c =
     names_refused (held J) c.args.self.now c.args.node.now c.in_ok-entry_at.entry_at c.in_ok-entry_at.ensures.leads c.in_ok-body.body entry c.in-Directory.is c.in-Some.extent c.in-Some.is below _
     (subst (λ (K : List Event). IsNamesRefused (held K) c.args.node.now.above c.in_ok-body.body.links c.in-Some.extent c.in_err-names.field-0.0) c.read_entry.ensures.reads.journal (c.in_err-names.ensures.refused h)))
 
-pub returns-in_err-visit-clause-refused : goal.returns-in_err-visit-clause-refused
-returns-in_err-visit-clause-refused g t c =
+pub visit-returns-in_err-visit_child-clause-refused : goal.visit-returns-in_err-visit_child-clause-refused
+visit-returns-in_err-visit_child-clause-refused g t c =
     let J : List Event = g.D.Drive.journal c.args.drive.now in
-    let q = err_from_is_err_and c.from_residual-in_err-visit.result c.from_residual-in_err-visit.ensures.1 in
+    let q = err_from_is_err_and c.from_residual-in_err-visit_child.result c.from_residual-in_err-visit_child.ensures.1 in
     let there : slice_get c.in_ok-names.names.dir.entries.entries c.loop-index.index ≡ Some (c.unwrap.result.0.now, c.unwrap.result.1.now) = sym c.get_index.ensures.entry ∙ ap (option_map deref_pair) c.unwrap.ensures in
     rw (q.1, q.2) (λ h.
     child_refused (nodes_of J c.args.self.now) c.args.self.now c.loop-index.self c.args.node.now c.child-child.result c.in_ok-names.names.dir.entries.entries c.loop-index.index
     c.unwrap.result.0.now c.unwrap.result.1.now there c.child-child.ensures.kind c.child-child.ensures.address c.child-child.ensures.unique c.child-child.ensures.above c.child-child.ensures.depth
-    c.loop-index.invariant.next_unique (c.loop-index.invariant.begun (c.visit.ensures.reads.honest h)) _
-    (refused_same _ _ c.loop-index.self c.args.self.now _ _ c.in_err-visit.field-0.0 c.loop-index.invariant.reads.journal c.loop-index.invariant.at c.loop-index.invariant.entries (c.in_err-visit.ensures.refused h)))
+    c.loop-index.invariant.next_unique (c.loop-index.invariant.begun (c.visit_child.ensures.reads.honest h)) _
+    (refused_same _ _ c.loop-index.self c.args.self.now _ _ c.in_err-visit_child.field-0.0 c.loop-index.invariant.reads.journal c.loop-index.invariant.at c.loop-index.invariant.entries (c.in_err-visit_child.ensures.refused h)))
 
-pub returns-in_err-visit-clause-reads : goal.returns-in_err-visit-clause-reads
-returns-in_err-visit-clause-reads g t c =
-    let q = err_from_is_err_and c.from_residual-in_err-visit.result c.from_residual-in_err-visit.ensures.1 in
-    rw (q.1, q.2) (reads_then c.loop-index.invariant.reads c.in_err-visit.ensures.reads)
+pub visit-returns-in_err-visit_child-clause-reads : goal.visit-returns-in_err-visit_child-clause-reads
+visit-returns-in_err-visit_child-clause-reads g t c =
+    let q = err_from_is_err_and c.from_residual-in_err-visit_child.result c.from_residual-in_err-visit_child.ensures.1 in
+    rw (q.1, q.2) (reads_then c.loop-index.invariant.reads c.in_err-visit_child.ensures.reads)

@@ -1,4 +1,4 @@
-use Rattle.std.proofs.Common.{◌≡◌, ◌-◌, ◌≤◌, IsTrue}
+use Rattle.std.proofs.Common.{◌≡◌, ◌+◌, ◌*◌, ◌-◌, ◌≤◌, IsTrue}
 use Rattle.drive.specs.Journal.{held}
 use Rattle.drive.specs.Reads.{Reads}
 use Rattle.recover.specs.Known.{IsKnown, IsNamed}
@@ -6,8 +6,8 @@ use Rattle.recover.specs.Walk.{nodes_of}
 use Rattle.recover.proofs.Walks.{Begun}
 use Rattle.recover.proofs.walk.Walk.+visit.Given as goal
 
-abbrev pub invariant-loop-index : goal.invariant-loop-index
-invariant-loop-index g l = record {
+abbrev pub invariant-visit-loop-index : goal.invariant-visit-loop-index
+invariant-visit-loop-index g l = record {
   begun : IsTrue (g.D.Drive.honest l.drive) → Begun (nodes_of (g.D.Drive.journal l.fn.drive) l.fn.self) l.fn.self l.self l.node l.names.dir.entries.entries l.index;
   at : l.self.at ≡ l.fn.self.at;
   entries : l.self.entries.now ≡ l.fn.self.entries.now;
@@ -20,4 +20,7 @@ invariant-loop-index g l = record {
 }
 
 abbrev pub decreases-visit : goal.decreases-visit
-decreases-visit g l = 17 - l.node.now.depth
+decreases-visit g l = 2 * (17 - l.node.now.depth)
+
+abbrev pub decreases-visit_child : goal.decreases-visit_child
+decreases-visit_child g l = 2 * (17 - l.node.now.depth) + 1

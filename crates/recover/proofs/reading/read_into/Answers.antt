@@ -1,5 +1,5 @@
 use Rattle.std.proofs.Common.{◌≡◌, length, arith}
-use Rattle.recover.proofs.reading.read_block.Goals as goal
+use Rattle.recover.proofs.reading.read_into.Goals as goal
 
 pub returns-in-Ok-clause-block : goal.returns-in-Ok-clause-block
 returns-in-Ok-clause-block g c = record {
