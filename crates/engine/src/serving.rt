@@ -1,13 +1,13 @@
 //! Messages from a stream, and answers to one.
 
-ghost use Rattle.std.specs.Prelude.{OnOk, OnErr, IfErr};
+ghost use Rattle.std.specs.Prelude.{OnOk, IfErr};
 ghost use Rattle.std.specs.Io.KnownBytes.{Appends};
 ghost use Rattle.drive.specs.Reads.{Follows};
 ghost use Rattle.request.specs.Answers.{answer_frame};
 ghost use Rattle.request.specs.Frames.{IsIdle};
 ghost use Rattle.engine.specs.Streams.{PutsUntil};
 ghost use Rattle.engine.specs.Situation.{IsReady, seen_on};
-ghost use Rattle.engine.specs.Served.{Answering, AnswersSome, ServesSome, ServesUntil, ServesAll};
+ghost use Rattle.engine.specs.Served.{Answering, AnswersSome, ServesUntil, ServesAll};
 
 use crate::engine::Engine;
 use crate::streams::{put_all, read_piece};
@@ -43,9 +43,7 @@ pub fn serve<R: Read, W: Write, D: Drive>(
     requires { IsReady (seen_on D.Drive engine.old drive.old) }
     ensures ok { OnOk result (ServesAll (seen_on D.Drive engine.old drive.old) (seen_on D.Drive engine.new drive.new)
         (R.remaining reader.old) (R.remaining reader.new) (W.contents writer.old) (W.contents writer.new)) }
-    ensures err { OnErr result (ServesSome (seen_on D.Drive engine.old drive.old) (seen_on D.Drive engine.new drive.new)
-        (R.remaining reader.old) (R.remaining reader.new) (W.contents writer.old) (W.contents writer.new)) }
-    // Which fault it is tells how far that went.
+    // Else the first of them were, and which fault it is tells how far that went.
     ensures left { IfErr result (λ fault. ServesUntil fault (seen_on D.Drive engine.old drive.old) (seen_on D.Drive engine.new drive.new)
         (R.remaining reader.old) (R.remaining reader.new) (W.contents writer.old) (W.contents writer.new)) }
     ensures ready { IsReady (seen_on D.Drive engine.new drive.new) }

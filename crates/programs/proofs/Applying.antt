@@ -1,6 +1,6 @@
 -- What `apply` makes of its input, and what a user sees of it where the volume is in memory.
-use Rattle.std.proofs.Common.{◌≡◌, ℕ, ◌≤◌, min, List, [], length, Bool, true, false, Option, Some, None, Result, Ok, Err, refl, sym, ap, ◌∙◌, subst, arith, drop, IsTrue, IsErr, rules, inr}
-use Rattle.std.proofs.lemmas.Bool.{true≢false}
+use Rattle.std.proofs.Common.{◌≡◌, ◌↔◌, ℕ, ◌<◌, ◌≤◌, min, List, [], length, codes, Bool, true, Option, None, Result, Ok, Err, refl, sym, ap, ◌∙◌, subst, arith, drop, IsTrue, IsSome, IsNone, inr}
+use Rattle.std.specs.Prelude.{IsErrAnd}
 use Rattle.drive.specs.Journal.{Event, held, Once}
 use Rattle.drive.specs.FileDrive.{journal_of, writes_of, failures_of, capacity_of, honest_of, BeginsWith}
 use Rattle.drive.specs.declared.file.FileDrive.{FileDrive}
@@ -11,19 +11,24 @@ use Rattle.model.specs.Session.{formatted}
 use Rattle.durability.specs.Commit.{need}
 use Rattle.durability.specs.Runs.{Fits}
 use Rattle.udf.specs.Udf.{spelled}
-use Rattle.formatting.specs.NewVolume.{words_on, IsFormatted}
+use Rattle.osta.specs.FirstFault.{first_fault}
+use Rattle.osta.specs.Label.{label_faults}
+use Rattle.recover.specs.declared.fault.StoreFault.{StoreFault}
+use Rattle.recover.specs.declared.fault.StoreFault.TheVariants as stores
+use Rattle.formatting.specs.NewVolume.{words_on, IsFormatted, IsFormatRefused}
 use Rattle.formatting.proofs.NewVolumes.{format_long}
 use Rattle.store.specs.declared.store.Store.{Store}
 use Rattle.engine.specs.Situation.{Situation, situation}
 use Rattle.engine.specs.Delivered.{with_store}
 use Rattle.engine.specs.Steps.{HoldsState}
 use Rattle.engine.specs.Headline.{said_answers}
-use Rattle.engine.specs.Served.{ServedHolds, ServesAll, ServesSome, brought}
+use Rattle.engine.specs.Served.{ServedHolds, ServesAll, ServesUntil, brought}
+use Rattle.engine.specs.declared.serving.ServeFault.{ServeFault}
 use Rattle.engine.proofs.Running.{runs_begin}
-use Rattle.engine.proofs.Messages.{nothing_more, nothing_read}
 use Rattle.programs.specs.declared.fault.Fault.{Fault}
-use Rattle.programs.specs.Applied.{Applies, AppliesAll, AppliesSome, AppliesToImage, IsRunOfNew, AnswersAll, AnswersSome, AnswersInMemory}
-use Rattle.programs.proofs.Opening.{begins_on}
+use Rattle.programs.specs.declared.fault.Fault.TheVariants.{Usage, Path, Socket, Store as Stored, Stream}
+use Rattle.programs.specs.Applied.{Applies, AppliesAll, AppliesUntil, AppliesToImage, IsRunOfNew, IsUnmade, AnswersAll, AnswersUntil, AnswersInMemory}
+use Rattle.programs.proofs.Opening.{begins_on, keeps_self}
 
 -- ---- an engine that is new begins with no store
 
@@ -32,11 +37,12 @@ pub applied_all : (store kept : Option Store) (J : List Event) (failures capacit
 applied_all store kept J failures capacity honest writes behind i l o w e h =
     (kept, subst (λ (s : Option Store). ServesAll (situation s J failures capacity honest writes) (with_store kept behind) i l o w) e h)
 
-pub applied_some : {T : Type 0} (outcome : Result T Fault) (store kept : Option Store) (J : List Event) (failures capacity : ℕ) (honest : Bool) (writes : List (List (List ℕ))) (behind : Situation) (i l o w : Option (List ℕ)) → IsErr outcome → store ≡ None
-    → ServesSome (situation store J failures capacity honest writes) (with_store kept behind) i l o w → Applies outcome (situation None J failures capacity honest writes) behind i l o w
-applied_some (Ok x) store kept J failures capacity honest writes behind i l o w is e h = absurd (true≢false (sym is))
-applied_some (Err fault) store kept J failures capacity honest writes behind i l o w is e h =
-    (kept, subst (λ (s : Option Store). ServesSome (situation s J failures capacity honest writes) (with_store kept behind) i l o w) e h)
+pub applied_until : {T : Type 0} (outcome : Result T Fault) (fault : ServeFault) (store kept : Option Store) (J : List Event) (failures capacity : ℕ) (honest : Bool) (writes : List (List (List ℕ))) (behind : Situation) (i l o w : Option (List ℕ)) → IsErrAnd outcome (λ f. f ≡ Stream fault) → store ≡ None
+    → ServesUntil fault (situation store J failures capacity honest writes) (with_store kept behind) i l o w → Applies outcome (situation None J failures capacity honest writes) behind i l o w
+applied_until {T} (Ok x) fault store kept J failures capacity honest writes behind i l o w is e h = absurd is
+applied_until {T} (Err f) fault store kept J failures capacity honest writes behind i l o w is e h =
+    subst (λ (g : Fault). Applies {T = T} (Err g) (situation None J failures capacity honest writes) behind i l o w) (sym is)
+    (kept, subst (λ (s : Option Store). ServesUntil fault (situation s J failures capacity honest writes) (with_store kept behind) i l o w) e h)
 
 -- the same on an image that was opened
 pub applied_to_image : {T : Type 0} (outcome : Result T Fault) (d : FileDrive) (behind : Situation) (i l o w : Option (List ℕ)) → (image : List (List ℕ)) × BeginsWith image d → capacity_of d ≡ 450000
@@ -86,23 +92,30 @@ module _ (capacity : ℕ) (label : List ℕ) (J : List Event) (made : IsFormatte
     ends = h.ends;
   }
 
-  answers_some : capacity ≤ 450000 → (failures : ℕ) (writes : List (List (List ℕ))) (behind : Situation) (i l o w : Option (List ℕ)) → behind.honest ≡ true
-      → AppliesSome (situation None J failures capacity true writes) behind i l o w → AnswersSome capacity i l o w
-  answers_some fits failures writes behind i l o w honest (kept, h) = record {
-    bytes = h.bytes;
-    messages = h.messages;
-    answers = h.answers;
-    reader = h.reader;
-    consumed = h.consumed;
-    messages_are = h.messages_are;
-    run = run_of_new fits failures writes h.messages h.answers (with_store kept behind) honest h.holds;
-    front = h.front;
+  answers_until : (fault : ServeFault) → capacity ≤ 450000 → (failures : ℕ) (writes : List (List (List ℕ))) (behind : Situation) (i l o w : Option (List ℕ)) → behind.honest ≡ true
+      → AppliesUntil fault (situation None J failures capacity true writes) behind i l o w → AnswersUntil fault capacity i l o w
+  answers_until fault fits failures writes behind i l o w honest (kept, h) = record {
+    some = record {
+      bytes = h.some.bytes;
+      messages = h.some.messages;
+      answers = h.some.answers;
+      reader = h.some.reader;
+      consumed = h.some.consumed;
+      messages_are = h.some.messages_are;
+      run = run_of_new fits failures writes h.some.messages h.some.answers (with_store kept behind) honest h.some.holds;
+      front = h.some.front;
+    };
+    left_by = h.left_by;
   }
 
   answers_in_memory : {T : Type 0} (outcome : Result T Fault) → capacity ≤ 450000 → (failures : ℕ) (writes : List (List (List ℕ))) (behind : Situation) (i l o w : Option (List ℕ)) → behind.honest ≡ true
       → Applies outcome (situation None J failures capacity true writes) behind i l o w → AnswersInMemory outcome capacity i l o w
   answers_in_memory (Ok x) fits failures writes behind i l o w honest h = answers_all fits failures writes behind i l o w honest h
-  answers_in_memory (Err fault) fits failures writes behind i l o w honest h = answers_some fits failures writes behind i l o w honest h
+  answers_in_memory (Err Usage) fits failures writes behind i l o w honest h = absurd h
+  answers_in_memory (Err Path) fits failures writes behind i l o w honest h = absurd h
+  answers_in_memory (Err Socket) fits failures writes behind i l o w honest h = absurd h
+  answers_in_memory (Err (Stored fault)) fits failures writes behind i l o w honest h = absurd h
+  answers_in_memory (Err (Stream fault)) fits failures writes behind i l o w honest h = answers_until fault fits failures writes behind i l o w honest h
 
 -- the drive's capacity and journal by the contracts of the calls that lead to it
 pub memory_answers : {T : Type 0} (outcome : Result T Fault) (capacity size later : ℕ) (label : List ℕ) (before J : List Event) (failures : ℕ) (writes : List (List (List ℕ))) (behind : Situation) (i l o w : Option (List ℕ))
@@ -114,19 +127,33 @@ memory_answers outcome capacity size later label before J failures writes behind
     answers_in_memory capacity label J here outcome fits failures writes behind i l o w honest
     (subst (λ (n : ℕ). Applies outcome (situation None J failures n true writes) behind i l o w) (still ∙ same) h)
 
--- nothing was read where there is no new volume
-pub answers_none : (capacity : ℕ) (i o : Option (List ℕ)) → AnswersSome capacity i i o o
-answers_none capacity i o = record {
-  bytes = [];
-  messages = [];
-  answers = [];
-  reader = Some [];
-  consumed = nothing_read i;
-  messages_are = refl;
-  run = record { end = 262; marks = []; counts = []; committed = []; fits = (refl, refl, refl, refl, refl); new = tt; once = tt };
-  front = (0, nothing_more o);
-}
+-- ---- where there is no new volume
 
-pub refused_answers : {T : Type 0} (outcome : Result T Fault) (capacity : ℕ) (i o : Option (List ℕ)) → IsErr outcome → AnswersInMemory outcome capacity i i o o
-refused_answers (Ok x) capacity i o h = let bad : ◌≡◌ {A = Bool} false true = h in absurd (search rules)
-refused_answers (Err fault) capacity i o h = answers_none capacity i o
+-- a format that is refused on a blank drive in memory, by the calls that lead to it
+unmade : (capacity : ℕ) (fault : StoreFault) (behind : List Event) → (fault ≡ stores.Label → IsSome (first_fault (label_faults (codes "MEM")))) → (fault ≡ stores.Small → capacity < 512)
+    → IsFormatRefused capacity (words_on capacity (codes "MEM") 0) [] behind true fault → IsUnmade capacity fault
+unmade capacity stores.NotBlank behind label small h = λ blocks is. h.1 refl (record { whole = blocks; is = is; count = 0; front = refl })
+unmade capacity stores.Label behind label small h = label refl
+unmade capacity stores.Small behind label small h = small refl
+unmade capacity stores.Device behind label small h = tt
+unmade capacity stores.Memory behind label small h = tt
+unmade capacity stores.NotFormatted behind label small h = absurd h
+unmade capacity (stores.Damaged block cause) behind label small h = absurd h
+unmade capacity stores.Full behind label small h = absurd h
+unmade capacity stores.Stopped behind label small h = absurd h
+unmade capacity stores.NoCommit behind label small h = absurd h
+unmade capacity stores.NotFound behind label small h = absurd h
+unmade capacity stores.IsDirectory behind label small h = absurd h
+unmade capacity stores.NotDirectory behind label small h = absurd h
+
+pub unmade_answers : {T U : Type 0} (outcome : Result T Fault) (made : Result U StoreFault) (fault : StoreFault) (capacity size : ℕ) (before behind : List Event) (i o : Option (List ℕ)) → IsErrAnd outcome (λ f. f ≡ Stored fault)
+    → made ≡ Err fault → size ≡ capacity → before ≡ [] → IsFormatRefused size (words_on size (codes "MEM") 0) before behind true fault
+    → ((made ≡ Err stores.Label) ↔ IsSome (first_fault (label_faults (codes "MEM")))) → ((made ≡ Err stores.Small) ↔ (IsNone (first_fault (label_faults (codes "MEM"))) × (size < 512)))
+    → AnswersInMemory outcome capacity i i o o
+unmade_answers {T} {U} (Ok x) made fault capacity size before behind i o is told same blank refused label small = absurd is
+unmade_answers {T} {U} (Err f) made fault capacity size before behind i o is told same blank refused label small =
+    let here : IsFormatRefused capacity (words_on capacity (codes "MEM") 0) [] behind true fault =
+    subst (λ (n : ℕ). IsFormatRefused n (words_on n (codes "MEM") 0) [] behind true fault) same (subst (λ (J : List Event). IsFormatRefused size (words_on size (codes "MEM") 0) J behind true fault) blank refused) in
+    let right : (fault ≡ stores.Label → IsSome (first_fault (label_faults (codes "MEM")))) = λ e. label.0 (told ∙ ap (λ (x : StoreFault). Err x) e) in
+    let less : (fault ≡ stores.Small → capacity < 512) = λ e. subst (λ (n : ℕ). n < 512) same (small.0 (told ∙ ap (λ (x : StoreFault). Err x) e)).1 in
+    subst (λ (g : Fault). AnswersInMemory {T = T} (Err g) capacity i i o o) (sym is) (unmade capacity fault behind right less here, refl, keeps_self o)

@@ -1,33 +1,30 @@
 -- What was copied so far, and then a piece more.
-use Rattle.std.proofs.Common.{◌≡◌, ℕ, List, [], ◌++◌, length, Option, Some, None, Result, Ok, Err, IsErr, sym, ap, ◌∙◌, subst}
-use Rattle.std.specs.Prelude.{OnOk, OnErr}
+use Rattle.std.proofs.Common.{◌≡◌, ℕ, ◌+◌, ◌≤◌, List, [], ◌++◌, length, take, Option, Some, None, Result, Ok, Err, sym, ap, ◌∙◌, subst, arith, inl, inr}
+use Rattle.std.specs.Prelude.{IfErr, IsErrAnd, OnOk}
 use Rattle.std.specs.Io.KnownBytes.{Appends, Consumes, Keeps}
-use Rattle.std.proofs.lemmas.Bool.{true≢false}
-use Rattle.std.proofs.lemmas.List.{append-nil}
-use Rattle.std.proofs.Math.Seq.{take-length}
+use Rattle.std.proofs.lemmas.List.{append-nil, length-take-le}
+use Rattle.std.proofs.Math.Seq.{take-append-add, take-length}
 use Rattle.engine.specs.Streams.{TakesPiece, PutsFront}
-use Rattle.engine.proofs.Messages.{appends_more, consumes_more, front_more, nothing_more, nothing_read}
+use Rattle.engine.specs.declared.serving.ServeFault.{ServeFault}
+use Rattle.engine.specs.declared.serving.ServeFault.TheVariants as streams
+use Rattle.engine.proofs.Messages.{appends_more, consumes_more, nothing_more, nothing_read}
 use Rattle.engine.proofs.Pieces.{keeps_on}
-use Rattle.programs.specs.Copies.{CopiesAll, CopiesSome, Sends, SendsAll, SendsSome}
+use Rattle.programs.specs.Copies.{CopiesAll, CopiesPart, CopiesRead, CopiesUntil, Sends, SendsAll, SendsSome, SendsUntil}
 use Rattle.programs.specs.declared.fault.Fault.{Fault}
+use Rattle.programs.specs.declared.fault.Fault.TheVariants.{Usage, Path, Socket, Store, Stream}
+use Rattle.programs.proofs.Opening.{keeps_self}
 
--- what was read was written
-pub record Copied (input left output written : Option (List ℕ)) : Type 0 where
-  pub bytes : List ℕ
-  pub consumed : Consumes input left bytes
-  pub copied : Appends output written bytes
-
-pub copied_none : (i o : Option (List ℕ)) → Copied i i o o
+pub copied_none : (i o : Option (List ℕ)) → CopiesRead i i o o
 copied_none i o = record { bytes = []; consumed = nothing_read i; copied = nothing_more o }
 
-pub copied_more : (i l n o v w x : Option (List ℕ)) (piece bytes : List ℕ) → Copied i l o v → TakesPiece l n piece → bytes ≡ piece → Appends v w bytes → Keeps w x → Copied i n o x
+pub copied_more : (i l n o v w x : Option (List ℕ)) (piece bytes : List ℕ) → CopiesRead i l o v → TakesPiece l n piece → bytes ≡ piece → Appends v w bytes → Keeps w x → CopiesRead i n o x
 copied_more i l n o v w x piece bytes h takes e more kept = record {
   bytes = h.bytes ++ piece;
   consumed = consumes_more i l n h.bytes piece h.consumed takes.consumed;
   copied = keeps_on o w x (h.bytes ++ piece) (appends_more o v w h.bytes piece h.copied (subst (λ (y : List ℕ). Appends v w y) e more)) kept;
 }
 
-pub copied_all : (i l n o v : Option (List ℕ)) (piece : List ℕ) → Copied i l o v → TakesPiece l n piece → piece ≡ [] → CopiesAll i n o v
+pub copied_all : (i l n o v : Option (List ℕ)) (piece : List ℕ) → CopiesRead i l o v → TakesPiece l n piece → piece ≡ [] → CopiesAll i n o v
 copied_all i l n o v piece h takes none = record {
   bytes = h.bytes;
   consumed = subst (λ (x : List ℕ). Consumes i n x) (append-nil h.bytes)
@@ -47,43 +44,119 @@ consumes_kept (Some xs) None c x h k = absurd h
 consumes_kept (Some xs) (Some ys) None x h k = absurd k
 consumes_kept (Some xs) (Some ys) (Some zs) x h k = h ∙ ap (λ (y : List ℕ). x ++ y) (sym k)
 
-pub copies_none : (i o : Option (List ℕ)) → CopiesSome i i o o
-copies_none i o = record { bytes = []; consumed = nothing_read i; front = (0, nothing_more o) }
-
-pub copied_some : (i l o v : Option (List ℕ)) → Copied i l o v → CopiesSome i l o v
-copied_some i l o v h = record { bytes = h.bytes; consumed = h.consumed; front = whole_front o v h.bytes h.copied }
-
 -- a read failed, and took nothing
-pub copied_read : (i l n o v : Option (List ℕ)) → Copied i l o v → Keeps l n → CopiesSome i n o v
-copied_read i l n o v h kept = record { bytes = h.bytes; consumed = consumes_kept i l n h.bytes h.consumed kept; front = whole_front o v h.bytes h.copied }
+pub copied_read : (i l n o v : Option (List ℕ)) → CopiesRead i l o v → Keeps l n → CopiesRead i n o v
+copied_read i l n o v h kept = record { bytes = h.bytes; consumed = consumes_kept i l n h.bytes h.consumed kept; copied = h.copied }
 
 -- a front of a piece was written
-pub copied_put : (i l n o v w : Option (List ℕ)) (piece bytes : List ℕ) → Copied i l o v → TakesPiece l n piece → bytes ≡ piece → PutsFront v w bytes → CopiesSome i n o w
-copied_put i l n o v w piece bytes h takes e front = record {
-  bytes = h.bytes ++ piece;
+pub copied_put : (i l n o v w : Option (List ℕ)) (piece bytes : List ℕ) → CopiesRead i l o v → TakesPiece l n piece → (piece ≡ [] → ⊥) → length piece ≤ 65536 → bytes ≡ piece → PutsFront v w bytes → CopiesPart i n o w
+copied_put i l n o v w piece bytes h takes some short e (count, put) = record {
+  copied = h.bytes;
+  piece = piece;
+  count = count;
+  some = some;
+  short = short;
   consumed = consumes_more i l n h.bytes piece h.consumed takes.consumed;
-  front = front_more o v w h.bytes piece h.copied (subst (λ (x : List ℕ). PutsFront v w x) e front);
+  front = appends_more o v w h.bytes (take count piece) h.copied (subst (λ (x : List ℕ). Appends v w (take count x)) e put);
 }
 
-pub copies_some : (i l o v : Option (List ℕ)) → CopiesAll i l o v → CopiesSome i l o v
-copies_some i l o v h = record { bytes = h.bytes; consumed = h.consumed; front = whole_front o v h.bytes h.copied }
+-- or all of it, and then the writer kept what it held, and failed
+pub copied_kept : (i l n o v w x : Option (List ℕ)) (piece bytes : List ℕ) → CopiesRead i l o v → TakesPiece l n piece → (piece ≡ [] → ⊥) → length piece ≤ 65536 → bytes ≡ piece → Appends v w bytes → Keeps w x → CopiesPart i n o x
+copied_kept i l n o v w x piece bytes h takes some short e put kept = copied_put i l n o v x piece bytes h takes some short e (whole_front v x bytes (keeps_on v w x bytes put kept))
 
--- what was copied, whether it went well or not
-pub copies_part : {T E : Type 0} (r : Result T E) (i l o v : Option (List ℕ)) → OnOk r (CopiesAll i l o v) → OnErr r (CopiesSome i l o v) → CopiesSome i l o v
-copies_part (Ok x) i l o v all some = copies_some i l o v all
-copies_part (Err e) i l o v all some = some
+-- so many bytes of a piece are no more than it has room for
+pub piece_short : (n : ℕ) (xs : List ℕ) → n ≤ length xs → length xs ≡ 65536 → length (take n xs) ≤ 65536
+piece_short n xs fits room = omega (arith, length-take-le n xs fits, fits, room)
+
+-- a fault that is handed on is the same, and what holds of it holds there
+pub until_put : {T : Type 0} (outcome : Result T Fault) (fault : ServeFault) (i l o w : Option (List ℕ)) → IsErrAnd outcome (λ f. f ≡ Stream fault) → fault ≡ streams.Write → CopiesPart i l o w → IfErr outcome (λ f. CopiesUntil f i l o w)
+until_put (Ok x) fault i l o w is write h = tt
+until_put (Err f) fault i l o w is write h = subst (λ (g : Fault). CopiesUntil g i l o w) (sym (is ∙ ap (λ (x : ServeFault). Stream x) write)) h
+
+pub until_read : {T : Type 0} (outcome : Result T Fault) (fault : ServeFault) (i l o w : Option (List ℕ)) → IsErrAnd outcome (λ f. f ≡ Stream fault) → fault ≡ streams.Read → CopiesRead i l o w → IfErr outcome (λ f. CopiesUntil f i l o w)
+until_read (Ok x) fault i l o w is read h = tt
+until_read (Err f) fault i l o w is read h = subst (λ (g : Fault). CopiesUntil g i l o w) (sym (is ∙ ap (λ (x : ServeFault). Stream x) read)) h
+
+-- ---- what was read, and a front of it was written
+
+pub record CopiesFront (input left output written : Option (List ℕ)) : Type 0 where
+  pub bytes : List ℕ
+  pub consumed : Consumes input left bytes
+  pub front : PutsFront output written bytes
+
+read_part : (i l o w : Option (List ℕ)) → CopiesRead i l o w → CopiesFront i l o w
+read_part i l o w h = record { bytes = h.bytes; consumed = h.consumed; front = whole_front o w h.bytes h.copied }
+
+all_part : (i l o w : Option (List ℕ)) → CopiesAll i l o w → CopiesFront i l o w
+all_part i l o w h = record { bytes = h.bytes; consumed = h.consumed; front = whole_front o w h.bytes h.copied }
+
+none_part : (i l o w : Option (List ℕ)) → l ≡ i → w ≡ o → CopiesFront i l o w
+none_part i l o w unread unwritten =
+    subst (λ (x : Option (List ℕ)). CopiesFront i x o w) (sym unread) (subst (λ (x : Option (List ℕ)). CopiesFront i i o x) (sym unwritten) (record { bytes = []; consumed = nothing_read i; front = (0, nothing_more o) }))
+
+until_part : (fault : Fault) (i l o w : Option (List ℕ)) → CopiesUntil fault i l o w → CopiesFront i l o w
+until_part Usage i l o w h = absurd h
+until_part Path i l o w h = absurd h
+until_part Socket i l o w h = absurd h
+until_part (Store fault) i l o w h = none_part i l o w h.1 h.2
+until_part (Stream streams.Read) i l o w h = read_part i l o w h
+until_part (Stream streams.Write) i l o w h = record {
+  bytes = h.copied ++ h.piece;
+  consumed = h.consumed;
+  front = (length h.copied + h.count, subst (λ (x : List ℕ). Appends o w x) (sym (take-append-add h.copied h.piece h.count)) h.front);
+}
+until_part (Stream streams.Memory) i l o w h = absurd h
+
+sent_part : (fault : Fault) (i l o w : Option (List ℕ)) → SendsUntil fault i l o w → CopiesFront i l o w
+sent_part fault i l o w (inl h) = until_part fault i l o w h
+sent_part fault i l o w (inr h) = all_part i l o w h.1
+
+-- what was sent, whether that went well or not
+pub sent_of : {T : Type 0} (r : Result T Fault) (i l o w : Option (List ℕ)) → OnOk r (CopiesAll i l o w) → IfErr r (λ fault. SendsUntil fault i l o w) → CopiesFront i l o w
+sent_of (Ok x) i l o w all until = all_part i l o w all
+sent_of (Err fault) i l o w all until = sent_part fault i l o w until
 
 -- ---- frames that are sent, and answers that come back
 
-pub sends_cut : (i l o w a b s t : Option (List ℕ)) → CopiesSome i l a b → CopiesSome s t o w → SendsSome i l o w
-sends_cut i l o w a b s t sent came = record { sent = sent.bytes; consumed = sent.consumed; came = came.bytes; front = came.front }
+cut : (i l o w a b s t : Option (List ℕ)) → CopiesFront i l a b → CopiesFront s t o w → SendsSome i l o w
+cut i l o w a b s t sent came = record { sent = sent.bytes; consumed = sent.consumed; came = came.bytes; front = came.front }
 
-pub sends_some : {T : Type 0} (outcome : Result T Fault) (i l o w a b s t : Option (List ℕ)) → IsErr outcome → CopiesSome i l a b → CopiesSome s t o w → Sends outcome i l o w
-sends_some (Ok x) i l o w a b s t is sent came = absurd (true≢false (sym is))
-sends_some (Err fault) i l o w a b s t is sent came = sends_cut i l o w a b s t sent came
+kept_of : (o w : Option (List ℕ)) → w ≡ o → Keeps o w
+kept_of o w e = subst (λ (x : Option (List ℕ)). Keeps o x) (sym e) (keeps_self o)
 
-pub sends_none : (i o : Option (List ℕ)) → SendsSome i i o o
-sends_none i o = record { sent = []; consumed = nothing_read i; came = []; front = (0, nothing_more o) }
+-- fewer answers came back than frames were sent
+pub sends_fewer : (i l o w a b s t : Option (List ℕ)) → CopiesFront i l a b → CopiesAll s t o w → SendsSome i l o w
+sends_fewer i l o w a b s t sent came = cut i l o w a b s t sent (all_part s t o w came)
+
+-- the answers were not copied whole
+answers_cut : (T : Type 0) (fault : Fault) (i l o w a b s t : Option (List ℕ)) → CopiesFront i l a b → CopiesUntil fault s t o w → Sends {T = T} (Err fault) i l o w
+answers_cut T Usage i l o w a b s t sent came = absurd came
+answers_cut T Path i l o w a b s t sent came = absurd came
+answers_cut T Socket i l o w a b s t sent came = absurd came
+answers_cut T (Store fault) i l o w a b s t sent came = (came.0, inr (kept_of o w came.2), cut i l o w a b s t sent (none_part s t o w came.1 came.2))
+answers_cut T (Stream streams.Read) i l o w a b s t sent came = cut i l o w a b s t sent (read_part s t o w came)
+answers_cut T (Stream streams.Write) i l o w a b s t sent came = cut i l o w a b s t sent (until_part (Stream streams.Write) s t o w came)
+answers_cut T (Stream streams.Memory) i l o w a b s t sent came = absurd came
+
+-- the frames were not sent whole
+frames_cut : (T : Type 0) (fault : Fault) (i l o w a b s t : Option (List ℕ)) → SendsUntil fault i l a b → CopiesAll s t o w → Sends {T = T} (Err fault) i l o w
+frames_cut T Usage i l o w a b s t (inl sent) came = absurd sent
+frames_cut T Path i l o w a b s t (inl sent) came = absurd sent
+frames_cut T Socket i l o w a b s t (inl sent) came = absurd sent
+frames_cut T (Store fault) i l o w a b s t (inl sent) came = (sent.0, inl sent.1, sends_fewer i l o w a b s t (none_part i l a b sent.1 sent.2) came)
+frames_cut T (Stream streams.Read) i l o w a b s t (inl sent) came = sends_fewer i l o w a b s t (read_part i l a b sent) came
+frames_cut T (Stream streams.Write) i l o w a b s t (inl sent) came = sends_fewer i l o w a b s t (until_part (Stream streams.Write) i l a b sent) came
+frames_cut T (Stream streams.Memory) i l o w a b s t (inl sent) came = absurd sent
+frames_cut T fault i l o w a b s t (inr sent) came =
+    subst (λ (f : Fault). Sends {T = T} (Err f) i l o w) (sym sent.0) (sends_fewer i l o w a b s t (all_part i l a b sent.1) came)
+
+pub sends_unanswered : {T : Type 0} (outcome : Result T Fault) (fault : Fault) (i l o w a b s t : Option (List ℕ)) → IsErrAnd outcome (λ f. f ≡ fault) → CopiesFront i l a b → CopiesUntil fault s t o w → Sends outcome i l o w
+sends_unanswered {T} (Ok x) fault i l o w a b s t is sent came = absurd is
+sends_unanswered {T} (Err f) fault i l o w a b s t is sent came = subst (λ (g : Fault). Sends {T = T} (Err g) i l o w) (sym is) (answers_cut T fault i l o w a b s t sent came)
+
+pub sends_part : {T : Type 0} (outcome : Result T Fault) (fault : Fault) (i l o w a b s t : Option (List ℕ)) → IsErrAnd outcome (λ f. f ≡ fault) → SendsUntil fault i l a b → CopiesAll s t o w → Sends outcome i l o w
+sends_part {T} (Ok x) fault i l o w a b s t is sent came = absurd is
+sends_part {T} (Err f) fault i l o w a b s t is sent came = subst (λ (g : Fault). Sends {T = T} (Err g) i l o w) (sym is) (frames_cut T fault i l o w a b s t sent came)
 
 pub sends_all : (i l o w a b s t : Option (List ℕ)) → CopiesAll i l a b → CopiesAll s t o w → SendsAll i l o w
 sends_all i l o w a b s t sent came = record { sent = sent.bytes; consumed = sent.consumed; end = sent.end; came = came.bytes; copied = came.copied }

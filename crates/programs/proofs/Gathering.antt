@@ -1,12 +1,16 @@
 -- What was done of a task is so where the output keeps what it has, or is that which was gathered and then written.
-use Rattle.std.proofs.Common.{◌≡◌, ℕ, ◌+◌, Bool, List, [], ◌++◌, length, Option, Some, None, Result, Ok, Err, refl, sym, ap, subst, ◌∙◌, inl, inr}
-use Rattle.std.specs.Prelude.{OnOk, OnErr}
+use Rattle.std.proofs.Common.{◌≡◌, ℕ, ◌+◌, Bool, List, [], ◌++◌, length, take, codes, Option, Some, None, Result, Ok, Err, refl, sym, ap, subst, ◌∙◌, inl, inr}
+use Rattle.std.specs.Prelude.{IfErr, IsOk, OnOk, OnErr}
 use Rattle.std.specs.Io.KnownBytes.{Appends, Keeps, append_known}
 use Rattle.std.proofs.lemmas.List.{append-nil}
 use Rattle.std.proofs.Math.Seq.{take-append-add}
 use Rattle.drive.specs.Journal.{Event}
+use Rattle.request.specs.Answers.{answer_frame}
+use Rattle.request.specs.declared.answer.Answer.{Answer}
 use Rattle.engine.specs.Delivered.{with_store}
-use Rattle.engine.specs.Served.{ServesAll, ServesSome, frames_of}
+use Rattle.engine.specs.Served.{LastUntold, LeftAt, LeftBy, ServesAll, ServesUntil, frames_of}
+use Rattle.engine.specs.declared.serving.ServeFault.{ServeFault}
+use Rattle.engine.specs.declared.serving.ServeFault.TheVariants as streams
 use Rattle.engine.specs.Situation.{Situation}
 use Rattle.engine.specs.Streams.{PutsFront}
 use Rattle.engine.proofs.Messages.{nothing_more}
@@ -15,7 +19,9 @@ use Rattle.programs.specs.declared.fault.Fault.{Fault}
 use Rattle.programs.specs.declared.fault.Fault.TheVariants.{Usage, Path, Socket, Store, Stream}
 use Rattle.programs.specs.Applied.{Applies, AppliesToImage, AnswersInMemory}
 use Rattle.programs.specs.Connections.{ServesFront}
-use Rattle.programs.specs.Copies.{Sends}
+use Rattle.programs.specs.Copies.{Sends, SendsSome}
+use Rattle.programs.specs.FaultLines.{Reports}
+use Rattle.programs.specs.Status.{status_of}
 use Rattle.programs.specs.Images.{OnImage, Unopened}
 use Rattle.programs.specs.NewVolumes.{Makes, MakesOnImage, Unbegun}
 use Rattle.programs.specs.Lines.{formatted_text}
@@ -26,6 +32,7 @@ use Rattle.programs.specs.Tasks.{Task, Does, Ends, HasFront, IsFrontOf}
 use Rattle.programs.specs.Tasks.Task.{Format, Apply_to_image, Apply_in_memory, List_names, Get_bytes, Log, Check, Send}
 use Rattle.programs.proofs.Copying.{whole_front}
 use Rattle.programs.proofs.Saying.{front_kept}
+use Rattle.programs.proofs.Telling.{refused_not, told_none}
 
 keeps_trans : (a b c : Option (List ℕ)) → Keeps a b → Keeps b c → Keeps a c
 keeps_trans None b c h k = tt
@@ -46,7 +53,9 @@ module _ (i l o v w : Option (List ℕ)) (kept : Keeps v w) where
   makes_kept label moment capacity (Err Path) J K honest h = h
   makes_kept label moment capacity (Err Socket) J K honest h = h
   makes_kept label moment capacity (Err (Store fault)) J K honest h = (h.0, keeps_trans o v w h.1 kept)
-  makes_kept label moment capacity (Err (Stream fault)) J K honest h = (h.0, front_kept o v w formatted_text h.1 kept)
+  makes_kept label moment capacity (Err (Stream streams.Read)) J K honest h = h
+  makes_kept label moment capacity (Err (Stream streams.Write)) J K honest h = (h.0, front_kept o v w formatted_text h.1 kept)
+  makes_kept label moment capacity (Err (Stream streams.Memory)) J K honest h = h
 
   made_kept : {T : Type 0} (label : List ℕ) (moment capacity : ℕ) (outcome : Result T Fault) → MakesOnImage label moment capacity outcome o v → MakesOnImage label moment capacity outcome o w
   made_kept label moment capacity outcome (inl h) = inl (unopened_kept outcome h)
@@ -75,23 +84,46 @@ module _ (i l o v w : Option (List ℕ)) (kept : Keeps v w) where
     ends = h.ends;
   }
 
+  untold_kept : (answers : List Answer) (count : ℕ) → LastUntold answers count o v → LastUntold answers count o w
+  untold_kept answers count (others, last, is, h) = (others, last, is, keeps_on o v w (frames_of others ++ take count (answer_frame last)) h kept)
+
+  left_at_kept : (fault : ServeFault) (answers : List Answer) (reader : Option (List ℕ)) → LeftAt fault answers reader o v → LeftAt fault answers reader o w
+  left_at_kept streams.Read answers reader h = h
+  left_at_kept streams.Write answers reader (inl h) = inl (h.0, keeps_on o v w (frames_of answers) h.1 kept)
+  left_at_kept streams.Write answers reader (inr (count, h)) = inr (count, untold_kept answers count h)
+  left_at_kept streams.Memory answers reader h = untold_kept answers 0 h
+
+  left_kept : (fault : ServeFault) (bytes : List ℕ) (answers : List Answer) (reader : Option (List ℕ)) → LeftBy fault bytes answers reader o v → LeftBy fault bytes answers reader o w
+  left_kept streams.Read bytes answers reader h = (h.0, keeps_on o v w (frames_of answers) h.1 kept)
+  left_kept streams.Write bytes answers reader h = (h.0, left_at_kept streams.Write answers reader h.1)
+  left_kept streams.Memory bytes answers reader (inl h) = inl (left_at_kept streams.Memory answers reader h)
+  left_kept streams.Memory bytes answers reader (inr (inl h)) = inr (inl (h.0, h.1, h.2, h.3, h.4, keeps_on o v w (frames_of answers) h.5 kept))
+  left_kept streams.Memory bytes answers reader (inr (inr h)) = inr (inr (h.0, keeps_on o v w [] h.1 kept))
+
+  until_kept : (fault : ServeFault) (before behind : Situation) → ServesUntil fault before behind i l o v → ServesUntil fault before behind i l o w
+  until_kept fault before behind h = record {
+    some = record {
+      bytes = h.some.bytes;
+      messages = h.some.messages;
+      answers = h.some.answers;
+      reader = h.some.reader;
+      consumed = h.some.consumed;
+      messages_are = h.some.messages_are;
+      answered = h.some.answered;
+      holds = h.some.holds;
+      withstands = h.some.withstands;
+      front = front_kept o v w (frames_of h.some.answers) h.some.front kept;
+    };
+    left_by = left_kept fault h.some.bytes h.some.answers h.some.reader h.left_by;
+  }
+
   applies_kept : {T : Type 0} (outcome : Result T Fault) (before behind : Situation) → Applies outcome before behind i l o v → Applies outcome before behind i l o w
   applies_kept (Ok x) before behind (store, h) = (store, serves_kept before (with_store store behind) h)
-  applies_kept (Err fault) before behind (store, h) = (
-    store,
-    record {
-      bytes = h.bytes;
-      messages = h.messages;
-      answers = h.answers;
-      reader = h.reader;
-      consumed = h.consumed;
-      messages_are = h.messages_are;
-      answered = h.answered;
-      holds = h.holds;
-      withstands = h.withstands;
-      front = front_kept o v w (frames_of h.answers) h.front kept;
-    },
-  )
+  applies_kept (Err Usage) before behind h = h
+  applies_kept (Err Path) before behind h = h
+  applies_kept (Err Socket) before behind h = h
+  applies_kept (Err (Store fault)) before behind h = h
+  applies_kept (Err (Stream fault)) before behind (store, h) = (store, until_kept fault before (with_store store behind) h)
 
   applied_kept : {T : Type 0} (outcome : Result T Fault) → AppliesToImage outcome i l o v → AppliesToImage outcome i l o w
   applied_kept outcome (inl (h, same)) = inl (unopened_kept outcome h, same)
@@ -110,15 +142,22 @@ module _ (i l o v w : Option (List ℕ)) (kept : Keeps v w) where
     idle = h.idle;
     ends = h.ends;
   }
-  answers_kept (Err fault) capacity h = record {
-    bytes = h.bytes;
-    messages = h.messages;
-    answers = h.answers;
-    reader = h.reader;
-    consumed = h.consumed;
-    messages_are = h.messages_are;
-    run = h.run;
-    front = front_kept o v w (frames_of h.answers) h.front kept;
+  answers_kept (Err Usage) capacity h = h
+  answers_kept (Err Path) capacity h = h
+  answers_kept (Err Socket) capacity h = h
+  answers_kept (Err (Store fault)) capacity h = (h.0, h.1, keeps_trans o v w h.2 kept)
+  answers_kept (Err (Stream fault)) capacity h = record {
+    some = record {
+      bytes = h.some.bytes;
+      messages = h.some.messages;
+      answers = h.some.answers;
+      reader = h.some.reader;
+      consumed = h.some.consumed;
+      messages_are = h.some.messages_are;
+      run = h.some.run;
+      front = front_kept o v w (frames_of h.some.answers) h.some.front kept;
+    };
+    left_by = left_kept fault h.some.bytes h.some.answers h.some.reader h.left_by;
   }
 
   shows_kept : {T : Type 0} (question : Question) (outcome : Result T Fault) (capacity : ℕ) (J : List Event) (honest : Bool) → Shows question outcome capacity J honest o v → Shows question outcome capacity J honest o w
@@ -127,7 +166,9 @@ module _ (i l o v w : Option (List ℕ)) (kept : Keeps v w) where
   shows_kept question (Err Path) capacity J honest h = h
   shows_kept question (Err Socket) capacity J honest h = h
   shows_kept question (Err (Store fault)) capacity J honest h = record { unwritten = keeps_trans o v w h.unwritten kept; refused = h.refused }
-  shows_kept question (Err (Stream fault)) capacity J honest h = record { bytes = h.bytes; front = front_kept o v w h.bytes h.front kept; said = h.said }
+  shows_kept question (Err (Stream streams.Read)) capacity J honest h = h
+  shows_kept question (Err (Stream streams.Write)) capacity J honest h = record { bytes = h.bytes; front = front_kept o v w h.bytes h.front kept; said = h.said }
+  shows_kept question (Err (Stream streams.Memory)) capacity J honest h = h
 
   shown_kept : {T : Type 0} (question : Question) (outcome : Result T Fault) → ShowsImage question outcome o v → ShowsImage question outcome o w
   shown_kept question outcome (inl h) = inl (unopened_kept outcome h)
@@ -140,9 +181,19 @@ module _ (i l o v w : Option (List ℕ)) (kept : Keeps v w) where
   path_kept question text outcome (inl (h, k)) = inl (h, keeps_trans o v w k kept)
   path_kept question text outcome (inr (path, is, reads, h)) = inr (path, is, reads, shown_kept (question path) outcome h)
 
+  sent_kept : SendsSome i l o v → SendsSome i l o w
+  sent_kept h = record { sent = h.sent; consumed = h.consumed; came = h.came; front = front_kept o v w h.came h.front kept }
+
   sends_kept : {T : Type 0} (outcome : Result T Fault) → Sends outcome i l o v → Sends outcome i l o w
   sends_kept (Ok x) h = record { sent = h.sent; consumed = h.consumed; end = h.end; came = h.came; copied = keeps_on o v w h.came h.copied kept }
-  sends_kept (Err fault) h = record { sent = h.sent; consumed = h.consumed; came = h.came; front = front_kept o v w h.came h.front kept }
+  sends_kept (Err Usage) h = h
+  sends_kept (Err Path) h = h
+  sends_kept (Err Socket) h = (h.0, keeps_trans o v w h.1 kept)
+  sends_kept (Err (Store fault)) (is, inl unread, h) = (is, inl unread, sent_kept h)
+  sends_kept (Err (Store fault)) (is, inr unwritten, h) = (is, inr (keeps_trans o v w unwritten kept), sent_kept h)
+  sends_kept (Err (Stream streams.Read)) h = sent_kept h
+  sends_kept (Err (Stream streams.Write)) h = sent_kept h
+  sends_kept (Err (Stream streams.Memory)) h = h
 
   does_kept : {T : Type 0} (task : Task) (outcome : Result T Fault) → Does task outcome i l o v → Does task outcome i l o w
   does_kept (Format label moment capacity) outcome h = (h.0, made_kept label moment capacity outcome h.1)
@@ -174,6 +225,11 @@ written_part (Some xs) (Some ys) bytes h = (length xs + h.0, h.1 ∙ sym (take-a
 
 -- ---- what is there in the end
 
+-- an outcome of status 0 went well
+done_well : {T : Type 0} (outcome : Result T Fault) → status_of outcome ≡ 0 → IsOk outcome
+done_well (Ok x) done = refl
+done_well (Err fault) done = refused_not 0 fault (sym done) refl
+
 -- the same by what the calls say that lead there
 module _ (task : Task) (status : ℕ) (i l e f : Option (List ℕ)) {O : Type 0} (contents : O → Option (List ℕ)) (output first last inner : O) (waiting waited rest bytes : List ℕ)
     (begins : first ≡ output) (empty : waiting ≡ []) (taken : inner ≡ last) (left : rest ≡ waited) (same : bytes ≡ rest)
@@ -197,30 +253,57 @@ module _ (task : Task) (status : ℕ) (i l e f : Option (List ℕ)) {O : Type 0}
   pub gathered_done : (now : Option (List ℕ)) → Appends (contents inner) now bytes → status ≡ 0 → Ends task 0 i l (contents output) now e f
   gathered_done now put done = subst (λ (n : ℕ). Ends task n i l (contents output) now e f) done (gathered_all now put)
 
-  pub gathered_part : (now : Option (List ℕ)) → PutsFront (contents inner) now bytes → HasFront task i l (contents output) now
-  gathered_part now put = record { outcome = there.outcome; gathered = append_known (contents inner) bytes; does = there.does; front = written_part (contents inner) now bytes put }
+  pub gathered_part : (now : Option (List ℕ)) → PutsFront (contents inner) now bytes → HasFront task status i l (contents output) now e f
+  gathered_part now put = record {
+    outcome = there.outcome;
+    gathered = append_known (contents inner) bytes;
+    does = there.does;
+    front = written_part (contents inner) now bytes put;
+    told_as = there.outcome;
+    is_told = inl refl;
+    status_is = there.status_is;
+    reports = there.reports;
+  }
 
-  pub gathered_whole : (now : Option (List ℕ)) → Appends (contents inner) now bytes → HasFront task i l (contents output) now
+  -- it went well, and then the output failed, which was said
+  pub gathered_failed : (now : Option (List ℕ)) (fault : ServeFault) (last_status : ℕ) (told : Option (List ℕ)) → PutsFront (contents inner) now bytes → status ≡ 0 → fault ≡ streams.Write
+      → last_status ≡ 1 → Reports {T = Unit {0}} (codes "udfburn") (Err (Stream fault)) f told → HasFront task last_status i l (contents output) now e told
+  gathered_failed now fault last_status told put done write is reports = record {
+    outcome = there.outcome;
+    gathered = append_known (contents inner) bytes;
+    does = there.does;
+    front = written_part (contents inner) now bytes put;
+    told_as = Err (Stream streams.Write);
+    is_told = inr (done_well there.outcome (sym there.status_is ∙ done), refl);
+    status_is = is;
+    reports = subst (λ (x : Option (List ℕ)). Reports {T = Unit {0}} (codes "udfburn") (Err (Stream streams.Write)) x told)
+        (told_none (codes "udfburn") status e f (there.outcome, there.status_is, there.reports) done)
+        (subst (λ (x : ServeFault). Reports {T = Unit {0}} (codes "udfburn") (Err (Stream x)) f told) write reports);
+  }
+
+  pub gathered_whole : (now : Option (List ℕ)) → Appends (contents inner) now bytes → HasFront task status i l (contents output) now e f
   gathered_whole now put = gathered_part now (whole_front (contents inner) now bytes put)
+
+-- ---- where nothing is written
+
+module _ {O : Type 0} (contents : O → Option (List ℕ)) (output first last inner : O) (waiting waited rest bytes : List ℕ)
+    (begins : first ≡ output) (empty : waiting ≡ []) (taken : inner ≡ last) (left : rest ≡ waited) (same : bytes ≡ rest) where
+  begun_with : append_known (contents first) waiting ≡ contents output
+  begun_with = ap (λ (x : O). append_known (contents x) waiting) begins ∙ nothing_waits (contents output) waiting empty
+
+  ended_with : append_known (contents last) waited ≡ append_known (contents inner) bytes
+  ended_with = ap (λ (x : O). append_known (contents x) waited) (sym taken) ∙ ap (λ (b : List ℕ). append_known (contents inner) b) (sym (same ∙ left))
+
+  pub part_unwritten : (now : Option (List ℕ)) → append_known (contents last) waited ≡ append_known (contents first) waiting → PutsFront (contents inner) now bytes → IsFrontOf (contents output) now
+  part_unwritten now unwritten put = subst (λ (x : Option (List ℕ)). IsFrontOf x now) (sym ended_with ∙ unwritten ∙ begun_with) (written_part (contents inner) now bytes put)
+
+  pub all_unwritten : (now : Option (List ℕ)) → append_known (contents last) waited ≡ append_known (contents first) waiting → Appends (contents inner) now bytes → IsFrontOf (contents output) now
+  all_unwritten now unwritten put = part_unwritten now unwritten (whole_front (contents inner) now bytes put)
 
 -- ---- the same of a connection
 
-pub err_of : {T E : Type 0} (r : Result T E) (e : E) (P : Type 0) → r ≡ Err e → OnErr r P → P
-err_of {T} {E} r e P is h = subst (λ (x : Result T E). OnErr x P) is h
-
-serves_part : (before behind : Situation) (i l o w : Option (List ℕ)) → ServesAll before behind i l o w → ServesSome before behind i l o w
-serves_part before behind i l o w h = record {
-  bytes = h.serving.bytes;
-  messages = h.serving.messages;
-  answers = h.serving.answers;
-  reader = h.reader;
-  consumed = h.serving.consumed;
-  messages_are = h.serving.messages_are;
-  answered = h.serving.answered;
-  holds = h.holds;
-  withstands = h.withstands;
-  front = whole_front o w (frames_of h.serving.answers) h.serving.told;
-}
+pub err_of : {T E : Type 0} (r : Result T E) (e told : E) (P : E → Type 0) → r ≡ Err e → e ≡ told → IfErr r P → P told
+err_of {T} {E} r e told P is same h = subst (λ (x : E). P x) same (subst (λ (x : Result T E). IfErr x P) is h)
 
 module _ (before behind : Situation) (i l : Option (List ℕ)) {O : Type 0} (contents : O → Option (List ℕ)) (output first last inner : O) (waiting waited rest bytes : List ℕ)
     (begins : first ≡ output) (empty : waiting ≡ []) (taken : inner ≡ last) (left : rest ≡ waited) (same : bytes ≡ rest) where
@@ -236,24 +319,34 @@ module _ (before behind : Situation) (i l : Option (List ℕ)) {O : Type 0} (con
       (subst (λ (a : Option (List ℕ)). ServesAll before behind i l a (append_known (contents inner) bytes)) begins_with
       (subst (λ (b : Option (List ℕ)). ServesAll before behind i l (append_known (contents first) waiting) b) ends_with h))
 
-  pub served_front : (now : Option (List ℕ)) → PutsFront (contents inner) now bytes → ServesSome before behind i l (append_known (contents first) waiting) (append_known (contents last) waited) → ServesFront before behind i l (contents output) now
-  served_front now put h = record {
+  -- all messages were answered, and a front of what waited was written
+  pub served_part : (fault : ServeFault) (now : Option (List ℕ)) → fault ≡ streams.Write → PutsFront (contents inner) now bytes → ServesAll before behind i l (append_known (contents first) waiting) (append_known (contents last) waited)
+      → ServesFront fault before behind i l (contents output) now
+  served_part fault now write put h = record {
     gathered = append_known (contents inner) bytes;
-    serves = subst (λ (a : Option (List ℕ)). ServesSome before behind i l a (append_known (contents inner) bytes)) begins_with
-        (subst (λ (b : Option (List ℕ)). ServesSome before behind i l (append_known (contents first) waiting) b) ends_with h);
+    serves = inr (
+      write,
+      subst (λ (a : Option (List ℕ)). ServesAll before behind i l a (append_known (contents inner) bytes)) begins_with
+          (subst (λ (b : Option (List ℕ)). ServesAll before behind i l (append_known (contents first) waiting) b) ends_with h),
+    );
     front = written_part (contents inner) now bytes put;
   }
 
-  -- all messages were answered, and a front of what waited was written
-  pub served_part : (now : Option (List ℕ)) → PutsFront (contents inner) now bytes → ServesAll before behind i l (append_known (contents first) waiting) (append_known (contents last) waited) → ServesFront before behind i l (contents output) now
-  served_part now put h = served_front now put (serves_part before behind i l (append_known (contents first) waiting) (append_known (contents last) waited) h)
+  served_front : (fault : ServeFault) (now : Option (List ℕ)) → PutsFront (contents inner) now bytes → ServesUntil fault before behind i l (append_known (contents first) waiting) (append_known (contents last) waited)
+      → ServesFront fault before behind i l (contents output) now
+  served_front fault now put h = record {
+    gathered = append_known (contents inner) bytes;
+    serves = inl (subst (λ (a : Option (List ℕ)). ServesUntil fault before behind i l a (append_known (contents inner) bytes)) begins_with
+        (subst (λ (b : Option (List ℕ)). ServesUntil fault before behind i l (append_known (contents first) waiting) b) ends_with h));
+    front = written_part (contents inner) now bytes put;
+  }
 
   -- what waited was let go
-  pub served_cut : ServesSome before behind i l (append_known (contents first) waiting) (append_known (contents last) waited) → ServesFront before behind i l (contents output) (contents inner)
-  served_cut h = served_front (contents inner) (0, nothing_more (contents inner)) h
+  pub served_cut : (fault : ServeFault) → ServesUntil fault before behind i l (append_known (contents first) waiting) (append_known (contents last) waited) → ServesFront fault before behind i l (contents output) (contents inner)
+  served_cut fault h = served_front fault (contents inner) (0, nothing_more (contents inner)) h
 
   -- what waited was written, or a front of it
-  pub served_tried : {T E : Type 0} (r : Result T E) (now : Option (List ℕ)) → OnOk r (Appends (contents inner) now bytes) → OnErr r (PutsFront (contents inner) now bytes)
-      → ServesSome before behind i l (append_known (contents first) waiting) (append_known (contents last) waited) → ServesFront before behind i l (contents output) now
-  served_tried (Ok x) now all some h = served_front now (whole_front (contents inner) now bytes all) h
-  served_tried (Err e) now all some h = served_front now some h
+  pub served_tried : {T E : Type 0} (fault : ServeFault) (r : Result T E) (now : Option (List ℕ)) → OnOk r (Appends (contents inner) now bytes) → OnErr r (PutsFront (contents inner) now bytes)
+      → ServesUntil fault before behind i l (append_known (contents first) waiting) (append_known (contents last) waited) → ServesFront fault before behind i l (contents output) now
+  served_tried fault (Ok x) now all some h = served_front fault now (whole_front (contents inner) now bytes all) h
+  served_tried fault (Err e) now all some h = served_front fault now some h

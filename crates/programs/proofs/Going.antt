@@ -1,10 +1,11 @@
 -- Connections that go on from one another are one run.
 use Rattle.std.proofs.Common.{◌≡◌, ℕ, List, [], ◌++◌, Bool, Option, None, Result, Ok, Err, refl, subst}
-use Rattle.std.specs.Prelude.{OnOk, OnErr}
+use Rattle.std.specs.Prelude.{OnOk, IfErr}
 use Rattle.drive.specs.Journal.{Event}
 use Rattle.store.specs.declared.store.Store.{Store}
 use Rattle.engine.specs.Situation.{Situation, situation}
-use Rattle.engine.specs.Served.{AllAnswered, ServesAll, ServesSome}
+use Rattle.engine.specs.declared.serving.ServeFault.{ServeFault}
+use Rattle.engine.specs.Served.{AllAnswered, ServesAll, ServesUntil}
 use Rattle.engine.proofs.Messages.{answered_append}
 use Rattle.engine.proofs.Served.{served_holds, served_withstand}
 use Rattle.programs.specs.Connections.{GoesOn}
@@ -23,9 +24,10 @@ goes_more s t u h k =
       withstands = served_withstand (h.messages ++ k.messages) s (h.answers ++ k.answers) u answered;
     }
 
-pub goes_served : {T E : Type 0} (r : Result T E) (s t : Situation) (i l o w : Option (List ℕ)) → OnOk r (ServesAll s t i l o w) → OnErr r (ServesSome s t i l o w) → GoesOn s t
-goes_served (Ok x) s t i l o w all some = record { messages = all.serving.messages; answers = all.serving.answers; answered = all.serving.answered; holds = all.holds; withstands = all.withstands }
-goes_served (Err e) s t i l o w all some = record { messages = some.messages; answers = some.answers; answered = some.answered; holds = some.holds; withstands = some.withstands }
+pub goes_served : {T : Type 0} (r : Result T ServeFault) (s t : Situation) (i l o w : Option (List ℕ)) → OnOk r (ServesAll s t i l o w) → IfErr r (λ fault. ServesUntil fault s t i l o w) → GoesOn s t
+goes_served (Ok x) s t i l o w all left = record { messages = all.serving.messages; answers = all.serving.answers; answered = all.serving.answered; holds = all.holds; withstands = all.withstands }
+goes_served (Err fault) s t i l o w all left =
+    record { messages = left.some.messages; answers = left.some.answers; answered = left.some.answered; holds = left.some.holds; withstands = left.some.withstands }
 
 pub goes_new : (store : Option Store) (J : List Event) (failures capacity : ℕ) (honest : Bool) (writes : List (List (List ℕ))) → store ≡ None → GoesOn (situation None J failures capacity honest writes) (situation store J failures capacity honest writes)
 goes_new store J failures capacity honest writes e =

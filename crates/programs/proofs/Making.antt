@@ -7,6 +7,7 @@ use Rattle.drive.specs.declared.file.FileDrive.{FileDrive}
 use Rattle.formatting.specs.NewVolume.{words_on, IsFormatted, IsFormatRefused}
 use Rattle.recover.specs.declared.fault.StoreFault.{StoreFault}
 use Rattle.engine.specs.Situation.{Situation}
+use Rattle.engine.specs.declared.serving.ServeFault.TheVariants as streams
 use Rattle.programs.specs.declared.fault.Fault.{Fault}
 use Rattle.programs.specs.declared.fault.Fault.TheVariants.{Usage, Path, Socket, Store, Stream}
 use Rattle.programs.specs.Lines.{Puts, formatted_text}
@@ -20,7 +21,9 @@ makes_put label moment capacity (Err Usage) J K honest o w puts made = puts
 makes_put label moment capacity (Err Path) J K honest o w puts made = puts
 makes_put label moment capacity (Err Socket) J K honest o w puts made = puts
 makes_put label moment capacity (Err (Store fault)) J K honest o w puts made = absurd puts
-makes_put label moment capacity (Err (Stream fault)) J K honest o w puts made = (made, puts)
+makes_put label moment capacity (Err (Stream streams.Read)) J K honest o w puts made = puts
+makes_put label moment capacity (Err (Stream streams.Write)) J K honest o w puts made = (made, puts)
+makes_put label moment capacity (Err (Stream streams.Memory)) J K honest o w puts made = puts
 
 pub makes_refused : {T : Type 0} (label : List ℕ) (moment capacity : ℕ) (outcome : Result T Fault) (J K : List Event) (honest : Bool) (o : Option (List ℕ)) (fault : StoreFault) → IsErrAnd outcome (λ f. f ≡ Store fault)
     → IsFormatRefused capacity (words_on capacity label moment) J K honest fault → Makes label moment capacity outcome J K honest o o

@@ -27,6 +27,7 @@ use Rattle.store.specs.Shows.{Shows as TreeShows}
 use Rattle.store.proofs.Knowing.{shows}
 use Rattle.store.proofs.Queried.{gets, lists}
 use Rattle.engine.specs.Situation.{Situation}
+use Rattle.engine.specs.declared.serving.ServeFault.TheVariants as streams
 use Rattle.programs.specs.declared.fault.Fault.{Fault}
 use Rattle.programs.specs.declared.fault.Fault.TheVariants as faults
 use Rattle.programs.specs.Lines.{Puts, names_text, commits_text, sound_text}
@@ -44,7 +45,9 @@ shows_put question (Err faults.Usage) capacity J honest o w bytes puts said = pu
 shows_put question (Err faults.Path) capacity J honest o w bytes puts said = puts
 shows_put question (Err faults.Socket) capacity J honest o w bytes puts said = puts
 shows_put question (Err (faults.Store fault)) capacity J honest o w bytes puts said = absurd puts
-shows_put question (Err (faults.Stream fault)) capacity J honest o w bytes puts said = record { bytes = bytes; front = puts; said = said }
+shows_put question (Err (faults.Stream streams.Read)) capacity J honest o w bytes puts said = puts
+shows_put question (Err (faults.Stream streams.Write)) capacity J honest o w bytes puts said = record { bytes = bytes; front = puts; said = said }
+shows_put question (Err (faults.Stream streams.Memory)) capacity J honest o w bytes puts said = puts
 
 pub shows_refused : {T : Type 0} (question : Question) (outcome : Result T Fault) (capacity : ℕ) (J : List Event) (honest : Bool) (o : Option (List ℕ)) (fault : StoreFault) → IsErrAnd outcome (λ f. f ≡ faults.Store fault)
     → (IsTrue honest → Once J → IsOpenRefused capacity (held J) fault ⊎ IsQuestionRefused question capacity J fault) → Shows question outcome capacity J honest o o

@@ -1,13 +1,17 @@
 -- Texts that are written one behind another.
 use Rattle.std.proofs.Common.{◌≡◌, ℕ, ◌≤◌, min, List, ◌++◌, length, take, Option, Result, Ok, Err, sym, ap, subst, ◌∙◌, arith, codes}
-use Rattle.std.specs.Prelude.{OnOk, OnErr, decimal}
+use Rattle.std.specs.Prelude.{IsErrAnd, OnOk, OnErr, decimal}
 use Rattle.std.specs.Io.KnownBytes.{Appends, Keeps}
 use Rattle.std.proofs.lemmas.List.{take-append-le, take_min}
 use Rattle.std.proofs.lemmas.Result.{on_ok_weaker, on_err_weaker}
 use Rattle.engine.specs.Streams.{PutsFront}
 use Rattle.engine.proofs.Messages.{appends_more, front_more}
 use Rattle.engine.proofs.Pieces.{keeps_on}
+use Rattle.engine.specs.declared.serving.ServeFault.{ServeFault}
+use Rattle.engine.specs.declared.serving.ServeFault.TheVariants as streams
 use Rattle.programs.specs.declared.fault.Fault.{Fault}
+use Rattle.programs.specs.declared.fault.Fault.TheVariants.{Stream}
+use Rattle.programs.specs.Lines.{Puts}
 use Rattle.programs.specs.FaultLines.{Reports, damage_text, fault_damage, fault_line, fault_name, place_text}
 use Rattle.programs.proofs.Copying.{whole_front}
 
@@ -20,6 +24,11 @@ front_longer a b x y h =
 -- and stays one where the stream keeps what it has
 pub front_kept : (a b c : Option (List ℕ)) (x : List ℕ) → PutsFront a b x → Keeps b c → PutsFront a c x
 front_kept a b c x h kept = (h.0, keeps_on a b c (take h.0 x) h.1 kept)
+
+-- a write that failed is told as such
+pub puts_until : {T : Type 0} (outcome : Result T Fault) (fault : ServeFault) (o w : Option (List ℕ)) (bytes : List ℕ) → IsErrAnd outcome (λ f. f ≡ Stream fault) → fault ≡ streams.Write → PutsFront o w bytes → Puts outcome o w bytes
+puts_until {T} (Ok x) fault o w bytes is write h = absurd is
+puts_until {T} (Err f) fault o w bytes is write h = subst (λ (g : Fault). Puts {T = T} (Err g) o w bytes) (sym (is ∙ ap (λ (x : ServeFault). Stream x) write)) h
 
 -- ---- so many texts, one behind another, of which the last came whole or as a front
 

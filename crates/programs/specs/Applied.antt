@@ -1,35 +1,47 @@
 -- What the messages of the input became, and what a user sees of it who gave them a volume in memory.
-use Rattle.std.specs.Prelude.{◌≡◌, ◌⊎◌, ℕ, List, Option, None, Result, Ok, Err}
-use Rattle.std.specs.Io.KnownBytes.{Appends, Consumes, IsAtEnd}
-use Rattle.limits.specs.declared.TheConstants.{GREATEST_CAPACITY, FORMAT_BLOCKS}
+use Rattle.std.specs.Prelude.{◌≡◌, ◌⊎◌, ⊤, ℕ, ◌<◌, List, codes, Option, None, IsSome, Result, Ok, Err}
+use Rattle.std.specs.Io.KnownBytes.{Appends, Consumes, IsAtEnd, Keeps}
+use Rattle.limits.specs.declared.TheConstants.{GREATEST_CAPACITY, LEAST_CAPACITY, FORMAT_BLOCKS}
+use Rattle.osta.specs.FirstFault.{first_fault}
+use Rattle.osta.specs.Label.{label_faults}
 use Rattle.request.specs.declared.answer.Answer.{Answer}
 use Rattle.request.specs.declared.message.Message.{Message}
 use Rattle.request.specs.Frames.{IsIdle, MessagesAre}
 use Rattle.model.specs.Session.{Request, formatted}
 use Rattle.model.specs.Runs.{AllNew, EachOnce}
 use Rattle.durability.specs.Commit.{need}
+use Rattle.durability.specs.Formats.{Block}
 use Rattle.durability.specs.Runs.{Fits}
 use Rattle.udf.specs.Udf.{spelled}
+use Rattle.formatting.specs.NewVolume.{IsFormatOf, words_on}
+use Rattle.recover.specs.declared.fault.StoreFault.{StoreFault}
+use Rattle.recover.specs.declared.fault.StoreFault.TheVariants as stores
 use Rattle.store.specs.declared.store.Store.{Store}
 use Rattle.engine.specs.Situation.{Situation}
 use Rattle.engine.specs.Streams.{PutsFront}
 use Rattle.engine.specs.Delivered.{with_store}
 use Rattle.engine.specs.Headline.{said_answers}
-use Rattle.engine.specs.Served.{ServesAll, ServesSome, brought, frames_of}
+use Rattle.engine.specs.Served.{LeftBy, ServesAll, ServesUntil, brought, frames_of}
+use Rattle.engine.specs.declared.serving.ServeFault.{ServeFault}
 use Rattle.programs.specs.declared.fault.Fault.{Fault}
+use Rattle.programs.specs.declared.fault.Fault.TheVariants.{Usage, Path, Socket, Store as Stored, Stream}
 use Rattle.programs.specs.Images.{OnImage, Unopened}
 
--- All messages of the input were answered, or the first ones. Which store is open behind them is not told.
+-- All messages of the input were answered, or the first ones up to where this fault came. Which store is open behind them is not told.
 abbrev pub AppliesAll : Situation → Situation → Option (List ℕ) → Option (List ℕ) → Option (List ℕ) → Option (List ℕ) → Type 0
 AppliesAll before behind input left output written = (kept : Option Store) × ServesAll before (with_store kept behind) input left output written
 
-abbrev pub AppliesSome : Situation → Situation → Option (List ℕ) → Option (List ℕ) → Option (List ℕ) → Option (List ℕ) → Type 0
-AppliesSome before behind input left output written = (kept : Option Store) × ServesSome before (with_store kept behind) input left output written
+abbrev pub AppliesUntil : ServeFault → Situation → Situation → Option (List ℕ) → Option (List ℕ) → Option (List ℕ) → Option (List ℕ) → Type 0
+AppliesUntil fault before behind input left output written = (kept : Option Store) × ServesUntil fault before (with_store kept behind) input left output written
 
--- by the outcome
+-- by the outcome, which is no other fault than that of a stream
 abbrev pub Applies : {T : Type 0} → Result T Fault → Situation → Situation → Option (List ℕ) → Option (List ℕ) → Option (List ℕ) → Option (List ℕ) → Type 0
 Applies (Ok x) before behind input left output written = AppliesAll before behind input left output written
-Applies (Err fault) before behind input left output written = AppliesSome before behind input left output written
+Applies (Err Usage) before behind input left output written = ⊥
+Applies (Err Path) before behind input left output written = ⊥
+Applies (Err Socket) before behind input left output written = ⊥
+Applies (Err (Stored fault)) before behind input left output written = ⊥
+Applies (Err (Stream fault)) before behind input left output written = AppliesUntil fault before behind input left output written
 
 -- the same on an image
 abbrev pub AppliesToImage : {T : Type 0} → Result T Fault → Option (List ℕ) → Option (List ℕ) → Option (List ℕ) → Option (List ℕ) → Type 0
@@ -74,7 +86,32 @@ pub record AnswersSome (capacity : ℕ) (input left output written : Option (Lis
   pub run : IsRunOfNew capacity messages answers
   pub front : PutsFront output written (frames_of answers)
 
--- by the outcome
+-- The same, and this fault tells how far that went.
+pub record AnswersUntil (fault : ServeFault) (capacity : ℕ) (input left output written : Option (List ℕ)) : Type 0 where
+  pub some : AnswersSome capacity input left output written
+  pub left_by : LeftBy fault some.bytes some.answers some.reader output written
+
+-- Why there is no new volume in memory: it would be too small, or memory is short for its blocks. Its label is right.
+abbrev pub IsUnmade : ℕ → StoreFault → Type 0
+IsUnmade capacity stores.NotBlank = (blocks : List Block) → IsFormatOf (words_on capacity (codes "MEM") 0) blocks → ⊥
+IsUnmade capacity stores.Label = IsSome (first_fault (label_faults (codes "MEM")))
+IsUnmade capacity stores.Small = capacity < LEAST_CAPACITY
+IsUnmade capacity stores.Device = ⊤
+IsUnmade capacity stores.Memory = ⊤
+IsUnmade capacity stores.NotFormatted = ⊥
+IsUnmade capacity (stores.Damaged block cause) = ⊥
+IsUnmade capacity stores.Full = ⊥
+IsUnmade capacity stores.Stopped = ⊥
+IsUnmade capacity stores.NoCommit = ⊥
+IsUnmade capacity stores.NotFound = ⊥
+IsUnmade capacity stores.IsDirectory = ⊥
+IsUnmade capacity stores.NotDirectory = ⊥
+
+-- by the outcome: where there is no new volume, nothing was read or written
 abbrev pub AnswersInMemory : {T : Type 0} → Result T Fault → ℕ → Option (List ℕ) → Option (List ℕ) → Option (List ℕ) → Option (List ℕ) → Type 0
 AnswersInMemory (Ok x) capacity input left output written = AnswersAll capacity input left output written
-AnswersInMemory (Err fault) capacity input left output written = AnswersSome capacity input left output written
+AnswersInMemory (Err Usage) capacity input left output written = ⊥
+AnswersInMemory (Err Path) capacity input left output written = ⊥
+AnswersInMemory (Err Socket) capacity input left output written = ⊥
+AnswersInMemory (Err (Stored fault)) capacity input left output written = IsUnmade capacity fault × (left ≡ input) × Keeps output written
+AnswersInMemory (Err (Stream fault)) capacity input left output written = AnswersUntil fault capacity input left output written

@@ -1,11 +1,16 @@
 -- What the connections of a daemon leave on its drive.
-use Rattle.std.specs.Prelude.{ℕ, List, Option}
+use Rattle.std.specs.Prelude.{◌≡◌, ◌⊎◌, ⊤, ℕ, List, Option}
 use Rattle.request.specs.declared.answer.Answer.{Answer}
 use Rattle.request.specs.declared.message.Message.{Message}
 use Rattle.store.specs.declared.store.Store.{Store}
 use Rattle.engine.specs.Situation.{Situation}
 use Rattle.engine.specs.Delivered.{with_store}
-use Rattle.engine.specs.Served.{AllAnswered, ServedHolds, ServedWithstands, ServesSome}
+use Rattle.engine.specs.Served.{AllAnswered, ServedHolds, ServedWithstands, ServesAll, ServesUntil}
+use Rattle.engine.specs.declared.serving.ServeFault.{ServeFault}
+use Rattle.engine.specs.declared.serving.ServeFault.TheVariants as streams
+use Rattle.recover.specs.declared.fault.StoreFault.TheVariants as stores
+use Rattle.programs.specs.declared.fault.Fault.{Fault}
+use Rattle.programs.specs.declared.fault.Fault.TheVariants.{Usage, Path, Socket, Store as Stored, Stream}
 use Rattle.programs.specs.Tasks.{IsFrontOf}
 
 -- Messages were answered in turn, and nothing else was done: from where the engine and its drive were before, to where they are.
@@ -22,8 +27,25 @@ pub record GoesOn (before behind : Situation) : Type 0 where
 abbrev pub AreOneRun : Situation → Situation → Type 0
 AreOneRun before behind = (kept : Option Store) × GoesOn before (with_store kept behind)
 
--- The first messages of a connection were answered, and of what was written with that a front is there.
-pub record ServesFront (before behind : Situation) (input left output written : Option (List ℕ)) : Type 0 where
+-- The first messages of a connection were answered up to where this fault came, or all were and then the output failed; and
+-- of what was written with that a front is there.
+pub record ServesFront (fault : ServeFault) (before behind : Situation) (input left output written : Option (List ℕ)) : Type 0 where
   pub gathered : Option (List ℕ)
-  pub serves : ServesSome before behind input left output gathered
+  pub serves : ServesUntil fault before behind input left output gathered ⊎ ((fault ≡ streams.Write) × ServesAll before behind input left output gathered)
   pub front : IsFrontOf gathered written
+
+-- so it is of a connection whose output is there in the end, which is left by a stream's fault alone
+abbrev pub LeavesStream : Fault → Situation → Situation → Option (List ℕ) → Option (List ℕ) → Option (List ℕ) → Option (List ℕ) → Type 0
+LeavesStream Usage before behind input left output written = ⊥
+LeavesStream Path before behind input left output written = ⊥
+LeavesStream Socket before behind input left output written = ⊥
+LeavesStream (Stored fault) before behind input left output written = ⊥
+LeavesStream (Stream fault) before behind input left output written = ServesFront fault before behind input left output written
+
+-- Why a connection was left. Nothing was done where the socket cannot be had, or memory is short for what waits to be written.
+abbrev pub LeavesConnection : Fault → Situation → Situation → Type 0
+LeavesConnection Usage before behind = ⊥
+LeavesConnection Path before behind = ⊥
+LeavesConnection Socket before behind = behind ≡ before
+LeavesConnection (Stored fault) before behind = (fault ≡ stores.Memory) × (behind ≡ before)
+LeavesConnection (Stream fault) before behind = ⊤

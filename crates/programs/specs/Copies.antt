@@ -1,11 +1,17 @@
 -- What a copy from one stream to another does, where their bytes are known.
-use Rattle.std.specs.Prelude.{◌≡◌, ℕ, Bool, true, false, List, Option, Result, Ok, Err}
-use Rattle.std.specs.Io.KnownBytes.{Appends, Consumes, IsAtEnd}
+use Rattle.std.specs.Prelude.{◌≡◌, ◌⊎◌, ℕ, ◌≤◌, List, [], ◌++◌, length, take, Option, Result, Ok, Err}
+use Rattle.std.specs.Io.KnownBytes.{Appends, Consumes, IsAtEnd, Keeps}
 use Rattle.engine.specs.Streams.{PutsFront}
 use Rattle.engine.specs.declared.serving.ServeFault.TheVariants as stream
 use Rattle.recover.specs.declared.fault.StoreFault.TheVariants as store
 use Rattle.programs.specs.declared.fault.Fault.{Fault}
-use Rattle.programs.specs.declared.fault.Fault.TheVariants.{Store, Stream}
+use Rattle.programs.specs.declared.fault.Fault.TheVariants.{Usage, Path, Socket, Store, Stream}
+
+-- what was read was written
+pub record CopiesRead (input left output written : Option (List ℕ)) : Type 0 where
+  pub bytes : List ℕ
+  pub consumed : Consumes input left bytes
+  pub copied : Appends output written bytes
 
 -- all that was left to read was written
 pub record CopiesAll (input left output written : Option (List ℕ)) : Type 0 where
@@ -14,21 +20,30 @@ pub record CopiesAll (input left output written : Option (List ℕ)) : Type 0 wh
   pub copied : Appends output written bytes
   pub end : IsAtEnd left
 
--- what was read was written, or a front of it
-pub record CopiesSome (input left output written : Option (List ℕ)) : Type 0 where
-  pub bytes : List ℕ
-  pub consumed : Consumes input left bytes
-  pub front : PutsFront output written bytes
+-- A piece was read behind what was written, and so many bytes of it were.
+pub record CopiesPart (input left output written : Option (List ℕ)) : Type 0 where
+  pub copied : List ℕ
+  pub piece : List ℕ
+  pub count : ℕ
+  pub some : piece ≡ [] → ⊥
+  pub short : length piece ≤ 65536
+  pub consumed : Consumes input left (copied ++ piece)
+  pub front : Appends output written (copied ++ take count piece)
 
--- what ends a copy early: a stream that is not read or not written, or want of memory
-abbrev pub ends_copy : Fault → Bool
-ends_copy (Stream stream.Read) = true
-ends_copy (Stream stream.Write) = true
-ends_copy (Store store.Memory) = true
-ends_copy _ = false
+-- Why a copy ended early. A read fails where what was read is written, a write where something was read, and memory is short
+-- before anything is.
+abbrev pub CopiesUntil : Fault → Option (List ℕ) → Option (List ℕ) → Option (List ℕ) → Option (List ℕ) → Type 0
+CopiesUntil Usage input left output written = ⊥
+CopiesUntil Path input left output written = ⊥
+CopiesUntil Socket input left output written = ⊥
+CopiesUntil (Store fault) input left output written = (fault ≡ store.Memory) × (left ≡ input) × (written ≡ output)
+CopiesUntil (Stream stream.Read) input left output written = CopiesRead input left output written
+CopiesUntil (Stream stream.Write) input left output written = CopiesPart input left output written
+CopiesUntil (Stream stream.Memory) input left output written = ⊥
 
-abbrev pub EndsCopy : Fault → Type 0
-EndsCopy fault = ends_copy fault ≡ true
+-- the same, or all was copied, and then the sending half of a stream could not be ended
+abbrev pub SendsUntil : Fault → Option (List ℕ) → Option (List ℕ) → Option (List ℕ) → Option (List ℕ) → Type 0
+SendsUntil fault input left output written = CopiesUntil fault input left output written ⊎ ((fault ≡ Stream stream.Write) × CopiesAll input left output written)
 
 -- All that was left to read was sent, and all that came back was written.
 pub record SendsAll (input left output written : Option (List ℕ)) : Type 0 where
@@ -45,7 +60,14 @@ pub record SendsSome (input left output written : Option (List ℕ)) : Type 0 wh
   pub came : List ℕ
   pub front : PutsFront output written came
 
--- by the outcome
+-- By the outcome. Nothing was done where no daemon is there. Memory is short before anything is read of the input, or before
+-- anything is written.
 abbrev pub Sends : {T : Type 0} → Result T Fault → Option (List ℕ) → Option (List ℕ) → Option (List ℕ) → Option (List ℕ) → Type 0
 Sends (Ok x) input left output written = SendsAll input left output written
-Sends (Err fault) input left output written = SendsSome input left output written
+Sends (Err Usage) input left output written = ⊥
+Sends (Err Path) input left output written = ⊥
+Sends (Err Socket) input left output written = (left ≡ input) × Keeps output written
+Sends (Err (Store fault)) input left output written = (fault ≡ store.Memory) × ((left ≡ input) ⊎ Keeps output written) × SendsSome input left output written
+Sends (Err (Stream stream.Read)) input left output written = SendsSome input left output written
+Sends (Err (Stream stream.Write)) input left output written = SendsSome input left output written
+Sends (Err (Stream stream.Memory)) input left output written = ⊥

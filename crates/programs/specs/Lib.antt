@@ -6,6 +6,7 @@ pub mod Lines
 pub mod FaultLines
 pub mod Applied
 pub mod Connections
+pub mod Refusals
 pub mod NewVolumes
 pub mod Questions
 pub mod Tasks

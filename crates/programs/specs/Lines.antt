@@ -5,6 +5,7 @@ use Rattle.std.specs.Io.KnownBytes.{Appends}
 use Rattle.model.specs.Tree.{Name}
 use Rattle.store.specs.declared.history.Commit.{Commit}
 use Rattle.engine.specs.Streams.{PutsFront}
+use Rattle.engine.specs.declared.serving.ServeFault.TheVariants as stream
 use Rattle.programs.specs.declared.fault.Fault.{Fault}
 use Rattle.programs.specs.declared.fault.Fault.TheVariants.{Usage, Path, Socket, Store, Stream}
 
@@ -37,11 +38,13 @@ sound_text commits = codes "sound " ++ decimal commits ++ codes "\n"
 abbrev pub formatted_text : List ℕ
 formatted_text = codes "formatted\n"
 
--- bytes were written, all of them or, where the stream failed, a front
+-- bytes were written, all of them or, where a write failed, a front
 abbrev pub Puts : {T : Type 0} → Result T Fault → Option (List ℕ) → Option (List ℕ) → List ℕ → Type 0
 Puts (Ok x) output written bytes = Appends output written bytes
 Puts (Err Usage) output written bytes = ⊥
 Puts (Err Path) output written bytes = ⊥
 Puts (Err Socket) output written bytes = ⊥
 Puts (Err (Store fault)) output written bytes = ⊥
-Puts (Err (Stream fault)) output written bytes = PutsFront output written bytes
+Puts (Err (Stream stream.Read)) output written bytes = ⊥
+Puts (Err (Stream stream.Write)) output written bytes = PutsFront output written bytes
+Puts (Err (Stream stream.Memory)) output written bytes = ⊥

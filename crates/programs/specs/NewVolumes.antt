@@ -8,6 +8,7 @@ use Rattle.osta.specs.Label.{label_faults}
 use Rattle.recover.specs.declared.fault.StoreFault.TheVariants as stores
 use Rattle.formatting.specs.NewVolume.{Words, words_on, IsFormatOf, IsFormatted, IsFormatRefused}
 use Rattle.engine.specs.Streams.{PutsFront}
+use Rattle.engine.specs.declared.serving.ServeFault.TheVariants as stream
 use Rattle.engine.specs.Situation.{Situation}
 use Rattle.programs.specs.declared.fault.Fault.{Fault}
 use Rattle.programs.specs.declared.fault.Fault.TheVariants.{Usage, Path, Socket, Store, Stream}
@@ -24,7 +25,9 @@ Makes label moment capacity (Err Path) before behind honest output written = ⊥
 Makes label moment capacity (Err Socket) before behind honest output written = ⊥
 Makes label moment capacity (Err (Store fault)) before behind honest output written =
     IsFormatRefused capacity (words_on capacity label moment) before behind honest fault × Keeps output written
-Makes label moment capacity (Err (Stream fault)) before behind honest output written =
+Makes label moment capacity (Err (Stream stream.Read)) before behind honest output written = ⊥
+Makes label moment capacity (Err (Stream stream.Memory)) before behind honest output written = ⊥
+Makes label moment capacity (Err (Stream stream.Write)) before behind honest output written =
     IsFormatted capacity (words_on capacity label moment) before behind honest × PutsFront output written formatted_text
 
 -- the bytes are a beginning of the block at this address in these blocks

@@ -19,6 +19,7 @@ use Rattle.store.specs.History.{IsHistory, IsHistoryRefused}
 use Rattle.store.specs.Opened.{IsOpenRefused}
 use Rattle.store.specs.Past.{AllStood, IsCheckRefused}
 use Rattle.engine.specs.Streams.{PutsFront}
+use Rattle.engine.specs.declared.serving.ServeFault.TheVariants as stream
 use Rattle.programs.specs.declared.fault.Fault.{Fault}
 use Rattle.programs.specs.declared.fault.Fault.TheVariants as faults
 use Rattle.programs.specs.Images.{OnImage, Unopened}
@@ -82,7 +83,9 @@ Shows question (Err faults.Usage) capacity journal honest output written = ⊥
 Shows question (Err faults.Path) capacity journal honest output written = ⊥
 Shows question (Err faults.Socket) capacity journal honest output written = ⊥
 Shows question (Err (faults.Store fault)) capacity journal honest output written = PrintsNothing question capacity journal honest fault output written
-Shows question (Err (faults.Stream fault)) capacity journal honest output written = PrintsFront question capacity journal honest output written
+Shows question (Err (faults.Stream stream.Read)) capacity journal honest output written = ⊥
+Shows question (Err (faults.Stream stream.Write)) capacity journal honest output written = PrintsFront question capacity journal honest output written
+Shows question (Err (faults.Stream stream.Memory)) capacity journal honest output written = ⊥
 
 -- the same on an image, to which nothing is written
 abbrev pub ShowsImage : {T : Type 0} → Question → Result T Fault → Option (List ℕ) → Option (List ℕ) → Type 0

@@ -26,7 +26,7 @@ IsRefusal fault = fault_status fault ≡ 1
 -- how a fault of the words is told: other words as such, want of memory as a refusal
 abbrev pub AreWordsTold : WordsFault → Fault → Type 0
 AreWordsTold words.Usage fault = fault ≡ Usage
-AreWordsTold words.Memory fault = IsRefusal fault
+AreWordsTold words.Memory fault = fault ≡ Store store.Memory
 
 -- how a fault of a path is told
 abbrev pub IsPathTold : PathFault → Fault → Type 0

@@ -1,10 +1,12 @@
 -- What the words of `udfburn` ask for, by their bytes, and what is done of it.
-use Rattle.std.specs.Prelude.{◌≡◌, ⊤, ℕ, List, take, codes, Option, Some, None, Result}
+use Rattle.std.specs.Prelude.{◌≡◌, ◌⊎◌, ⊤, ℕ, List, take, codes, Option, Some, None, Result, Err, IsOk}
 use Rattle.command_line.specs.declared.command.Command.{Command}
 use Rattle.command_line.specs.declared.command.Command.TheVariants as commands
 use Rattle.command_line.specs.declared.command.Storage.TheVariants.{Image, Memory}
 use Rattle.command_line.specs.Commands.{Asks}
+use Rattle.engine.specs.declared.serving.ServeFault.TheVariants as stream
 use Rattle.programs.specs.declared.fault.Fault.{Fault}
+use Rattle.programs.specs.declared.fault.Fault.TheVariants.{Stream}
 use Rattle.programs.specs.Applied.{AppliesToImage, AnswersInMemory}
 use Rattle.programs.specs.Copies.{Sends}
 use Rattle.programs.specs.FaultLines.{Reports}
@@ -58,12 +60,21 @@ IsFrontOf None written = ⊤
 IsFrontOf (Some bytes) None = ⊥
 IsFrontOf (Some bytes) (Some written) = (count : ℕ) × (written ≡ take count bytes)
 
--- Something was done by an outcome, and of what was written with it a front is there.
-pub record HasFront (task : Task) (input left output written : Option (List ℕ)) : Type 0 where
+-- what is told of an outcome: the same, or that it went well and the output failed in the end
+abbrev pub IsToldAs : Result (Unit {0}) Fault → Result (Unit {0}) Fault → Type 0
+IsToldAs outcome told = (told ≡ outcome) ⊎ (IsOk outcome × (told ≡ Err (Stream stream.Write)))
+
+-- Something was done by an outcome, and of what was written with it a front is there. The status and the line are those of
+-- what is told of it.
+pub record HasFront (task : Task) (status : ℕ) (input left output written errors told : Option (List ℕ)) : Type 0 where
   pub outcome : Result (Unit {0}) Fault
   pub gathered : Option (List ℕ)
   pub does : Does task outcome input left output gathered
   pub front : IsFrontOf gathered written
+  pub told_as : Result (Unit {0}) Fault
+  pub is_told : IsToldAs outcome told_as
+  pub status_is : status ≡ status_of told_as
+  pub reports : Reports (codes "udfburn") told_as errors told
 
 -- There are words of a command, and all was done that they ask for.
 pub record IsDone (input left output written errors told : Option (List ℕ)) : Type 0 where
@@ -73,8 +84,8 @@ pub record IsDone (input left output written errors told : Option (List ℕ)) : 
   pub ends : Ends (task_of asked) 0 input left output written errors told
 
 -- There are words of a command, and of what was written for them a front is there.
-pub record IsBegun (input left output written : Option (List ℕ)) : Type 0 where
+pub record IsBegun (status : ℕ) (input left output written errors told : Option (List ℕ)) : Type 0 where
   pub words : List (List ℕ)
   pub asked : Command
   pub asks : Asks words asked
-  pub front : HasFront (task_of asked) input left output written
+  pub front : HasFront (task_of asked) status input left output written errors told

@@ -1,14 +1,13 @@
 //! The program `udfburnd`.
 
 ghost use Rattle.limits.specs.declared.TheConstants.{GREATEST_CAPACITY};
-ghost use Rattle.std.specs.Prelude.{◌≡◌, ◌≤◌, map, codes, IfErr, OnOk, OnErr, IfSome, IsSomeAnd};
+ghost use Rattle.std.specs.Prelude.{◌≡◌, ◌⊎◌, ◌≤◌, map, IfErr, OnOk, OnErr, IfNone, IfSome, IsSomeAnd};
 ghost use Rattle.drive.specs.Reads.{Follows};
 ghost use Rattle.engine.specs.Situation.{IsReady, seen_on, situation_on};
 ghost use Rattle.engine.specs.Served.{ServesAll};
-ghost use Rattle.command_line.specs.Daemon.{AsksDaemon};
-ghost use Rattle.programs.specs.Connections.{GoesOn, AreOneRun, ServesFront};
-ghost use Rattle.programs.specs.FaultLines.{TellsOutcome};
+ghost use Rattle.programs.specs.Connections.{GoesOn, AreOneRun, LeavesConnection, LeavesStream};
 ghost use Rattle.programs.specs.Images.{OnImage};
+ghost use Rattle.programs.specs.Refusals.{AreDaemonWords, RefusesDaemon, TellsRefusal};
 ghost use Rattle.programs.specs.Status.{IsRefusal};
 
 use crate::fault::{Fault, report};
@@ -44,19 +43,30 @@ where
     R: Files<File = File> + Net + Clock + AllocGlobal,
     E: Write,
     ensures status { result ≤ 2 }
-    // Where it ends by itself, all connections were one run.
+    // Where it ends by itself, its words are those of a daemon, and all connections were one run.
+    ensures asks { result ≡ 0 → AreDaemonWords (map (λ w. w.now) words.now) }
     ensures run { result ≡ 0 → OnImage GREATEST_CAPACITY AreOneRun }
-    // The status of other words is 2, or 1 where memory is short.
-    ensures usage { result ≡ 2 → (asked : _) → AsksDaemon (map (λ w. w.now) words.now) asked → ⊥ }
-    ensures refused { ((asked : _) → AsksDaemon (map (λ w. w.now) words.now) asked → ⊥) → 1 ≤ result }
     // Where it was refused, it said why, and nothing else.
-    ensures tells { 1 ≤ result → TellsOutcome (codes "udfburnd") result (E.contents errors.old) (E.contents errors.new) }
+    ensures tells { 1 ≤ result → TellsRefusal (map (λ w. w.now) words.now) result (E.contents errors.old) (E.contents errors.new) }
 {
-    let outcome = match read_daemon(rt.alloc(), words) {
+    let outcome = serve_words(rt, words, errors);
+    report(NAME, outcome, errors)
+}
+
+/// Serves what the words say, if they are those of a daemon.
+fn serve_words<R, E>(rt: &R, words: &[&str], errors: &mut E) -> Result<(), Fault>
+where
+    R: Files<File = File> + Net + Clock + AllocGlobal,
+    E: Write,
+    ensures asks { OnOk result (AreDaemonWords (map (λ w. w.now) words.now)) }
+    ensures run { OnOk result (OnImage GREATEST_CAPACITY AreOneRun) }
+    ensures refused { IfErr result (RefusesDaemon (map (λ w. w.now) words.now)) }
+    ensures unsaid { OnErr result (E.contents errors.new ≡ E.contents errors.old) }
+{
+    match read_daemon(rt.alloc(), words) {
         Ok(asked) => serve_all(rt, &asked, errors),
         Err(fault) => Err(Fault::from(fault)),
-    };
-    report(NAME, outcome, errors)
+    }
 }
 
 /// Serves connections on an image, until as many came as the words say.
@@ -64,7 +74,7 @@ fn serve_all<R, E>(rt: &R, asked: &DaemonWords<'_>, errors: &mut E) -> Result<()
 where
     R: Files<File = File> + Net + Clock + AllocGlobal,
     E: Write,
-    ensures refusal { IfErr result IsRefusal }
+    ensures refused { IfErr result (λ fault. (fault ≡ Fault.Socket) ⊎ (fault ≡ Fault.Store StoreFault.Device)) }
     // All of them together are one run.
     ensures run { OnOk result (OnImage GREATEST_CAPACITY AreOneRun) }
     ensures unsaid { OnErr result (E.contents errors.new ≡ E.contents errors.old) }
@@ -119,7 +129,7 @@ where
 fn listen<R>(rt: &R, socket: &str) -> Result<UnixListener, Fault>
 where
     R: Files<File = File> + Net,
-    ensures { IfErr result IsRefusal }
+    ensures { IfErr result (λ fault. fault ≡ Fault.Socket) }
 {
     if socket.is_empty() {
         return Err(Fault::Socket);
@@ -143,6 +153,8 @@ pub fn serve_one<D: Drive>(
     ensures lent { Follows D.Drive 0 drive.old drive.new }
     // Messages were answered, and nothing else was done.
     ensures goes { GoesOn (seen_on D.Drive engine.old drive.old) (seen_on D.Drive engine.new drive.new) }
+    // Or nothing was, by the fault that it is left with.
+    ensures left { IfErr result (λ fault. LeavesConnection fault (seen_on D.Drive engine.old drive.old) (seen_on D.Drive engine.new drive.new)) }
     ensures refusal { IfErr result IsRefusal }
 {
     let patience = Some(Duration::from_secs(PATIENCE));
@@ -174,8 +186,10 @@ where
     ensures refusal { IfErr result.0 IsRefusal }
     // Where it ended well, all messages of the input were answered, and each answer is written.
     ensures all { OnOk result.0 (IsSomeAnd result.1 (λ written. ServesAll (seen_on D.Drive engine.old drive.old) (seen_on D.Drive engine.new drive.new) (I.remaining input.old) (I.remaining input.new) (O.contents output) (O.contents written))) }
-    // Else the first of them were, and a front of their answers is written.
-    ensures front { OnErr result.0 (IfSome result.1 (λ written. ServesFront (seen_on D.Drive engine.old drive.old) (seen_on D.Drive engine.new drive.new) (I.remaining input.old) (I.remaining input.new) (O.contents output) (O.contents written))) }
+    // Else the first of them were, as far as the fault tells, and a front of their answers is written.
+    ensures front { IfErr result.0 (λ fault. IfSome result.1 (λ written. LeavesStream fault (seen_on D.Drive engine.old drive.old) (seen_on D.Drive engine.new drive.new) (I.remaining input.old) (I.remaining input.new) (O.contents output) (O.contents written))) }
+    ensures left { IfErr result.0 (λ fault. LeavesConnection fault (seen_on D.Drive engine.old drive.old) (seen_on D.Drive engine.new drive.new)) }
+    ensures unread { IfNone result.1 (I.remaining input.new ≡ I.remaining input.old) }
 {
     let mut writer = match BufWriter::new(alloc, output) {
         Ok(writer) => writer,

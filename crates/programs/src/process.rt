@@ -1,12 +1,12 @@
 //! The process of a program: its words and its standard streams.
 
 ghost use Rattle.limits.specs.declared.TheConstants.{GREATEST_CAPACITY};
-ghost use Rattle.std.specs.Prelude.{◌≡◌, ◌≤◌, map, codes, IfErr, IfOk, IfSome, IsSomeAnd};
+ghost use Rattle.std.specs.Prelude.{◌≡◌, ◌≤◌, map, codes, IfErr, IfOk, IfSome, IsSomeAnd, OnErr};
 ghost use Rattle.command_line.specs.Commands.{Asks};
 ghost use Rattle.programs.specs.Connections.{AreOneRun};
 ghost use Rattle.programs.specs.FaultLines.{TellsOutcome};
 ghost use Rattle.programs.specs.Images.{OnImage};
-ghost use Rattle.programs.specs.Tasks.{Ends, HasFront, IsBegun, IsDone, task_of};
+ghost use Rattle.programs.specs.Tasks.{Ends, HasFront, IsBegun, IsDone, IsFrontOf, task_of};
 
 use crate::commands::command;
 use crate::daemons::daemon;
@@ -37,7 +37,10 @@ where
     // At status 0 there are words of a command, and all is written that was done of what they ask for.
     ensures done { result.0 ≡ 0 → IsSomeAnd result.1 (λ written. IsDone (I.remaining input.old) (I.remaining input.new) (O.contents output) (O.contents written) (E.contents errors.old) (E.contents errors.new)) }
     // At status 1 there are such words too where the output was not let go, and a front is written.
-    ensures begun { result.0 ≤ 1 → IfSome result.1 (λ written. IsBegun (I.remaining input.old) (I.remaining input.new) (O.contents output) (O.contents written)) }
+    ensures begun { result.0 ≤ 1 → IfSome result.1 (λ written. IsBegun result.0 (I.remaining input.old) (I.remaining input.new) (O.contents output) (O.contents written) (E.contents errors.old) (E.contents errors.new)) }
+    // Of other words nothing is read, and nothing is written.
+    ensures unread { result.0 ≡ 2 → I.remaining input.new ≡ I.remaining input.old }
+    ensures unwritten { result.0 ≡ 2 → IfSome result.1 (λ written. IsFrontOf (O.contents output) (O.contents written)) }
 {
     match try_command(rt, input, output, errors) {
         Ok(ended) => ended,
@@ -77,7 +80,10 @@ where
     ensures unsaid { IfErr result (λ _. E.contents errors.new ≡ E.contents errors.old) }
     ensures tells { IfOk result (λ ended. TellsOutcome (codes "udfburn") ended.0 (E.contents errors.old) (E.contents errors.new)) }
     ensures done { IfOk result (λ ended. ended.0 ≡ 0 → IsSomeAnd ended.1 (λ written. IsDone (I.remaining input.old) (I.remaining input.new) (O.contents output) (O.contents written) (E.contents errors.old) (E.contents errors.new))) }
-    ensures begun { IfOk result (λ ended. ended.0 ≤ 1 → IfSome ended.1 (λ written. IsBegun (I.remaining input.old) (I.remaining input.new) (O.contents output) (O.contents written))) }
+    ensures begun { IfOk result (λ ended. ended.0 ≤ 1 → IfSome ended.1 (λ written. IsBegun ended.0 (I.remaining input.old) (I.remaining input.new) (O.contents output) (O.contents written) (E.contents errors.old) (E.contents errors.new))) }
+    ensures unheard { OnErr result (I.remaining input.new ≡ I.remaining input.old) }
+    ensures unread { IfOk result (λ ended. ended.0 ≡ 2 → I.remaining input.new ≡ I.remaining input.old) }
+    ensures unwritten { IfOk result (λ ended. ended.0 ≡ 2 → IfSome ended.1 (λ written. IsFrontOf (O.contents output) (O.contents written))) }
 {
     hold_standard_streams(rt)?;
     let words = own_words(rt)?;
@@ -104,7 +110,10 @@ where
     ensures kept { result.0 ≡ 0 → IsSomeAnd result.1 (λ _. (asked : _) × Asks (map (λ w. w.now) words.now) asked) }
     // At status 0 all is written that was done, and else a front of it.
     ensures all { (asked : _) → Asks (map (λ w. w.now) words.now) asked → result.0 ≡ 0 → IsSomeAnd result.1 (λ written. Ends (task_of asked) 0 (I.remaining input.old) (I.remaining input.new) (O.contents output) (O.contents written) (E.contents errors.old) (E.contents errors.new)) }
-    ensures front { (asked : _) → Asks (map (λ w. w.now) words.now) asked → IfSome result.1 (λ written. HasFront (task_of asked) (I.remaining input.old) (I.remaining input.new) (O.contents output) (O.contents written)) }
+    // Of other words nothing is read, and nothing is written.
+    ensures unread { result.0 ≡ 2 → I.remaining input.new ≡ I.remaining input.old }
+    ensures unwritten { result.0 ≡ 2 → IfSome result.1 (λ written. IsFrontOf (O.contents output) (O.contents written)) }
+    ensures front { (asked : _) → Asks (map (λ w. w.now) words.now) asked → IfSome result.1 (λ written. HasFront (task_of asked) result.0 (I.remaining input.old) (I.remaining input.new) (O.contents output) (O.contents written) (E.contents errors.old) (E.contents errors.new)) }
 {
     let mut writer = match BufWriter::new(rt.alloc(), output) {
         Ok(writer) => writer,

@@ -1,8 +1,8 @@
 //! The client of the daemon: frames to its socket, and its answers back.
 
-ghost use Rattle.std.specs.Prelude.{IfErr, OnOk, OnErr};
+ghost use Rattle.std.specs.Prelude.{IfErr, OnOk};
 ghost use Rattle.programs.specs.Status.{IsRefusal};
-ghost use Rattle.programs.specs.Copies.{CopiesAll, CopiesSome, EndsCopy, Sends};
+ghost use Rattle.programs.specs.Copies.{CopiesAll, CopiesUntil, Sends, SendsUntil};
 
 use crate::counting::FrameCount;
 use crate::fault::Fault;
@@ -48,9 +48,9 @@ pub fn send_frames<I: Read>(
     reader: &mut I,
 ) -> Result<u64, Fault>
     ensures refusal { IfErr result IsRefusal }
-    ensures fault { IfErr result EndsCopy }
     ensures all { OnOk result (CopiesAll (I.remaining reader.old) (I.remaining reader.new) (⟦<UnixStream as Write>⟧.contents stream.old) (⟦<UnixStream as Write>⟧.contents stream.new)) }
-    ensures some { OnErr result (CopiesSome (I.remaining reader.old) (I.remaining reader.new) (⟦<UnixStream as Write>⟧.contents stream.old) (⟦<UnixStream as Write>⟧.contents stream.new)) }
+    // Which fault it is tells how far that went.
+    ensures until { IfErr result (λ fault. SendsUntil fault (I.remaining reader.old) (I.remaining reader.new) (⟦<UnixStream as Write>⟧.contents stream.old) (⟦<UnixStream as Write>⟧.contents stream.new)) }
 {
     let copied = copy(alloc, reader, stream);
     let ended = stream.shutdown(Shutdown::Write);
@@ -68,9 +68,8 @@ pub fn copy_answers<O: Write>(
     writer: &mut O,
 ) -> Result<u64, Fault>
     ensures refusal { IfErr result IsRefusal }
-    ensures fault { IfErr result EndsCopy }
     ensures all { OnOk result (CopiesAll (⟦<UnixStream as Read>⟧.remaining stream.old) (⟦<UnixStream as Read>⟧.remaining stream.new) (O.contents writer.old) (O.contents writer.new)) }
-    ensures some { OnErr result (CopiesSome (⟦<UnixStream as Read>⟧.remaining stream.old) (⟦<UnixStream as Read>⟧.remaining stream.new) (O.contents writer.old) (O.contents writer.new)) }
+    ensures until { IfErr result (λ fault. CopiesUntil fault (⟦<UnixStream as Read>⟧.remaining stream.old) (⟦<UnixStream as Read>⟧.remaining stream.new) (O.contents writer.old) (O.contents writer.new)) }
 {
     copy(alloc, stream, writer)
 }
@@ -78,9 +77,8 @@ pub fn copy_answers<O: Write>(
 /// Copies what the reader has, in pieces. It answers how many frames ended in it.
 fn copy<I: Read, O: Write>(alloc: Global, reader: &mut I, writer: &mut O) -> Result<u64, Fault>
     ensures refusal { IfErr result IsRefusal }
-    ensures fault { IfErr result EndsCopy }
     ensures ok { OnOk result (CopiesAll (I.remaining reader.old) (I.remaining reader.new) (O.contents writer.old) (O.contents writer.new)) }
-    ensures err { OnErr result (CopiesSome (I.remaining reader.old) (I.remaining reader.new) (O.contents writer.old) (O.contents writer.new)) }
+    ensures err { IfErr result (λ fault. CopiesUntil fault (I.remaining reader.old) (I.remaining reader.new) (O.contents writer.old) (O.contents writer.new)) }
 {
     let mut piece = match vec![in alloc; 0u8; PIECE_BYTES] {
         Ok(piece) => piece,

@@ -1,7 +1,7 @@
 use Rattle.std.proofs.Common.{rules, codes, Err}
 use Rattle.programs.specs.declared.fault.Fault.TheVariants.{Stream}
 use Rattle.programs.specs.Tasks.{task_of}
-use Rattle.programs.proofs.Gathering.{gathered_done, gathered_part, gathered_whole}
+use Rattle.programs.proofs.Gathering.{all_unwritten, part_unwritten, gathered_done, gathered_failed, gathered_part, gathered_whole}
 use Rattle.programs.proofs.Telling.{told_then}
 use Rattle.programs.proofs.process.gathered.Goals as goal
 
@@ -23,11 +23,23 @@ returns-in-Err-put_all-clause-front g c asked asks =
     c.in-Ok.ensures.inner c.in-Ok.ensures.empty c.into_parts-output.ensures.inner c.into_parts-output.ensures.buffer c.deref.ensures.value (c.command-status.ensures.does asked asks)
     _ c.in-Err-put_all.ensures.err
 
+pub returns-in-Ok-put_all-clause-unwritten : goal.returns-in-Ok-put_all-clause-unwritten
+returns-in-Ok-put_all-clause-unwritten g c other =
+    all_unwritten g.O.Write.contents c.args.output _ _ c.into_parts-output.result.0 _ _ c.into_parts-output.result.1.items c.deref.result.now
+    c.in-Ok.ensures.inner c.in-Ok.ensures.empty c.into_parts-output.ensures.inner c.into_parts-output.ensures.buffer c.deref.ensures.value
+    _ (c.command-status.ensures.unwritten other) c.in-Ok-put_all.ensures.ok
+
+pub returns-in-Err-put_all-clause-unwritten : goal.returns-in-Err-put_all-clause-unwritten
+returns-in-Err-put_all-clause-unwritten g c other =
+    part_unwritten g.O.Write.contents c.args.output _ _ c.into_parts-output.result.0 _ _ c.into_parts-output.result.1.items c.deref.result.now
+    c.in-Ok.ensures.inner c.in-Ok.ensures.empty c.into_parts-output.ensures.inner c.into_parts-output.ensures.buffer c.deref.ensures.value
+    _ (c.command-status.ensures.unwritten other) c.in-Err-put_all.ensures.err
+
 pub returns-clause-front : goal.returns-clause-front
 returns-clause-front g c asked asks =
-    gathered_part (task_of asked) c.command-status.result _ _ _ _ g.O.Write.contents c.args.output _ _ c.into_parts-output.result.0 _ _ c.into_parts-output.result.1.items c.deref.result.now
+    gathered_failed (task_of asked) c.command-status.result _ _ _ _ g.O.Write.contents c.args.output _ _ c.into_parts-output.result.0 _ _ c.into_parts-output.result.1.items c.deref.result.now
     c.in-Ok.ensures.inner c.in-Ok.ensures.empty c.into_parts-output.ensures.inner c.into_parts-output.ensures.buffer c.deref.ensures.value (c.command-status.ensures.does asked asks)
-    _ c.in-Err-2.ensures.err
+    _ c.in-Err-put_all.field-0 c.report-in-Err-2.result _ c.in-Err-2.ensures.err (search rules) c.in-Err-put_all.ensures.fault c.report-in-Err-2.ensures.status c.report-in-Err-2.ensures.says
 
 pub returns-clause-tells : goal.returns-clause-tells
 returns-clause-tells g c =

@@ -1,12 +1,12 @@
 use Rattle.std.proofs.Common.{None}
 use Rattle.engine.specs.Situation.{situation_on}
-use Rattle.programs.proofs.Applying.{applied_all, applied_some}
+use Rattle.programs.proofs.Applying.{applied_all, applied_until}
 use Rattle.programs.proofs.requests.apply.Goals as goal
 
 pub returns-in_err-serve-clause-applies : goal.returns-in_err-serve-clause-applies
 returns-in_err-serve-clause-applies g c =
     let d = c.serve.new.drive in
-    applied_some c.from_residual.result _ _ _ _ _ _ _ (situation_on g.D.Drive None d) _ _ _ _ c.from_residual.ensures.0 c.new-engine.ensures c.in_err-serve.ensures.err
+    applied_until c.from_residual.result _ _ _ _ _ _ _ _ (situation_on g.D.Drive None d) _ _ _ _ c.from_residual.ensures.1 c.new-engine.ensures c.in_err-serve.ensures.left
 
 pub returns-clause-applies : goal.returns-clause-applies
 returns-clause-applies g c =

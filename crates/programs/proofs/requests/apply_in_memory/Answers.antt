@@ -1,10 +1,12 @@
 use Rattle.std.proofs.Common.{refl, None, true}
 use Rattle.engine.specs.Situation.{situation}
-use Rattle.programs.proofs.Applying.{refused_answers, memory_answers}
+use Rattle.programs.proofs.Applying.{unmade_answers, memory_answers}
 use Rattle.programs.proofs.requests.apply_in_memory.Goals as goal
 
 pub returns-in_err-format-clause-answers : goal.returns-in_err-format-clause-answers
-returns-in_err-format-clause-answers g c = refused_answers c.from_residual.result c.args.capacity _ _ c.from_residual.ensures.0
+returns-in_err-format-clause-answers g c =
+    unmade_answers c.from_residual.result _ _ c.args.capacity _ _ _ _ _ c.from_residual.ensures.1 refl
+    c.new-drive.ensures.capacity c.new-drive.ensures.journal c.in_err-format.ensures.err c.in_err-format.ensures.label c.in_err-format.ensures.small
 
 pub returns-clause-answers : goal.returns-clause-answers
 returns-clause-answers g c =

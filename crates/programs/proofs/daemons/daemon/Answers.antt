@@ -1,0 +1,13 @@
+use Rattle.std.proofs.Common.{ℕ, ◌≤◌, sym, subst}
+use Rattle.programs.proofs.Telling.{at_most_two, done_with, tells_refusal}
+use Rattle.programs.proofs.daemons.daemon.Goals as goal
+
+pub returns-clause-status : goal.returns-clause-status
+returns-clause-status g c = subst (λ (n : ℕ). n ≤ 2) (sym c.report.ensures.status) (at_most_two c.serve_words-outcome.result)
+
+pub returns-clause-asks : goal.returns-clause-asks
+returns-clause-asks g c done = done_with c.serve_words-outcome.result _ _ c.serve_words-outcome.ensures.asks c.report.ensures.status done
+
+pub returns-clause-tells : goal.returns-clause-tells
+returns-clause-tells g c least =
+    tells_refusal _ c.serve_words-outcome.result _ _ _ _ c.serve_words-outcome.ensures.refused c.serve_words-outcome.ensures.unsaid c.report.ensures.status c.report.ensures.says least
