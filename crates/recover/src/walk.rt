@@ -207,7 +207,7 @@ impl<'a> Walk<'a> {
         known: &mut Known,
         node: &Named,
     ) -> Result<(), StoreFault>
-        requires low { 257 ≤ self.old.at }
+        requires low { PARTITION_START ≤ self.old.at }
         requires within { self.old.at < next_of (D.journal drive.old) }
         requires depth { node.now.depth ≤ 17 }
         requires known { IsTrue (D.honest drive.old) → IsKnown (held (D.journal drive.old)) known.old }
@@ -234,7 +234,7 @@ impl<'a> Walk<'a> {
         known: &mut Known,
         node: &Named,
     ) -> Result<(), StoreFault>
-        requires low { 257 ≤ self.old.at }
+        requires low { PARTITION_START ≤ self.old.at }
         requires within { self.old.at < next_of (D.journal drive.old) }
         requires depth { node.now.depth ≤ 17 }
         requires known { IsTrue (D.honest drive.old) → IsKnown (held (D.journal drive.old)) known.old }
