@@ -113,8 +113,8 @@ both_zeros at n m next block a b e first second =
     let moved : take m (drop next block) ≡ take m (drop (at + n) block) = ap (λ (x : ℕ). take m (drop x block)) e in (
       (λ none. let both = or_none a b none in zeros_more at n m block (first.0 both.0) (sym moved ∙ second.0 both.1)),
       (λ zeros.
-        let front : take n (drop at block) ≡ replicate n 0 = ap (λ (x : ℕ). take n (drop x block)) (omega arith) ∙ zeros_within at (n + m) 0 n block (omega arith) zeros in
-        none_or a b (first.1 front) (second.1 (moved ∙ zeros_within at (n + m) n m block (omega arith) zeros))),
+          let front : take n (drop at block) ≡ replicate n 0 = ap (λ (x : ℕ). take n (drop x block)) (omega arith) ∙ zeros_within at (n + m) 0 n block (omega arith) zeros in
+          none_or a b (first.1 front) (second.1 (moved ∙ zeros_within at (n + m) n m block (omega arith) zeros))),
     )
 
 -- four, in 64 bytes
