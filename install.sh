@@ -9,6 +9,8 @@
 # Python package, else PREFIX/lib/udfburn. What was installed is listed in PREFIX/share/doc/udfburn/installed, which is what
 # --uninstall removes, and prints. Images are never touched.
 set -eu
+# Folders that it makes are everybody's to read, as the files are.
+umask 022
 cd "$(dirname "$0")"
 
 usage() {

@@ -98,6 +98,13 @@ status=0
 holds 'install.sh refuses a space' [ "$status" -eq 2 ]
 holds 'install.sh names a program that is not there' sh -c '! UDFBURN=/nowhere ./install.sh "$1/none" && [ ! -e "$1/none" ]' - "$room"
 
+# An administrator's umask, under which a user could neither run the client nor read a manual page.
+mkdir "$room/masked"
+holds 'it installs under another umask' sh -c 'umask 077 && DESTDIR="$1/masked" ./install.sh /usr/local' - "$room"
+printf '755\n' > "$room/wanted"
+holds 'everybody may look into its folders' same "$room/wanted" sh -c \
+    'find "$1/masked/usr" -type d -printf "%m\n" | sort -u' - "$room"
+
 # An empty root: all is below DESTDIR, and nothing says its name.
 mkdir "$room/root"
 holds 'it installs below DESTDIR' env DESTDIR="$room/root" ./install.sh /usr/local
@@ -208,26 +215,30 @@ commands() {
         sed -e "s|/var/lib/udfburn|$room/state|g" -e "s|/run/udfburn-%i|$room/run|g" -e 's|%i|archive|g'
 }
 
-# supervise MORE WORD..: starts the daemon as the unit does, with MORE behind and these words before, and sends it a request. It
-# is killed, or ends by itself where MORE says so: behind strace it is a process of strace's, which would stay.
+# asked: sends the daemon a request, once it takes connections; for longer than any machine takes.
+asked() {
+    tries=3000
+    until "$prefix/bin/udfburn" send "$room/run/socket" < "$room/create" 2> "$room/unheard"; do
+        tries=$((tries - 1))
+        grep -q ': 94 Socket$' "$room/unheard" && [ "$tries" -gt 0 ] || return 1
+        sleep 0.1
+    done
+}
+
+# supervise MORE WORD..: starts the daemon as the unit does, with MORE behind it and these words before each command, and sends it a
+# request. It is killed, or ends by itself where MORE says so: behind strace it is a process of strace's, which would stay.
 supervise() {
     more=$1
     shift
     mkdir -p "$room/run"
     commands ExecStartPre > "$room/before"
-    holds 'a start has two commands before it' [ "$(grep -c . "$room/before")" -eq 2 ]
+    holds 'a start has a command before it' [ "$(grep -c . "$room/before")" -eq 1 ]
     while read -r command; do
-        holds "before the start: ${command%% *}" $command
+        holds "before the start: ${command%% *}" "$@" $command
     done < "$room/before"
     "$@" $(commands ExecStart) $more > "$room/daemon" 2>&1 &
     daemon=$!
-    tries=100
-    until [ -S "$room/run/socket" ] || [ "$tries" -eq 0 ]; do
-        tries=$((tries - 1))
-        sleep 0.1
-    done
-    sleep 0.3
-    holds 'the daemon answers' same "$room/wanted" "$prefix/bin/udfburn" send "$room/run/socket" < "$room/create"
+    holds 'the daemon answers' same "$room/wanted" asked
     [ -n "$more" ] || kill -9 "$daemon"
     wait "$daemon" 2> "$room/ended"
 }
@@ -235,6 +246,13 @@ supervise '' env
 # The socket of the daemon that was killed is still there.
 holds 'a killed daemon leaves its socket' [ -S "$room/run/socket" ]
 supervise '' env
+# Five starts within ten seconds are the last ones, where no other limit is said.
+setting() {
+    sed -n '/^\['"$1"'\]/,/^\[/s/^'"$2"'=//p' "$prefix/lib/systemd/system/udfburnd@.service"
+}
+holds 'a daemon is started again however it ended' [ "$(setting Service Restart)" = always ]
+holds 'it is started again however often it ended' [ "$(setting Unit StartLimitIntervalSec)" = 0 ]
+holds 'no limit on files ends it in a commit' [ "$(setting Service LimitFSIZE)" = infinity ]
 if command -v systemd-analyze > "$room/which"; then
     # It looks whether the program that a unit starts is there, as the one that was installed above is.
     unit=$prefix/lib/systemd/system/udfburnd@.service
@@ -242,7 +260,7 @@ if command -v systemd-analyze > "$room/which"; then
     cp "$unit" "$room/udfburnd@archive.service"
     holds 'little is exposed' systemd-analyze security --offline=yes --threshold=15 --no-pager "$room/udfburnd@archive.service"
 
-    # What the daemon calls is within the unit's filter.
+    # What the unit's commands and the daemon call is within its filter.
     need strace
     if command -v strace > "$room/which"; then
         for sign in '' '~'; do
@@ -256,9 +274,15 @@ if command -v systemd-analyze > "$room/which"; then
         done
         holds 'the filter has calls' [ -s "$room/filter" ]
         holds 'the filter leaves out calls' [ -s "$room/filter~" ]
-        supervise '--connections 1' strace -f -qq -o "$room/trace"
+        supervise '--connections 1' strace -f -qq -y -A -o "$room/trace"
         sed -n 's/^[0-9]* *\([a-z0-9_]*\)(.*/\1/p' "$room/trace" | sort -u > "$room/called"
         holds 'the daemon was traced' grep -q '^accept' "$room/called"
+        # In the order in which they count: the image, what is kept of it in memory, and then its folder.
+        sed -n -e 's|^[0-9]* *\(fsync\)([0-9]*<'"$room"'/state\(.*\)>) *= 0$|\1 \2|p' \
+            -e 's|^[0-9]* *\(fadvise64\)([0-9]*<'"$room"'/state\(.*\)>, 0, 0, POSIX_FADV_DONTNEED) *= 0$|\1 \2|p' "$room/trace" |
+            head -n 3 > "$room/order"
+        printf 'fsync /archive.img\nfadvise64 /archive.img\nfsync \n' > "$room/wanted.order"
+        holds 'a start syncs the image, forgets it and syncs the folder' diff "$room/wanted.order" "$room/order"
         while read -r call; do
             holds "$call is within the filter" sh -c 'grep -qx "$2" "$1/filter" && ! grep -qx "$2" "$1/filter~"' - "$room" "$call"
         done < "$room/called"

@@ -76,9 +76,9 @@ blocks() {
     [ "$(($(wc -c < "$1")))" -eq $(($2 * 2048)) ]
 }
 
-# await COMMAND..: waits until the command succeeds, for at most 20 seconds.
+# await COMMAND..: waits until the command succeeds, for longer than any machine takes.
 await() {
-    tries=200
+    tries=3000
     until "$@"; do
         tries=$((tries - 1))
         [ "$tries" -gt 0 ] || return 1
@@ -86,13 +86,17 @@ await() {
     done
 }
 
+# connects: whether the daemon takes a connection, on which nothing is sent.
+connects() {
+    "$udfburn" send "$socket" < none > connected 2>&1
+}
+
 # serve WORD..: starts the daemon on the image and the socket, with these words behind them.
 serve() {
     "$udfburnd" "$image" "$socket" "$@" 2> daemon.errors &
     daemon=$!
-    holds 'the daemon listens' await [ -S "$socket" ]
     # The path is there a moment before connections are taken.
-    sleep 0.2
+    holds 'the daemon listens' await connects
 }
 
 # crash: kills the daemon, and removes the socket's path as its supervisor does.
@@ -247,10 +251,10 @@ case $line in
 esac
 crash
 
-# A daemon that ends by itself.
-serve --connections 1
+# A daemon that ends by itself: behind the connection by which it was seen to listen it takes one more.
+serve --connections 2
 run send "$socket"
-told 'the only connection' 0 "$second" ''
+told 'the last connection' 0 "$second" ''
 status=0
 wait "$daemon" || status=$?
 daemon=

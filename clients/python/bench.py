@@ -109,7 +109,7 @@ def by_client(package: str, udfburn: str, udfburnd: str, room: str, local: str) 
 
 def wait_for(path: str) -> None:
     """Waits until a daemon listens."""
-    for _ in range(200):
+    for _ in range(6000):
         with socket.socket(socket.AF_UNIX) as probe:
             try:
                 probe.connect(path)

@@ -32,6 +32,8 @@ from frames import (  # noqa: E402
 )
 
 CAPACITY = 200_000
+# Seconds behind which what did not come counts as missing: more than any machine takes.
+PATIENCE = 300
 FORMAT_MOMENT = 77
 # As many replies as a volume keeps of a client: so many requests may be under way without one that gets lost.
 UNDER_WAY = 4
@@ -98,12 +100,12 @@ class Writer(threading.Thread):
             self.process.wait()
 
     def connect(self) -> socket.socket:
-        until = time.monotonic() + 20
+        until = time.monotonic() + PATIENCE
         while True:
             line = socket.socket(socket.AF_UNIX, socket.SOCK_STREAM)
             try:
                 line.connect(str(self.room / "socket"))
-                line.settimeout(60)
+                line.settimeout(PATIENCE)
                 return line
             except OSError:
                 line.close()
@@ -155,7 +157,7 @@ class Writer(threading.Thread):
 
 
 def run(*words: str, given: bytes = b"") -> bytes:
-    done = subprocess.run(words, input=given, stdout=subprocess.PIPE, stderr=subprocess.PIPE, timeout=300)
+    done = subprocess.run(words, input=given, stdout=subprocess.PIPE, stderr=subprocess.PIPE, timeout=PATIENCE)
     if done.returncode != 0:
         raise RuntimeError("%s: status %d: %r" % (" ".join(words), done.returncode, done.stderr))
     return done.stdout

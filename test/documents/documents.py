@@ -22,6 +22,8 @@ from typing import Dict, List, Optional, Tuple
 
 HOME = Path(__file__).resolve().parent.parent.parent
 SPAN = re.compile(r"`([^`]*)`|(\w+) zero bytes")
+# Seconds behind which what did not come counts as missing: more than any machine takes.
+PATIENCE = 300
 NUMBERS = {word: at for at, word in enumerate("no one two three four five six seven eight nine ten".split())}
 
 passed = 0
@@ -95,16 +97,16 @@ def conversation(text: str) -> List[Tuple[str, bytes, bytes]]:
 
 
 def run(*words: str, given: bytes = b"") -> bytes:
-    return subprocess.run(words, input=given, stdout=subprocess.PIPE, timeout=60).stdout
+    return subprocess.run(words, input=given, stdout=subprocess.PIPE, timeout=PATIENCE).stdout
 
 
 def connect(path: str) -> socket.socket:
     """A connection, once the daemon listens."""
-    until = time.monotonic() + 20
+    until = time.monotonic() + PATIENCE
     while True:
         line = socket.socket(socket.AF_UNIX, socket.SOCK_STREAM)
         try:
-            line.settimeout(20)
+            line.settimeout(PATIENCE)
             line.connect(path)
             return line
         except OSError:
@@ -183,16 +185,17 @@ def walk(document: Path, tools: Path, room: Path) -> None:
     for command, _ in steps:
         script += command + "\n"
         if command.rstrip().endswith("&"):
-            # Who reads on types slower than a daemon starts.
+            # Who reads on types slower than a daemon starts: it takes connections by then.
             last = shlex.quote(command.rstrip(" &").split()[-1])
-            script += "tries=200; until [ -e %s ] || [ $tries = 0 ]; do tries=$((tries - 1)); sleep 0.1; done; sleep 0.3\n" % last
+            script += "tries=3000; until udfburn send %s < /dev/null 2> /dev/null || [ $tries = 0 ]; " % last
+            script += "do tries=$((tries - 1)); sleep 0.1; done\n"
         script += "printf '\\001'\n"
     environment = dict(os.environ, PATH="%s:%s" % (tools, os.environ["PATH"]), LC_ALL="C.UTF-8", TZ="UTC")
     environment["HOME"] = str(room)
     with open(room.parent / (room.name + ".output"), "w+b") as output:
         shell = subprocess.Popen(["bash"], stdin=subprocess.PIPE, stdout=output, cwd=room, env=environment, start_new_session=True)
         try:
-            shell.communicate(script.encode(), timeout=120)
+            shell.communicate(script.encode(), timeout=2 * PATIENCE)
         except subprocess.TimeoutExpired:
             shell.kill()
             shell.wait()

@@ -8,6 +8,7 @@ from __future__ import annotations
 import argparse
 import json
 import os
+import signal
 import subprocess
 import sys
 import time
@@ -18,10 +19,10 @@ from typing import Any, NamedTuple
 
 from faults import harness
 
-# Seconds after which a module counts as hanging.
-LONGEST = 540.0
+# Seconds after which a module counts as hanging: many times what one takes, also beside other work.
+LONGEST = 3600.0
 # These take a minute or more, so that they begin first.
-LONG = ("test_power", "test_disk", "load_clients")
+LONG = ("test_power", "test_disk", "load_clients", "test_send")
 # What the modules share.
 SUPPORT = "load_support"
 
@@ -45,6 +46,10 @@ class Counting(unittest.TextTestResult):
 
 def run_module(name: str) -> int:
     """In a process of its own: runs a module's tests, with the counts in the last line of the output."""
+    # Signals end the programs also where this was started with them ignored.
+    for number in (signal.SIGHUP, signal.SIGINT, signal.SIGTERM):
+        if signal.getsignal(number) is signal.SIG_IGN:
+            signal.signal(number, signal.SIG_DFL)
     suite = unittest.defaultTestLoader.loadTestsFromName("faults." + name)
     runner = unittest.TextTestRunner(stream=sys.stdout, verbosity=2, resultclass=Counting)
     result: Any = runner.run(suite)

@@ -1,8 +1,8 @@
 """What the log of calls must show, over all processes as one: nothing is answered before it is on the disk.
 
-The rules are those of docs/OPERATIONS.md: an image is synced before it is read for writing; a table's entry goes out alone, behind a
-finished sync of all that it leads to; an answer goes out behind the sync of its entry; and behind a failed write or sync the file is
-cut back to the length that it had, and synced, before anything else.
+The rules are those of docs/OPERATIONS.md: an image is synced, and the system made to forget what it keeps of it, before it is read
+for writing, and its folder is synced before an answer; a table's entry goes out alone, behind a finished sync of all that it leads to; an answer goes out behind the sync of its entry; and
+behind a failed write or sync the file is cut back to the length that it had, and synced, before anything else.
 """
 from __future__ import annotations
 
@@ -54,6 +54,7 @@ class Discipline:
         self.entry_end = 0
         self.process = -1
         self.is_read_synced = False
+        self.is_forgotten = False
         self.is_locked = False
         self.opened_folders: dict[int, str] = {}
         self.faults: list[str] = []
@@ -87,7 +88,7 @@ class Discipline:
     def begin(self, process: int) -> None:
         """Another process knows nothing of the one before it, and of a failure that it saw."""
         self.process = process
-        self.is_read_synced = self.is_locked = False
+        self.is_read_synced = self.is_forgotten = self.is_locked = False
         self.must_cut = None
         self.opened_folders = {}
 
@@ -102,11 +103,16 @@ class Discipline:
             self.folder_synced = True
         if kind == "flock" and not failed:
             self.is_locked = True
-        if kind in ("pread", "pwrite", "ftruncate", "fsync") and not self.is_locked:
+        if kind in ("pread", "pwrite", "ftruncate", "fsync", "fadvise") and not self.is_locked:
             self.wrong(index, "%s without the lock" % kind)
+        if kind == "fadvise" and not failed and (record.offset, record.length, record.result) == (0, 0, os.POSIX_FADV_DONTNEED):
+            # What is not synced is kept.
+            self.is_forgotten = self.is_read_synced
         if kind == "pread":
             if not self.is_read_synced:
                 self.wrong(index, "the file is read before it was synced")
+            elif not self.is_forgotten:
+                self.wrong(index, "the file is read from what the system kept of it")
             if self.must_cut is not None:
                 self.wrong(index, "a read behind a failure, before the file was cut back and synced")
         if kind == "pwrite":
@@ -196,6 +202,8 @@ class Discipline:
             if answer.code in TELLING:
                 self.answers += 1
                 self.on_disk(index, "answer %d" % answer.code)
+                if not self.folder_synced:
+                    self.wrong(index, "answer %d, and the folder is not synced" % answer.code)
             if answer.is_commit:
                 self.may_cut = False
                 self.acknowledged = max(self.acknowledged, self.entry_end)

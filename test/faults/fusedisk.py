@@ -135,7 +135,7 @@ class FuseDisk:
         return self.log.stat().st_size if self.log.exists() else 0
 
     def close(self) -> None:
-        for _ in range(100):
+        for _ in range(2000):
             if not self._libc.umount2(str(self.folder).encode(), 0):
                 break
             # The loop device lets go a moment after it was detached.

@@ -24,8 +24,9 @@ REPOSITORY = HERE.parent.parent
 BLOCK = 2048
 # A new volume has this many blocks (docs/FORMAT.md: the front, then the file set, the root and the first table).
 FORMATTED_BLOCKS = 262
-# Seconds after which a program that should have ended counts as hanging.
-PATIENCE = 60.0
+# Seconds after which a program that should have ended, or an answer that should have come, counts as missing. It is more than any
+# machine takes, and more than the daemon waits for a client.
+PATIENCE = 300.0
 
 
 # ---- What a machine may lack ----------------------------------------------------------------------------------------------------
@@ -132,7 +133,7 @@ def built() -> Built:
 # ---- The log of calls -----------------------------------------------------------------------------------------------------------
 
 # In the order of `enum kind` in shim.c.
-KINDS = ("open", "stat", "pread", "pwrite", "fsync", "ftruncate", "fstat", "flock", "close", "folderopen", "foldersync",
+KINDS = ("open", "stat", "pread", "pwrite", "fsync", "fadvise", "ftruncate", "fstat", "flock", "close", "folderopen", "foldersync",
          "send", "recv", "accept", "stdout", "stdin")
 
 
@@ -432,7 +433,7 @@ def environment(image: Optional[str] = None, log: Union[str, Path, None] = None,
 class Client:
     """A connection to a daemon."""
 
-    def __init__(self, path: Union[str, Path], patience: float = 20.0) -> None:
+    def __init__(self, path: Union[str, Path], patience: float = PATIENCE) -> None:
         end = time.monotonic() + patience
         while True:
             self.socket = socket.socket(socket.AF_UNIX, socket.SOCK_STREAM)
@@ -507,7 +508,7 @@ class Daemon:
 
     def client(self) -> Client:
         """A connection, where the daemon still runs."""
-        end = time.monotonic() + 20.0
+        end = time.monotonic() + PATIENCE
         while True:
             if self.process.poll() is not None:
                 raise AssertionError("the daemon ended with %d: %r" % (self.process.returncode, self.errors()))
@@ -585,7 +586,7 @@ class Case(unittest.TestCase):
             given.seek(0)
             process = subprocess.Popen(list(words), stdin=given, stdout=subprocess.PIPE, stderr=subprocess.PIPE, cwd=self.folder,
                                        env=environment(image, None, rules))
-        end = time.monotonic() + 20.0
+        end = time.monotonic() + PATIENCE
         while True:
             found, status = os.waitpid(process.pid, os.WUNTRACED | os.WNOHANG)
             if found and os.WIFSTOPPED(status):

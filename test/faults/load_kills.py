@@ -119,8 +119,8 @@ class Run(Case):
 
 
 class Kills(Run):
-    def one(self, rules: str, delay: Optional[float]) -> bool:
-        """A daemon from its start to its kill, by a rule or behind a delay. Whether a rule killed it."""
+    def one(self, rules: str, delay: Optional[float], before: int = 0) -> bool:
+        """A daemon from its start to its kill, by a rule or behind so many bunches and a delay. Whether a rule killed it."""
         with Daemon(self.folder, rules=rules) as daemon:
             client = connect_or_none(daemon)
             if client is not None:
@@ -128,6 +128,7 @@ class Kills(Run):
                 with client:
                     try:
                         if timer is not None:
+                            self.assertTrue(self.stream(client, before))
                             timer.start()
                         by_rule = not self.stream(client, 12 if timer is None else 1 << 20)
                     finally:
@@ -152,7 +153,8 @@ class Kills(Run):
         slow = "fsync:*:D1" if has_shim() else ""
         for number in range(150):
             with during("seed %d, kill %d" % (seed, number)):
-                self.one(slow if number % 3 == 0 else "", self.fall.uniform(0, 0.03))
+                # Half of them from the first moment on, the others where the stream goes on, however slow the machine is.
+                self.one(slow if number % 3 == 0 else "", self.fall.uniform(0, 0.03), 5 * (number % 2))
         self.at_the_end()
         # Two kills a round; the stream must have gone on between them.
         self.assertGreater(self.model.commits, 300)
@@ -231,6 +233,9 @@ class Signals(Run):
             try:
                 with daemon.client() as client:
                     self.assertTrue(self.stream(client, 150))
+                    # However fast the machine is.
+                    while stops <= 5:
+                        self.assertTrue(self.stream(client, 10))
             finally:
                 finished.set()
                 waker.join()

@@ -7,11 +7,13 @@ import signal
 import subprocess
 import threading
 import unittest
-from typing import Any, Callable, Optional
+from contextlib import contextmanager
+from typing import Any, Callable, Iterator, Optional, Sequence
 
 from faults import harness
 from faults.harness import Daemon, Model, Ran, Request, built
 from faults.load_support import Case, Die, as_nobody, await_true, counted, during, listing, log_lines, state_of
+from faults.pages import Disk
 
 # What is read all the time, beside the root.
 WATCHED = "/watched"
@@ -71,6 +73,7 @@ class Beside(Reading):
         finished = threading.Event()
         faults: list[BaseException] = []
         counts: dict[str, int] = {}
+        at_work: set[int] = set()
         moved = 0
 
         def read(start: int) -> None:
@@ -80,7 +83,9 @@ class Beside(Reading):
                 while not finished.is_set():
                     words = self.READINGS[number % len(self.READINGS)]
                     first = acknowledged
+                    at_work.add(start)
                     ran = self.udfburn(*words, **popen)
+                    at_work.remove(start)
                     last = sent
                     with during("reading %d" % number):
                         self.is_a_state(words, ran, first, last)
@@ -96,13 +101,13 @@ class Beside(Reading):
                 reader.start()
             try:
                 for request, state in zip(self.requests, self.states[1:]):
+                    # So that commits are beside readings, of which some hundred are made.
+                    await_true(lambda: bool(faults or at_work and sum(counts.values()) * 2 >= acknowledged))
                     sent += 1
                     model = self.states[sent - 1].copy()
                     self.assertEqual(client.ask(harness.spell(request)), model.answer(request))
                     self.assertEqual(model.commits, state.commits)
                     acknowledged += 1
-                    # So that some hundred readings are made beside the commits.
-                    await_true(lambda: sum(counts.values()) * 2 >= acknowledged or bool(faults), 5.0)
             finally:
                 finished.set()
                 for reader in readers:
@@ -179,6 +184,18 @@ class Beside(Reading):
                         self.assertEqual(self.sound(), commits)
 
 
+    @contextmanager
+    def stopped_reader(self, words: Sequence[str], rule: str) -> Iterator[subprocess.Popen[bytes]]:
+        """A reader that has stopped itself where the rule says."""
+        reader = subprocess.Popen([built().udfburn, *words], cwd=self.folder, stdin=subprocess.DEVNULL, stdout=subprocess.PIPE,
+                                  stderr=subprocess.PIPE, env=harness.environment("d.img", None, rule))
+        try:
+            self.assertTrue(await_true(lambda: state_of(reader.pid) == "T"), "the rule came to nothing")
+            yield reader
+        finally:
+            reader.kill()
+            reader.wait()
+
     def test_beside_a_write_that_fails(self) -> None:
         """A reader that found blocks which are cut away behind it tells the state, or that a read failed; the next tells the state."""
         harness.need_shim()
@@ -194,23 +211,70 @@ class Beside(Reading):
                         client.send(harness.spell(request))
                         self.assertTrue(await_true(lambda: state_of(daemon.process.pid) == "T"), "nothing was cut")
                         self.assertEqual(self.path("d.img").stat().st_size, before + 40960)
-                        reader = subprocess.Popen([built().udfburn, *words], cwd=self.folder, stdin=subprocess.DEVNULL,
-                                                  stdout=subprocess.PIPE, stderr=subprocess.PIPE,
-                                                  env=harness.environment("d.img", None, rule))
-                        try:
-                            self.assertTrue(await_true(lambda: state_of(reader.pid) == "T"), "the rule came to nothing")
+                        with self.stopped_reader(words, rule) as reader:
                             daemon.process.send_signal(signal.SIGCONT)
                             self.assertEqual(client.answer(), harness.Answer(harness.FAULT))
                             self.assertEqual(self.path("d.img").stat().st_size, before)
                             reader.send_signal(signal.SIGCONT)
                             output, errors = reader.communicate(timeout=harness.PATIENCE)
-                        finally:
-                            reader.kill()
-                            reader.wait()
                         ran = Ran(reader.returncode, output, errors)
                         if ran != Ran(1, b"", b"udfburn: 64 Device\n"):
                             self.is_a_state(words, ran, 20, 20)
                         self.is_a_state(words, self.udfburn(*words), 20, 20)
+
+    def test_beside_a_last_sync_that_fails(self) -> None:
+        """A commit is whole in the file, and its last sync failed: a reader shows it, though it is answered 36. One that goes on when it
+        was taken back, and another commit stands behind its other blocks, tells that state, or the one before, or that a block is not
+        what it was. The next one tells the state."""
+        harness.need_shim()
+        self.begin(7026, 20)
+        taken = Request("replace", 7, 1, WATCHED, b"t" * 20_000)
+        other = Request("create", 8, 1, "/other", b"o" * 60_000)
+        whole, behind = self.states[20].copy(), self.states[20].copy()
+        whole.answer(taken)
+        answer = behind.answer(other)
+        for words in self.READINGS:
+            for place in (0.0, 0.5, 0.97, 1.0):
+                with during("%r, at %.2f of its reads" % (words, place)):
+                    self.fresh(capacity=400000)
+                    self.apply(b"".join(harness.spell(each) for each in self.requests))
+                    with Daemon(self.folder, rules="fsync:3:E5;ftruncate:1:H") as daemon, daemon.client() as client:
+                        client.send(harness.spell(taken))
+                        self.assertTrue(await_true(lambda: state_of(daemon.process.pid) == "T"), "nothing was cut")
+                        self.states[21:] = [whole]
+                        self.is_a_state(words, self.udfburn(*words, log=self.new_log()), 21, 21)
+                        reads = sum(record.kind == "pread" for record in harness.read_log(self.log_path()))
+                        rule = "pread:%d:H" % max(1, round(place * reads))
+                        with self.stopped_reader(words, rule) as reader:
+                            daemon.process.send_signal(signal.SIGCONT)
+                            self.assertEqual(client.answer(), harness.Answer(harness.FAULT))
+                            self.is_a_state(words, self.udfburn(*words), 20, 20)
+                            self.assertEqual(client.ask(harness.spell(other)), answer)
+                            reader.send_signal(signal.SIGCONT)
+                            output, errors = reader.communicate(timeout=harness.PATIENCE)
+                    ran = Ran(reader.returncode, output, errors)
+                    if ran.status:
+                        self.assertRegex(errors, rb"^udfburn: (64 Device|67 Damaged block \d+ cause \d+)\n$")
+                        self.assertEqual((ran.status, output), (1, b""))
+                    else:
+                        self.is_a_state(words, ran, 20, 21)
+                    self.states[21:] = [behind]
+                    self.is_a_state(words, self.udfburn(*words), 21, 21)
+
+    def test_what_a_reader_shows_is_no_answer(self) -> None:
+        """A program is killed before its last sync: readers show the commit, of which no answer told, and a loss of power takes it."""
+        harness.need_shim()
+        before = self.fresh().read_bytes()
+        request = Request("create", 7, 1, WATCHED, b"w" * 5000)
+        ran = self.apply(harness.spell(request), rules="fsync:3:K", log=self.new_log())
+        self.assertEqual((ran.status, ran.output), (-signal.SIGKILL, b""))
+        self.tell(self.udfburn("get", "d.img", WATCHED), 0, request.data, b"")
+        self.assertEqual(self.sound(), 1)
+        disk = Disk(before, 4096)
+        for record in harness.read_log(self.log_path()):
+            disk.call(record)
+        self.path("left.img").write_bytes(disk.left(lambda n: [False] * n, len(disk.disk)))
+        self.assertEqual(self.sound("left.img"), 0)
 
 
 class MayNotWrite(Reading):

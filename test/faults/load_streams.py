@@ -40,8 +40,8 @@ LARGE: list[Message] = [
 MALFORMED = harness.frame(b"\x09rest") + harness.frame(b"")
 MALFORMED_ANSWERS = [Answer(harness.MALFORMED, b"\x34\0"), Answer(harness.MALFORMED, b"\x35\0")]
 TOO_LONG = b"\xff\xff\xff\xff"
-# Seconds without an answer, where all frames were sent in less.
-LONGEST_WAIT = 10.0
+# Seconds without an answer, below those behind which a daemon that waits for more lets its client go.
+LONGEST_WAIT = 50.0
 TOO_LONG_ANSWER = Answer(harness.MALFORMED, b"\x33\0")
 
 

@@ -27,7 +27,7 @@ Item = TypeVar("Item")
 NOBODY = 65534
 
 
-def await_true(question: Callable[[], bool], patience: float = 10.0, pause: float = 0.001) -> bool:
+def await_true(question: Callable[[], bool], patience: float = harness.PATIENCE, pause: float = 0.001) -> bool:
     """Whether the question is answered by yes before patience ends."""
     end = time.monotonic() + patience
     while not question():
@@ -271,7 +271,7 @@ class Serving(Writer):
 
 def connect_or_none(daemon: Daemon) -> Optional[Client]:
     """A connection, or None where the daemon ended before it took one."""
-    end = time.monotonic() + 20.0
+    end = time.monotonic() + harness.PATIENCE
     while True:
         try:
             return Client(daemon.path, patience=0.0)

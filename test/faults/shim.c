@@ -40,11 +40,11 @@
 #include <unistd.h>
 
 /* In the order of `KINDS` in harness.py. */
-enum kind { OPEN, STAT, PREAD, PWRITE, FSYNC, FTRUNCATE, FSTAT, FLOCK, CLOSE, FOLDEROPEN, FOLDERSYNC, SEND, RECV, ACCEPT, STDOUT,
-            STDIN, KINDS };
+enum kind { OPEN, STAT, PREAD, PWRITE, FSYNC, FADVISE, FTRUNCATE, FSTAT, FLOCK, CLOSE, FOLDEROPEN, FOLDERSYNC, SEND, RECV, ACCEPT,
+            STDOUT, STDIN, KINDS };
 
-static const char *const names[KINDS] = { "open", "stat", "pread", "pwrite", "fsync", "ftruncate", "fstat", "flock", "close",
-                                          "folderopen", "foldersync", "send", "recv", "accept", "stdout", "stdin" };
+static const char *const names[KINDS] = { "open", "stat", "pread", "pwrite", "fsync", "fadvise", "ftruncate", "fstat", "flock",
+                                          "close", "folderopen", "foldersync", "send", "recv", "accept", "stdout", "stdin" };
 
 struct record {
     uint32_t magic, process, kind;
@@ -256,6 +256,23 @@ static int sync_any(int descriptor, long call) {
 }
 int fsync(int descriptor) { return sync_any(descriptor, SYS_fsync); }
 int fdatasync(int descriptor) { return sync_any(descriptor, SYS_fdatasync); }
+
+/* It says its error itself, and leaves errno alone. */
+static int advise_image(int descriptor, off_t offset, off_t length, int advice) {
+    int error = errno;
+    int is_ours = of_image(descriptor);
+    const char *what = is_ours ? action(FADVISE) : "";
+    ssize_t result;
+    int left_out = before(what, NULL, &result);
+    if (!left_out) result = syscall(SYS_fadvise64, descriptor, offset, length, advice);
+    if (is_ours) note(FADVISE, what, descriptor, offset, length, result ? result : advice, NULL, 0);
+    if (!left_out) result = behind(what, result);
+    int said = result ? errno : 0;
+    errno = error;
+    return said;
+}
+int posix_fadvise(int descriptor, off_t offset, off_t length, int advice) { return advise_image(descriptor, offset, length, advice); }
+int posix_fadvise64(int descriptor, off64_t offset, off64_t length, int advice) { return advise_image(descriptor, offset, length, advice); }
 
 static int cut_image(int descriptor, off_t length) {
     if (!of_image(descriptor)) return (int)syscall(SYS_ftruncate, descriptor, length);

@@ -1,8 +1,8 @@
 """Faults of several kinds together, as a die falls: failing calls and kills over some processes, and power that is lost at the end.
 
-Two things are left to the operator by docs/OPERATIONS.md, since only the system knows what it dropped: a process that ends between a
-failure and the cut of the file, and a sync of an opening that fails behind a kill. Runs where they happen are held against the tree
-alone, and not against the loss of power.
+Two things are tried on a real disk alone (test_disk.py), since only the system knows what it dropped and reads anew: a process that
+ends between a failure and the cut of the file, and a sync of an opening that fails behind a kill. Runs where they happen are held
+against the tree alone, and not against the loss of power.
 """
 from __future__ import annotations
 
@@ -50,7 +50,7 @@ def some_rules(chance: random.Random) -> str:
     return ";".join(rules)
 
 
-def is_left_to_the_operator(records: Sequence[Record]) -> bool:
+def is_left_to_the_disk(records: Sequence[Record]) -> bool:
     """Whether a process ended between a failure and the cut, or its first sync failed while something was unsynced."""
     disk_is_dirty, process, must_cut, is_opened = False, -1, False, False
     for record in records:
@@ -117,7 +117,7 @@ class Chance(Case):
         self.tree_is(states[-1], paths)
         records = read_log(self.log_path())
         self.assertEqual(Discipline(len(before), self.folder).follow(records, daemon=True).faults, [])
-        if is_left_to_the_operator(records):
+        if is_left_to_the_disk(records):
             return False
         said = {index: answer.commit for index, answer in told_by(records, True) if answer.is_commit}
         told = [state.told(paths) for state in states]

@@ -3,6 +3,7 @@ from __future__ import annotations
 
 import itertools
 import os
+import socket
 import subprocess
 from typing import Callable
 
@@ -21,6 +22,18 @@ def closing(closed: set[int]) -> Callable[[], None]:
         for descriptor in closed:
             os.close(descriptor)
     return close
+
+
+def leave(daemon: Daemon) -> None:
+    """A client that goes away, of which the daemon has a line to say."""
+    with daemon.client() as gone:
+        # It does not read its answers, which are more than a socket holds.
+        gone.socket.setblocking(False)
+        try:
+            while True:
+                gone.socket.send(query("get", "/a") * 100)
+        except BlockingIOError:
+            pass
 
 
 class Descriptors(Case):
@@ -132,7 +145,7 @@ class Descriptors(Case):
                 self.path("d.img").write_bytes(self.new)
                 with Daemon(self.folder) as daemon:
                     daemon.client().close()
-                    ran = self.without(closed, "send", "s", stdin=CREATE, patience=10.0)
+                    ran = self.without(closed, "send", "s", stdin=CREATE)
                     # Connections are served one after another: behind this one the other is over.
                     with daemon.client() as client:
                         self.assertIsNotNone(client.ask(query("list", "/")))
@@ -157,14 +170,7 @@ class Descriptors(Case):
                     assert daemon.process.stderr is not None
                     with daemon.client() as client:
                         self.assertEqual(client.ask(CREATE), committed(0, 1))
-                    with daemon.client() as gone:
-                        # It does not read its answers, which are more than a socket holds.
-                        gone.socket.setblocking(False)
-                        try:
-                            while True:
-                                gone.socket.send(query("get", "/a") * 100)
-                        except BlockingIOError:
-                            pass
+                    leave(daemon)
                     with daemon.client() as client:
                         self.assertEqual(client.ask(SECOND), committed(0, 2))
                     daemon.kill()
@@ -201,8 +207,7 @@ class Untaken(Case):
             for closed in SETS:
                 for number in range(1, len(closed) + 1):
                     with self.subTest(words=words[1:], closed=closed, number=number):
-                        ran = self.program(words, stdin=SECOND, rules="folderopen:%d:E24" % number, preexec_fn=closing(closed),
-                                           patience=10.0)
+                        ran = self.program(words, stdin=SECOND, rules="folderopen:%d:E24" % number, preexec_fn=closing(closed))
                         self.assertEqual((ran.status, ran.output), (1, b""))
                         self.assertEqual(self.path("d.img").read_bytes(), before)
                         self.assertFalse(self.path("new.img").exists())
@@ -256,3 +261,53 @@ class Streams(Case):
                 os.close(write)
                 self.assertEqual((done.returncode, done.stderr), (1, b"udfburn: 92 Write\n"))
                 self.assertEqual(self.path("d.img").read_bytes(), before)
+
+    def test_errors_that_take_nothing(self) -> None:
+        """A line that the standard error does not take is lost, and nothing else: on a full disk, and in a pipe that nobody reads."""
+        if not os.path.exists("/dev/full"):
+            harness.lacks("there is no /dev/full")
+        self.fresh()
+        self.apply(CREATE)
+        full = os.open("/dev/full", os.O_WRONLY)
+        self.addCleanup(os.close, full)
+        read, unread = os.pipe()
+        os.close(read)
+        self.addCleanup(os.close, unread)
+        for errors in (full, unread):
+            for words, status in ((("get", "d.img", "/none"), 1), (("what",), 2)):
+                with self.subTest(words, errors=errors):
+                    done = subprocess.run([harness.built().udfburn, *words], cwd=self.folder, stdin=subprocess.DEVNULL,
+                                          stdout=subprocess.PIPE, stderr=errors)
+                    self.assertEqual((done.returncode, done.stdout), (status, b""))
+            with self.subTest("the daemon", errors=errors), Daemon(self.folder, stderr=errors) as daemon:
+                leave(daemon)
+                with daemon.client() as client:
+                    self.assertIsNotNone(client.ask(query("list", "/")))
+
+    def test_errors_that_wait(self) -> None:
+        """A pipe that is full keeps the daemon waiting once it has a line to say. What was answered stands, and the next client is
+        served when somebody reads."""
+        self.fresh()
+        read, write = os.pipe()
+        self.addCleanup(os.close, read)
+        self.addCleanup(os.close, write)
+        os.set_blocking(write, False)
+        try:
+            while True:
+                os.write(write, b"x" * 4096)
+        except BlockingIOError:
+            pass
+        os.set_blocking(write, True)
+        with Daemon(self.folder, stderr=write) as daemon:
+            with daemon.client() as client:
+                self.assertEqual(client.ask(CREATE), committed(0, 1))
+            leave(daemon)
+            with daemon.client() as client:
+                client.send(SECOND)
+                client.socket.settimeout(1.0)
+                with self.assertRaises(socket.timeout):
+                    client.answer()
+                self.tell(self.udfburn("ls", "d.img", "/"), 0, b"f a\n", b"")
+                os.read(read, 1 << 20)
+                client.socket.settimeout(harness.PATIENCE)
+                self.assertEqual(client.answer(), committed(0, 2))

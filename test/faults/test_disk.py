@@ -13,7 +13,7 @@ import signal
 import subprocess
 import threading
 from pathlib import Path
-from typing import Iterator, Optional, Sequence
+from typing import Callable, Iterator, Optional, Sequence
 
 from faults import harness
 from faults.fusedisk import Event, FuseDisk, events
@@ -22,8 +22,15 @@ from faults.harness import Answer, Case, Daemon, Model, Request, answers_of, pat
 SIZE = 12 << 20
 JOURNAL = ("-J", "size=4")
 NO_JOURNAL = ("-O", "^has_journal")
+# With these the system writes nothing of its own accord, as it does behind some seconds: the write that fails is the one that is meant,
+# however long all takes.
+QUIET = "noinit_itable"
+QUIET_JOURNAL = QUIET + ",commit=3600"
 SECTOR = 4096
 SEED = 20261123
+
+# Writes a request to an image on the disk, and ends without an answer.
+Ends = Callable[[str, Request, FuseDisk], None]
 
 STREAM = [
     Request("create", 1, 1, "/a", b"first"),
@@ -71,11 +78,13 @@ class Disks(Case):
         run("mkfs.ext4", "-q", "-F", "-m", "0", "-b", "4096", *features, str(disk))
         return disk
 
-    def recorded(self, disk: Path, pushes: bool, fails: bool, dies: bool) -> tuple[list[Event], list[tuple[int, int]]]:
+    def recorded(self, disk: Path, features: Sequence[str], pushes: bool, fails: bool,
+                 ends: Optional[Ends]) -> tuple[list[Event], list[tuple[int, int]]]:
         """Formats an image on the file system, and serves the stream: what reached the disk, and how far it was at each
         acknowledgement (the format is number 0). Where `pushes`, another process has the system write out what is unsynced at any
         moment, as a busy machine does. Where `fails`, the first write that reaches the disk for each request is a failure. Where
-        `dies`, a later one is, and the process goes before it cuts the file back."""
+        there is an `ends`, it lets a process write each request and end without an answer, so that the system keeps what the disk
+        does not have."""
         folder, where = self.path("fuse"), self.path("mounted")
         folder.mkdir(exist_ok=True)
         where.mkdir(exist_ok=True)
@@ -93,7 +102,7 @@ class Disks(Case):
         try:
             try:
                 device = run("losetup", "--find", "--show", str(served.path))
-                run("mount", "-t", "ext4", device, str(where))
+                run("mount", "-t", "ext4", "-o", QUIET_JOURNAL if features == JOURNAL else QUIET, device, str(where))
                 is_mounted = True
             except OSError as fault:
                 harness.lacks("no loop device can be mounted: " + harness.first_line(str(fault)))
@@ -103,16 +112,15 @@ class Disks(Case):
             said.append((served.size(), 0))
             model = Model()
             image = str(where / "d.img")
-            for request in STREAM if dies else ():
-                self.dies(image, request, served)
-                # What the system only shows is read from the disk from here on.
-                run("dd", "if=" + image, "iflag=nocache", "count=0")
+            for request in STREAM if ends else ():
+                assert ends
+                ends(image, request, served)
                 answers = answers_of(self.apply(spell(request), image).output)
                 size = served.size()
                 self.assertEqual(answers, [model.answer(request)])
                 said.append((size, model.commits))
             with Daemon(self.folder, image) as daemon, daemon.client() as client:
-                for request in () if dies else STREAM:
+                for request in () if ends else STREAM:
                     if fails:
                         served.failing.touch()
                         self.assertEqual(client.ask(spell(request)), Answer(harness.FAULT))
@@ -141,6 +149,15 @@ class Disks(Case):
         process.send_signal(signal.SIGCONT)
         output, _ = process.communicate(timeout=harness.PATIENCE)
         self.assertEqual((process.returncode, output), (-9, b""))
+        self.assertFalse(served.failing.exists())
+
+    def refused(self, image: str, request: Request, served: FuseDisk) -> None:
+        """The request is written, and the process is killed before the sync of its last blocks. The next one fails in the sync with
+        which it begins, and so is refused."""
+        killed = self.apply(spell(request), image, rules="fsync:3:K")
+        self.assertEqual((killed.status, killed.output), (-9, b""))
+        served.failing.touch()
+        self.tell(self.apply(spell(request), image), 1, b"", b"udfburn: 64 Device\n")
         self.assertFalse(served.failing.exists())
 
     @staticmethod
@@ -204,10 +221,10 @@ class Disks(Case):
         finally:
             run("umount", str(where))
 
-    def lose(self, features: Sequence[str], pushes: bool = False, fails: bool = False, dies: bool = False) -> None:
+    def lose(self, features: Sequence[str], pushes: bool = False, fails: bool = False, ends: Optional[Ends] = None) -> None:
         disk = self.made(features)
         before = disk.read_bytes()
-        found, said = self.recorded(disk, pushes, fails, dies)
+        found, said = self.recorded(disk, features, pushes, fails, ends)
         states = [Model()]
         for request in STREAM:
             model = states[-1].copy()
@@ -264,8 +281,11 @@ class Disks(Case):
         self.lose(NO_JOURNAL, fails=True)
 
     def test_a_kill_between_a_failed_sync_and_the_cut(self) -> None:
-        """The operator's part of it (docs/OPERATIONS.md): before the next start the system is told to keep nothing of the image, so that
-        it shows what the disk has."""
+        """The system shows what the disk does not have, and the next start makes it forget that."""
         harness.need_shim()
-        harness.need_tools("dd")
-        self.lose(JOURNAL, dies=True)
+        self.lose(JOURNAL, ends=self.dies)
+
+    def test_a_start_whose_sync_failed(self) -> None:
+        """The same behind a start that ended with `64 Device`, since what the process before it had written could not be synced."""
+        harness.need_shim()
+        self.lose(JOURNAL, ends=self.refused)

@@ -204,9 +204,9 @@ class Failures(Case):
         """A call of the opening fails: 64, nothing was read, and nothing was written."""
         before = self.fresh().read_bytes()
         opening = self.opening()
-        for kind in ("stat", "open", "flock", "fsync"):
+        for kind in ("stat", "open", "flock", "fsync", "fadvise"):
             self.assertGreaterEqual(opening[kind], 1, kind)
-        for kind in ("stat", "open", "flock", "fsync", "fstat"):
+        for kind in ("stat", "open", "flock", "fsync", "fadvise", "fstat"):
             for number in range(1, opening[kind] + 1):
                 rule = "%s:%d:E5" % (kind, number)
                 with self.subTest(rule):
@@ -241,7 +241,7 @@ class Failures(Case):
         self.tell(self.udfburn(*words, log=self.new_log()), 0, b"formatted\n", b"")
         whole = self.path("d.img").read_bytes()
         records = read_log(self.log_path())
-        for kind in ("stat", "open", "flock", "fstat", "folderopen", "foldersync", "pwrite", "fsync"):
+        for kind in ("stat", "open", "flock", "fadvise", "fstat", "folderopen", "foldersync", "pwrite", "fsync"):
             calls = sum(record.kind == kind for record in records)
             self.assertGreaterEqual(calls, 1, kind)
             for number in range(1, calls + 1):
@@ -322,7 +322,7 @@ class Failures(Case):
                         self.assertEqual(answers_of(ran.output), [committed(0, 1)])
                         self.assertEqual(self.sound(), 1)
                         if cut:
-                            # Where the cut failed too, what the disk has is the operator's affair (docs/OPERATIONS.md).
+                            # Where the cut failed too, a real disk tells what it has (test_disk.py).
                             continue
                         disk = Disk(before, 4096)
                         for record in read_log(self.log_path()):

@@ -88,8 +88,8 @@ class Kills(Case):
                         self.again(length, model, wanted)
 
     def test_at_the_cut(self) -> None:
-        """Killed at the cut of a file behind a failure, and at the sync of the cut. What a failed sync dropped is the operator's affair
-        only where the process goes before the cut (docs/OPERATIONS.md)."""
+        """Killed at the cut of a file behind a failure, and at the sync of the cut. Where the process goes before the cut, a real disk
+        tells what a failed sync dropped (test_disk.py)."""
         model, wanted = self.wanted()
         counts = self.counts(("pwrite", "fsync"))
         for kind, calls in counts.items():
@@ -153,7 +153,7 @@ class Kills(Case):
         whole = self.path("d.img").read_bytes()
         self.assertEqual(len(whole), FORMATTED_BLOCKS * BLOCK)
         records = read_log(self.log_path())
-        for kind in ("open", "stat", "flock", "folderopen", "foldersync", "pwrite", "fsync", "stdout"):
+        for kind in ("open", "stat", "flock", "fadvise", "folderopen", "foldersync", "pwrite", "fsync", "stdout"):
             for number in range(1, sum(record.kind == kind for record in records) + 1):
                 for action in ("K", "k") + (("P2100K", "P5K") if kind == "pwrite" else ()):
                     with self.subTest(kind=kind, number=number, action=action):

@@ -74,14 +74,36 @@ class Names(Case):
         with Daemon(self.folder) as daemon, daemon.client() as client:
             self.assertEqual(client.ask(spell(FIRST)), committed(0, 1))
             self.path("d.img").rename(self.path("moved.img"))
-            answer = client.ask(spell(SECOND))
-        self.assertIn(answer, [committed(0, 2), Answer(harness.FAULT)])
+            self.assertEqual(client.ask(spell(SECOND)), committed(0, 2))
         model = Model()
         model.answer(FIRST)
-        if answer == committed(0, 2):
-            model.answer(SECOND)
+        model.answer(SECOND)
         self.tree_is(model, ["/", "/a", "/d"], "moved.img")
         self.assertFalse(self.path("d.img").exists())
+
+    def test_another_name(self) -> None:
+        """A file that has a hard link has a name, whatever became of the one that the daemon was started with: what is acknowledged is in
+        it, and not in the file that has that name now."""
+        model = Model()
+        model.answer(FIRST)
+        for is_replaced in (False, True):
+            with self.subTest(is_replaced=is_replaced):
+                self.fresh()
+                with Daemon(self.folder) as daemon, daemon.client() as client:
+                    self.assertEqual(client.ask(spell(FIRST)), committed(0, 1))
+                    os.link(self.path("d.img"), self.path("linked.img"))
+                    shutil.copyfile(self.path("d.img"), self.path("other.img"))
+                    if is_replaced:
+                        self.path("other.img").replace(self.path("d.img"))
+                    else:
+                        self.path("d.img").unlink()
+                    self.assertEqual(client.ask(spell(SECOND)), committed(0, 2))
+                    self.tell(self.udfburn("ls", "linked.img", "/"), 0, b"f a\nd d\n", b"")
+                    if is_replaced:
+                        self.tree_is(model, ["/", "/a", "/d"])
+                    # Without its last name it is refused.
+                    self.path("linked.img").unlink()
+                    self.assertEqual(client.ask(spell(Request("mkdir", 7, 3, "/e"))), Answer(harness.FAULT))
 
     def test_deleted_under_apply(self) -> None:
         self.fresh()

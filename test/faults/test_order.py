@@ -158,7 +158,7 @@ class Order(Case):
         request = Request("create", 7, 1, "/a", b"hello")
         model = Model()
         wanted = model.answer(request)
-        for rule in ("pwrite:1:k", "pwrite:2:k", "fsync:1:K", "fsync:2:K", "fsync:3:K", "stdout:1:K"):
+        for rule in ("fadvise:1:K", "fadvise:1:k", "pwrite:1:k", "pwrite:2:k", "fsync:1:K", "fsync:2:K", "fsync:3:K", "stdout:1:K"):
             with self.subTest(rule):
                 length = self.fresh().stat().st_size
                 self.new_log()
@@ -207,6 +207,31 @@ class Order(Case):
                 self.assertEqual(followed.answers, 2 if rule.startswith("stdout") else 1)
                 self.assertEqual(followed.length, FORMATTED_BLOCKS * BLOCK)
 
+    def test_an_image_that_was_copied(self) -> None:
+        """Its name came by another program, and is on the disk before anything is answered."""
+        request = Request("create", 7, 1, "/a", b"hello")
+        for by_daemon in (False, True):
+            with self.subTest(by_daemon=by_daemon):
+                length = self.fresh().stat().st_size
+                if by_daemon:
+                    with Daemon(self.folder, log=self.new_log()) as daemon, daemon.client() as client:
+                        self.assertEqual(client.ask(spell(request)), committed(0, 1))
+                else:
+                    ran = self.apply(spell(request), log=self.new_log())
+                    self.assertEqual(harness.answers_of(ran.output), [committed(0, 1)])
+                followed = self.disciplined(read_log(self.log_path()), length, daemon=by_daemon, folder_synced=False)
+                self.assertEqual(followed.answers, 1)
+
+    def test_a_folder_that_cannot_be_synced(self) -> None:
+        """The image is refused, and nothing is answered."""
+        before = self.fresh().read_bytes()
+        # The first folder that is opened is the root, for the standard streams.
+        for rule in ("folderopen:2:E13", "foldersync:1:E5", "foldersync:1:A5"):
+            with self.subTest(rule):
+                ran = self.apply(spell(Request("create", 7, 1, "/a", b"hello")), rules=rule)
+                self.tell(ran, 1, b"", b"udfburn: 64 Device\n")
+                self.assertEqual(self.path("d.img").read_bytes(), before)
+
     def test_readers_write_nothing(self) -> None:
         """Without a lock, and with nothing but reads."""
         self.fresh()
@@ -235,6 +260,12 @@ class Itself(Case):
         faults = Discipline(length, self.folder).follow(read_log(self.log_path())).faults
         self.assertTrue(any("not all is synced" in fault for fault in faults), faults)
         self.assertTrue(any("read before it was synced" in fault for fault in faults), faults)
+
+    def test_a_file_that_is_not_forgotten_is_seen(self) -> None:
+        length = self.fresh().stat().st_size
+        self.apply(spell(Request("create", 7, 1, "/a", b"hello")), rules="fadvise:*:L", log=self.log_path())
+        faults = Discipline(length, self.folder).follow(read_log(self.log_path())).faults
+        self.assertTrue(any("what the system kept of it" in fault for fault in faults), faults)
 
     def test_an_answer_is_found(self) -> None:
         self.fresh()

@@ -55,7 +55,7 @@ class Played(Case):
             thread = threading.Thread(target=serve)
             thread.start()
             try:
-                ran = self.udfburn("send", "s", stdin=frames, patience=20.0)
+                ran = self.udfburn("send", "s", stdin=frames)
             finally:
                 thread.join()
         if reads is None:
@@ -197,6 +197,38 @@ class Killed(Case):
         self.assertEqual((ran.status, ran.errors), (0, b""))
         self.assertEqual([answer.commit for answer in answers_of(ran.output)], list(range(1, 301)))
         self.assertEqual(answers_of(ran.output)[0], committed(0, 1))
+
+    LARGE = [Request("create", 7, number, "/%d" % number, b"%05d" % number * 14000) for number in range(1, 401)]
+
+    def test_as_many_as_wait(self) -> None:
+        """Answers that the daemon gives one by one, as many as docs/OPERATIONS.md says that the socket holds."""
+        self.fresh(capacity=60000)
+        with Daemon(self.folder) as daemon:
+            daemon.client().close()
+            ran = self.udfburn("send", "s", stdin=b"".join(map(spell, self.LARGE[:250])))
+            self.assertEqual((ran.status, ran.errors), (0, b""))
+            self.assertEqual([answer.commit for answer in answers_of(ran.output)], list(range(1, 251)))
+
+    def test_more_than_wait(self) -> None:
+        """Neither side goes on, until the daemon lets go: that is told, and what was answered is done. The next parts go on from there."""
+        self.fresh(capacity=60000)
+        with Daemon(self.folder) as daemon:
+            daemon.client().close()
+            ran = self.udfburn("send", "s", stdin=b"".join(map(spell, self.LARGE)))
+            self.assertEqual(ran.status, 1)
+            self.assertIn(ran.errors, [READ, WRITE])
+            self.assertEqual(daemon.errors(), b"udfburnd: 92 Write\n")
+            answers, _ = harness.split_answers(ran.output)
+            self.assertGreaterEqual(len(answers), 250)
+            self.assertLess(len(answers), len(self.LARGE))
+            self.assertEqual([answer.commit for answer in answers], list(range(1, len(answers) + 1)))
+            # The last one whose answer came is within the replies that are kept.
+            rest = self.LARGE[len(answers) - 1:]
+            for part in (rest[:100], rest[100:]):
+                ran = self.udfburn("send", "s", stdin=b"".join(map(spell, part)))
+                self.assertEqual((ran.status, ran.errors), (0, b""))
+                self.assertEqual([answer.commit for answer in answers_of(ran.output)], [request.number for request in part])
+        self.assertEqual(self.sound(), len(self.LARGE))
 
     def test_no_daemon(self) -> None:
         self.tell(self.udfburn("send", "s", stdin=FRAMES[0]), 1, b"", b"udfburn: 94 Socket\n")

@@ -169,7 +169,8 @@ static int find(const char *target, char *name)
 	char link[256], to[256], wanted[32];
 	int tries, drive;
 	sprintf(wanted, ":0:%.8s:0", target);
-	for (tries = 0; tries < 100; tries++) {
+	/* A machine that is emulated beside other work takes its time: five minutes are more than any takes. */
+	for (tries = 0; tries < 3000; tries++) {
 		for (drive = 0; drive < 16; drive++) {
 			ssize_t size;
 			sprintf(link, "/sys/block/sr%d/device", drive);
@@ -252,8 +253,8 @@ int main(int count, char **words)
 			fail(name);
 		close(file);
 	}
-	for (int tries = 0; tries < 100 && !(out = fopen("/dev/vdb", "r+")); tries++)
-		usleep(50000);
+	for (int tries = 0; tries < 3000 && !(out = fopen("/dev/vdb", "r+")); tries++)
+		usleep(100000);
 	if (!out)
 		fail("/dev/vdb");
 	static char buffer[1 << 20];

@@ -5,6 +5,7 @@ from __future__ import annotations
 import os
 import shutil
 import signal
+import socket
 import subprocess
 import sys
 import tempfile
@@ -17,6 +18,8 @@ from udfburn import Client
 UDFBURN = os.environ.get("UDFBURN", "")
 UDFBURND = os.environ.get("UDFBURND", "")
 PACKAGE = os.path.abspath(os.path.join(os.path.dirname(__file__), ".."))
+PATIENCE = 300.0
+"""Seconds behind which what did not come counts as missing. It is more than any machine takes."""
 
 
 class Daemon:
@@ -38,11 +41,17 @@ class Daemon:
         self.process.wait()
 
     def await_socket(self) -> None:
-        for _ in range(400):
-            if os.path.lexists(self.path):
-                return
-            time.sleep(0.01)
-        raise AssertionError("the daemon does not listen")
+        """Waits until it takes connections: the path is there a moment before."""
+        assert self.process
+        limit = time.monotonic() + PATIENCE
+        while True:
+            with socket.socket(socket.AF_UNIX) as probe:
+                try:
+                    return probe.connect(self.path)
+                except OSError:
+                    if self.process.poll() is not None or time.monotonic() > limit:
+                        raise
+            time.sleep(0.002)
 
 
 @unittest.skipUnless(UDFBURN and UDFBURND, "UDFBURN and UDFBURND name the programs")
@@ -68,12 +77,12 @@ class WithPrograms(unittest.TestCase):
         daemon.await_socket()
         return daemon
 
-    def client(self, ledger: Optional[str] = None, patience: float = 10.0, client: Optional[int] = None) -> Client:
+    def client(self, ledger: Optional[str] = None, patience: float = PATIENCE, client: Optional[int] = None) -> Client:
         made = Client(f"unix:{self.path}", client, ledger or self.ledger, UDFBURN, patience)
         self.addCleanup(made.close)
         return made
 
-    def on_image(self, ledger: Optional[str] = None, image: Optional[str] = None, patience: float = 10.0) -> Client:
+    def on_image(self, ledger: Optional[str] = None, image: Optional[str] = None, patience: float = PATIENCE) -> Client:
         made = Client(f"image:{image or self.image}", None, ledger or self.ledger, UDFBURN, patience)
         self.addCleanup(made.close)
         return made

@@ -37,6 +37,7 @@ class Server:
         self.listener = socket.socket(socket.AF_UNIX)
         self.listener.bind(self.path)
         self.listener.listen(16)
+        self.served = self.listener
         self.thread = threading.Thread(target=self.run, daemon=True)
         self.thread.start()
 
@@ -47,6 +48,7 @@ class Server:
             except OSError:
                 return
             self.conversations += 1
+            self.served = connection
             with connection:
                 try:
                     self.serve(connection)
@@ -86,13 +88,16 @@ class Server:
                 unsent = b""
 
     def close(self) -> None:
-        self.listener.close()
-        # A closed listener does not wake the one who accepts.
-        with socket.socket(socket.AF_UNIX) as waker:
+        for stream in (self.listener, self.served):
             try:
-                waker.connect(self.path)
+                # It wakes who waits there, as closing alone does not.
+                stream.shutdown(socket.SHUT_RDWR)
             except OSError:
+                # The conversation is over.
                 pass
+        # Else it may still accept, by the descriptor of the next server.
+        self.thread.join()
+        self.listener.close()
         os.unlink(self.path)
 
 

@@ -14,6 +14,7 @@ from udfburn import cli, errors as e
 from udfburn import protocol as p
 from udfburn.progress import Progress
 
+from .programs import PATIENCE
 from .server import request_of
 from .test_local import Local
 
@@ -23,7 +24,7 @@ class Commands(Local):
         output = StringIO()
         ledger = ["--ledger", self.ledger] if words[0] in ("put", "mkdir", "mv", "rm", "resume") else []
         with redirect_stdout(output), redirect_stderr(output):
-            found = cli.main([words[0], "--socket", self.server.path, "--wait", "2", *ledger, *words[1:]])
+            found = cli.main([words[0], "--socket", self.server.path, "--wait", str(PATIENCE), *ledger, *words[1:]])
         self.assertEqual(found, status, output.getvalue())
         return output.getvalue().splitlines()
 
@@ -57,8 +58,9 @@ class Commands(Local):
             bar.shown -= 1.0
             bar.told("stored", ("a",), 1024, 1)
             self.assertRegex(terminal.getvalue(), r"\[######\.{18}\]  25%  1 of 4 files  1.0 KiB of 4.0 KiB  .*/s  \d+:\d\d left")
-            bar.began -= 10.0
-            self.assertIn("0:3", bar.line(bar.began + 10.0))
+            # The difference of other moments may be a little less.
+            bar.began = 0.0
+            self.assertIn("0:30 left", bar.line(10.0))
             bar.say("done")
             self.assertEqual((output.getvalue(), terminal.getvalue()[-4:]), ("done\n", "\r\x1b[K"))
 
@@ -83,12 +85,45 @@ class Commands(Local):
         result = json.loads(self.words("verify", "--json", self.folder, "/x")[-1])
         self.assertEqual((result["files"], result["differences"]), (1, 0))
 
+    def test_verify_names_what_it_leaves_out(self) -> None:
+        """What --skip-odd leaves out is not on the volume, whatever else is said to be there."""
+        self.write("a", b"hello")
+        os.symlink("a", os.path.join(self.folder, "link"))
+        left_out = f"udfburn-client: left out: {self.folder}/link: is a symbolic link"
+        self.assertIn(left_out, self.words("put", "-r", "--skip-odd", self.folder, "/x"))
+        self.assertEqual(self.words("verify", "--skip-odd", self.folder, "/x"), [left_out, "1 file, 5 B: all are there"])
+
+    def test_the_name_of_a_file_is_on_the_disk(self) -> None:
+        """It is, when its line is printed."""
+        with self.client() as client:
+            client.put("/a", b"hello")
+        synced: List[str] = []
+        with mock.patch("udfburn.fetch.os.fsync", lambda descriptor: synced.append(os.readlink(f"/proc/self/fd/{descriptor}"))):
+            self.assertEqual(self.words("get", "/a", os.path.join(self.room, "a")), ["got /a (5 bytes)"])
+        self.assertEqual(synced[1:], [os.path.realpath(self.room)])
+
     def test_names_break_no_line(self) -> None:
         client = self.client()
         for name in ("a\nb", "\x1b[2J", "\u202eabc", "é"):
             client.create([name], b"")
         client.close()
         self.assertEqual(self.words("ls", "/"), ["f a\\nb", "f \\x1b[2J", "f \\u202eabc", "f é"])
+
+    def test_failures_before_an_early_end(self) -> None:
+        """A file that was not stored is named where the import goes no further than the next one, by a name that breaks no line."""
+        local, real = self.write("a\nb"), os.open
+        self.write("c", b"too much")
+        self.server.before = lambda payload: p.FULL if getattr(request_of(payload), "data", b"") == b"too much" else None
+
+        def opened(path: str, *rest: int) -> int:
+            if path == local:
+                raise PermissionError(13, "Permission denied")
+            return real(path, *rest)
+
+        with mock.patch("udfburn.sources.os.open", opened), mock.patch("udfburn.tree.CHUNK", 1):
+            told = self.words("put", "-r", "--delete-source", self.folder, "/x", status=1)
+        self.assertEqual(told[:2], ["made /x", f"udfburn-client: {self.folder}/a\\nb: Permission denied"])
+        self.assertRegex(told[2], "no room for /x/c")
 
     def test_resume(self) -> None:
         self.server.before = lambda payload: p.FAULT if request_of(payload) else None
@@ -97,6 +132,16 @@ class Commands(Local):
         self.server.before = lambda payload: None
         self.assertEqual(self.words("resume", "--dry-run"), ["would send number 1 again: /a"])
         self.assertEqual(self.words("resume"), ["number 1, /a: done, commit 1", "pending were 1 request"])
+
+    def test_what_is_pending_comes_first(self) -> None:
+        """Also where a command looks at the volume before it asks for anything: else it looks at what is no longer so."""
+        for command, words in (("put", ["rm", "/a"]), ("rm", ["mkdir", "-p", "/a"])):
+            self.server.before = lambda payload: p.FAULT if request_of(payload) else None
+            self.words(command, *([self.write("a")] if command == "put" else []), "/a", "--wait", "0.1", status=1)
+            self.server.before = lambda payload: None
+            self.assertEqual(self.words(*words), ["removed /a" if command == "put" else "made /a"])
+            if command == "put":
+                self.words("mkdir", "/a")
 
     def test_forget(self) -> None:
         self.server.before = lambda payload: p.FAULT if request_of(payload) else None
@@ -152,6 +197,15 @@ class Commands(Local):
                 if line.startswith("  "):
                     self.assertRegex(line, r"^  \S.*?  +\S", f"{name}: {line}")
         self.assertNotIn("--socket", output.getvalue())
+
+    def test_a_map_replaces_pictures_alone(self) -> None:
+        """So not an image, where a pattern of the shell named two of them."""
+        image, picture = self.write("other.img", bytes(4096)), os.path.join(self.folder, "map.svg")
+        with mock.patch("udfburn.map.draw_map", lambda *_: "<svg/>\n"), redirect_stdout(StringIO()), redirect_stderr(StringIO()) as told:
+            for output, status in ((image, 1), (picture, 0), (picture, 0)):
+                self.assertEqual(cli.main(["map", image, output, "--program", "udfburn"]), status)
+        self.assertIn("other.img: is there already, and is no picture", told.getvalue())
+        self.assertEqual((os.path.getsize(image), os.path.getsize(picture)), (4096, 7))
 
     def test_interrupted(self) -> None:
         """Ctrl-C leaves what the same command finishes."""

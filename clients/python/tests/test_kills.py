@@ -20,11 +20,13 @@ from udfburn import protocol as p
 from udfburn.operations import Operation
 from udfburn.tree import Options, put_all
 
-from .programs import Daemon, UDFBURN, WithPrograms
+from .programs import PATIENCE, UDFBURN, Daemon, WithPrograms
 
 KILLS = int(os.environ.get("KILLS", "200"))
 FILES = 9 * 440
 """Files that there are names for, in nine directories."""
+PER_KILL = 60
+"""Files for each kill at most."""
 CODE = os.path.dirname(udfburn.__file__)
 TRACED = {os.path.join(CODE, name) for name in ("session.py", "ledger.py", "tree.py", "connection.py", "line.py")}
 
@@ -38,36 +40,47 @@ class DaemonKilled(WithPrograms):
     capacity = 450_000
 
     def test_an_import_goes_on(self) -> None:
-        daemon, killed, done = self.serve(), [0], threading.Event()
+        daemon, killed, moved, done = self.serve(), [0], threading.Event(), threading.Event()
         chance = random.Random(1)
 
         def killer() -> None:
-            while killed[0] < KILLS and not done.is_set():
-                time.sleep(chance.uniform(0.0, 0.03))
-                daemon.kill()
-                killed[0] += 1
-                daemon.start()
-                daemon.await_socket()
+            try:
+                while killed[0] < KILLS and not done.is_set():
+                    # Before most kills something was done since the last, so that the import goes on however slow all is.
+                    while killed[0] % 4 and not done.is_set() and not moved.wait(0.1):
+                        pass
+                    time.sleep(chance.uniform(0.0, 0.03))
+                    moved.clear()
+                    daemon.kill()
+                    killed[0] += 1
+                    daemon.start()
+                    daemon.await_socket()
+            finally:
+                done.set()
 
         def operations() -> Iterator[Operation]:
             for folder in range(9):
                 yield Operation(p.MakeDir, (f"d{folder}",), 0)
             index = 0
             # Every file is new while there is room for names; then files are replaced.
-            while killed[0] < KILLS and time.monotonic() < limit:
-                path = (f"d{index % 9}", f"f{index % FILES}")
-                yield Operation(p.Create if index < FILES else p.Replace, path, index, content(index))
-                index += 1
+            while not done.is_set():
+                # However fast all is, the volume has room.
+                if index < PER_KILL * (killed[0] + 1):
+                    path = (f"d{index % 9}", f"f{index % FILES}")
+                    yield Operation(p.Create if index < FILES else p.Replace, path, index, content(index))
+                    index += 1
+                else:
+                    done.wait(0.001)
 
         thread = threading.Thread(target=killer)
-        limit = time.monotonic() + 90
         thread.start()
         wanted: Dict[p.Path, int] = {}
         count = 0
         try:
-            with self.client(patience=30) as client:
+            with self.client() as client:
                 for outcome in client.run(operations()):
                     count += 1
+                    moved.set()
                     self.assertEqual((outcome.code, outcome.commit, outcome.number), (p.Code.DONE, count, count))
                     if outcome.operation.kind is not p.MakeDir:
                         wanted[outcome.operation.path] = outcome.operation.moment
@@ -108,7 +121,7 @@ class ClientKilled(WithPrograms):
 
     def import_once(self, verify: bool) -> None:
         """What a user does again and again until it is done."""
-        with Client(self.way, ledger=self.ledger, program=UDFBURN, patience=20) as client:
+        with Client(self.way, ledger=self.ledger, program=UDFBURN, patience=PATIENCE) as client:
             put_all(client, [(os.path.join(self.room, "sources"), ("x",))], Options(recursive=True, skip_same=True, delete_source=True, verify=verify))
 
     def killed_by_time(self, verify: bool) -> bool:
@@ -145,7 +158,7 @@ class ClientKilled(WithPrograms):
         """No source is gone that is not on the image with its bytes."""
         gone = [local for local in self.files if local not in self.gone and not os.path.exists(local)]
         paths = [("x", *os.path.relpath(local, os.path.join(self.room, "sources")).split(os.sep)) for local in gone]
-        with Client(self.way, program=UDFBURN, patience=20) as reader:
+        with Client(self.way, program=UDFBURN, patience=PATIENCE) as reader:
             answers = list(reader.ask_all(map(p.Get, paths)))
         for answer, local in zip(answers, gone):
             self.assertEqual(answer, p.Data(content(self.files[local])), local)
@@ -153,8 +166,8 @@ class ClientKilled(WithPrograms):
 
     def kill_often(self, kills: int, kill: Any) -> None:
         self.sources(100)
-        killed, limit = 0, time.monotonic() + 80
-        while killed < kills and time.monotonic() < limit:
+        killed = 0
+        while killed < kills:
             ended = not kill(verify=killed % 2 == 0)
             killed += not ended
             if killed % 10 == 0 or ended:
@@ -162,7 +175,6 @@ class ClientKilled(WithPrograms):
             if ended:
                 self.assertEqual(len(self.gone), len(self.files), "an import that ended stored all")
                 self.sources(100)
-        self.assertEqual(killed, kills)
         self.import_once(True)
         self.check_gone()
         self.assertEqual(len(self.gone), len(self.files))

@@ -23,6 +23,7 @@ from udfburn.operations import Operation
 from udfburn.tree import Options, put_all
 
 from .model import Volume
+from .programs import PATIENCE
 from .server import request_of
 from .test_kills import killer
 from .test_session import PACKAGE, WithServer, creates
@@ -43,7 +44,7 @@ class Ledgers(WithServer):
         self.assertIn("LedgerBusy", other.stderr)
         timer = threading.Timer(0.3, first.close)
         timer.start()
-        Ledger(self.ledger, wait=5.0).close()
+        Ledger(self.ledger, wait=PATIENCE).close()
         timer.join()
 
     def test_the_client_stays(self) -> None:
@@ -106,7 +107,7 @@ class Ledgers(WithServer):
         self.assertTrue(first.made)
         timer = threading.Timer(0.2, first.close, (True,))
         timer.start()
-        second = Lock(path, 5.0)
+        second = Lock(path, PATIENCE)
         timer.join()
         with self.assertRaises(e.LedgerBusy):
             Lock(path, 0.0)
@@ -337,12 +338,25 @@ class Ledgers(WithServer):
         client.create("/g", b"")
         self.assertEqual(self.volume.clients[number][0], 4)
 
+    def test_nothing_is_forgotten_where_the_volume_cannot_be_asked(self) -> None:
+        client = self.client(patience=0.1)
+        self.server.before = lambda payload: p.FAULT if request_of(payload) else None
+        with self.assertRaises(e.DriveFailed):
+            client.create("/a", b"")
+        self.server.before = lambda payload: p.FAULT
+        with self.assertRaises(e.ConnectionFailed):
+            client.forget()
+        self.server.before = lambda payload: None
+        self.assertEqual(client.forget(), ["/a"])
+        self.assertEqual(client.resume(), [])
+        self.assertEqual(client.create("/b", b""), 1)
+
     def test_two_ways_to_a_volume(self) -> None:
         link = os.path.join(self.room, "link")
         client = self.client()
         client.create("/a", b"")
         os.link(self.server.path, link)
-        other = Client(f"unix:{link}", ledger=self.ledger, patience=1)
+        other = Client(f"unix:{link}", ledger=self.ledger)
         client.close()
         other.create("/b", b"")
         other.close()

@@ -4,13 +4,14 @@ from __future__ import annotations
 
 import os
 import socket
+import stat
 import struct
 import time
 import unittest
-from typing import List, Optional, Tuple
+from typing import Iterator, List, Optional, Tuple
 from unittest import mock
 
-from udfburn import blocks, errors as e, fetch, split, tree
+from udfburn import Client, blocks, errors as e, fetch, split, tree
 from udfburn import protocol as p
 from udfburn.sources import Identity, Scan, Source, delete, read_parts, scan
 from udfburn.tree import Options, put_all
@@ -127,6 +128,27 @@ class Preflight(Local):
         self.write("big.001")
         self.assertIn("/x/big.001: more than one", self.refused(split=True))
 
+    def test_names_of_parts(self) -> None:
+        """A name that is short enough, but not with the end that a part has."""
+        self.write("x" * 251, bytes(p.limits.FILE + 1))
+        self.write("y" * 250, bytes(p.limits.FILE + 1))
+        told = self.refused(split=True)
+        self.assertRegex(told, "x: the name of a part takes more than 255 bytes")
+        self.assertNotIn("yy", told)
+
+    def test_a_path_of_two_files_of_which_the_volume_has_one(self) -> None:
+        """The one that is there would be replaced by the other, when its own source is gone."""
+        here, there = self.write("here/a", b"one"), self.write("there/a", b"two")
+        big = self.write("parts/big", bytes(p.limits.FILE + 1))
+        with self.client() as client:
+            put_all(client, [(here, ("a",)), (big, ("big",))], Options(split=True))
+            options = Options(split=True, skip_same=True, delete_source=True)
+            for other, path in ((there, ("a",)), (there, ("big.001",)), (there, ("big",))):
+                with self.assertRaisesRegex(e.DoesNotFit, f"/{path[0]}: more than one"):
+                    put_all(client, [(here, ("a",)), (big, ("big",)), (other, path)], options)
+        self.assertTrue(os.path.exists(here) and os.path.exists(big))
+        self.assertEqual(self.volume.files()[("a",)], b"one")
+
     def test_a_dry_run_does_nothing(self) -> None:
         local = self.write("a")
         steps: List[Tuple[str, p.Path]] = []
@@ -136,6 +158,28 @@ class Preflight(Local):
         self.assertEqual((summary.files, self.volume.commits), (1, 0))
         self.assertTrue(os.path.exists(local))
         self.assertFalse(os.path.exists(self.ledger))
+
+    def test_a_dry_run_tells_what_goes(self) -> None:
+        """Also of a file that is there already, beside what a longer one of its name left."""
+        self.write("a", bytes(p.limits.FILE + 1))
+        self.put(split=True)
+        self.write("a")
+        with mock.patch.object(tree.Importer, "_remove_stale"):
+            self.put(split=True)
+        steps: List[Tuple[str, p.Path]] = []
+        with self.client() as client:
+            options = Options(recursive=True, split=True, skip_same=True, dry_run=True)
+            put_all(client, [(self.folder, ("x",))], options, lambda what, path, *_: steps.append((what, path)))
+        self.assertEqual(steps, [("same", ("x", "a")), ("would remove", ("x", "a.000")), ("would remove", ("x", "a.001"))])
+
+    def test_the_program_that_looks_at_the_image(self) -> None:
+        """It is the one that is named, also where the requests go to a socket."""
+        local, image = self.write("a"), os.path.join(self.room, "disc.img")
+        seen: List[str] = []
+        with mock.patch("udfburn.blocks.space_of", lambda image, program, client: seen.append(program)), mock.patch.dict(os.environ, clear=True):
+            with Client(f"unix:{self.server.path}", ledger=self.ledger, program="/opt/udfburn") as client:
+                put_all(client, [(local, ("a",))], Options(image=image))
+        self.assertEqual(seen, ["/opt/udfburn"])
 
 
 class Changes(Local):
@@ -176,6 +220,31 @@ class Changes(Local):
         self.assertRegex(summary.failures[0], "changed .* is not deleted")
         with open(local, "rb") as file:
             self.assertEqual(file.read(), b"newer")
+
+    def test_two_changes_in_one_tick(self) -> None:
+        """Older systems give both one time: then a file that was read between them is not taken for the one that is there."""
+        fstat, lstat = os.fstat, os.lstat
+
+        class ByTicks:
+            """What an older system says of a file: its times are those of the last tick, of 10 ms here."""
+
+            def __init__(self, status: os.stat_result):
+                self.status = status
+
+            def __getattr__(self, name: str) -> int:
+                told: int = getattr(self.status, name)
+                return told // 10**7 * 10**7 if name.endswith("time_ns") else told
+
+        with mock.patch("udfburn.sources.os.fstat", lambda descriptor: ByTicks(fstat(descriptor))), \
+                mock.patch("udfburn.sources.os.lstat", lambda path: ByTicks(lstat(path))):
+            for name in "abc":
+                local, found = self.write(name, b"first"), Scan()
+                scan(local, (name,), False, False, found)
+                self.assertEqual(list(read_parts(found.files[0])), [b"first"])
+                self.write(name, b"later")
+                with self.assertRaises(e.SourceChanged):
+                    delete(found.files[0])
+                self.assertTrue(os.path.exists(local))
 
     def test_another_file_of_the_same_name(self) -> None:
         local = self.write("a", b"first")
@@ -236,6 +305,22 @@ class Changes(Local):
         self.assertEqual(self.volume.files()[("x", "a")], b"of another")
         self.assertEqual([bool(how & os.O_NOATIME) for how in flags], [True, False])
 
+    def test_an_interrupt_while_it_is_closed(self) -> None:
+        """It ends the import, as at any other moment."""
+        self.write("a")
+        self.write("b")
+        real = os.close
+
+        def close(descriptor: int) -> None:
+            path = os.readlink(f"/proc/self/fd/{descriptor}")
+            real(descriptor)
+            if path.startswith(self.folder):
+                raise KeyboardInterrupt
+
+        with mock.patch("udfburn.sources.os.close", close), self.assertRaises(KeyboardInterrupt):
+            self.put()
+        self.assertEqual(list(self.volume.files()), [])
+
     def test_bytes_that_differ_on_the_volume(self) -> None:
         local = self.write("a", b"right")
         self.server.before = lambda payload: p.Data(b"wrong") if payload[0] == p.Kind.GET else None
@@ -262,6 +347,19 @@ class Changes(Local):
             self.put(delete_source=True)
         self.assertTrue(os.path.exists(local))
         self.assertEqual(self.put(delete_source=True, skip_same=True).deleted, 1)
+
+    def test_the_ledger_itself(self) -> None:
+        """A folder may have the ledger in it, which is not deleted."""
+        local, self.ledger = self.write("a"), os.path.join(self.folder, "ledger.sqlite")
+        with self.client() as client:
+            client.mkdir("/x")
+            number = client.session().ledger.client
+        summary = self.put(delete_source=True)
+        self.assertEqual((summary.deleted, os.path.exists(local), len(summary.failures)), (1, False, 2))
+        for failure, name in zip(summary.failures, ("ledger.sqlite", "ledger.sqlite.lock")):
+            self.assertRegex(failure, f"/{name}: is of the ledger that is in use .*is not deleted")
+        with self.client() as client:
+            self.assertEqual(client.session().ledger.client, number)
 
     def test_what_is_there_already(self) -> None:
         self.write("a", b"one")
@@ -342,6 +440,62 @@ class Fetch(Local):
         with self.assertRaisesRegex(e.SourceError, "symbolic link"):
             fetch.get_tree(client, ("x",), back, force=True)
 
+    def test_the_names_are_on_the_disk(self) -> None:
+        """Whoever is told that all was got may remove it from the volume: what is synchronised last of a folder is all its names."""
+        self.write("a/b", b"bytes")
+        self.write("c")
+        os.mkdir(os.path.join(self.folder, "empty"))
+        self.put()
+        synced, real = {}, os.fsync
+        where = os.path.realpath(self.room)
+
+        def fsync(descriptor: int) -> None:
+            path = os.readlink(f"/proc/self/fd/{descriptor}")
+            synced[os.path.relpath(path, where)] = sorted(os.listdir(path)) if os.path.isdir(path) else []
+            real(descriptor)
+
+        with mock.patch("udfburn.fetch.os.fsync", fsync):
+            fetch.get_tree(self.client(), ("x",), os.path.join(where, "new", "back"))
+        for folder, names in (("new", ["back"]), ("new/back", ["a", "c", "empty"]), ("new/back/a", ["b"]), ("new/back/empty", [])):
+            self.assertEqual(synced.get(folder), names, folder)
+        self.assertIn("new", synced["."])
+
+    def test_a_name_that_another_takes_meanwhile(self) -> None:
+        """Also on a file system without links what is there by then stays as it is."""
+        local, refused = os.path.join(self.room, "new"), PermissionError(1, "Operation not permitted")
+
+        def parts() -> Iterator[bytes]:
+            with open(local, "wb") as file:
+                file.write(b"of another")
+            yield b"of the volume"
+
+        for link in (os.link, mock.Mock(side_effect=refused)):
+            with mock.patch("udfburn.fetch.os.link", link):
+                with self.assertRaisesRegex(e.SourceError, "is there already"):
+                    fetch.save(local, parts(), None, False)
+                with open(local, "rb") as file:
+                    self.assertEqual(file.read(), b"of another")
+                os.unlink(local)
+                self.assertEqual(fetch.save(local, iter([b"of the volume"]), None, False), 13)
+                with open(local, "rb") as file:
+                    self.assertEqual(file.read(), b"of the volume")
+                os.unlink(local)
+        self.assertEqual([name for name in os.listdir(self.room) if name.startswith(".udfburn-")], [])
+
+    def test_what_is_no_file_is_not_replaced(self) -> None:
+        """Not by force either: else a superuser who writes to a device has a file in its place."""
+        pipe, local, link = (os.path.join(self.room, name) for name in ("pipe", "file", "link"))
+        os.mkfifo(pipe)
+        os.symlink(pipe, link)
+        self.write("../file", b"old")
+        with self.assertRaisesRegex(e.SourceError, "pipe: is a named pipe"):
+            fetch.save(pipe, iter([b"new"]), None, True)
+        for replaced in (local, link):
+            fetch.save(replaced, iter([b"new"]), None, True)
+            with open(replaced, "rb") as file:
+                self.assertEqual(file.read(), b"new")
+        self.assertTrue(stat.S_ISFIFO(os.lstat(pipe).st_mode))
+
     def test_a_server_names_no_other_place(self) -> None:
         """A name like `..` in a directory never reaches the local disk."""
         for name in (b"..", b"../evil", b"/evil", b"", b"a\0b"):
@@ -389,6 +543,73 @@ class Parts(unittest.TestCase):
         files, rest = split.joined([("a.000", full), ("a.001", full), ("a.002", 5), ("a.003", 5), ("b.000", full), ("c.000", 5), ("c.001", 5), ("d.000", None), ("e", 1), ("e.000", full), ("e.001", 1)])
         self.assertEqual(files, {"a": ["a.000", "a.001", "a.002"]})
         self.assertEqual(rest, ["a.003", "b.000", "c.000", "c.001", "d.000", "e", "e.000", "e.001"])
+
+
+class Left(Local):
+    """What an earlier file of a name left on the volume, and what only looks like that."""
+
+    def files(self) -> "dict[str, bytes]":
+        return {path[-1]: data for path, data in self.volume.files().items()}
+
+    def test_files_that_are_stored_together(self) -> None:
+        """None is removed for its name, and each is there when its source is deleted."""
+        big = bytes(p.limits.FILE + 1)
+        for name, data in (("log", b"log"), ("log.000", b"0"), ("log.001", b"1"), ("big", big), ("big.002", b"2")):
+            self.write(name, data)
+        wanted = {"log": b"log", "log.000": b"0", "log.001": b"1", "big.000": big[:-1], "big.001": big[-1:], "big.002": b"2"}
+        for options in ({}, {"skip_same": True}, {}, {"skip_same": True, "delete_source": True}):
+            self.assertEqual(self.put(split=True, **options).failures, [])
+            self.assertEqual(self.files(), wanted)
+        self.assertEqual(os.listdir(self.folder), [])
+
+    def test_files_that_were_stored_before(self) -> None:
+        """A file that is no first part is none that an earlier file left, nor are those behind it."""
+        for name in ("log.000", "log.001", "log.002"):
+            self.write(name, name.encode())
+        self.put(split=True, delete_source=True)
+        self.write("log", b"log")
+        self.put(split=True, delete_source=True)
+        self.assertEqual(list(self.files()), ["log.000", "log.001", "log.002", "log"])
+        self.write("log", bytes(p.limits.FILE + 1))
+        self.put(split=True, delete_source=True)
+        self.assertEqual(list(self.files()), ["log.000", "log.001", "log.002"])
+
+    def test_what_was_left(self) -> None:
+        full = p.limits.FILE
+        for before, size, left in ((2 * full + 1, 5, ["big"]), (2 * full + 1, full + 1, ["big.000", "big.001"]), (5, full + 1, ["big.000", "big.001"])):
+            for options in ({}, {"skip_same": True}):
+                self.server.volume = Volume()
+                self.write("big", bytes(before))
+                self.put(split=True)
+                self.write("big", bytes(size))
+                with mock.patch.object(tree.Importer, "_remove_stale") if options else mock.patch("udfburn.tree.CHUNK", 64):
+                    self.put(split=True)
+                told = self.put(split=True, **options).skipped
+                # Behind a part that is shorter by now nobody can tell what was left from a file of its own.
+                doubtful = ["big.002"] if options and before > size > full else []
+                self.assertEqual(sorted(self.files()), left + doubtful)
+                self.assertEqual([line.split(":")[0] for line in told], [f"/x/{name}" for name in doubtful])
+
+    def test_a_file_behind_a_shorter_part(self) -> None:
+        """It is its own, and stays when the parts before it are replaced."""
+        self.write("big", bytes(p.limits.FILE + 1))
+        self.write("big.002", b"own")
+        self.put(split=True, delete_source=True)
+        for size, left in ((p.limits.FILE + 2, ["big.000", "big.001", "big.002"]), (5, ["big", "big.002"])):
+            self.write("big", bytes(size))
+            told = self.put(split=True, delete_source=True).skipped
+            self.assertEqual(sorted(self.files()), left)
+            self.assertEqual([line.split(":")[0] for line in told], ["/x/big.002"])
+
+    def test_directories(self) -> None:
+        with self.client() as client:
+            client.makedirs("/x/log.000")
+            client.makedirs("/x/big")
+        self.write("log", b"log")
+        self.put(split=True)
+        self.write("big", bytes(p.limits.FILE + 1))
+        self.assertIn("/x/big: is a directory, and", self.refused(split=True))
+        self.assertIn(("x", "log.000"), self.volume.nodes)
 
 
 class Reckoned(unittest.TestCase):

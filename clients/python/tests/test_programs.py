@@ -16,7 +16,7 @@ from udfburn.operations import Operation
 from udfburn.tree import Options, put_all
 
 from .model import Volume
-from .programs import UDFBURN, WithPrograms
+from .programs import PATIENCE, UDFBURN, WithPrograms
 from .test_protocol import conversation, random_name, section, unhex
 
 ALL_NAMES = ["a", "A", " ", "a b", "...", "-r", "é", "é" * 254, "x" * 254, "Ā" * 127, "\u0001\u001f", "\uffff", "~", "名前", "\u202eabc", "c:\\d", "e\u0301", "\n"]
@@ -403,15 +403,15 @@ class Two(WithPrograms):
             else:
                 self.image = os.path.join(self.room, "two.img")
                 self.format(60000)
-                where = ["--image", self.image, "--wait", "60"]
+                where = ["--image", self.image]
             processes = []
             for name in "ab":
                 for index in range(200):
                     self.write(f"{name}/{index}", f"{name}{index}".encode() * 100)
                 environment = {**self.environment(), "UDFBURN_LEDGER": os.path.join(self.room, f"{way}-{name}.sqlite")}
-                words = self.words("put", "-r", os.path.join(self.room, name), f"/{name}", where=where)
+                words = self.words("put", "-r", os.path.join(self.room, name), f"/{name}", "--wait", str(PATIENCE), where=where)
                 processes.append(subprocess.Popen(words, env=environment, stdout=subprocess.DEVNULL))
-            self.assertEqual([process.wait(100) for process in processes], [0, 0])
+            self.assertEqual([process.wait(2 * PATIENCE) for process in processes], [0, 0])
             for name in "ab":
                 self.run_command("verify", os.path.join(self.room, name), f"/{name}", "--exact", where=where)
             self.assertEqual(self.commits(), 402)
@@ -422,8 +422,8 @@ class Two(WithPrograms):
         for name in "ab":
             for index in range(100):
                 self.write(f"{name}/{index}", b"x")
-        processes = [subprocess.Popen(self.words("put", "-r", os.path.join(self.room, name), f"/{name}", "--wait", "60"), env=self.environment(), stdout=subprocess.DEVNULL) for name in "ab"]
-        self.assertEqual([process.wait(100) for process in processes], [0, 0])
+        processes = [subprocess.Popen(self.words("put", "-r", os.path.join(self.room, name), f"/{name}", "--wait", str(PATIENCE)), env=self.environment(), stdout=subprocess.DEVNULL) for name in "ab"]
+        self.assertEqual([process.wait(2 * PATIENCE) for process in processes], [0, 0])
         self.assertEqual(self.commits(), 202)
         client = self.client()
         client.put("/c", b"")

@@ -2,6 +2,7 @@
 
 from __future__ import annotations
 
+import fcntl
 import os
 import re
 import shlex
@@ -14,10 +15,12 @@ from typing import Dict, List
 
 from udfburn import protocol as p
 
-from .programs import PACKAGE, WithPrograms
+from .programs import PACKAGE, PATIENCE, WithPrograms
 
 README = os.path.join(PACKAGE, "README.md")
 SOCKET = "/run/udfburn/archive.socket"
+SET_PIPE_SIZE = 1031
+"""The call of Linux by which a pipe gets its room (F_SETPIPE_SZ)."""
 
 
 def recipes() -> Dict[str, str]:
@@ -92,36 +95,44 @@ class Recipes(WithPrograms):
 class Interrupted(WithPrograms):
     """Ctrl-C in the middle of an import."""
 
-    def interrupted(self, words: List[str]) -> str:
-        """Runs a command to its tenth step, sends it the signal, and gives its last line."""
+    def interrupted(self, steps: int, words: List[str]) -> str:
+        """Runs a command to one of its steps, sends it the signal, and gives its last line. Its lines go into a pipe that has room for
+        few of them, and no more are read: so it cannot be at its end when the signal comes, however late that is."""
 
         def begin() -> None:
             # Also where this test itself was started with the signal ignored.
             signal.signal(signal.SIGINT, signal.SIG_DFL)
 
-        process = subprocess.Popen(words, env=self.environment(), stdout=subprocess.PIPE, stderr=subprocess.PIPE, text=True, preexec_fn=begin)
-        assert process.stdout
-        for _ in range(10):
-            process.stdout.readline()
-        process.send_signal(signal.SIGINT)
-        told = process.communicate(timeout=60)
+        source, sink = os.pipe()
+        # The least room is a page.
+        fcntl.fcntl(source, SET_PIPE_SIZE, 1)
+        process = subprocess.Popen(words, env=self.environment(), stdout=sink, stderr=subprocess.PIPE, text=True, preexec_fn=begin)
+        os.close(sink)
+        with open(source, "rb", buffering=0) as lines:
+            for _ in range(steps):
+                self.assertTrue(lines.readline(), "the command ended before")
+            process.send_signal(signal.SIGINT)
+            lines.readall()
+        told = process.communicate(timeout=PATIENCE)
         self.assertEqual(process.returncode, 130, told)
         return told[1].splitlines()[-1]
 
     def test_and_finished(self) -> None:
+        """Again and again, and then by the same line."""
         self.serve()
-        count = 400
+        # A path that is long makes lines that are.
+        above, count = ["x" * 200] * 10, 400
         for index in range(count):
             self.write(f"source/{index}", b"%d" % index)
-        folder = os.path.join(self.room, "source")
-        words = [sys.executable, "-m", "udfburn", "put", "-r", "--skip-same", "--socket", self.path, folder, "/x"]
-        self.assertIn("finishes what is under way", self.interrupted(words))
-        stored = self.commits()
-        self.assertLess(stored, 1 + count)
-        self.assertRegex(self.run_command("resume"), "pending were [0-4] request")
-        self.run_command("put", "-r", "--skip-same", folder, "/x")
-        self.assertIn("all are there", self.run_command("verify", folder, "/x", "--exact"))
-        self.assertEqual(self.commits(), 1 + count, "each request once")
+        folder, path = os.path.join(self.room, "source"), "/" + "/".join(above)
+        put = ["put", "-r", "-p", "--skip-same", folder, path]
+        for steps in (1, 5, 10, 20, 40):
+            self.assertIn("finishes what is under way", self.interrupted(self.commits() + steps, self.words(*put)))
+            self.assertLess(self.commits(), len(above) + count)
+            self.assertRegex(self.run_command("resume"), "pending were [0-4] request")
+        self.run_command(*put)
+        self.assertIn("all are there", self.run_command("verify", folder, path, "--exact"))
+        self.assertEqual(self.commits(), len(above) + count, "each request once")
 
 
 if __name__ == "__main__":

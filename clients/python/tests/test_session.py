@@ -7,25 +7,38 @@ import random
 import resource
 import shutil
 import struct
+import sys
 import tempfile
 import threading
 import time
 import unittest
-from contextlib import closing
-from typing import Callable, Deque, Iterator, List, Optional, Tuple
+from contextlib import closing, redirect_stderr
+from typing import Any, Callable, Deque, Iterator, List, NoReturn, Optional, Tuple
 from unittest import mock
 
-from udfburn import Client, errors as e
+from udfburn import Client, cli, errors as e
 from udfburn import protocol as p
-from udfburn.connection import Connection
+from udfburn.connection import Connection, ImageConnection, Way
 from udfburn.ledger import Ledger, Pending, Reply
+from udfburn.line import Line
 from udfburn.operations import Operation
 from udfburn.session import Flight
 
 from .model import Volume
+from .programs import PATIENCE
 from .server import Server, honestly, is_probe, request_of
 
 PACKAGE = os.path.join(os.path.dirname(__file__), "..")
+CODE = os.path.dirname(cli.__file__) + os.sep
+
+
+def await_true(question: Callable[[], bool]) -> None:
+    """Waits for what another thread does."""
+    limit = time.monotonic() + PATIENCE
+    while not question():
+        if time.monotonic() > limit:
+            raise AssertionError("it did not come")
+        time.sleep(0.001)
 
 
 class WithServer(unittest.TestCase):
@@ -36,8 +49,8 @@ class WithServer(unittest.TestCase):
         self.addCleanup(lambda: self.server.close())
         self.ledger = os.path.join(self.room, "ledger.sqlite")
 
-    def client(self, ledger: Optional[str] = None, client: Optional[int] = None, patience: float = 2.0) -> Client:
-        made = Client(f"unix:{self.server.path}", client, ledger or self.ledger, patience=patience, timeout=5.0)
+    def client(self, ledger: Optional[str] = None, client: Optional[int] = None, patience: float = PATIENCE) -> Client:
+        made = Client(f"unix:{self.server.path}", client, ledger or self.ledger, patience=patience, timeout=PATIENCE)
         self.addCleanup(made.close)
         return made
 
@@ -182,7 +195,7 @@ class Lost(WithServer):
         self.assertTrue(all(confirmed for *_, confirmed in client.session().ledger.history(client.session().volume())))
 
     def test_the_server_comes_back(self) -> None:
-        client = self.client(patience=10)
+        client = self.client()
         client.create("/a", b"")
         volume = self.volume
         self.server.close()
@@ -238,7 +251,7 @@ class Trouble(WithServer):
         self.server.before = before
 
     def test_faults_are_repeated(self) -> None:
-        client = self.client(patience=5)
+        client = self.client()
         for answer in (p.FAULT, p.MEMORY):
             for committed in (False, True):
                 for times in (1, 3):
@@ -330,10 +343,15 @@ class Trouble(WithServer):
                 return None
             return honestly(payload, answer)[:-1] if request_of(payload) else honestly(payload, answer)
 
-        self.server.say = say
-        client.line.timeout = 0.2
-        with self.assertRaises(e.ConnectionFailed):
-            client.create("/a", b"")
+        client.session()
+        with client.held():
+            # Its conversation is begun, so that the request goes out however little time the next ones have.
+            client.stat("/")
+            client.line.timeout = 0.2
+            self.server.say = say
+            with self.assertRaises(e.ConnectionFailed):
+                client.create("/a", b"")
+        client.line.timeout = PATIENCE
         self.server.say = honestly
         self.assertEqual([code for _, _, code, _ in client.resume()], [p.Code.DONE])
         self.assertEqual(self.volume.commits, 1)
@@ -362,6 +380,103 @@ class Two(WithServer):
             thread.join()
         self.assertEqual(errors, [])
         self.assertEqual(len(self.volume.files()), 600)
+
+
+class Interrupted(WithServer):
+    def test_while_a_conversation_ends(self) -> None:
+        """Who is interrupted while a program is awaited, and goes on, writes to no descriptor that may be another file's by then."""
+        image, program = os.path.join(self.room, "disc.img"), os.path.join(self.room, "program")
+        for path, text in ((image, ""), (program, "#!/bin/sh\nexec cat\n")):
+            with open(path, "w", encoding="ascii") as file:
+                file.write(text)
+        os.chmod(program, 0o700)
+        line = Line(Way(f"image:{image}", program))
+        first = line.get()
+        assert isinstance(first, ImageConnection)
+        with mock.patch.object(first.process, "wait", side_effect=KeyboardInterrupt), self.assertRaises(KeyboardInterrupt):
+            line.drop()
+        with closing(first), closing(line.get()) as second:
+            self.assertIsNot(second, first)
+
+
+    def test_while_what_is_pending_is_confirmed(self) -> None:
+        """The answer that comes then is taken for none to another question."""
+        client, real, left = self.client(patience=0.1), Connection.answer, [3]
+        self.server.before = lambda payload: p.FAULT if request_of(payload) else None
+        with self.assertRaises(e.DriveFailed):
+            client.create("/a", b"")
+        self.server.before = lambda payload: None
+
+        def answer(connection: Connection) -> p.Answer:
+            left[0] -= 1
+            if not left[0]:
+                raise KeyboardInterrupt
+            return real(connection)
+
+        with client.held():
+            # To the greeting, to the request, and then to the question whether the tree agrees.
+            with mock.patch.object(Connection, "answer", answer), self.assertRaises(KeyboardInterrupt):
+                client.resume()
+            self.assertIsNone(client.find("/b"))
+        self.assertEqual(self.volume.commits, 1)
+
+    def test_at_any_line(self) -> None:
+        """None is lost, as one would be that comes while Python clears something away; and the same line finishes it."""
+        local, count = os.path.join(self.room, "source"), 0
+        os.makedirs(local)
+        for name in "abc":
+            with open(os.path.join(local, name), "w", encoding="ascii") as file:
+                file.write(name)
+        put = ["put", "-r", "--skip-same", "--verify", "--quiet", "--socket", self.server.path, "--ledger", self.ledger, local, "/x"]
+        while True:
+            self.server.volume = Volume()
+            child = os.fork()
+            if not child:
+                interrupted(put, 1 + LINES * count)
+            status = os.waitstatus_to_exitcode(os.waitpid(child, 0)[1])
+            self.assertIn(status, (130, ENDED), f"interrupted at line {1 + LINES * count} of the client's code")
+            self.assertEqual(cli.main(put), 0)
+            self.assertEqual((self.volume.commits, len(self.volume.files())), (4, 3))
+            for name in os.listdir(self.room):
+                if name.startswith("ledger"):
+                    os.unlink(os.path.join(self.room, name))
+            count += 1
+            if status == ENDED:
+                break
+        self.assertGreater(count, 40)
+
+
+ENDED = 99
+"""The status of a process that ended before its interrupt."""
+
+LINES = 17
+"""Lines between two of those that are interrupted."""
+
+
+def interrupted(words: List[str], lines: int) -> NoReturn:
+    """A command as a process of its own, which is interrupted before the line of the client's code that comes so many lines from its
+    beginning."""
+    left, status = [lines], 1
+
+    def line(frame: Any, event: str, argument: object) -> Any:
+        if event == "line":
+            left[0] -= 1
+            if not left[0]:
+                raise KeyboardInterrupt
+        return line
+
+    def call(frame: Any, event: str, argument: object) -> Any:
+        return line if frame.f_code.co_filename.startswith(CODE) and frame.f_code.co_filename != cli.__file__ else None
+
+    try:
+        with open(os.devnull, "w", encoding="ascii") as nothing, redirect_stderr(nothing):
+            sys.settrace(call)
+            status = cli.main(words)
+            sys.settrace(None)
+        if left[0] > 0 and not status:
+            status = ENDED
+    finally:
+        os._exit(status)
 
 
 class Turns(WithServer):
@@ -393,7 +508,7 @@ class Ahead(WithServer):
         def before(payload: bytes) -> None:
             request = request_of(payload)
             if request:
-                time.sleep(0.01)
+                await_true(lambda: len(taken) >= min(request.number + 4, 20))
                 ahead.append(len(taken) - request.number)
 
         self.server.before = before

@@ -119,7 +119,7 @@ def add_readers(subs: Subs) -> None:
     past = dict(metavar="COMMIT", type=int, help="read the tree as it was behind a commit of 'udfburn log' (with --image)")
     get = command(
         subs, "get", "copy a file, or with -r a directory, from the volume",
-        "A local file has its name once all its bytes are on the disk.",
+        "A local file has its name once all its bytes are on the disk, and at the end all names are there too.",
     )
     get.add_argument("path", metavar="PATH", help="the file or directory on the volume, from the root on")
     get.add_argument("local", metavar="LOCAL", help="the new file or folder; - is the standard output")
@@ -148,7 +148,7 @@ def add_readers(subs: Subs) -> None:
         " commit. The image is only read, also while a daemon writes to it.", volume=False,
     )
     picture.add_argument("image_path", metavar="IMAGE", help="the image that is drawn")
-    picture.add_argument("output", metavar="OUT.svg", help="the picture's file, which is replaced where it is there")
+    picture.add_argument("output", metavar="OUT.svg", help="the picture's file; an earlier picture is replaced, and nothing else")
 
 
 COMMANDS: Dict[str, Callable[[argparse.Namespace], int]] = {

@@ -3,7 +3,7 @@
 from __future__ import annotations
 
 from contextlib import contextmanager
-from typing import TYPE_CHECKING, Iterable, Iterator, List, Optional, Tuple, Type
+from typing import TYPE_CHECKING, Generator, Iterable, Iterator, List, Optional, Tuple, Type
 
 from .connection import Way
 from .errors import MISSES, REFUSALS, Exists, IsDirectory, NotDirectory, NotFound, Refused, UdfburnError, UsageError
@@ -165,8 +165,9 @@ class Client:
         with self.held():
             return met(query, self.line.ask(query))
 
-    def ask_all(self, queries: Iterable[Query]) -> Iterator[Answer]:
-        """The answers to queries, in order, as they come; refusals among them."""
+    def ask_all(self, queries: Iterable[Query]) -> Generator[Answer, None, None]:
+        """The answers to queries, in order, as they come; refusals among them. Who does not take their end closes them: an interrupt
+        that comes while Python clears them away is lost."""
         with self.held():
             yield from self.line.ask_all(queries)
 

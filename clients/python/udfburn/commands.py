@@ -10,9 +10,9 @@ from typing import Iterator, List, Optional, Tuple
 
 from .client import Client, met
 from .connection import check_word, find_program
-from .errors import ConnectionFailed, IsDirectory, ProgramFailed, UsageError
+from .errors import ConnectionFailed, IsDirectory, ProgramFailed, SourceError, UsageError
 from .protocol import Name, Node, NodeKind, Path, Stat, path_of, show
-from .progress import Progress, plural, size
+from .progress import Progress, plural, printable, size
 from .sources import shown
 from .tree import Importer, Options, remove_tree, walk
 
@@ -102,8 +102,9 @@ def put(arguments: argparse.Namespace) -> int:
             summary = importer.run(planned)
         finally:
             progress.end()
-    for line in summary.skipped:
-        print(f"udfburn-client: left out: {line}", file=sys.stderr)
+            # Also where it ends before its end: what was not stored or not deleted by then is told.
+            for line in [f"left out: {line}" for line in importer.summary.skipped] + importer.summary.failures:
+                print(f"udfburn-client: {printable(line)}", file=sys.stderr)
     words = [f"{'would store' if options.dry_run else 'stored'} {plural(summary.files, 'file', 'files')}, {size(summary.bytes)}"]
     words += [f"made {plural(summary.folders, 'directory', 'directories')}"] if summary.folders else []
     words += [f"{summary.same} were there"] if summary.same else []
@@ -111,15 +112,20 @@ def put(arguments: argparse.Namespace) -> int:
     words += [f"deleted {summary.deleted}"] if options.delete_source else []
     words += [f"{summary.blocks} of {summary.left} blocks"] if summary.blocks is not None else []
     progress.say(", ".join(words), **{**vars(summary), "did": "put"})
-    for line in summary.failures:
-        print(f"udfburn-client: {line}", file=sys.stderr)
     return 1 if summary.failures else 0
+
+
+def finish_first(client: Client, arguments: argparse.Namespace) -> None:
+    """Finishes what an earlier command began, so that it changes nothing behind what this one looks at."""
+    if not arguments.dry_run:
+        client.resume()
 
 
 def mkdir(arguments: argparse.Namespace) -> int:
     """Makes directories."""
     progress = progress_of(arguments)
     with writer(arguments) as client, client.held():
+        finish_first(client, arguments)
         for path in map(path_of, arguments.path):
             if arguments.dry_run:
                 progress.told("would make", path, 0, 0)
@@ -150,6 +156,7 @@ def rm(arguments: argparse.Namespace) -> int:
     """Removes."""
     progress = progress_of(arguments)
     with writer(arguments) as client, client.held():
+        finish_first(client, arguments)
         for path in map(path_of, arguments.path):
             node = client.stat(path)
             whole = arguments.recursive and node.kind is NodeKind.DIRECTORY
@@ -190,7 +197,7 @@ def resume(arguments: argparse.Namespace) -> int:
 
 def get(arguments: argparse.Namespace) -> int:
     """Copies a file or a directory."""
-    from .fetch import find_file, get_tree, parts_of, save
+    from .fetch import find_file, get_tree, parts_of, save, sync_names
 
     progress = progress_of(arguments)
     path = path_of(arguments.path)
@@ -211,7 +218,9 @@ def get(arguments: argparse.Namespace) -> int:
         local = arguments.local
         if os.path.isdir(local):
             local = os.path.join(local, path[-1])
-        progress.told("got", path, save(local, parts, file.moment, arguments.force), 0)
+        count = save(local, parts, file.moment, arguments.force)
+        sync_names(os.path.dirname(local) or ".")
+        progress.told("got", path, count, 0)
         progress.end()
     return 0
 
@@ -266,6 +275,8 @@ def verify(arguments: argparse.Namespace) -> int:
         result = verify_tree(client, arguments.local, path_of(arguments.path), arguments.split, arguments.skip_odd, progress.told)
     progress.end()
     progress.quiet = quiet
+    for line in result.skipped:
+        print(f"udfburn-client: left out: {printable(line)}", file=sys.stderr)
     differences = result.differences + [(path, "is only on the volume") for path in result.extra if arguments.exact]
     for path, how in differences:
         progress.say(f"{path}: {how}", did="differs", path=path, how=how)
@@ -281,11 +292,20 @@ def draw(arguments: argparse.Namespace) -> int:
     """Draws the medium."""
     from .map import draw_map
 
+    check_picture(arguments.output)
     picture = draw_map(arguments.image_path, find_program(arguments.program))
     with open(arguments.output, "w", encoding="utf-8") as file:
         file.write(picture)
     progress_of(arguments).say(f"drew {shown(arguments.output)}", did="map", path=arguments.output)
     return 0
+
+
+def check_picture(path: str) -> None:
+    """Raises where a file is there that is no picture: it may be an image, as where a pattern of the shell named two."""
+    if os.path.isfile(path):
+        with open(path, "rb") as file:
+            if file.read(4) not in (b"", b"<svg"):
+                raise SourceError(f"{shown(path)}: is there already, and is no picture of this command")
 
 
 __all__ = ["draw", "get", "ls", "mkdir", "mv", "put", "resume", "rm", "verify"]

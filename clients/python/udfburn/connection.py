@@ -235,7 +235,8 @@ class Way:
         self.path = os.path.abspath(path)
         if kind == "image":
             check_word(self.path)
-        self.program = find_program(program) if kind == "image" else None
+        # A socket takes none, but the image that is looked at beside it does.
+        self.program = find_program(program) if kind == "image" else program
 
     def __str__(self) -> str:
         return f"{self.kind}:{shown(self.path)}"

@@ -2,14 +2,16 @@
 
 from __future__ import annotations
 
+import errno
 import os
+import stat
 from itertools import islice
 from typing import Dict, Iterator, List, NamedTuple, Optional, Tuple
 
 from .client import Client, met
 from .errors import SourceError
 from .protocol import Data, Get, Name, Node, NodeKind, Path, Stat, show
-from .sources import Scan, Source, read_parts, scan, shown
+from .sources import Scan, Source, odd, read_parts, scan, shown
 from .split import joined, stored_paths
 from .tree import Told, quiet, walk
 
@@ -75,8 +77,12 @@ def save(local: str, parts: Iterator[bytes], moment: Optional[int], force: bool)
     import tempfile
 
     folder = os.path.dirname(local) or "."
-    if not force and os.path.lexists(local):
-        raise SourceError(f"{shown(local)}: is there already (--force replaces it)")
+    if os.path.lexists(local):
+        if not force:
+            raise SourceError(f"{shown(local)}: is there already (--force replaces it)")
+        status = os.lstat(local)
+        if not stat.S_ISREG(status.st_mode) and not stat.S_ISLNK(status.st_mode):
+            raise SourceError(f"{shown(local)}: is {odd(status)}, and is not replaced")
     handle, made = tempfile.mkstemp(prefix=".udfburn-", dir=folder)
     try:
         with os.fdopen(handle, "wb") as file:
@@ -100,13 +106,18 @@ def save(local: str, parts: Iterator[bytes], moment: Optional[int], force: bool)
 def name_new(made: str, local: str) -> None:
     """Gives a file a name that nothing has yet."""
     try:
-        os.link(made, local)
-        os.unlink(made)
+        try:
+            os.link(made, local)
+        except FileExistsError:
+            raise
+        except OSError:
+            # A file system without links: the name is taken first, so that nothing is replaced that has it by now.
+            os.close(os.open(local, os.O_WRONLY | os.O_CREAT | os.O_EXCL | os.O_CLOEXEC))
+            os.rename(made, local)
+        else:
+            os.unlink(made)
     except FileExistsError:
         raise SourceError(f"{shown(local)}: is there already (--force replaces it)") from None
-    except OSError:
-        # A file system without links.
-        os.rename(made, local)
 
 
 def current_umask() -> int:
@@ -121,33 +132,57 @@ def get_tree(client: Client, path: Path, local: str, split: bool = False, force:
     if os.path.lexists(local) and not force and (not os.path.isdir(local) or os.listdir(local)):
         raise SourceError(f"{shown(local)}: is there already, and is no empty folder (--force goes into it)")
     count = 0
+    changed: List[str] = []
     with client.held():
         for at, names in walk(client, path):
             folder = os.path.join(local, *at[len(path) :])
-            make_folder(folder)
+            changed += make_folder(folder) + [os.path.abspath(folder)]
             for file, parts in parts_of(client, stored_files(client, at, names, split)):
                 size = save(os.path.join(folder, file.path[-1]), parts, file.moment, force)
                 told("got", file.path, size, 0)
                 count += 1
+    for folder in dict.fromkeys(changed):
+        sync_names(folder)
     return count
 
 
-def make_folder(folder: str) -> None:
-    """Makes a folder. One that is a link is not followed."""
+def make_folder(folder: str) -> List[str]:
+    """Makes a folder with those above it, and gives those that have a new name in them. One that is a link is not followed."""
     if os.path.islink(folder):
         raise SourceError(f"{shown(folder)}: is a symbolic link")
+    if os.path.isdir(folder):
+        return []
+    above = os.path.dirname(os.path.abspath(folder))
+    changed = make_folder(above) if not os.path.isdir(above) else []
     os.makedirs(folder, exist_ok=True)
+    return changed + [above]
+
+
+def sync_names(folder: str) -> None:
+    """Makes the names in a folder durable, where its file system can do that and this user may."""
+    try:
+        descriptor = os.open(folder, os.O_RDONLY | os.O_DIRECTORY | os.O_CLOEXEC)
+    except PermissionError:
+        return
+    try:
+        os.fsync(descriptor)
+    except OSError as error:
+        if error.errno != errno.EINVAL:
+            raise
+    finally:
+        os.close(descriptor)
 
 
 # ---- compared
 
 class Comparison:
-    """What a folder and a directory have in common, and where they differ: path and how."""
+    """What a folder and a directory have in common, where they differ, by path and how, and what was left out."""
 
     def __init__(self, differences: List[Tuple[str, str]]):
         self.files = self.bytes = self.folders = 0
         self.differences = differences
         self.extra: List[str] = []
+        self.skipped: List[str] = []
 
 
 def verify_tree(client: Client, local: str, path: Path, split: bool = False, skip_odd: bool = False, told: Told = quiet) -> Comparison:
@@ -155,6 +190,7 @@ def verify_tree(client: Client, local: str, path: Path, split: bool = False, ski
     found = Scan()
     scan(local, path, True, skip_odd, found)
     result = Comparison(differences=[(fault, "cannot be stored") for fault in found.faults])
+    result.skipped = found.skipped
     with client.held():
         kinds = look_below(client, path, bool(found.folders))
         wanted = {folder.path for folder in found.folders}
@@ -214,4 +250,4 @@ def compare_files(client: Client, sources: List[Source], split: bool, result: Co
             result.differences.append((show(source.path), "has other bytes there"))
 
 
-__all__ = ["Comparison", "get_tree", "save", "verify_tree"]
+__all__ = ["Comparison", "get_tree", "save", "sync_names", "verify_tree"]

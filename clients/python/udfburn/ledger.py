@@ -13,7 +13,7 @@ import sqlite3
 import stat
 import time
 from contextlib import contextmanager
-from typing import Iterable, Iterator, List, NamedTuple, Optional, Sequence, Tuple, Union
+from typing import Iterable, Iterator, List, NamedTuple, Optional, Sequence, Set, Tuple, Union
 
 from .errors import LedgerBusy, LedgerError
 from .protocol import limits
@@ -314,6 +314,17 @@ class Ledger:
             base.execute("PRAGMA journal_mode = WAL")
         finally:
             base.close()
+
+    def files(self) -> Set[Tuple[int, int]]:
+        """The device and the inode of each file that the ledger has."""
+        found: Set[Tuple[int, int]] = set()
+        for path in (self.path, self.path + "-wal", self._lock.path):
+            try:
+                status = os.stat(path)
+            except FileNotFoundError:
+                continue
+            found.add((status.st_dev, status.st_ino))
+        return found
 
     def close(self) -> None:
         """Gives the ledger to others."""

@@ -6,7 +6,7 @@ import time
 from collections import deque
 from contextlib import contextmanager
 from itertools import islice
-from typing import Callable, Deque, Iterable, Iterator, List, Optional, Type
+from typing import Callable, Deque, Generator, Iterable, Iterator, List, Optional, Type
 
 from .connection import Connection, Lost, Way
 from .errors import ConnectionFailed, Damaged, DriveFailed, OutOfMemory, UdfburnError, UsageError
@@ -17,6 +17,9 @@ from .protocol import (
 
 TURN = 1.0
 """Seconds behind which a conversation is ended between two requests, so that others get their turn."""
+
+BEGINNINGS = 4
+"""How many times as long as its beginning took it goes on all the same: a program reads a full volume anew from a slow disk."""
 
 QUERIES = 16
 """Queries that are under way at once."""
@@ -56,12 +59,13 @@ class Line:
         self.timeout = timeout
         self.greet: Callable[[Connection], None] = lambda connection: None
         self._connection: Optional[Connection] = None
-        self._opened = 0.0
+        self._opened = self._turn = 0.0
         self._claimed = False
 
     def get(self) -> Connection:
         """The conversation, or a new one."""
         while self._connection is None:
+            began = time.monotonic()
             try:
                 connection = self.way.open()
             except Lost as lost:
@@ -78,13 +82,16 @@ class Line:
                 connection.close()
                 raise
             self._connection, self._opened = connection, time.monotonic()
+            # Behind a socket it is others who are waited for.
+            self._turn = max(TURN, BEGINNINGS * (self._opened - began)) if self.way.kind == "image" else TURN
         return self._connection
 
     def drop(self) -> None:
         """Ends the conversation."""
-        if self._connection is not None:
-            self._connection.close()
-            self._connection = None
+        # Whoever is interrupted while it ends has none any more: its descriptors may be those of other files by then.
+        connection, self._connection = self._connection, None
+        if connection is not None:
+            connection.close()
 
     def lost(self, why: str) -> None:
         """Ends a conversation that was lost, and pauses."""
@@ -93,7 +100,7 @@ class Line:
 
     def over(self) -> bool:
         """Whether it is time to let others have a turn."""
-        return self._connection is not None and time.monotonic() - self._opened > TURN
+        return self._connection is not None and time.monotonic() - self._opened > self._turn
 
     def troubled(self, answer: Answer) -> bool:
         """Pauses where an answer says that the program is troubled: then what was asked is to be asked again."""
@@ -123,7 +130,7 @@ class Line:
         """The answer to a query."""
         return list(self.ask_all([query]))[0]
 
-    def ask_all(self, queries: Iterable[Query]) -> Iterator[Answer]:
+    def ask_all(self, queries: Iterable[Query]) -> Generator[Answer, None, None]:
         """The answers to queries, in order. Queries change nothing, so they are asked again where the conversation was lost."""
         source = iter(queries)
         asked: Deque[Query] = deque()

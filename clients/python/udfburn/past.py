@@ -2,6 +2,7 @@
 
 from __future__ import annotations
 
+import errno
 import fcntl
 import os
 import shutil
@@ -10,7 +11,7 @@ from contextlib import contextmanager
 from typing import Iterator, List, NamedTuple, Optional
 
 from .connection import run_program
-from .errors import UsageError
+from .errors import ProgramFailed, UsageError
 from .protocol import limits
 
 CLONE = 0x40049409
@@ -73,6 +74,7 @@ def cloned(old: int, new: int) -> bool:
 def front(image: str, program: str, commit: Optional[int]) -> Iterator[str]:
     """A copy of the image as it was behind a commit, or as it is now; gone at the end."""
     size = os.path.getsize(image) if commit is None else (address_of(image, program, commit) + 1) * limits.BLOCK
+    require_synced(image)
     folder = tempfile.mkdtemp(prefix=".udfburn-", dir=room(image))
     try:
         target = os.path.join(folder, "front.img")
@@ -82,6 +84,24 @@ def front(image: str, program: str, commit: Optional[int]) -> Iterator[str]:
         yield target
     finally:
         shutil.rmtree(folder, ignore_errors=True)
+
+
+def require_synced(image: str) -> None:
+    """Has the disk take what the system keeps of the image, and the system forget it, so that a copy tells of what is stored."""
+    descriptor = os.open(image, os.O_RDONLY)
+    try:
+        try:
+            os.fsync(descriptor)
+        except OSError as error:
+            # A disk that is only read has nothing to take.
+            if error.errno not in (errno.EINVAL, errno.EROFS):
+                raise
+        # Behind a synchronisation that failed it may keep what the disk does not have.
+        os.posix_fadvise(descriptor, 0, 0, os.POSIX_FADV_DONTNEED)
+    except OSError as error:
+        raise ProgramFailed(f"{image}: {error.strerror or error}: its disk does not have what it shows") from error
+    finally:
+        os.close(descriptor)
 
 
 def room(image: str) -> Optional[str]:

@@ -6,8 +6,8 @@ from collections import Counter
 from typing import TYPE_CHECKING, Dict, List, Optional, Set, Tuple
 
 from .protocol import NodeKind, Path, limits, show
-from .sources import Folder, Scan, Source, shown
-from .split import PARTS, other_paths, part_count, stored_paths
+from .sources import Folder, Scan, Source, shown, why_not
+from .split import PARTS, own_paths, part_count, stored_paths
 
 if TYPE_CHECKING:
     from .blocks import Space
@@ -53,26 +53,34 @@ def plan(scan: Scan, present: Present, split: bool, space: Optional[Space]) -> P
         if part_count(size) > PARTS:
             planned.faults.append(f"{shown(source.local)}: takes more than {PARTS} parts")
             continue
-        planned.files.append((source, stored_paths(source.path, size, split)))
-        if split:
-            stale = other_paths(source.path, size, present.kinds)
-            if stale:
-                planned.stale[source.path] = stale
+        paths = stored_paths(source.path, size, split)
+        # All parts have names of one length. What stands whole has a name that was looked at where it was found.
+        if len(paths) > 1 and why_not(paths[0][-1]):
+            planned.faults.append(f"{shown(source.local)}: the name of a part takes more than 255 bytes as it is spelled on the medium")
+            continue
+        planned.files.append((source, paths))
+    sources = [source for source, _ in planned.files]
+    check_shared(planned, [path for source in sources + scan.same for path in own_paths(source.path, source.identity.size, split)])
     check_paths(planned, present)
     check_counts(planned, present)
     reckon(planned, present, space)
     return planned
 
 
-def check_paths(planned: Plan, present: Present) -> None:
-    """Names, depths, kinds, parents, and paths that two files would have."""
-    made: Set[Path] = {folder.path for folder in planned.folders}
-    targets = [path for _, paths in planned.files for path in paths]
-    for path, count in Counter(targets + [folder.path for folder in planned.folders]).items():
+def check_shared(planned: Plan, taken: List[Path]) -> None:
+    """Paths that two files would have. A file that the volume has already is one of them: else another takes its place there,
+    and its source may be gone by then."""
+    for path, count in Counter(taken + [folder.path for folder in planned.folders]).items():
         if count > 1:
             planned.faults.append(f"{show(path)}: more than one of the files and folders would have this path")
+
+
+def check_paths(planned: Plan, present: Present) -> None:
+    """Names, depths, kinds and parents."""
+    made: Set[Path] = {folder.path for folder in planned.folders}
+    targets = [path for _, paths in planned.files for path in paths]
     for source, paths in planned.files:
-        for path in paths:
+        for path in dict.fromkeys([source.path, *paths]):
             if present.kinds.get(path) is NodeKind.DIRECTORY:
                 planned.faults.append(f"{show(path)}: is a directory, and {shown(source.local)} is a file")
     for path in targets + sorted(made):

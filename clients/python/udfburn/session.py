@@ -163,14 +163,14 @@ class Session:
     def forget(self) -> List[str]:
         """Drops what is pending on this way, and learns anew which number the volume knows; gives the dropped paths."""
         known = self.ledger.volume(self.way)
-        gone = self.ledger.withdraw(known) if known else []
         self._forgetting = True
         try:
             self.line.drop()
             self.line.get()
         finally:
             self._forgetting = False
-        return [pending.path for pending in gone]
+        # Not before, since where the volume cannot be asked nobody would be told what was dropped.
+        return [pending.path for pending in self.ledger.withdraw(known)] if known else []
 
     def volume(self) -> Volume:
         """The volume, once a conversation was begun."""
@@ -182,6 +182,14 @@ class Session:
     def recover(self) -> Dict[int, Committed]:
         """Sends again what has no reply, one by one, and gives the replies by number. They are in the ledger then, and
         the tree agrees with them."""
+        try:
+            return self._recover()
+        except BaseException:
+            # Whoever is interrupted has an answer to come, which is none to what is asked next.
+            self.line.drop()
+            raise
+
+    def _recover(self) -> Dict[int, Committed]:
         known = self.ledger.volume(self.way)
         if known is None or not self.ledger.pending(known):
             return {}

@@ -4,6 +4,7 @@ from __future__ import annotations
 
 import os
 import stat
+import time
 from typing import Iterator, List, NamedTuple, Optional
 
 from .errors import SourceChanged, SourceError
@@ -59,11 +60,13 @@ class Folder(NamedTuple):
 
 
 class Scan:
-    """What was found: folders before what is in them, files, and what cannot be stored, each with why."""
+    """What was found: folders before what is in them, files, those that the volume has already, and what cannot be stored, each
+    with why."""
 
     def __init__(self) -> None:
         self.folders: List[Folder] = []
         self.files: List[Source] = []
+        self.same: List[Source] = []
         self.faults: List[str] = []
         self.skipped: List[str] = []
 
@@ -139,6 +142,19 @@ def open_to_read(path: str) -> int:
         return os.open(path, READING)
 
 
+TICK, COARSE_TICK = 20_000_000, 2_100_000_000
+"""Nanoseconds within which two changes of a file may get one time: by the clock of an older system, and of a file system that
+counts by seconds."""
+
+
+def await_tick(status: os.stat_result) -> None:
+    """Waits where a file changed just now, so that a change behind the reading gets another time, and is seen by it."""
+    age = time.time_ns() - status.st_ctime_ns
+    tick = TICK if status.st_ctime_ns % 1_000_000_000 else COARSE_TICK
+    if 0 <= age < tick:
+        time.sleep((tick - age) / 1e9)
+
+
 def unchanged(source: Source, status: os.stat_result) -> None:
     """Raises where a file is not the one that was seen, or is not as it was."""
     if not stat.S_ISREG(status.st_mode) or not source.identity.still(status):
@@ -162,7 +178,9 @@ def read_parts(source: Source) -> Iterator[bytes]:
     try:
         descriptor = open_to_read(source.local)
         try:
-            unchanged(source, os.fstat(descriptor))
+            status = os.fstat(descriptor)
+            unchanged(source, status)
+            await_tick(status)
             while True:
                 part = exactly(descriptor, min(left, limits.FILE))
                 left -= len(part)
@@ -170,13 +188,14 @@ def read_parts(source: Source) -> Iterator[bytes]:
                     unchanged(source, os.fstat(descriptor))
                     if left or os.read(descriptor, 1):
                         raise SourceChanged(f"{shown(source.local)}: has another size than it says")
-                    yield part
-                    return
+                    break
                 yield part
         finally:
             os.close(descriptor)
     except OSError as error:
         raise SourceError(f"{shown(source.local)}: {error.strerror}") from error
+    # Nothing is left to be done where nobody asks for more: an interrupt that came while Python cleared this away would be lost.
+    yield part
 
 
 def delete(source: Source) -> None:

@@ -2,9 +2,9 @@
 
 from __future__ import annotations
 
-from typing import Dict, List, Mapping, Optional, Sequence, Tuple
+from typing import Container, Dict, List, Mapping, Optional, Sequence, Tuple
 
-from .protocol import Path, limits
+from .protocol import NodeKind, Path, limits
 
 PARTS = 1000
 """Parts of a file, at most: three digits."""
@@ -18,6 +18,11 @@ def part_name(name: str, index: int) -> str:
     return f"{name}.{index:03}"
 
 
+def index_of(name: str) -> int:
+    """The number in the name of a part."""
+    return int(name[-3:])
+
+
 def part_count(size: int) -> int:
     """The parts of a file of this size; 0 where it stands whole."""
     return 0 if size <= limits.FILE else -(-size // limits.FILE)
@@ -29,15 +34,23 @@ def stored_paths(path: Path, size: int, split: bool) -> List[Path]:
     return [path[:-1] + (part_name(path[-1], index),) for index in range(count)] if count else [path]
 
 
-def other_paths(path: Path, size: int, present: Mapping[Path, object]) -> List[Path]:
-    """The files that an earlier, larger or smaller file of this name left, and that would be read along with it."""
-    wanted = set(stored_paths(path, size, True))
-    found = [path] if path in present and path not in wanted else []
-    index = part_count(size)
-    # Parts without those before them are nobody's, so only what follows at once is looked at.
-    while index < PARTS and path[:-1] + (part_name(path[-1], index),) in present:
-        found.append(path[:-1] + (part_name(path[-1], index),))
-        index += 1
+def own_paths(path: Path, size: int, split: bool) -> List[Path]:
+    """The paths that nothing else may have beside a file of this size: its own, and those under which it is stored."""
+    return list(dict.fromkeys([path, *stored_paths(path, size, split)]))
+
+
+def other_paths(path: Path, size: int, present: Mapping[Path, NodeKind], wanted: Container[Path]) -> List[Path]:
+    """The files that an earlier, larger or smaller file of this name left, and that would be read along with it. `wanted` are
+    the paths of all files that are stored now: none of them was left."""
+    found = [path] if present.get(path) is NodeKind.FILE and path not in wanted else []
+    count = part_count(size)
+    # Parts without those before them are nobody's, so they are looked at from the first one on.
+    for index in range(PARTS):
+        part, own = path[:-1] + (part_name(path[-1], index),), index < count
+        if present.get(part) is not NodeKind.FILE or (part in wanted and not own):
+            break
+        if not own:
+            found.append(part)
     return found
 
 

@@ -3,8 +3,9 @@
 from __future__ import annotations
 
 from collections import deque
+from contextlib import closing
 from itertools import islice
-from typing import TYPE_CHECKING, Callable, Deque, Iterable, Iterator, List, NamedTuple, Optional, Tuple, Type
+from typing import TYPE_CHECKING, Callable, Deque, Dict, Iterable, Iterator, List, NamedTuple, Optional, Tuple, Type
 
 from .client import Client, met, refusal
 from .connection import find_program
@@ -15,8 +16,8 @@ from .protocol import (
     AnyRequest, Code, Create, Data, Get, List as ListQuery, MakeDir, Name, Names, Node, NodeKind, Path, Remove, Replace, Stat, limits,
     show,
 )
-from .sources import Folder, Scan, Source, delete, read_parts, scan
-from .split import other_paths, stored_paths
+from .sources import Folder, Scan, Source, delete, read_parts, scan, shown
+from .split import index_of, other_paths, part_name, stored_paths
 
 if TYPE_CHECKING:
     from .blocks import Space
@@ -141,15 +142,42 @@ class Importer:
             paths = [path for file in found.files for path in stored_paths(file.path, file.identity.size, self.options.split)]
             whole = bool(found.folders) or self.options.image is not None or self.options.split
             self.present = look(self.client, paths + [path for _, path in wanted], whole)
+            stale = self._stale(found.files) if self.options.split else {}
             if self.options.skip_same:
                 self._leave_same(found)
         if self.options.parents:
             self._add_parents(found, [path for _, path in wanted])
         planned = plan(found, self.present, self.options.split, self._space())
+        planned.stale = stale
         self.summary.blocks, self.summary.left = planned.blocks, planned.left
         if planned.faults:
             raise DoesNotFit("\n".join(planned.faults))
         return planned
+
+    def _stale(self, files: List[Source]) -> Dict[Path, List[Path]]:
+        """What earlier files of the same names left, by the path of each file. All parts of a file but the last one are full, so
+        what has the name of a part behind a shorter one may be a file of its own: it stays, and is told."""
+        wanted = {path for file in files for path in stored_paths(file.path, file.identity.size, True)}
+        stale = {file.path: other_paths(file.path, file.identity.size, self.present.kinds, wanted) for file in files}
+        for path, others in stale.items():
+            parts = [other for other in others if other != path]
+            if not parts:
+                continue
+            full = self._full_parts(path, index_of(parts[-1][-1]))
+            # The first of the parts has as many before it as its number says.
+            count = max(full - index_of(parts[0][-1]) + 1, 0) if full else 0
+            stale[path] = others[: len(others) - len(parts)] + parts[:count]
+            if full:
+                self.summary.skipped += [
+                    f"{show(part)}: stays, since it may be a file of its own as well as what an earlier {show(path)} left" for part in parts[count:]
+                ]
+        return stale
+
+    def _full_parts(self, path: Path, last: int) -> int:
+        """How many parts of a name up to this one have a mebibyte, from the first on."""
+        parts = [path[:-1] + (part_name(path[-1], index),) for index in range(last + 1)]
+        sizes = [answer.size if isinstance(answer, Node) else None for answer in self.client.ask_all(map(Stat, parts))]
+        return next((index for index, size in enumerate(sizes) if size != limits.FILE), len(sizes))
 
     def _add_parents(self, found: Scan, paths: List[Path]) -> None:
         """Plans the directories above that are missing."""
@@ -163,7 +191,7 @@ class Importer:
         if image is None:
             return None
         try:
-            program = way.program or find_program(None)
+            program = find_program(way.program)
         except UsageError:
             return None
         # A dry run opens no ledger, and reckons with one client more: 0 is nobody's number.
@@ -205,6 +233,7 @@ class Importer:
         for source, paths in planned.files:
             for path in paths:
                 self.told("would replace" if path in self.present.kinds else "would store", path, source.identity.size, 0)
+        for source in [job.source for job in self.same] + [source for source, _ in planned.files]:
             for path in planned.stale.get(source.path, []):
                 self.told("would remove", path, 0, 0)
         self.summary.files, self.summary.folders = len(planned.files), len(planned.folders)
@@ -284,9 +313,10 @@ class Importer:
         jobs = [Job(source, stored_paths(source.path, source.identity.size, self.options.split)) for source in found.files]
         there = [job for job in jobs if all(self.present.kinds.get(path) is NodeKind.FILE for path in job.paths)]
         sized = self._sized(there)
-        answers = self.client.ask_all(Get(path) for job in sized for path in job.paths)
-        self.same = [job for job in sized if compare(job, answers)]
-        left = {id(job.source) for job in self.same}
+        with closing(self.client.ask_all(Get(path) for job in sized for path in job.paths)) as answers:
+            self.same = [job for job in sized if compare(job, answers)]
+        found.same = [job.source for job in self.same]
+        left = set(map(id, found.same))
         found.files = [source for source in found.files if id(source) not in left]
 
     def _finish_same(self, planned: Plan) -> None:
@@ -294,21 +324,18 @@ class Importer:
         for job in self.same:
             self.summary.same += 1
             self.told("same", job.source.path, job.source.identity.size, 0)
-        if self.options.split:
-            for job in self.same:
-                planned.stale[job.source.path] = other_paths(job.source.path, job.source.identity.size, self.present.kinds)
-            self._remove_stale([job.source.path for job in self.same], planned)
+        self._remove_stale([job.source.path for job in self.same], planned)
         if self.options.delete_source:
             self._delete(self.same)
 
     def _sized(self, jobs: List[Job]) -> List[Job]:
         """The files whose parts have the right sizes."""
-        answers = self.client.ask_all(Stat(path) for job in jobs for path in job.paths)
         sized = []
-        for job in jobs:
-            found = [next(answers) for _ in job.paths]
-            if sum(answer.size if isinstance(answer, Node) else -1 for answer in found) == job.source.identity.size:
-                sized.append(job)
+        with closing(self.client.ask_all(Stat(path) for job in jobs for path in job.paths)) as answers:
+            for job in jobs:
+                found = [next(answers) for _ in job.paths]
+                if sum(answer.size if isinstance(answer, Node) else -1 for answer in found) == job.source.identity.size:
+                    sized.append(job)
         return sized
 
     def _remove_stale(self, stored: List[Path], planned: Plan) -> None:
@@ -323,21 +350,24 @@ class Importer:
 
     def _read_back(self, jobs: List[Job]) -> List[Job]:
         """The files whose bytes are on the volume as they were sent."""
-        answers = self.client.ask_all(Get(path) for job in jobs for path in job.paths)
         verified = []
-        for job in jobs:
-            found = [answer.data if isinstance(answer, Data) else None for answer in islice(answers, len(job.paths))]
-            if [None if data is None else digest(data) for data in found] == job.digests:
-                verified.append(job)
-                self.summary.verified += 1
-            else:
-                self.summary.failures.append(f"{show(job.source.path)}: the volume has other bytes than were stored")
+        with closing(self.client.ask_all(Get(path) for job in jobs for path in job.paths)) as answers:
+            for job in jobs:
+                found = [answer.data if isinstance(answer, Data) else None for answer in islice(answers, len(job.paths))]
+                if [None if data is None else digest(data) for data in found] == job.digests:
+                    verified.append(job)
+                    self.summary.verified += 1
+                else:
+                    self.summary.failures.append(f"{show(job.source.path)}: the volume has other bytes than were stored")
         return verified
 
     def _delete(self, jobs: List[Job]) -> None:
-        """Deletes local files, each as it was read."""
+        """Deletes local files, each as it was read, but not what this command keeps its numbers and replies in."""
+        kept = self.client.session().ledger.files()
         for job in jobs:
             try:
+                if (job.source.identity.device, job.source.identity.inode) in kept:
+                    raise SourceError(f"{shown(job.source.local)}: is of the ledger that is in use")
                 delete(job.source)
                 self.summary.deleted += 1
             except SourceError as error:

@@ -4,9 +4,9 @@ ghost use Rattle.std.specs.Prelude.{◌≡◌, ◌↔◌, ◌+◌, ◌<◌, ◌^
 use crate::characteristics::Characteristics;
 use crate::entry::Entry;
 use crate::fault::DirFault;
-use crate::item::{DEVELOPER, FILE_IDENTIFIER, HEAD_SIZE, Item, VERSION};
+use crate::item::{FILE_IDENTIFIER, HEAD_SIZE, Item, VERSION};
 use crate::size::{BLOCK_SIZE, fits, plain_size, rounded};
-use ecma::{Block, Field, LongAd, open_tag, stands_at, u16_at, u32_at};
+use ecma::{Block, EntityId, Field, LongAd, open_tag, stands_at, u16_at, u32_at};
 use osta::Name;
 use std::alloc::Global;
 
@@ -135,7 +135,8 @@ impl Fid<'_> {
         if !are_zeros(behind) {
             return false;
         }
-        id == &DEVELOPER[..id_size]
+        let developer = EntityId::DEVELOPER.to_bytes();
+        id == &developer[..id_size]
     }
 
     /// Whether the implementation use reaches from a place to the block's end, and the identifier

@@ -8,7 +8,7 @@ use crate::characteristics::Characteristics;
 use crate::entry::Entry;
 use bitflags::Flags;
 use byteorder::{ByteOrder, LittleEndian};
-use ecma::{LongAd, TAG_SIZE, seal};
+use ecma::{EntityId, LongAd, TAG_SIZE, seal};
 use osta::Name;
 
 pub(crate) const FILE_IDENTIFIER: u16 = 257;
@@ -21,10 +21,6 @@ pub(crate) const HEAD_SIZE: usize = 38;
 
 /// The bytes from the tag's end to the implementation use.
 const FIELDS_SIZE: usize = HEAD_SIZE - TAG_SIZE;
-
-/// The EntityID of this program, as it stands in an implementation use.
-pub(crate) const DEVELOPER: [u8; 32] =
-    *b"\x00*udfburn\0\0\0\0\0\0\0\0\0\0\0\0\0\0\0\0\0\0\0\0\0\0\0";
 
 /// What a file identifier says.
 #[derive(Clone, Copy)]
@@ -136,14 +132,15 @@ impl Item<'_> {
     }
 }
 
-/// Writes the implementation use that lengthens an identifier, over all of the bytes.
+/// Writes the implementation use that lengthens an identifier, over all of the bytes: the entity of this program, and zeros.
 fn write_use(into: &mut [u8])
     ensures { into.new ≡ use_of (length into.old) }
 {
     if into.is_empty() {
         return;
     }
-    let size = into.len().min(DEVELOPER.len());
-    into[..size].copy_from_slice(&DEVELOPER[..size]);
+    let developer = EntityId::DEVELOPER.to_bytes();
+    let size = into.len().min(developer.len());
+    into[..size].copy_from_slice(&developer[..size]);
     into[size..].fill(0);
 }

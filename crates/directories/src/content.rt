@@ -4,6 +4,7 @@ ghost use Rattle.limits.specs.declared.TheConstants.{DIRECTORY_NAMES};
 ghost use Rattle.std.specs.Prelude.{◌≡◌, [], ◌∷◌, ◌++◌, ◌<◌, ◌≤◌, IfErr, IfSome, None, OnErr, OnOk, length, nat_eq};
 ghost use Rattle.std.specs.Cmp.Lexicographic.{pointwise};
 ghost use Rattle.std.specs.Map.{lookup, remove_entry};
+ghost use Rattle.indexmap.specs.IndexMap.{insert_entry};
 ghost use Rattle.recover.specs.Faults.{devices};
 ghost use Rattle.recover.specs.declared.fault.StoreFault.TheVariants.{Memory};
 
@@ -22,6 +23,8 @@ impl Content {
     /// Adds a name behind the others.
     pub fn add(&mut self, name: Name, entry: Entry) -> Result<(), StoreFault>
         requires room { length self.old.dir.entries.entries < DIRECTORY_NAMES }
+        // A name that is there keeps its place.
+        ensures entries { OnOk result (self.new.dir.entries.entries ≡ insert_entry (pointwise nat_eq) self.old.dir.entries.entries name entry) }
         ensures added { OnOk result (lookup (pointwise nat_eq name) self.old.dir.entries.entries ≡ None → self.new.dir.entries.entries ≡ self.old.dir.entries.entries ++ (name, entry) ∷ []) }
         ensures parent { self.new.dir.parent ≡ self.old.dir.parent }
         ensures unchanged { OnErr result (self.new.dir.entries.entries ≡ self.old.dir.entries.entries) }

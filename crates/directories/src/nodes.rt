@@ -1,6 +1,6 @@
 //! The nodes of a state, by their virtual addresses.
 
-ghost use Rattle.limits.specs.declared.TheConstants.{BLOCK_BYTES, PARTITION_BLOCKS, PARTITION_START};
+ghost use Rattle.limits.specs.declared.TheConstants.{ADDRESSES, BLOCK_BYTES, PARTITION_BLOCKS, PARTITION_START};
 ghost use Rattle.std.specs.Prelude.{◌≡◌, ◌+◌, ◌<◌, ◌≤◌, IsTrue, IfOk, IfErr, length, true};
 ghost use Rattle.std.specs.Int.{div_ceil};
 ghost use Rattle.drive.specs.Journal.{AreWhole, next_of};
@@ -8,7 +8,8 @@ ghost use Rattle.drive.specs.Reads.{Reads};
 ghost use Rattle.model.specs.Addresses as addresses;
 ghost use Rattle.model.specs.Graph.{Stored, is_directory};
 ghost use Rattle.recover.specs.Faults.{devices, failures_of};
-ghost use Rattle.recover.specs.declared.fault.StoreFault.TheVariants.{Device};
+ghost use Rattle.recover.specs.declared.cause.TheConstants.{IDENTITY};
+ghost use Rattle.recover.specs.declared.fault.StoreFault.TheVariants.{Damaged, Device};
 ghost use Rattle.next_vat.specs.Below.{AreBelow, IsUsed};
 ghost use Rattle.directories.specs.Shows.{LiesIn, graph_below};
 
@@ -29,12 +30,12 @@ pub struct Placed {
 pub struct Nodes<'a> {
     pub at: u32,
     pub entries: &'a [Option<u32>],
-    pub ghost few: { length entries.now ≤ 4097 },
+    pub ghost few: { length entries.now ≤ ADDRESSES },
 }
 
 impl Nodes<'_> {
     /// The block of a node's entry, and its address.
-    pub fn entry_block<D: Drive>(
+    pub(crate) fn entry_block<D: Drive>(
         &self,
         drive: &mut D,
         address: u32,
@@ -61,7 +62,11 @@ impl Nodes<'_> {
     }
 
     /// Where the data of a directory lie, by the virtual address of its entry.
-    pub fn directory<D: Drive>(&self, drive: &mut D, address: u32) -> Result<Placed, StoreFault>
+    pub(crate) fn directory<D: Drive>(
+        &self,
+        drive: &mut D,
+        address: u32,
+    ) -> Result<Placed, StoreFault>
         requires below { AreBelow self.now.at self.now.entries.now }
         requires within { self.now.at ≤ next_of (D.journal drive.old) }
         ensures placed { IfOk result (λ placed. IsTrue (D.honest drive.new) → (s : Stored) → graph_below self.now.at self.now.entries.now (D.journal drive.old) address s → is_directory s ≡ true → LiesIn (D.journal drive.old) placed s) }
@@ -106,7 +111,8 @@ impl Nodes<'_> {
 
     /// What the table leads to is not what was looked for.
     pub fn damaged(&self) -> StoreFault
-        ensures { failures_of result ≡ 0 }
+        ensures told { result ≡ Damaged self.now.at IDENTITY }
+        ensures failures { failures_of result ≡ 0 }
     {
         damaged(self.at, cause::IDENTITY)
     }

@@ -2,9 +2,11 @@
 //!
 //! What is answered must be on the disk. So a file that is written is held alone, by an exclusive lock, and
 //! synced before anything is read of it: what an earlier process left in the system's cache is on the disk
-//! before it is taken for written. Each write ends with a sync. Behind a write or a sync that failed the file
-//! is cut back to the blocks that it had, and synced, before anything else: the system may take the pages of
-//! a failed sync for written, and neither another sync nor writing them again brings them to the disk.
+//! before it is taken for written. Then the system is made to forget that cache, so that what is read is what
+//! the disk has, also behind a sync that failed in that process. Each write ends with a sync. Behind a write or
+//! a sync that failed the file is cut back to the blocks that it had, and synced, before anything else: the
+//! system may take the pages of a failed sync for written, and neither another sync nor writing them again
+//! brings them to the disk.
 //!
 //! A file that is only read is neither locked nor synced, so that it may be one that another writes, or that
 //! nobody may write.
@@ -15,6 +17,7 @@ ghost use Rattle.std.specs.Prelude.{◌+◌, ◌<◌, ◌^◌, length, IfOk};
 use crate::{Block, DriveFault};
 use std::fs::{File, Files, Metadata, OpenOptions};
 use std::io::ErrorKind;
+use std::os::fd::AsRawFd;
 use std::os::unix::fs::{FileExt, MetadataExt};
 use std::{fs, io};
 
@@ -38,13 +41,14 @@ pub(crate) struct Image {
 }
 
 impl Image {
-    /// A file that is open for reading and writing, to write it. It is locked until it is dropped, and synced.
-    /// One that another has locked is a fault.
+    /// A file that is open for reading and writing, to write it. It is locked until it is dropped, synced, and
+    /// read anew from the disk. One that another has locked is a fault.
     pub(crate) fn to_write(file: File) -> Result<Image, DriveFault> {
         if file.try_lock().is_err() {
             return Err(DriveFault);
         }
         fault_of(file.sync_all())?;
+        forget_cached(&file)?;
         Ok(Image {
             file,
             access: Access::Write,
@@ -130,6 +134,16 @@ impl Image {
         fault_of(self.file.sync_all())?;
         self.is_torn = false;
         Ok(())
+    }
+}
+
+/// Has the system forget what it keeps of a synced file in memory. It takes the pages of a sync that failed for
+/// written, and so keeps what the disk does not have.
+fn forget_cached(file: &File) -> Result<(), DriveFault> {
+    // The length 0 reaches to the end.
+    match libc::posix_fadvise(file.as_raw_fd(), 0, 0, libc::POSIX_FADV_DONTNEED) {
+        0 => Ok(()),
+        _ => Err(DriveFault),
     }
 }
 

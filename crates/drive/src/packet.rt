@@ -86,14 +86,6 @@ impl PacketWriter {
         })
     }
 
-    /// Goes on at this address. The blocks that wait are dropped.
-    pub fn restart(&mut self, at: u32)
-        ensures { self.new ≡ record { at = at; blocks = [] } }
-    {
-        self.packet.clear();
-        self.at = at;
-    }
-
     /// How many blocks wait, from 0 to 32.
     pub fn waiting(&self) -> usize
         ensures count { result ≡ length self.now.blocks }

@@ -1,6 +1,6 @@
 -- How many blocks a commit may take, from sizes alone.
 use Rattle.std.specs.Prelude.{ℕ, ◌+◌, ◌*◌, ◌/◌, if◌then◌else◌, ◌==◌, nat_lt, List, [], length}
-use Rattle.limits.specs.declared.TheConstants.{INSIDE_BYTES}
+use Rattle.limits.specs.declared.TheConstants.{INSIDE_BYTES, TABLE_HEAD_BYTES, RECORD_BYTES, ADDRESS_BYTES}
 use Rattle.model.specs.Tree.{Name, Tree, names_at, parent_of, is_directory_at, paths_eq}
 use Rattle.model.specs.Operation.{Operation, code_of}
 use Rattle.model.specs.Operation.Operation.{Create, Replace, MakeDir, Rename, Remove}
@@ -26,7 +26,7 @@ most_for_directory spelled names = 2 + identifiers_size spelled names / 1720
 
 -- the bytes of a table with so many records and entries
 abbrev pub table_size : ℕ → ℕ → ℕ
-table_size records entries = 196 + 48 * records + 4 * entries
+table_size records entries = TABLE_HEAD_BYTES + RECORD_BYTES * records + ADDRESS_BYTES * entries
 
 -- the most blocks that a table's data and its entry take
 abbrev pub most_for_table : State → ℕ

@@ -14,7 +14,7 @@ use Rattle.engine.specs.declared.serving.ServeFault.{ServeFault}
 use Rattle.engine.specs.declared.serving.ServeFault.TheVariants as faults
 use Rattle.engine.specs.Situation.{Situation}
 use Rattle.engine.specs.Streams.{PutsFront, PutsUntil, TakesPiece}
-use Rattle.engine.specs.Served.{AllAnswered, AllTold, IsAnswered, AllTaken, LastUntold, LeftAt, LeftBy, frames_of, Answering, AnswersSome, Serving, ServesSome, ServesUntil, ServesAll}
+use Rattle.engine.specs.Served.{AllAnswered, AllTold, IsAnswered, AllTaken, LastUntold, LeftAt, LeftBy, frames_of, Answering, AnswersSome, Serving, ServesUntil, ServesAll}
 use Rattle.engine.proofs.Served.{answered_more, served_holds, served_withstand}
 
 -- and then others
@@ -328,9 +328,40 @@ serving_ends reader s t i l n o v piece h idle takes none = record {
   ends = inl (takes.end none);
 }
 
--- a frame was too long
-pub serving_over : (reader : Option (List ℕ)) (s t : Situation) (i l o v : Option (List ℕ)) → Serving reader s t i l o v → IsIdle reader → reader ≡ None → ServesAll s t i l o v
-serving_over reader s t i l o v h idle none = record { reader = reader; serving = h; holds = served_holds h.messages s h.answers t h.answered; withstands = served_withstand h.messages s h.answers t h.answered; idle = idle; ends = inr none }
+-- a frame was too long in the piece that was read last
+pub serving_over : (reader between after : Option (List ℕ)) (s t u : Situation) (i l n o v w : Option (List ℕ)) (piece : List ℕ)
+    → Serving reader s t i l o v → IsIdle reader → (waiting : List ℕ) × (reader ≡ Some waiting) → TakesPiece l n piece → length piece ≤ 65536 → between ≡ fed reader piece → Answering between after t u v w
+    → IsIdle after → after ≡ None → ServesAll s u i n o w
+unfolding serving_more
+serving_over reader between after s t u i l n o v w piece h idle goes takes short e more at_last none =
+    let all : Serving after s u i n o w = serving_more reader between after s t u i l n o v w piece h takes e more in
+    record {
+      reader = after;
+      serving = serving_more reader between after s t u i l n o v w piece h takes e more;
+      holds = served_holds all.messages s all.answers u all.answered;
+      withstands = served_withstand all.messages s all.answers u all.answered;
+      idle = at_last;
+      ends = inr (record {
+        over = none;
+        earlier = h.bytes;
+        piece = piece;
+        bytes_are = refl;
+        short = short;
+        messages = h.messages;
+        waiting = goes.0;
+        messages_are = subst (λ (r : Option (List ℕ)). MessagesAre h.bytes h.messages r) goes.1 h.messages_are;
+        partial = subst IsIdle goes.1 idle;
+      });
+    }
+
+-- a reader that is not over holds some bytes
+pub goes_on : (reader : Option (List ℕ)) → is_none reader ≡ false → (waiting : List ℕ) × (reader ≡ Some waiting)
+goes_on None h = let bad : ◌≡◌ {A = Bool} true false = h in absurd (search rules)
+goes_on (Some bytes) h = (bytes, refl)
+
+-- so many bytes of a piece are no more than it has room for
+pub piece_fits : (n : ℕ) (xs : List ℕ) → n ≤ length xs → length xs ≡ 65536 → length (take n xs) ≤ 65536
+piece_fits n xs fits room = omega (arith, length-take-le n xs fits, fits, room)
 
 -- what holds of an `Err` may be shown of any
 pub on_err : {T E : Type 0} (r : Result T E) (X : Type 0) → X → OnErr r X

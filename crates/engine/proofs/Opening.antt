@@ -1,6 +1,7 @@
 -- What opening a medium gives where a state stands, and where none does.
-use Rattle.std.proofs.Common.{ℕ, List}
-use Rattle.std.specs.Prelude.{Result, Ok, Err, IfOk, IfErr}
+use Rattle.std.proofs.Common.{◌≡◌, ℕ, List, sym, ap}
+use Rattle.std.specs.Prelude.{Result, Ok, Err, IfOk, IfErr, is_err}
+use Rattle.std.proofs.lemmas.Bool.{false≢true}
 use Rattle.drive.specs.Journal.{Event, Once, held}
 use Rattle.model.specs.Session.{State}
 use Rattle.recover.specs.Faults.{IsShortage}
@@ -23,3 +24,7 @@ pub nothing_opened : (capacity : ℕ) (J : List Event) (result : Result Store St
     → IfOk result (λ store. Honest → Once J → (S : State) × Knows capacity store.capacity J S store) → Honest → Once J → NothingStands capacity (held J) → IfOk result (λ store. ⊥)
 nothing_opened capacity J (Ok store) stands honest once nothing = let state = stands honest once in nothing store.capacity state.0 state.1.stands
 nothing_opened capacity J (Err refusal) stands honest once nothing = tt
+
+-- what was not opened is no store
+pub not_opened : (refusal : StoreFault) (kept : Store) → ◌≡◌ {A = Result Store StoreFault} (Err refusal) (Ok kept) → ⊥
+not_opened refusal kept e = false≢true (sym (ap (λ (r : Result Store StoreFault). is_err r) e))

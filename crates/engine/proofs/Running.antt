@@ -101,7 +101,7 @@ pub delivers_honest : (d : delivered.Delivery) (before : Situation) (told : Opti
 delivers_honest Restart before None behind is honest = subst (λ (s : Situation). IsTrue s.honest) is honest
 delivers_honest Restart before (Some a) behind is honest = absurd is
 delivers_honest (Frame payload) before None behind is honest = absurd is
-delivers_honest (Frame payload) before (Some a) behind (m, tells, answered) honest = answered.follows.honest honest
+delivers_honest (Frame payload) before (Some a) behind (m, tells, answered, nothing) honest = answered.follows.honest honest
 
 -- no delivery was made yet
 pub begun_run : (volume : ℕ) (S : State) (journal : List Event) (failures capacity : ℕ) (honest : Bool) (writes : List (List (List ℕ))) (store : Option Store) (answers : List Answer) → Once journal → Stands udf capacity volume (held journal) S

@@ -45,10 +45,11 @@ CanBeTold (query.Get path) a = ((bytes : List ℕ) × (a ≡ answer.Data bytes))
 CanBeTold (query.List path) a = ((names : List Listed) × (a ≡ answer.Names names)) ⊎ ((a ≡ answer.NotFound) ⊎ ((a ≡ answer.NotDirectory) ⊎ FailsOrIsDamaged a))
 CanBeTold (query.Stat path) a = ((status : NodeStatus) × (a ≡ answer.Node status)) ⊎ ((a ≡ answer.NotFound) ⊎ FailsOrIsDamaged a)
 
--- A new request is committed, or it is told why it may not be. Unless the store stopped, nothing was written then.
+-- A new request is committed, or it is told why it may not be. Unless the store stopped, nothing was written then, nor was
+-- the drive given a write.
 abbrev pub IsCommitted : Situation → Answer → Situation → Type 0
 IsCommitted before a after = ((reply : Reply) × (a ≡ answer.Reply reply))
-    ⊎ (((a ≡ answer.Full) ⊎ FailsOrIsDamaged a) × IfSome after.store (λ store. store.is_stopped ≡ false → after.journal ≡ before.journal))
+    ⊎ (((a ≡ answer.Full) ⊎ FailsOrIsDamaged a) × IfSome after.store (λ store. store.is_stopped ≡ false → (after.journal ≡ before.journal) × (after.writes ≡ before.writes)))
 
 -- what is due for a number of a client, by the sessions that a store keeps
 abbrev pub due_of : Store → ℕ → ℕ → Due
@@ -62,21 +63,22 @@ IsDue (Gap latest) before a after = (a ≡ answer.Gap latest) × (after ≡ befo
 IsDue ClientsFull before a after = (a ≡ answer.ClientsFull) × (after ≡ before)
 IsDue New before a after = IsCommitted before a after
 
--- The store is open, or is opened, by which nothing is written.
+-- The store is open, or is opened, by which nothing is written, and the drive is given no write.
 pub record OpensStore (before during : Situation) (store : Store) : Type 0 where
   pub opened : IsOpen during store
   pub journal : during.journal ≡ before.journal
+  pub writes : during.writes ≡ before.writes
   pub stays : (kept : Store) → IsOpen before kept → during ≡ before
 
 -- The store was not open, and could not be opened. Nothing was written.
 abbrev pub IsNotOpened : Situation → Answer → Situation → Type 0
-IsNotOpened before a after = FailsOrIsDamaged a × (after.journal ≡ before.journal) × ((store : Store) → IsOpen before store → ⊥)
+IsNotOpened before a after = FailsOrIsDamaged a × (after.journal ≡ before.journal) × (after.writes ≡ before.writes) × ((store : Store) → IsOpen before store → ⊥)
 
 -- one row for each kind of message
 abbrev pub MessageRow : Message → Situation → Answer → Situation → Type 0
 MessageRow (message.Malformed cause) before a after = (a ≡ answer.Malformed cause) × (after ≡ before)
 MessageRow message.NoMemory before a after = (a ≡ answer.Memory) × (after ≡ before)
-MessageRow (message.Query asked) before a after = CanBeTold asked a × (after.journal ≡ before.journal)
+MessageRow (message.Query asked) before a after = CanBeTold asked a × (after.journal ≡ before.journal) × (after.writes ≡ before.writes)
 MessageRow (message.Request request) before a after = IsNotOpened before a after
     ⊎ ((during : Situation) × (store : Store) × OpensStore before during store × IsDue (due_of store request.client request.number) during a after)
 

@@ -21,7 +21,7 @@ use Rattle.store.specs.declared.store.Store.{Store}
 use Rattle.store.specs.Asked.{said_request}
 use Rattle.store.specs.Calls.{Knows, StillKnows, Applies, Gets, Lists, Stats}
 use Rattle.store.specs.Sessions.{reply_said}
-use Rattle.engine.specs.Situation.{Situation}
+use Rattle.engine.specs.Situation.{Situation, IsOpen}
 use Rattle.engine.specs.Answered.{due_of}
 use Rattle.engine.specs.Delivered.{with_store}
 use Rattle.engine.specs.Said.{said_message, said_answer}
@@ -70,7 +70,7 @@ shown (Err refusal) = stat_refused refusal
 
 -- ---- what a message gets at the state that stands
 
--- No store could be opened, and nothing was written.
+-- No store was open, none could be opened, and nothing was written.
 pub record IsShort (before : Situation) (a : Answer) (behind : Situation) : Type 0 where
   pub refusal : StoreFault
   pub shortage : IsShortage refusal
@@ -78,6 +78,7 @@ pub record IsShort (before : Situation) (a : Answer) (behind : Situation) : Type
   pub journal : behind.journal ≡ before.journal
   pub capacity : behind.capacity ≡ before.capacity
   pub store : behind.store ≡ None
+  pub closed : (store : Store) → IsOpen before store → ⊥
 
 -- A store is open that keeps the state: the one that was, or one that was opened. Nothing was written.
 pub record Uses (volume : ℕ) (S : State) (before during : Situation) (store : Store) : Type 0 where

@@ -1,21 +1,21 @@
 -- What became of the messages of a stream, one after another.
-use Rattle.std.specs.Prelude.{◌≡◌, ◌⊎◌, ℕ, List, [], ◌∷◌, ◌++◌, map, take, Option, None, IsTrue}
+use Rattle.std.specs.Prelude.{◌≡◌, ◌⊎◌, ℕ, ◌≤◌, List, [], ◌∷◌, ◌++◌, length, map, take, Option, Some, None, IsTrue}
 use Rattle.std.specs.List.{flat_map}
 use Rattle.std.specs.Io.KnownBytes.{Appends, Consumes, IsAtEnd}
 use Rattle.request.specs.declared.answer.Answer.{Answer}
 use Rattle.request.specs.declared.message.Message.{Message}
 use Rattle.request.specs.Answers.{answer_frame}
-use Rattle.request.specs.Frames.{Takes, IsIdle, MessagesAre, fed}
+use Rattle.request.specs.Frames.{Takes, IsIdle, IsPartial, MessagesAre, fed}
 use Rattle.model.specs.Session.{State, after}
 use Rattle.durability.specs.Commit.{need}
 use Rattle.durability.specs.Journal.{HoldsOnJournal}
 use Rattle.durability.specs.Runs.{Delivery}
 use Rattle.durability.specs.Runs.Delivery.{Delivered}
 use Rattle.udf.specs.Udf.{udf, spelled}
-use Rattle.engine.specs.Situation.{Situation}
+use Rattle.engine.specs.Situation.{Situation, HoldsNothing}
 use Rattle.engine.specs.declared.serving.ServeFault.{ServeFault}
 use Rattle.engine.specs.declared.serving.ServeFault.TheVariants as faults
-use Rattle.engine.specs.Answered.{Answered}
+use Rattle.engine.specs.Answered.{Answered, IsNothingThere}
 use Rattle.engine.specs.Called.{Calls}
 use Rattle.engine.specs.Headline.{said_answers}
 use Rattle.engine.specs.Said.{said_message}
@@ -24,11 +24,13 @@ use Rattle.engine.specs.Streams.{PutsFront}
 use Rattle.engine.specs.Withstanding.{AsksFor, Withstands}
 
 -- A message got its answer: on an honest drive, where a state stands that an open store knows, by that store's calls, and
--- whatever a loss of power leaves of what was written for it, that state stands or the one after the request.
+-- whatever a loss of power leaves of what was written for it, that state stands or the one after the request. Where nothing
+-- stands on one, it is told so.
 pub record IsAnswered (asked : Message) (before : Situation) (a : Answer) (behind : Situation) : Type 0 where
   pub answered : Answered asked before a behind
   pub calls : (volume : ℕ) (S : State) → IsTrue behind.honest → HoldsState volume S before → Calls volume asked S before a behind
   pub withstands : (volume : ℕ) (S : State) → IsTrue behind.honest → HoldsState volume S before → Withstands before.capacity volume before.journal S (AsksFor asked) before.writes behind.writes
+  pub nothing : IsTrue behind.honest → HoldsNothing before → IsNothingThere asked before a behind
 
 -- each message got its answer, in order
 abbrev pub AllAnswered : List Message → Situation → List Answer → Situation → Type 0
@@ -128,6 +130,18 @@ pub record Serving (reader : Option (List ℕ)) (before behind : Situation) (inp
   pub answered : AllAnswered messages before answers behind
   pub told : Appends output written (frames_of answers)
 
+-- A frame was too long: in the last piece that was read, and in none before it.
+pub record IsCutOff (bytes : List ℕ) (reader : Option (List ℕ)) : Type 0 where
+  pub over : reader ≡ None
+  pub earlier : List ℕ
+  pub piece : List ℕ
+  pub bytes_are : bytes ≡ earlier ++ piece
+  pub short : length piece ≤ 65536
+  pub messages : List Message
+  pub waiting : List ℕ
+  pub messages_are : MessagesAre earlier messages (Some waiting)
+  pub partial : IsPartial waiting
+
 -- All messages of the bytes that were read were answered in turn, and each answer's frame was written. The stream is at its end, or a frame was too long.
 pub record ServesAll (before behind : Situation) (input left output written : Option (List ℕ)) : Type 0 where
   pub reader : Option (List ℕ)
@@ -135,7 +149,7 @@ pub record ServesAll (before behind : Situation) (input left output written : Op
   pub holds : ServedHolds serving.messages before serving.answers behind
   pub withstands : ServedWithstands serving.messages before serving.answers behind
   pub idle : IsIdle reader
-  pub ends : IsAtEnd left ⊎ (reader ≡ None)
+  pub ends : IsAtEnd left ⊎ IsCutOff serving.bytes reader
 
 -- The first messages of the bytes that were read were answered in turn, and of the answers' frames a front was written.
 pub record ServesSome (before behind : Situation) (input left output written : Option (List ℕ)) : Type 0 where

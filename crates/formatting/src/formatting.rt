@@ -1,7 +1,7 @@
 //! A new volume.
 
 ghost use Rattle.limits.specs.declared.TheConstants.{BLOCK_BYTES, FORMAT_BLOCKS, GREATEST_CAPACITY, LEAST_CAPACITY};
-ghost use Rattle.std.specs.Prelude.{◌≡◌, ◌↔◌, ℕ, ◌<◌, ◌≤◌, ◌∷◌, [], Ok, Err, IsTrue, None, IsSome, IsNone, IfOk, IfErr, IfSome, OnOk, is_err, length, slice_index};
+ghost use Rattle.std.specs.Prelude.{◌≡◌, ◌↔◌, ℕ, ◌<◌, ◌≤◌, ◌∷◌, [], Ok, Err, IsTrue, None, IsSome, IsNone, IfOk, IfErr, IfSome, OnOk, is_err, length};
 ghost use Rattle.drive.specs.Journal.{counted, held, next_of};
 ghost use Rattle.drive.specs.Reads.{Follows, Reads};
 ghost use Rattle.dir.specs.Directory.{identifiers};
@@ -13,7 +13,6 @@ ghost use Rattle.osta.specs.Label.{IsLabel, label_faults};
 ghost use Rattle.recover.specs.Faults.{devices};
 ghost use Rattle.recover.specs.declared.fault.StoreFault.TheVariants as fault;
 ghost use Rattle.formatting.specs.NewVolume.{words_of, words_on, IsBlockAt, IsSeen, IsBegun, AreBlocks, IsFormatted, IsFormatRefused, Withstands, OneFormat};
-ghost use Rattle.udf.specs.Udf.{IsBlock};
 ghost use Rattle.udf.specs.NewVolume as udf;
 ghost use Rattle.udf.specs.NewVolume.{root_fields, table_fields};
 ghost use Rattle.vat.specs.Table.{table_bytes};
@@ -27,6 +26,7 @@ use indexmap::IndexMap;
 use osta::Label;
 use recover::{ROOT_ADDRESS, StoreFault};
 use std::alloc::{AllocError, Global};
+use udf::blocks_are_bytes;
 use vat::{Sessions, Vat, Version, encode_vat};
 use volume::{FRONT_BLOCKS, front_block};
 
@@ -150,7 +150,7 @@ fn begun<D: Drive>(drive: &mut D, parts: &Parts) -> Result<Option<u32>, DriveFau
             Err(fault) => return Err(fault),
         }
         let expected = format_block(parts, n);
-        known(&expected);
+        blocks_are_bytes(&expected);
         if block != expected {
             return Ok(None);
         }
@@ -166,23 +166,11 @@ fn rest(alloc: Global, parts: &Parts, next: u32) -> Result<Vec<Block>, AllocErro
     let mut blocks = Vec::new(alloc);
     for n in next..FORMAT_BLOCKS {
         let block = format_block(parts, n);
-        known(&block);
+        blocks_are_bytes(&block);
         blocks.push(block)?;
     }
     Ok(blocks)
 }
-
-/// Does nothing: what it ensures holds of each block.
-fn known(block: &Block)
-    ensures { IsBlock block.now }
-{
-    are_bytes(block);
-}
-
-/// Does nothing: what it ensures holds of all bytes.
-fn are_bytes(bytes: &[u8])
-    ensures { (i : ℕ) → slice_index bytes.now i < 256 }
-{}
 
 /// The block that a format writes at an address.
 fn format_block(parts: &Parts, n: u32) -> Block

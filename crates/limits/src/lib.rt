@@ -1,9 +1,13 @@
-//! The limits of this profile of UDF 2.01 and of the messages, each stated once. The crates above cite them; what each
-//! one means for a volume or a message is said, and proved, where it is kept.
+//! The limits of this profile of UDF 2.01 and of the messages, and the sizes by which the room for a commit is reckoned,
+//! each stated once. The crates above cite them; what each one means for a volume or a message is said, and proved, where
+//! it is kept.
 #![tactic(auto)]
 
 /// In bytes, of a logical sector and of a logical block alike (UDF 2.01 2.2.4.2).
 pub const BLOCK_BYTES: u32 = 2048;
+
+/// A block of the medium, of [`BLOCK_BYTES`]. Its address counts blocks from 0.
+pub type Block = [u8; 2048];
 
 /// How many blocks a medium has at least.
 pub const LEAST_CAPACITY: u32 = 512;
@@ -46,6 +50,15 @@ pub const CLIENTS: u16 = 64;
 
 /// How many replies are kept for each client.
 pub const KEPT_REPLIES: u16 = 4;
+
+/// In bytes, of a virtual allocation table before its first record: its header (UDF 2.01 2.2.10) and the sessions' own.
+pub const TABLE_HEAD_BYTES: u32 = 196;
+
+/// In bytes, of a client's record in a table.
+pub const RECORD_BYTES: u32 = 48;
+
+/// In bytes, of a virtual address in a table.
+pub const ADDRESS_BYTES: u32 = 4;
 
 /// The unique ID that the first file or directory behind the root gets (UDF 2.01 3.2.1.1).
 pub const FIRST_UNIQUE: u32 = 16;

@@ -44,6 +44,14 @@ use request::{Reply, Request};
 use std::alloc::Global;
 use vat::{Vat, encode_vat};
 
+const BLOCK_BYTES: u64 = limits::BLOCK_BYTES as u64;
+
+const TABLE_HEAD_BYTES: u64 = limits::TABLE_HEAD_BYTES as u64;
+
+const RECORD_BYTES: u64 = limits::RECORD_BYTES as u64;
+
+const ADDRESS_BYTES: u64 = limits::ADDRESS_BYTES as u64;
+
 /// A block of directory data that another one follows is used up to this byte at least.
 const LEAST_USED: u64 = 1720;
 
@@ -68,6 +76,8 @@ impl Plan<'_> {
         ensures directories { self.new.directories.items ≡ self.old.directories.items }
         ensures table { self.new.table ≡ self.old.table }
         ensures reply { self.new.reply ≡ self.old.reply }
+        ensures file { self.new.file ≡ self.old.file }
+        ensures moment { self.new.moment ≡ self.old.moment }
         ensures writes { Writes D.Drive (is_err result) drive.old drive.new }
     {
         let held = self.held();
@@ -85,7 +95,8 @@ impl Plan<'_> {
             .directories
             .len()
             .saturating_add(usize::from(self.file.is_some()));
-        let table = 1 + self.table.bytes.len().div_ceil(2048);
+        let bytes = self.table.bytes.len();
+        let table = 1 + bytes.div_ceil(limits::BLOCK_BYTES as usize);
         nodes.saturating_add(table)
     }
 
@@ -295,8 +306,9 @@ fn table_need(vat: &Vat) -> u64
     ensures value { result ≡ needs.table_need (view vat.now) }
     ensures few { result ≤ 1_000 }
 {
-    let size = 196 + 48 * vat.sessions.records.len() as u64 + 4 * vat.entries.len() as u64;
-    2 * size.div_ceil(2048) + 1
+    let records = RECORD_BYTES * vat.sessions.records.len() as u64;
+    let entries = ADDRESS_BYTES * vat.entries.len() as u64;
+    2 * (TABLE_HEAD_BYTES + records + entries).div_ceil(BLOCK_BYTES) + 1
 }
 
 /// The most blocks for a file, if one is written.

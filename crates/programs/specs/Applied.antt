@@ -1,5 +1,5 @@
 -- What the messages of the input became, and what a user sees of it who gave them a volume in memory.
-use Rattle.std.specs.Prelude.{◌≡◌, ◌⊎◌, ⊤, ℕ, ◌<◌, List, codes, Option, None, IsSome, Result, Ok, Err}
+use Rattle.std.specs.Prelude.{◌≡◌, ◌⊎◌, ⊤, ℕ, ◌<◌, List, codes, Option, IsSome, Result, Ok, Err}
 use Rattle.std.specs.Io.KnownBytes.{Appends, Consumes, IsAtEnd, Keeps}
 use Rattle.limits.specs.declared.TheConstants.{GREATEST_CAPACITY, LEAST_CAPACITY, FORMAT_BLOCKS}
 use Rattle.osta.specs.FirstFault.{first_fault}
@@ -21,7 +21,7 @@ use Rattle.engine.specs.Situation.{Situation}
 use Rattle.engine.specs.Streams.{PutsFront}
 use Rattle.engine.specs.Delivered.{with_store}
 use Rattle.engine.specs.Headline.{said_answers}
-use Rattle.engine.specs.Served.{LeftBy, ServesAll, ServesUntil, brought, frames_of}
+use Rattle.engine.specs.Served.{IsCutOff, LeftBy, ServesAll, ServesUntil, brought, frames_of}
 use Rattle.engine.specs.declared.serving.ServeFault.{ServeFault}
 use Rattle.programs.specs.declared.fault.Fault.{Fault}
 use Rattle.programs.specs.declared.fault.Fault.TheVariants.{Usage, Path, Socket, Store as Stored, Stream}
@@ -73,7 +73,7 @@ pub record AnswersAll (capacity : ℕ) (input left output written : Option (List
   pub run : IsRunOfNew capacity messages answers
   pub told : Appends output written (frames_of answers)
   pub idle : IsIdle reader
-  pub ends : IsAtEnd left ⊎ (reader ≡ None)
+  pub ends : IsAtEnd left ⊎ IsCutOff bytes reader
 
 -- The first messages of the bytes that were read were answered so, and a front of the answers' frames was written.
 pub record AnswersSome (capacity : ℕ) (input left output written : Option (List ℕ)) : Type 0 where

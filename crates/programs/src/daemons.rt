@@ -7,7 +7,7 @@ ghost use Rattle.engine.specs.Situation.{IsReady, seen_on, situation_on};
 ghost use Rattle.engine.specs.Served.{ServesAll};
 ghost use Rattle.programs.specs.Connections.{GoesOn, AreOneRun, LeavesConnection, LeavesStream};
 ghost use Rattle.programs.specs.Images.{OnImage};
-ghost use Rattle.programs.specs.Refusals.{AreDaemonWords, RefusesDaemon, TellsRefusal};
+ghost use Rattle.programs.specs.Refusals.{AreDaemonWords, RefusesDaemon, SaysFaults, TellsRefusal};
 ghost use Rattle.programs.specs.Status.{IsRefusal};
 
 use crate::fault::{Fault, report};
@@ -46,6 +46,8 @@ where
     // Where it ends by itself, its words are those of a daemon, and all connections were one run.
     ensures asks { result ≡ 0 → AreDaemonWords (map (λ w. w.now) words.now) }
     ensures run { result ≡ 0 → OnImage GREATEST_CAPACITY AreOneRun }
+    // What it said then is why connections could not be had, or were left.
+    ensures said { result ≡ 0 → SaysFaults (E.contents errors.old) (E.contents errors.new) }
     // Where it was refused, it said why, and nothing else.
     ensures tells { 1 ≤ result → TellsRefusal (map (λ w. w.now) words.now) result (E.contents errors.old) (E.contents errors.new) }
 {
@@ -60,6 +62,7 @@ where
     E: Write,
     ensures asks { OnOk result (AreDaemonWords (map (λ w. w.now) words.now)) }
     ensures run { OnOk result (OnImage GREATEST_CAPACITY AreOneRun) }
+    ensures said { OnOk result (SaysFaults (E.contents errors.old) (E.contents errors.new)) }
     ensures refused { IfErr result (RefusesDaemon (map (λ w. w.now) words.now)) }
     ensures unsaid { OnErr result (E.contents errors.new ≡ E.contents errors.old) }
 {
@@ -77,6 +80,7 @@ where
     ensures refused { IfErr result (λ fault. (fault ≡ Fault.Socket) ⊎ (fault ≡ Fault.Store StoreFault.Device)) }
     // All of them together are one run.
     ensures run { OnOk result (OnImage GREATEST_CAPACITY AreOneRun) }
+    ensures said { OnOk result (SaysFaults (E.contents errors.old) (E.contents errors.new)) }
     ensures unsaid { OnErr result (E.contents errors.new ≡ E.contents errors.old) }
 {
     let mut drive = open_image(rt, asked.image)?;
@@ -98,8 +102,9 @@ where
     R: Clock + AllocGlobal,
     D: Drive,
     E: Write,
-    ensures { AreOneRun (situation_on D.Drive None drive.old)
+    ensures run { AreOneRun (situation_on D.Drive None drive.old)
         (situation_on D.Drive None drive.new) }
+    ensures said { SaysFaults (E.contents errors.old) (E.contents errors.new) }
 {
     let mut engine = Engine::new();
     let mut left = connections;
@@ -110,9 +115,7 @@ where
         }
         let Ok((stream, _)) = listener.accept() else {
             // It goes on failing while descriptors are short, so it is told once, and waited out.
-            if !is_told {
-                report(NAME, Err(Fault::Socket), errors);
-            }
+            tell_once(is_told, errors);
             is_told = true;
             thread::sleep(rt, Duration::from_millis(PAUSE));
             continue;
@@ -123,6 +126,16 @@ where
         left -= 1;
         is_told = false;
     }
+}
+
+/// Says that a connection could not be had, where that is not told already.
+fn tell_once<E: Write>(is_told: bool, errors: &mut E)
+    ensures { SaysFaults (E.contents errors.old) (E.contents errors.new) }
+{
+    if is_told {
+        return;
+    }
+    report(NAME, Err(Fault::Socket), errors);
 }
 
 /// A listener at this path, where nothing may be yet. No path is an address that no client could name.

@@ -1,11 +1,12 @@
 //! The process of a program: its words and its standard streams.
 
 ghost use Rattle.limits.specs.declared.TheConstants.{GREATEST_CAPACITY};
-ghost use Rattle.std.specs.Prelude.{◌≡◌, ◌≤◌, map, codes, IfErr, IfOk, IfSome, IsSomeAnd, OnErr};
+ghost use Rattle.std.specs.Prelude.{◌≡◌, ◌≤◌, map, codes, IfErr, IfNone, IfOk, IfSome, IsSomeAnd, OnErr};
 ghost use Rattle.command_line.specs.Commands.{Asks};
 ghost use Rattle.programs.specs.Connections.{AreOneRun};
 ghost use Rattle.programs.specs.FaultLines.{TellsOutcome};
 ghost use Rattle.programs.specs.Images.{OnImage};
+ghost use Rattle.programs.specs.Refusals.{IsDaemonTold, IsEarly, SaysFaults, TellsEarly};
 ghost use Rattle.programs.specs.Tasks.{Ends, HasFront, IsBegun, IsDone, IsFrontOf, task_of};
 
 use crate::commands::command;
@@ -41,6 +42,9 @@ where
     // Of other words nothing is read, and nothing is written.
     ensures unread { result.0 ≡ 2 → I.remaining input.new ≡ I.remaining input.old }
     ensures unwritten { result.0 ≡ 2 → IfSome result.1 (λ written. IsFrontOf (O.contents output) (O.contents written)) }
+    // Where the output was let go nothing was read, and it says why nothing was begun.
+    ensures let_go { IfNone result.1 (I.remaining input.new ≡ I.remaining input.old) }
+    ensures early { IfNone result.1 (TellsEarly (codes "udfburn") result.0 (E.contents errors.old) (E.contents errors.new)) }
 {
     match try_command(rt, input, output, errors) {
         Ok(ended) => ended,
@@ -57,8 +61,10 @@ where
     ensures status { result ≤ 2 }
     // Where it ends by itself, all connections were one run.
     ensures run { result ≡ 0 → OnImage GREATEST_CAPACITY AreOneRun }
+    // What it said then is why connections could not be had, or were left.
+    ensures said { result ≡ 0 → SaysFaults (E.contents errors.old) (E.contents errors.new) }
     // Where it was refused, it said why, and nothing else.
-    ensures tells { 1 ≤ result → TellsOutcome (codes "udfburnd") result (E.contents errors.old) (E.contents errors.new) }
+    ensures tells { 1 ≤ result → IsDaemonTold result (E.contents errors.old) (E.contents errors.new) }
 {
     match try_daemon(rt, errors) {
         Ok(status) => status,
@@ -84,6 +90,9 @@ where
     ensures unheard { OnErr result (I.remaining input.new ≡ I.remaining input.old) }
     ensures unread { IfOk result (λ ended. ended.0 ≡ 2 → I.remaining input.new ≡ I.remaining input.old) }
     ensures unwritten { IfOk result (λ ended. ended.0 ≡ 2 → IfSome ended.1 (λ written. IsFrontOf (O.contents output) (O.contents written))) }
+    ensures refused { IfErr result IsEarly }
+    ensures let_go { IfOk result (λ ended. IfNone ended.1 (I.remaining input.new ≡ I.remaining input.old)) }
+    ensures early { IfOk result (λ ended. IfNone ended.1 (TellsEarly (codes "udfburn") ended.0 (E.contents errors.old) (E.contents errors.new))) }
 {
     hold_standard_streams(rt)?;
     let words = own_words(rt)?;
@@ -113,6 +122,9 @@ where
     // Of other words nothing is read, and nothing is written.
     ensures unread { result.0 ≡ 2 → I.remaining input.new ≡ I.remaining input.old }
     ensures unwritten { result.0 ≡ 2 → IfSome result.1 (λ written. IsFrontOf (O.contents output) (O.contents written)) }
+    // Where the output was let go nothing is read, since memory is short.
+    ensures let_go { IfNone result.1 (I.remaining input.new ≡ I.remaining input.old) }
+    ensures early { IfNone result.1 (TellsEarly (codes "udfburn") result.0 (E.contents errors.old) (E.contents errors.new)) }
     ensures front { (asked : _) → Asks (map (λ w. w.now) words.now) asked → IfSome result.1 (λ written. HasFront (task_of asked) result.0 (I.remaining input.old) (I.remaining input.new) (O.contents output) (O.contents written) (E.contents errors.old) (E.contents errors.new)) }
 {
     let mut writer = match BufWriter::new(rt.alloc(), output) {
@@ -142,7 +154,9 @@ where
     ensures unsaid { IfErr result (λ _. E.contents errors.new ≡ E.contents errors.old) }
     ensures status { IfOk result (λ status. status ≤ 2) }
     ensures run { IfOk result (λ status. status ≡ 0 → OnImage GREATEST_CAPACITY AreOneRun) }
-    ensures tells { IfOk result (λ status. 1 ≤ status → TellsOutcome (codes "udfburnd") status (E.contents errors.old) (E.contents errors.new)) }
+    ensures said { IfOk result (λ status. status ≡ 0 → SaysFaults (E.contents errors.old) (E.contents errors.new)) }
+    ensures refused { IfErr result IsEarly }
+    ensures tells { IfOk result (λ status. 1 ≤ status → IsDaemonTold status (E.contents errors.old) (E.contents errors.new)) }
 {
     hold_standard_streams(rt)?;
     let words = own_words(rt)?;
@@ -152,7 +166,9 @@ where
 
 /// Puts a descriptor of the root folder in the place of each standard stream that is closed. So no file that is opened later
 /// gets its number, and is read or written in its place: to read or to write a folder fails, as it does on what is closed.
-fn hold_standard_streams<R: Files<File = File>>(rt: &R) -> Result<(), Fault> {
+fn hold_standard_streams<R: Files<File = File>>(rt: &R) -> Result<(), Fault>
+    ensures { IfErr result IsEarly }
+{
     for _ in 0..3 {
         let folder = match File::open(rt, "/") {
             Ok(folder) => folder,
@@ -168,7 +184,9 @@ fn hold_standard_streams<R: Files<File = File>>(rt: &R) -> Result<(), Fault> {
 }
 
 /// The words of the process, of which the first is its name. Words that are no text are not those of a command.
-fn own_words<R: Env + AllocGlobal>(rt: &R) -> Result<Vec<String>, Fault> {
+fn own_words<R: Env + AllocGlobal>(rt: &R) -> Result<Vec<String>, Fault>
+    ensures { IfErr result IsEarly }
+{
     let words = match env::args(rt) {
         Ok(words) => words,
         Err(error) if error.kind() == ErrorKind::InvalidData => return Err(Fault::Usage),
@@ -181,7 +199,9 @@ fn own_words<R: Env + AllocGlobal>(rt: &R) -> Result<Vec<String>, Fault> {
 }
 
 /// The words as texts.
-fn texts(alloc: Global, words: &[String]) -> Result<Vec<&str>, Fault> {
+fn texts(alloc: Global, words: &[String]) -> Result<Vec<&str>, Fault>
+    ensures { IfErr result IsEarly }
+{
     match words.iter().map(|word| word.as_str()).collect(alloc) {
         Ok(texts) => Ok(texts),
         Err(_) => Err(Fault::Store(StoreFault::Memory)),

@@ -1,7 +1,7 @@
 //! Reads of structures by their addresses. No call writes.
 
 ghost use Rattle.limits.specs.declared.TheConstants.{BLOCK_BYTES};
-ghost use Rattle.std.specs.Prelude.{◌≡◌, ◌+◌, ◌<◌, ◌≤◌, ◌^◌, IsTrue, IfOk, IfErr, OnOk, Some, vec_len, All, slice_index, ℕ};
+ghost use Rattle.std.specs.Prelude.{◌≡◌, ◌+◌, ◌<◌, ◌≤◌, ◌^◌, IsTrue, IfOk, IfErr, OnOk, Some, vec_len, All};
 ghost use Rattle.udf.specs.Udf.{IsBlock};
 ghost use Rattle.std.specs.Int.{div_ceil};
 ghost use Rattle.drive.specs.Journal.{AreWhole, held, last_at, next_of};
@@ -14,6 +14,7 @@ use crate::fault::StoreFault;
 use drive::Drive;
 use ecma::Block;
 use std::alloc::Global;
+use udf::blocks_are_bytes;
 
 /// The address of the block with number 0 of the partition.
 pub const PARTITION_START: u32 = limits::PARTITION_START;
@@ -59,17 +60,12 @@ pub(crate) fn read_into<D: Drive>(
 {
     match drive.read(at, block) {
         Ok(()) => {
-            are_bytes(block);
+            blocks_are_bytes(block);
             Ok(())
         }
         Err(_) => Err(StoreFault::Device),
     }
 }
-
-/// What a slice of bytes has is below 256. Nothing runs.
-fn are_bytes(bytes: &[u8])
-    ensures { (i : ℕ) → slice_index bytes.now i < 256 }
-{}
 
 /// Reads so many blocks from an address on.
 pub fn read_blocks<D: Drive>(

@@ -54,12 +54,16 @@ writes_plan (Ok reply) K J J' before request capacity change plan store same mak
 writes_plan (Err e) K J J' before request capacity change plan store same makes is said at vat journal = said
 
 pub has_failed : {T : Type 0} (r : Result T StoreFault) (K J J' : List Event) (before : Store) (request : Request) (capacity : ℕ) (change : Change) (plan : Plan) (store : Store) → K ≡ J → Makes before request change plan → IsPlan (next_of J) capacity plan
-    → OnErr r (AddsFront K (next_of K) (plan_blocks plan) J') → IfErr r (λ fault. fault ≡ Device) → store.is_stopped ≡ is_err r → IfErr r (IsCommitRefused before request capacity J J' store)
-has_failed (Ok x) K J J' before request capacity change plan store same makes is front device stopped = tt
-has_failed (Err e) K J J' before request capacity change plan store same makes is front device stopped = inr (record {
+    → OnErr r (AddsFront K (next_of K) (plan_blocks plan) J') → IfErr r (λ fault. fault ≡ Device) → store.is_stopped ≡ is_err r
+    → OnErr r ((store.at ≡ before.at) × (store.vat ≡ before.vat)) → store.capacity ≡ before.capacity → IfErr r (IsCommitRefused before request capacity J J' store)
+has_failed (Ok x) K J J' before request capacity change plan store same makes is front device stopped table volume = tt
+has_failed (Err e) K J J' before request capacity change plan store same makes is front device stopped table volume = inr (record {
   device = device;
   front = record { change = change; plan = plan; is = is; makes = makes; front = subst (λ (L : List Event). AddsFront L (next_of L) (plan_blocks plan) J') same front };
   stopped = stopped;
+  at = table.0;
+  vat = table.1;
+  volume = volume;
 })
 
 -- a store is stopped where it answers an error

@@ -41,11 +41,14 @@ pub record StopsInPlan (before : Store) (request : Request) (capacity : ℕ) (J 
   pub makes : Makes before request change plan
   pub front : AddsFront J (next_of J) (plan_blocks plan) J'
 
--- A write failed, and the store is stopped.
+-- A write failed, and the store is stopped. It keeps the table that it had, with its records.
 pub record HasFailed (before : Store) (request : Request) (capacity : ℕ) (J J' : List Event) (fault : StoreFault) (store : Store) : Type 0 where
   pub device : fault ≡ Device
   pub front : StopsInPlan before request capacity J J'
   pub stopped : store.is_stopped ≡ true
+  pub at : store.at ≡ before.at
+  pub vat : store.vat ≡ before.vat
+  pub volume : store.capacity ≡ before.capacity
 
 -- Nothing was written, and the store is as it was, but for the directories that it keeps.
 pub record IsUntouched (before : Store) (J J' : List Event) (store : Store) : Type 0 where

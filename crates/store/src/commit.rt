@@ -82,6 +82,7 @@ impl Store {
         ensures vat { OnOk result (self.new.vat ≡ plan.entry.table.vat) }
         ensures written { OnOk result (D.journal drive.new ≡ D.journal drive.old ++ written (next_of (D.journal drive.old)) (plan_blocks plan.entry)) }
         ensures front { OnErr result (AddsFront (D.journal drive.old) (next_of (D.journal drive.old)) (plan_blocks plan.entry) (D.journal drive.new)) }
+        ensures as_before { OnErr result ((self.new.at ≡ self.old.at) × (self.new.vat ≡ self.old.vat)) }
         ensures alone { SendsAlone D.Drive (node_list plan.entry ++ table_data plan.entry.table) plan.entry.table.entry (is_err result) drive.old drive.new }
         ensures kept { Once (D.journal drive.old) → AreKept (D.journal drive.old) self.old.directories → AreKept (D.journal drive.new) self.new.directories }
         ensures stopped { self.new.is_stopped ≡ is_err result }

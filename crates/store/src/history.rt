@@ -1,6 +1,6 @@
 //! The commits of a volume, and the state after each.
 
-ghost use Rattle.limits.specs.declared.TheConstants.{PARTITION_START};
+ghost use Rattle.limits.specs.declared.TheConstants.{ADDRESSES, PARTITION_START};
 ghost use Rattle.std.specs.Prelude.{◌≡◌, ◌+◌, ◌<◌, ◌≤◌, ℕ, All, Err, IsTrue, IfOk, IfErr, OnOk, false, length};
 ghost use Rattle.drive.specs.Journal.{held, next_of};
 ghost use Rattle.drive.specs.Reads.{Reads};
@@ -64,7 +64,7 @@ pub struct Snapshot {
     /// The address of its table's entry.
     at: u32,
     vat: Vat,
-    ghost few: { length vat.entries.items ≤ 4097 },
+    ghost few: { length vat.entries.items ≤ ADDRESSES },
     ghost below: { AreBelow at vat.entries.items } by { Prim.hlevel props },
 }
 
@@ -171,7 +171,7 @@ impl Store {
     /// All commits, the newest first, from the entries and the data of the chain's tables alone.
     pub fn history<D: Drive>(&self, alloc: Global, drive: &mut D) -> Result<Vec<Commit>, StoreFault>
         requires agrees { Agrees (D.journal drive.old) (D.capacity drive.old) self.now }
-        ensures stopped { IsTrue self.now.is_stopped → result ≡ Err Stopped }
+        ensures stopped { IsTrue self.now.is_stopped → (result ≡ Err Stopped) × (drive.new ≡ drive.old) }
         ensures history { IfOk result (λ commits. IsTrue (D.honest drive.new) → IsHistory (held (D.journal drive.old)) self.now.at commits.items) }
         // One of each commit, and one of the format.
         ensures all { (volume : ℕ) (T : said.State) → IsTrue (D.honest drive.new) → Knows (D.capacity drive.old) volume (D.journal drive.old) T self.now → IfOk result (λ commits. length commits.items ≡ T.commits + 1) }
@@ -201,7 +201,7 @@ impl Store {
         commit: u32,
     ) -> Result<Snapshot, StoreFault>
         requires agrees { Agrees (D.journal drive.old) (D.capacity drive.old) self.now }
-        ensures stopped { IsTrue self.now.is_stopped → result ≡ Err Stopped }
+        ensures stopped { IsTrue self.now.is_stopped → (result ≡ Err Stopped) × (drive.new ≡ drive.old) }
         ensures none { self.now.is_stopped ≡ false → self.now.vat.sessions.commits < commit → result ≡ Err NoCommit }
         // The state that stood behind so many commits.
         ensures past { (volume : ℕ) (T : said.State) → IsTrue (D.honest drive.new) → Knows (D.capacity drive.old) volume (D.journal drive.old) T self.now → IfOk result (λ s. (S : said.State) × IsPast (D.capacity drive.old) volume (D.journal drive.old) commit S s.at s.vat) }
@@ -251,7 +251,7 @@ impl Store {
     /// How many commits there are, where the state after each of them stands.
     pub fn check<D: Drive>(&self, alloc: Global, drive: &mut D) -> Result<u32, StoreFault>
         requires agrees { Agrees (D.journal drive.old) (D.capacity drive.old) self.now }
-        ensures stopped { IsTrue self.now.is_stopped → result ≡ Err Stopped }
+        ensures stopped { IsTrue self.now.is_stopped → (result ≡ Err Stopped) × (drive.new ≡ drive.old) }
         ensures count { IfOk result (λ n. n ≡ self.now.vat.sessions.commits) }
         // A state stood after each.
         ensures whole { (volume : ℕ) (T : said.State) → IsTrue (D.honest drive.new) → Knows (D.capacity drive.old) volume (D.journal drive.old) T self.now → IfOk result (λ n. (n ≡ T.commits) × AllStood (D.capacity drive.old) volume (held (D.journal drive.old)) n) }

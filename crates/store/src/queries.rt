@@ -1,5 +1,6 @@
 //! Questions about the tree.
 
+ghost use Rattle.limits.specs.declared.TheConstants.{ADDRESSES};
 ghost use Rattle.std.specs.Prelude.{◌≡◌, ◌≤◌, IsTrue, IfOk, IfErr, OnOk, Err, false, length};
 ghost use Rattle.drive.specs.Journal.{Once};
 ghost use Rattle.drive.specs.Reads.{Reads};
@@ -90,7 +91,7 @@ pub(crate) fn nodes_of(
     at: u32,
     entries: &[Option<u32>],
 ) -> Result<Nodes<'_>, StoreFault>
-    requires few { length entries.now ≤ 4097 }
+    requires few { length entries.now ≤ ADDRESSES }
     ensures nodes { IfOk result (λ nodes. (nodes.at ≡ at) × (nodes.entries.now ≡ entries.now)) }
     ensures goes_on { OnOk result (is_stopped ≡ false) }
     ensures stopped { IfErr result (λ fault. IsTrue is_stopped × (fault ≡ Stopped)) }

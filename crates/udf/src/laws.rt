@@ -1,11 +1,26 @@
 //! What holds of these formats, and of every medium by them. Nothing here runs: each function's contract is a law.
 
+ghost use Rattle.std.specs.Prelude.{◌<◌, ℕ, slice_index};
 ghost use Rattle.durability.specs.Formats.{AreExact, AreBounded, AreDistinct, AreShort};
-ghost use Rattle.udf.specs.Udf.{udf, spelled};
+ghost use Rattle.udf.specs.Udf.{udf, spelled, IsBlock};
 ghost use Rattle.udf.specs.Said.{EntriesAgree, DirectoriesAgree, TablesAgree, SizesAgree, ImitationAgrees, DataAgrees, ClearStartsAgree};
 ghost use Rattle.udf.specs.NewVolume.{NewVolumesAreFormats};
 ghost use Rattle.udf.specs.Laws.{OneStands, StandingIsSound, OnePast, PastIsWithin, StandingIsLast, StandsAppended, PastAppended, PlannedCarries, PlannedShort, CommitAdvances, NothingBefore, FormatStands, RunsHold, RunsHoldOnJournal};
 ghost use Rattle.udf.specs.Torn.{FrontsAreLeft, FewerAreLeft, ChoicesAreLeft, TornPartIsAlike, LastBlockDecides, TornCommitMoves, TornCommitShort, TornCommitAdvances, AnsweredEndure, CommitsEndure, TornCommitRuns, TornFormatIsNothing, TornFormatStands};
+
+use limits::Block;
+
+/// A block of a medium is one of these formats: it has its size, and bytes below 256.
+pub fn blocks_are_bytes(block: &Block)
+    ensures { IsBlock block.now }
+{
+    are_bytes(block);
+}
+
+/// What a slice of bytes has is below 256.
+fn are_bytes(bytes: &[u8])
+    ensures { (i : ℕ) → slice_index bytes.now i < 256 }
+{}
 
 /// A block is one file entry at most at its location, blocks are the data of one directory, bytes are one table.
 pub fn formats_are_exact()

@@ -1,3 +1,4 @@
+ghost use Rattle.limits.specs.declared.TheConstants.{ADDRESSES};
 ghost use Rattle.std.specs.Prelude.{◌≡◌, ◌*◌, ◌≤◌, ◌++◌, length, All, IfOk, OnOk};
 ghost use Rattle.std.specs.List.{flat_map};
 ghost use Rattle.vat.specs.Table.{view, FitsTable, head_bytes, table_bytes};
@@ -15,7 +16,7 @@ use std::alloc::{AllocError, Global};
 pub(crate) const HEADER_SIZE: usize = 152;
 
 /// The bytes before the first record.
-pub(crate) const RECORDS_AT: usize = 196;
+pub(crate) const RECORDS_AT: usize = limits::TABLE_HEAD_BYTES as usize;
 
 /// The number in the place of a virtual address that is unused, and of an entry before the first.
 pub(crate) const UNUSED: u32 = u32::MAX;
@@ -56,7 +57,7 @@ fn put_records(out: &mut Vec<u8>, version: Version, records: &[Record]) -> Resul
 
 /// Writes what the table has for each virtual address at the end.
 fn put_entries(out: &mut Vec<u8>, entries: &[Option<u32>]) -> Result<(), AllocError>
-    requires { length entries.now ≤ 4_097 }
+    requires { length entries.now ≤ ADDRESSES }
     ensures { OnOk result (out.new.items ≡ out.old.items ++ flat_map entry_bytes entries.now) }
 {
     let at = out.len();

@@ -51,7 +51,7 @@ impl Version {
     {
         match self {
             Version::One => 24,
-            Version::Two => 48,
+            Version::Two => limits::RECORD_BYTES as usize,
         }
     }
 }

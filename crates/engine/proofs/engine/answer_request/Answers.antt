@@ -24,7 +24,7 @@ returns-in-Ok-clause-dealt g c volume S honest knows going = dealt_new _ volume 
 
 pub returns-in-Err : goal.returns-in-Err
 returns-in-Err g c = record {
-  due = committed_due _ _ _ _ c.in-New.ensures (inr (c.refusal.ensures.may, open_unwritten _ _ _ _ _ _ _ c.in-Err.ensures.refused));
+  due = committed_due _ _ _ _ c.in-New.ensures (inr (c.refusal.ensures.may, λ going. (open_unwritten _ _ _ _ _ _ _ c.in-Err.ensures.refused going, c.in-Err.ensures.unwritten going)));
   follows = record {
     ready = c.in-Err.ensures.agrees;
     front = behind_refused _ _ _ _ _ _ _ c.in-Err.ensures.refused;

@@ -1,7 +1,7 @@
-use Rattle.std.proofs.Common.{rules, ◌≡◌, ℕ, List, [], Option, Some, take, refl, sym, subst, ap, inl, arith, ◌∙◌}
+use Rattle.std.proofs.Common.{rules, ◌≡◌, ℕ, List, [], Option, take, refl, sym, subst, ap, inl, arith, ◌∙◌}
 use Rattle.drive.proofs.Reading.{follows_none, follows_then}
 use Rattle.request.specs.Frames.{IsIdle, fed}
-use Rattle.engine.proofs.Messages.{serving_none, serving_more, serving_some, serving_read, serving_kept, serving_stops, serving_nothing, serving_ends, serving_over, if_err, on_ok, over, filled, took}
+use Rattle.engine.proofs.Messages.{serving_none, serving_more, serving_some, serving_read, serving_kept, serving_stops, serving_nothing, serving_ends, serving_over, goes_on, piece_fits, if_err, on_ok, over, filled, took}
 use Rattle.engine.proofs.serving.serve.Goals as goal
 
 pub returns-in-Err-clause-left : goal.returns-in-Err-clause-left
@@ -11,6 +11,7 @@ pub loop-init : goal.loop-init
 loop-init g c = record {
   serving = serving_none _ _ _ _ c.new-frames.ensures;
   idle = subst (λ (r : Option (List ℕ)). IsIdle r) (sym c.new-frames.ensures) (inl (omega arith));
+  goes = ([], c.new-frames.ensures);
   ready = search rules;
   lent = follows_none _ _;
   room = search rules;
@@ -49,9 +50,9 @@ returns-then-is_over-clause-ok g c =
     let fed_is : c.feed.new.self ≡ fed c.loop.frames piece = fed_at ∙ ap (λ (x : List ℕ). fed c.loop.frames x)
     (c.split_at.ensures.front ∙ ap (λ (x : List ℕ). take c.in_ok-count.count x)
     (c.deref.ensures.value ∙ filled c.loop.piece.len c.read_piece.new.piece _ (search rules))) in
-    serving_over c.answer_all.new.frames _ _ _ _ _ _
-    (serving_more c.loop.frames c.feed.new.self c.answer_all.new.frames _ _ _ _ (g.R.Read.remaining c.loop.reader) _ _ (g.W.Write.contents c.loop.writer) _ piece
-    c.loop.invariant.serving c.in_ok-count.ensures.ok fed_is (search rules)) (search rules) (over _ (search rules))
+    serving_over c.loop.frames c.feed.new.self c.answer_all.new.frames _ _ _ _ (g.R.Read.remaining c.loop.reader) _ _ (g.W.Write.contents c.loop.writer) _ piece
+    c.loop.invariant.serving c.loop.invariant.idle c.loop.invariant.goes c.in_ok-count.ensures.ok (piece_fits c.in_ok-count.count c.read_piece.new.piece c.in_ok-count.ensures.bound (search rules))
+    fed_is (search rules) (search rules) (over _ (search rules))
 
 pub loop-preserved : goal.loop-preserved
 loop-preserved g c =
@@ -64,6 +65,7 @@ loop-preserved g c =
       serving = serving_more c.loop.frames c.feed.new.self c.answer_all.new.frames _ _ _ _ (g.R.Read.remaining c.loop.reader) _ _ (g.W.Write.contents c.loop.writer) _ piece
           c.loop.invariant.serving c.in_ok-count.ensures.ok fed_is (search rules);
       idle = search rules;
+      goes = goes_on _ (search rules);
       ready = c.answer_all.ensures.ready;
       lent = follows_then c.loop.invariant.lent c.answer_all.ensures.lent;
       room = search rules;

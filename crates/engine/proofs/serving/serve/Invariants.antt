@@ -1,4 +1,4 @@
-use Rattle.std.proofs.Common.{◌≡◌, vec_len}
+use Rattle.std.proofs.Common.{◌≡◌, ℕ, List, Some, vec_len}
 use Rattle.request.specs.Frames.{IsIdle}
 use Rattle.drive.specs.Reads.{Follows}
 use Rattle.engine.specs.Situation.{IsReady, seen_on}
@@ -12,6 +12,7 @@ invariant-loop g l = record {
       (seen_on g.D.Drive l.engine l.drive)
       (g.R.Read.remaining l.fn.reader) (g.R.Read.remaining l.reader) (g.W.Write.contents l.fn.writer) (g.W.Write.contents l.writer);
   idle : IsIdle l.frames;
+  goes : (waiting : List ℕ) × (l.frames ≡ Some waiting);
   ready : IsReady (seen_on g.D.Drive l.engine l.drive);
   lent : Follows g.D.Drive 0 l.fn.drive l.drive;
   room : vec_len l.piece ≡ 65536;

@@ -1,5 +1,6 @@
-use Rattle.std.proofs.Common.{rules, codes, Err}
-use Rattle.programs.specs.declared.fault.Fault.TheVariants.{Stream}
+use Rattle.std.proofs.Common.{rules, codes, Err, refl, inl, inr}
+use Rattle.recover.specs.declared.fault.StoreFault.TheVariants as stores
+use Rattle.programs.specs.declared.fault.Fault.TheVariants.{Store, Stream}
 use Rattle.programs.specs.Tasks.{task_of}
 use Rattle.programs.proofs.Gathering.{all_unwritten, part_unwritten, gathered_done, gathered_failed, gathered_part, gathered_whole}
 use Rattle.programs.proofs.Telling.{told_then}
@@ -44,3 +45,6 @@ returns-clause-front g c asked asks =
 pub returns-clause-tells : goal.returns-clause-tells
 returns-clause-tells g c =
     told_then (codes "udfburn") c.command-status.result c.report-in-Err-2.result (Err (Stream c.in-Err-put_all.field-0)) _ _ _ c.command-status.ensures.tells (search rules) c.report-in-Err-2.ensures.status c.report-in-Err-2.ensures.says
+
+pub returns-in-Err-clause-early : goal.returns-in-Err-clause-early
+returns-in-Err-clause-early g c = record { fault = Store stores.Memory; early = inr (inl refl); status_is = c.report.ensures.status; line = c.report.ensures.says }

@@ -1,4 +1,5 @@
-use Rattle.std.proofs.Common.{◌≡◌, ◌-◌, ◌∙◌, length, drop, replicate, ap}
+use Rattle.std.proofs.Common.{◌≡◌, ◌-◌, ◌∙◌, ℕ, List, length, take, drop, replicate, ap}
+use Rattle.std.specs.Str.{bytes_eq}
 use Rattle.std.proofs.lemmas.List.{length-replicate}
 use Rattle.dir.proofs.Splits.{parts_from_use, use_tested, use_shown}
 use Rattle.dir.proofs.Zeros.{each_from_zeros}
@@ -21,6 +22,7 @@ returns c =
     let used = c.args.self.now.implementation_use.now in
     let tested =
     use_tested used c.split_at.result.0.now c.split_at.result.1.now c.min-id_size.result c.eq.result c.min-id_size.ensures c.split_at.ensures.front c.split_at.ensures.back
-    (c.are_zeros.ensures.0 c.if-not-are_zeros.false) c.eq.ensures in
+    (c.are_zeros.ensures.0 c.if-not-are_zeros.false)
+    (c.eq.ensures ∙ ap (λ (id : List ℕ). bytes_eq c.split_at.result.0.now (take c.min-id_size.result id)) c.to_bytes-developer.ensures) in
     let shown = use_shown c.args.self.now c.requires in
     (λ so. shown.0 (tested.0 so), λ e. tested.1 (shown.1 e))

@@ -1,6 +1,7 @@
 use Rattle.std.proofs.Common.{rules, Some, refl, ◌∙◌}
 use Rattle.drive.proofs.Reading.{reads_are, reads_follows, reads_then}
 use Rattle.engine.specs.Situation.{Situation, situation_on}
+use Rattle.engine.proofs.Opening.{not_opened}
 use Rattle.engine.proofs.Rows.{request_answered, same_situation, knows_there, request_calls, request_short, query_calls, query_short}
 use Rattle.engine.proofs.Withstanding.{unwritten, withstands_from}
 use Rattle.engine.proofs.engine.Engine.answer.Goals as goal
@@ -16,6 +17,7 @@ returns-in-Ok-clause-answered g c =
       opens = record {
         opened = (refl, c.in-Ok.ensures.open);
         journal = c.in-Ok.ensures.reads.journal;
+        writes = c.in-Ok.ensures.reads.writes;
         stays = λ kept o.
             let same = c.in-Ok.ensures.stays kept o.0 o.1 in
             same_situation d.journal d.failures d.capacity d.honest d.writes (Some store) _ drive c.args.drive.now (search rules) same.1;
@@ -70,6 +72,7 @@ returns-in-Request-clause-calls g c volume S honest at = request_short volume S 
   journal = c.in-Err.ensures.reads.journal;
   capacity = c.in-Err.ensures.reads.capacity;
   store = c.in-Err.ensures.taken;
+  closed = λ kept o. not_opened c.in-Err.fault kept (c.in-Err.ensures.stays kept o.0 o.1).0;
 })
 
 pub returns-clause-calls : goal.returns-clause-calls
@@ -80,6 +83,7 @@ returns-clause-calls g c volume S honest at = query_short volume S c.args.messag
   journal = c.in-Err-take_open.ensures.reads.journal;
   capacity = c.in-Err-take_open.ensures.reads.capacity;
   store = c.in-Err-take_open.ensures.taken;
+  closed = λ kept o. not_opened c.in-Err-take_open.fault kept (c.in-Err-take_open.ensures.stays kept o.0 o.1).0;
 })
 
 pub returns-in-Ok-clause-nothing : goal.returns-in-Ok-clause-nothing

@@ -49,6 +49,9 @@ returns-then-is_err-clause-front g c =
     let failed : is_err c.write-written.result ≡ true = sym c.is_err.ensures.value ∙ c.if-is_err.true in
     on_err c.write-written.result (AddsFront J (next_of J) (plan_blocks c.args.plan) J') failed c.write-written.ensures.err
 
+pub returns-then-is_err-clause-as_before : goal.returns-then-is_err-clause-as_before
+returns-then-is_err-clause-as_before g c = (refl, refl)
+
 pub returns-clause-agrees : goal.returns-clause-agrees
 returns-clause-agrees g c =
     let J = g.D.Drive.journal c.args.drive.now in

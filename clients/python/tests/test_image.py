@@ -1,0 +1,92 @@
+"""How long a program has an image, and what is on the disk before a copy is made of it."""
+
+from __future__ import annotations
+
+import errno
+import os
+import shutil
+import tempfile
+import time
+import unittest
+from types import SimpleNamespace
+from typing import List
+from unittest import mock
+
+from udfburn import errors as e, past
+from udfburn.connection import Connection, Way
+from udfburn.line import BEGINNINGS, TURN, Line
+
+
+class Image(unittest.TestCase):
+    """A program that waits for the end of its input, and an image."""
+
+    def setUp(self) -> None:
+        self.room = os.path.realpath(tempfile.mkdtemp())
+        self.addCleanup(shutil.rmtree, self.room)
+        self.image = os.path.join(self.room, "disc.img")
+        self.done: List[str] = []
+        with open(self.image, "wb") as file:
+            file.write(bytes(8192))
+
+    def line(self) -> Line:
+        program = os.path.join(self.room, "program")
+        with open(program, "w", encoding="ascii") as file:
+            file.write("#!/bin/sh\nexec cat > /dev/null\n")
+        os.chmod(program, 0o755)
+        line = Line(Way(f"image:{self.image}", program), 0.2, 5.0)
+        self.addCleanup(line.drop)
+        return line
+
+    def sync(self, descriptor: int) -> None:
+        self.assertEqual(os.readlink(f"/proc/self/fd/{descriptor}"), self.image)
+        self.done.append("synced")
+
+    def forget(self, descriptor: int, offset: int, length: int, advice: int) -> None:
+        self.assertEqual(os.readlink(f"/proc/self/fd/{descriptor}"), self.image)
+        self.assertEqual((offset, length, advice), (0, 0, os.POSIX_FADV_DONTNEED))
+        self.done.append("forgotten")
+
+    def test_a_turn_is_as_long_as_a_start_asks_for(self) -> None:
+        """A program that has read a full volume from a slow disk is not ended as soon as it has."""
+        now = 0.0
+
+        def greet(connection: Connection) -> None:
+            nonlocal now
+            now += took
+
+        with mock.patch("udfburn.line.time", SimpleNamespace(monotonic=lambda: now, sleep=time.sleep)):
+            for took, turn in ((0.0, TURN), (TURN / 8, TURN), (3 * TURN, 3 * TURN * BEGINNINGS)):
+                line = self.line()
+                line.greet = greet
+                line.get()
+                now += turn
+                self.assertFalse(line.over())
+                now += 0.01
+                self.assertTrue(line.over())
+
+    def test_a_copy(self) -> None:
+        """What is compared beside a daemon, or where the program was refused, is on the disk."""
+        with mock.patch("os.fsync", self.sync), mock.patch("os.posix_fadvise", self.forget), past.front(self.image, "", None) as copy:
+            with open(copy, "rb") as file:
+                self.assertEqual(file.read(), bytes(8192))
+        self.assertEqual(self.done, ["synced", "forgotten"])
+
+    def test_a_copy_from_a_system_that_does_not_forget(self) -> None:
+        with mock.patch("os.posix_fadvise", side_effect=OSError(errno.EIO, "Input/output error")), self.assertRaises(e.ProgramFailed):
+            with past.front(self.image, "", None):
+                self.fail("a copy was made")
+
+    def test_a_copy_from_a_disk_that_fails(self) -> None:
+        """The program was refused since the sync with which it begins failed: a copy would show what is in memory alone."""
+        with mock.patch("os.fsync", side_effect=OSError(errno.EIO, "Input/output error")), self.assertRaises(e.ProgramFailed):
+            with past.front(self.image, "", None):
+                self.fail("a copy was made")
+        self.assertEqual(os.listdir(self.room), ["disc.img"])
+
+    def test_a_copy_from_a_disk_that_is_only_read(self) -> None:
+        with mock.patch("os.fsync", side_effect=OSError(errno.EINVAL, "Invalid argument")), past.front(self.image, "", None) as copy:
+            self.assertEqual(os.path.getsize(copy), 8192)
+
+
+if __name__ == "__main__":
+    unittest.main()
