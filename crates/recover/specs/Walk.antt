@@ -1,5 +1,5 @@
 -- What the walk through the nodes of a tree sees, and what it keeps.
-use Rattle.std.specs.Prelude.{◌≡◌, ℕ, ◌+◌, ◌<◌, ◌≤◌, ◌^◌, ◌-◌, nat_eq, List, [], Option, Some, None, take, slice_get, All}
+use Rattle.std.specs.Prelude.{◌≡◌, ℕ, ◌+◌, ◌<◌, ◌≤◌, ◌^◌, ◌-◌, nat_eq, List, [], Option, Some, None, IfSome, take, slice_get, All}
 use Rattle.std.specs.Int.{div_ceil}
 use Rattle.limits.specs.declared.TheConstants.{BLOCK_BYTES, PARTITION_START, PARTITION_BLOCKS, PATH_NAMES}
 use Rattle.drive.specs.Journal.{Event, held}
@@ -50,6 +50,10 @@ pub record HasEntry (medium : List (List ℕ)) (entry_at : ℕ) (node : Named) (
   pub links : fields.links ≡ body.links
   pub file : node.kind ≡ File → fields.links ≡ 1
   pub extent : body.extent ≡ extent_in fields.size fields.place
+
+-- such an entry stands there, and the bytes that it tells of lie below an address
+abbrev pub HasNode : List (List ℕ) → ℕ → ℕ → Named → Type 0
+HasNode medium at entry_at node = (body : Body) × HasEntry medium entry_at node body × IfSome body.extent (LiesBelow at)
 
 -- these blocks are a directory's with this address above it, and with so many links
 pub record HasNames (medium : List (List ℕ)) (above count : ℕ) (extent : Extent) (directory : Dir) : Type 0 where

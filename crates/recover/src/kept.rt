@@ -195,6 +195,13 @@ impl Directories {
         }
     }
 
+    /// Keeps none any longer, and the room that they took for the next ones.
+    pub(crate) fn clear(&mut self)
+        ensures { (medium : List (List ℕ)) → AreDirectories medium self.new }
+    {
+        self.kept.clear();
+    }
+
     /// The directory that lies there, which is not kept any longer.
     pub(crate) fn take(&mut self, extent: Extent) -> Option<Names>
         ensures named { (medium : List (List ℕ)) → AreDirectories medium self.old → IfSome result (IsNamed medium extent) }

@@ -29,7 +29,7 @@ pub struct Known {
 }
 
 impl Known {
-    ghost use Rattle.std.specs.Prelude.{◌≡◌, ◌+◌, ◌<◌, ◌≤◌, ℕ, List, IsTrue, IfOk, IfErr, take};
+    ghost use Rattle.std.specs.Prelude.{◌≡◌, ◌+◌, ◌<◌, ◌≤◌, ℕ, List, IsTrue, IfOk, IfErr, IfSome, take};
     ghost use Rattle.std.specs.Int.{div_ceil};
     ghost use Rattle.drive.specs.Journal.{held, next_of};
     ghost use Rattle.volume.specs.Front.{IsFront};
@@ -66,10 +66,11 @@ impl Known {
     }
 
     /// Goes on to the next state: of the directories, those of the state that was looked at last are kept.
-    pub(crate) fn begin(&mut self, alloc: Global)
+    pub(crate) fn begin(&mut self)
         ensures { (medium : List (List ℕ)) → IsKnown medium self.old → IsKnown medium self.new }
     {
-        self.before = mem::replace(&mut self.met, Directories::new(alloc));
+        mem::swap(&mut self.before, &mut self.met);
+        self.met.clear();
     }
 
     /// What the front tells.
@@ -99,6 +100,13 @@ impl Known {
         ensures { (medium : List (List ℕ)) → IsFront front.now.label front.now.moment front.now.capacity (take PARTITION_START medium) → IsKnown medium self.old → IsKnown medium self.new }
     {
         self.front = Some(*front);
+    }
+
+    /// What the entry there says, if it is known.
+    pub(crate) fn find(&self, place: EntryPlace) -> Option<NodeEntry>
+        ensures { (medium : List (List ℕ)) → IsKnown medium self.now → IfSome result (IsEntrySaid medium place) }
+    {
+        self.entries.find(place)
     }
 
     /// What the entry there says.

@@ -82,7 +82,7 @@ pub fn state_sharing<D: Drive>(
     ensures known { IsTrue (D.honest drive.new) → IsKnown (held (D.journal drive.new)) known.new }
     ensures reads { Reads D.Drive (devices result) drive.old drive.new }
 {
-    known.begin(alloc);
+    known.begin();
     let (state, data_at) = described(alloc, drive, known, at)?;
     check_tree(alloc, drive, known, &state.vat, at, data_at)?;
     Ok(state)

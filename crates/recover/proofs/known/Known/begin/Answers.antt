@@ -6,6 +6,6 @@ pub returns : goal.returns
 returns c medium known = record {
   front = known.front;
   entries = known.entries;
-  before = subst (AreDirectories medium) (sym c.replace.ensures.value) known.met;
-  met = subst (AreDirectories medium) (sym c.replace.ensures.after) (c.new.ensures medium);
+  before = subst (AreDirectories medium) (sym c.swap.ensures.x_after) known.met;
+  met = c.clear.ensures medium;
 }
