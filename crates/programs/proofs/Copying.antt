@@ -1,6 +1,6 @@
 -- What was copied so far, and then a piece more.
-use Rattle.std.proofs.Common.{◌≡◌, ℕ, ◌+◌, ◌≤◌, List, [], ◌++◌, length, take, Option, Some, None, Result, Ok, Err, sym, ap, ◌∙◌, subst, arith, inl, inr}
-use Rattle.std.specs.Prelude.{IfErr, IsErrAnd, OnOk}
+use Rattle.std.proofs.Common.{◌≡◌, ℕ, ◌+◌, ◌<◌, ◌≤◌, List, [], ◌++◌, length, take, Option, Some, None, Result, Ok, Err, sym, ap, ◌∙◌, subst, arith, inl, inr}
+use Rattle.std.specs.Prelude.{IfErr, IfOk, IsErrAnd, OnOk}
 use Rattle.std.specs.Io.KnownBytes.{Appends, Consumes, Keeps}
 use Rattle.std.proofs.lemmas.List.{append-nil, length-take-le}
 use Rattle.std.proofs.Math.Seq.{take-append-add, take-length}
@@ -9,28 +9,44 @@ use Rattle.engine.specs.declared.serving.ServeFault.{ServeFault}
 use Rattle.engine.specs.declared.serving.ServeFault.TheVariants as streams
 use Rattle.engine.proofs.Messages.{appends_more, consumes_more, nothing_more, nothing_read}
 use Rattle.engine.proofs.Pieces.{keeps_on}
-use Rattle.programs.specs.Copies.{CopiesAll, CopiesPart, CopiesRead, CopiesUntil, Sends, SendsAll, SendsSome, SendsUntil}
+use Rattle.programs.specs.Counted.{Counted}
+use Rattle.programs.specs.Counting.{IsAnsweredBy, IsCountOf}
+use Rattle.programs.specs.Copies.{CopiesAll, CopiesFrames, CopiesPart, CopiesRead, CopiesUntil, Sends, SendsSome, SendsUntil}
+use Rattle.programs.specs.declared.counting.FrameCount.{FrameCount}
 use Rattle.programs.specs.declared.fault.Fault.{Fault}
 use Rattle.programs.specs.declared.fault.Fault.TheVariants.{Usage, Path, Socket, Store, Stream}
 use Rattle.programs.proofs.Opening.{keeps_self}
 
-pub copied_none : (i o : Option (List ℕ)) → CopiesRead i i o o
-copied_none i o = record { bytes = []; consumed = nothing_read i; copied = nothing_more o }
+-- what was read was written, and the counter was given it
+pub record Tallied (counter : FrameCount) (input left output written : Option (List ℕ)) : Type 0 where
+  pub copied : CopiesRead input left output written
+  pub counted : Counted counter copied.bytes
 
-pub copied_more : (i l n o v w x : Option (List ℕ)) (piece bytes : List ℕ) → CopiesRead i l o v → TakesPiece l n piece → bytes ≡ piece → Appends v w bytes → Keeps w x → CopiesRead i n o x
-copied_more i l n o v w x piece bytes h takes e more kept = record {
-  bytes = h.bytes ++ piece;
-  consumed = consumes_more i l n h.bytes piece h.consumed takes.consumed;
-  copied = keeps_on o w x (h.bytes ++ piece) (appends_more o v w h.bytes piece h.copied (subst (λ (y : List ℕ). Appends v w y) e more)) kept;
+pub tallied_none : (c : FrameCount) (i o : Option (List ℕ)) → Counted c [] → Tallied c i i o o
+tallied_none c i o h = record { copied = record { bytes = []; consumed = nothing_read i; copied = nothing_more o }; counted = h }
+
+pub tallied_more : (c d : FrameCount) (i l n o v w x : Option (List ℕ)) (piece bytes : List ℕ) → Tallied c i l o v → TakesPiece l n piece → bytes ≡ piece → Appends v w bytes → Keeps w x
+    → ((given : List ℕ) → Counted c given → Counted d (given ++ bytes)) → Tallied d i n o x
+tallied_more c d i l n o v w x piece bytes h takes e more kept feeds = record {
+  copied = record {
+    bytes = h.copied.bytes ++ piece;
+    consumed = consumes_more i l n h.copied.bytes piece h.copied.consumed takes.consumed;
+    copied = keeps_on o w x (h.copied.bytes ++ piece) (appends_more o v w h.copied.bytes piece h.copied.copied (subst (λ (y : List ℕ). Appends v w y) e more)) kept;
+  };
+  counted = subst (λ (y : List ℕ). Counted d (h.copied.bytes ++ y)) e (feeds h.copied.bytes h.counted);
 }
 
-pub copied_all : (i l n o v : Option (List ℕ)) (piece : List ℕ) → CopiesRead i l o v → TakesPiece l n piece → piece ≡ [] → CopiesAll i n o v
-copied_all i l n o v piece h takes none = record {
-  bytes = h.bytes;
-  consumed = subst (λ (x : List ℕ). Consumes i n x) (append-nil h.bytes)
-      (consumes_more i l n h.bytes [] h.consumed (subst (λ (x : List ℕ). Consumes l n x) none takes.consumed));
-  copied = h.copied;
-  end = takes.end none;
+pub tallied_all : (count : ℕ) (c : FrameCount) (i l n o v : Option (List ℕ)) (piece : List ℕ) → Tallied c i l o v → TakesPiece l n piece → piece ≡ []
+    → ((given : List ℕ) → Counted c given → IsCountOf given count) → CopiesFrames count i n o v
+tallied_all count c i l n o v piece h takes none counts = record {
+  all = record {
+    bytes = h.copied.bytes;
+    consumed = subst (λ (x : List ℕ). Consumes i n x) (append-nil h.copied.bytes)
+        (consumes_more i l n h.copied.bytes [] h.copied.consumed (subst (λ (x : List ℕ). Consumes l n x) none takes.consumed));
+    copied = h.copied.copied;
+    end = takes.end none;
+  };
+  counted = counts h.copied.bytes h.counted;
 }
 
 -- ---- where it fails
@@ -112,9 +128,9 @@ sent_part fault i l o w (inl h) = until_part fault i l o w h
 sent_part fault i l o w (inr h) = all_part i l o w h.1
 
 -- what was sent, whether that went well or not
-pub sent_of : {T : Type 0} (r : Result T Fault) (i l o w : Option (List ℕ)) → OnOk r (CopiesAll i l o w) → IfErr r (λ fault. SendsUntil fault i l o w) → CopiesFront i l o w
-sent_of (Ok x) i l o w all until = all_part i l o w all
-sent_of (Err fault) i l o w all until = sent_part fault i l o w until
+pub sent_of : (r : Result ℕ Fault) (i l o w : Option (List ℕ)) → IfOk r (λ count. CopiesFrames count i l o w) → IfErr r (λ fault. SendsUntil fault i l o w) → CopiesFront i l o w
+sent_of (Ok x) i l o w frames until = all_part i l o w frames.all
+sent_of (Err fault) i l o w frames until = sent_part fault i l o w until
 
 -- ---- frames that are sent, and answers that come back
 
@@ -125,7 +141,7 @@ kept_of : (o w : Option (List ℕ)) → w ≡ o → Keeps o w
 kept_of o w e = subst (λ (x : Option (List ℕ)). Keeps o x) (sym e) (keeps_self o)
 
 -- fewer answers came back than frames were sent
-pub sends_fewer : (i l o w a b s t : Option (List ℕ)) → CopiesFront i l a b → CopiesAll s t o w → SendsSome i l o w
+sends_fewer : (i l o w a b s t : Option (List ℕ)) → CopiesFront i l a b → CopiesAll s t o w → SendsSome i l o w
 sends_fewer i l o w a b s t sent came = cut i l o w a b s t sent (all_part s t o w came)
 
 -- the answers were not copied whole
@@ -158,5 +174,19 @@ pub sends_part : {T : Type 0} (outcome : Result T Fault) (fault : Fault) (i l o 
 sends_part {T} (Ok x) fault i l o w a b s t is sent came = absurd is
 sends_part {T} (Err f) fault i l o w a b s t is sent came = subst (λ (g : Fault). Sends {T = T} (Err g) i l o w) (sym is) (frames_cut T fault i l o w a b s t sent came)
 
-pub sends_all : (i l o w a b s t : Option (List ℕ)) → CopiesAll i l a b → CopiesAll s t o w → SendsAll i l o w
-sends_all i l o w a b s t sent came = record { sent = sent.bytes; consumed = sent.consumed; end = sent.end; came = came.bytes; copied = came.copied }
+is_answered : (frames answers : ℕ) (sent came : List ℕ) → IsCountOf sent frames → IsCountOf came answers → frames ≤ answers → IsAnsweredBy sent came
+is_answered frames answers sent came f a enough = (f.0, a.0, f.1, a.1, omega (arith, f.2, a.2, enough))
+
+-- all was copied both ways, and the answers were counted
+pub sends_wanted : {T : Type 0} (outcome : Result T Fault) (frames answers : ℕ) (i l o w a b s t : Option (List ℕ)) → OnOk outcome (frames ≤ answers) → IfErr outcome (λ f. (f ≡ Stream streams.Read) × (answers < frames))
+    → CopiesFrames frames i l a b → CopiesFrames answers s t o w → Sends outcome i l o w
+sends_wanted {T} (Ok x) frames answers i l o w a b s t enough fewer sent came = record {
+  sent = sent.all.bytes;
+  consumed = sent.all.consumed;
+  end = sent.all.end;
+  came = came.all.bytes;
+  copied = came.all.copied;
+  answered = is_answered frames answers sent.all.bytes came.all.bytes sent.counted came.counted enough;
+}
+sends_wanted {T} (Err f) frames answers i l o w a b s t enough fewer sent came =
+    subst (λ (g : Fault). Sends {T = T} (Err g) i l o w) (sym fewer.0) (sends_fewer i l o w a b s t (all_part i l a b sent.all) came.all)

@@ -185,7 +185,7 @@ module _ (i l o v w : Option (List ℕ)) (kept : Keeps v w) where
   sent_kept h = record { sent = h.sent; consumed = h.consumed; came = h.came; front = front_kept o v w h.came h.front kept }
 
   sends_kept : {T : Type 0} (outcome : Result T Fault) → Sends outcome i l o v → Sends outcome i l o w
-  sends_kept (Ok x) h = record { sent = h.sent; consumed = h.consumed; end = h.end; came = h.came; copied = keeps_on o v w h.came h.copied kept }
+  sends_kept (Ok x) h = record { sent = h.sent; consumed = h.consumed; end = h.end; came = h.came; copied = keeps_on o v w h.came h.copied kept; answered = h.answered }
   sends_kept (Err Usage) h = h
   sends_kept (Err Path) h = h
   sends_kept (Err Socket) h = (h.0, keeps_trans o v w h.1 kept)

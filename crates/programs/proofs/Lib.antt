@@ -11,3 +11,5 @@ pub mod Ending
 pub mod Gathering
 pub mod Telling
 pub mod Beginnings
+pub mod Framing
+pub mod Tallies

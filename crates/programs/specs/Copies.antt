@@ -6,6 +6,7 @@ use Rattle.engine.specs.declared.serving.ServeFault.TheVariants as stream
 use Rattle.recover.specs.declared.fault.StoreFault.TheVariants as store
 use Rattle.programs.specs.declared.fault.Fault.{Fault}
 use Rattle.programs.specs.declared.fault.Fault.TheVariants.{Usage, Path, Socket, Store, Stream}
+use Rattle.programs.specs.Counting.{IsAnsweredBy, IsCountOf}
 
 -- what was read was written
 pub record CopiesRead (input left output written : Option (List ℕ)) : Type 0 where
@@ -19,6 +20,11 @@ pub record CopiesAll (input left output written : Option (List ℕ)) : Type 0 wh
   pub consumed : Consumes input left bytes
   pub copied : Appends output written bytes
   pub end : IsAtEnd left
+
+-- the same, and so many frames ended in it
+pub record CopiesFrames (count : ℕ) (input left output written : Option (List ℕ)) : Type 0 where
+  pub all : CopiesAll input left output written
+  pub counted : IsCountOf all.bytes count
 
 -- A piece was read behind what was written, and so many bytes of it were.
 pub record CopiesPart (input left output written : Option (List ℕ)) : Type 0 where
@@ -45,13 +51,14 @@ CopiesUntil (Stream stream.Memory) input left output written = ⊥
 abbrev pub SendsUntil : Fault → Option (List ℕ) → Option (List ℕ) → Option (List ℕ) → Option (List ℕ) → Type 0
 SendsUntil fault input left output written = CopiesUntil fault input left output written ⊎ ((fault ≡ Stream stream.Write) × CopiesAll input left output written)
 
--- All that was left to read was sent, and all that came back was written.
+-- All that was left to read was sent, and all that came back was written: not fewer answers than frames.
 pub record SendsAll (input left output written : Option (List ℕ)) : Type 0 where
   pub sent : List ℕ
   pub consumed : Consumes input left sent
   pub end : IsAtEnd left
   pub came : List ℕ
   pub copied : Appends output written came
+  pub answered : IsAnsweredBy sent came
 
 -- Some of it was read, and of what came back a front was written.
 pub record SendsSome (input left output written : Option (List ℕ)) : Type 0 where

@@ -10,3 +10,5 @@ pub mod Refusals
 pub mod NewVolumes
 pub mod Questions
 pub mod Tasks
+pub mod Counting
+pub mod Counted

@@ -1,6 +1,7 @@
 //! How many frames a stream has.
 
-ghost use Rattle.std.specs.Prelude.{◌<◌};
+ghost use Rattle.std.specs.Prelude.{◌≡◌, ◌<◌, ◌++◌, ◌∷◌, ℕ, List, [], false};
+ghost use Rattle.programs.specs.Counting.{IsCountOf};
 
 use request::PAYLOAD_BYTES;
 
@@ -22,7 +23,11 @@ pub(crate) struct FrameCount {
 }
 
 impl FrameCount {
-    pub(crate) fn new() -> FrameCount {
+    ghost use Rattle.programs.specs.Counted.{Counted};
+
+    pub(crate) fn new() -> FrameCount
+        ensures { Counted result [] }
+    {
         FrameCount {
             length: [0; LENGTH_BYTES],
             given: 0,
@@ -33,27 +38,50 @@ impl FrameCount {
     }
 
     /// How many frames have ended.
-    pub(crate) fn count(&self) -> u64 {
+    pub(crate) fn count(&self) -> u64
+        ensures { (bytes : List ℕ) → Counted self.now bytes → IsCountOf bytes result }
+    {
         self.count
     }
 
-    pub(crate) fn feed(&mut self, bytes: &[u8]) {
-        for byte in bytes {
+    pub(crate) fn feed(&mut self, piece: &[u8])
+        ensures { (bytes : List ℕ) → Counted self.old bytes → Counted self.new (bytes ++ piece.now) }
+    {
+        for byte in piece {
             self.take(*byte);
         }
     }
 
-    fn take(&mut self, byte: u8) {
+    fn take(&mut self, byte: u8)
+        ensures { (bytes : List ℕ) → Counted self.old bytes → Counted self.new (bytes ++ byte ∷ []) }
+    {
         if self.is_over {
             return;
         }
         if self.left > 0 {
-            self.left -= 1;
-            if self.left == 0 {
-                self.end_frame();
-            }
-            return;
+            self.take_of_payload();
+        } else {
+            self.take_of_length(byte);
         }
+    }
+
+    /// Takes a byte of a payload, whichever it is.
+    fn take_of_payload(&mut self)
+        requires goes_on { self.old.is_over ≡ false }
+        requires some_left { 0 < self.old.left }
+        ensures { (bytes : List ℕ) (byte : ℕ) → Counted self.old bytes → Counted self.new (bytes ++ byte ∷ []) }
+    {
+        self.left -= 1;
+        if self.left == 0 {
+            self.count = self.count.saturating_add(1);
+        }
+    }
+
+    fn take_of_length(&mut self, byte: u8)
+        requires goes_on { self.old.is_over ≡ false }
+        requires none_left { self.old.left ≡ 0 }
+        ensures { (bytes : List ℕ) → Counted self.old bytes → Counted self.new (bytes ++ byte ∷ []) }
+    {
         self.length[self.given] = byte;
         if self.given + 1 < LENGTH_BYTES {
             self.given += 1;
@@ -63,11 +91,7 @@ impl FrameCount {
         self.left = u32::from_le_bytes(self.length);
         self.is_over = self.left as usize > PAYLOAD_BYTES;
         if self.left == 0 || self.is_over {
-            self.end_frame();
+            self.count = self.count.saturating_add(1);
         }
-    }
-
-    fn end_frame(&mut self) {
-        self.count = self.count.saturating_add(1);
     }
 }

@@ -1,8 +1,8 @@
 //! The client of the daemon: frames to its socket, and its answers back.
 
-ghost use Rattle.std.specs.Prelude.{IfErr, OnOk};
+ghost use Rattle.std.specs.Prelude.{◌≡◌, ◌<◌, ◌≤◌, IfErr, IfOk, OnOk};
 ghost use Rattle.programs.specs.Status.{IsRefusal};
-ghost use Rattle.programs.specs.Copies.{CopiesAll, CopiesUntil, Sends, SendsUntil};
+ghost use Rattle.programs.specs.Copies.{CopiesFrames, CopiesUntil, Sends, SendsUntil};
 
 use crate::counting::FrameCount;
 use crate::fault::Fault;
@@ -34,7 +34,15 @@ pub(crate) fn send<R: Net + AllocGlobal, I: Read, O: Write>(
     let sent = send_frames(rt.alloc(), &mut stream, input);
     // What was sent is answered also where the rest was not.
     let answered = copy_answers(rt.alloc(), &mut stream, output)?;
-    if answered < sent? {
+    want_answers(sent?, answered)
+}
+
+/// Each frame has an answer, or the stream was left before its end.
+fn want_answers(frames: u64, answers: u64) -> Result<(), Fault>
+    ensures ok { OnOk result (frames ≤ answers) }
+    ensures err { IfErr result (λ fault. (fault ≡ Fault.Stream ServeFault.Read) × (answers < frames)) }
+{
+    if answers < frames {
         return Err(Fault::Stream(ServeFault::Read));
     }
     Ok(())
@@ -48,7 +56,7 @@ pub fn send_frames<I: Read>(
     reader: &mut I,
 ) -> Result<u64, Fault>
     ensures refusal { IfErr result IsRefusal }
-    ensures all { OnOk result (CopiesAll (I.remaining reader.old) (I.remaining reader.new) (⟦<UnixStream as Write>⟧.contents stream.old) (⟦<UnixStream as Write>⟧.contents stream.new)) }
+    ensures all { IfOk result (λ count. CopiesFrames count (I.remaining reader.old) (I.remaining reader.new) (⟦<UnixStream as Write>⟧.contents stream.old) (⟦<UnixStream as Write>⟧.contents stream.new)) }
     // Which fault it is tells how far that went.
     ensures until { IfErr result (λ fault. SendsUntil fault (I.remaining reader.old) (I.remaining reader.new) (⟦<UnixStream as Write>⟧.contents stream.old) (⟦<UnixStream as Write>⟧.contents stream.new)) }
 {
@@ -68,7 +76,7 @@ pub fn copy_answers<O: Write>(
     writer: &mut O,
 ) -> Result<u64, Fault>
     ensures refusal { IfErr result IsRefusal }
-    ensures all { OnOk result (CopiesAll (⟦<UnixStream as Read>⟧.remaining stream.old) (⟦<UnixStream as Read>⟧.remaining stream.new) (O.contents writer.old) (O.contents writer.new)) }
+    ensures all { IfOk result (λ count. CopiesFrames count (⟦<UnixStream as Read>⟧.remaining stream.old) (⟦<UnixStream as Read>⟧.remaining stream.new) (O.contents writer.old) (O.contents writer.new)) }
     ensures until { IfErr result (λ fault. CopiesUntil fault (⟦<UnixStream as Read>⟧.remaining stream.old) (⟦<UnixStream as Read>⟧.remaining stream.new) (O.contents writer.old) (O.contents writer.new)) }
 {
     copy(alloc, stream, writer)
@@ -77,7 +85,7 @@ pub fn copy_answers<O: Write>(
 /// Copies what the reader has, in pieces. It answers how many frames ended in it.
 fn copy<I: Read, O: Write>(alloc: Global, reader: &mut I, writer: &mut O) -> Result<u64, Fault>
     ensures refusal { IfErr result IsRefusal }
-    ensures ok { OnOk result (CopiesAll (I.remaining reader.old) (I.remaining reader.new) (O.contents writer.old) (O.contents writer.new)) }
+    ensures ok { IfOk result (λ count. CopiesFrames count (I.remaining reader.old) (I.remaining reader.new) (O.contents writer.old) (O.contents writer.new)) }
     ensures err { IfErr result (λ fault. CopiesUntil fault (I.remaining reader.old) (I.remaining reader.new) (O.contents writer.old) (O.contents writer.new)) }
 {
     let mut piece = match vec![in alloc; 0u8; PIECE_BYTES] {
