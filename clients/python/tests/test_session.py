@@ -45,6 +45,10 @@ class WithServer(unittest.TestCase):
     def setUp(self) -> None:
         self.room = tempfile.mkdtemp()
         self.addCleanup(shutil.rmtree, self.room)
+        # No pause of a loaded machine ends a turn: tests of turns set their own.
+        turn = mock.patch("udfburn.line.TURN", PATIENCE)
+        turn.start()
+        self.addCleanup(turn.stop)
         self.server = Server(self.room)
         self.addCleanup(lambda: self.server.close())
         self.ledger = os.path.join(self.room, "ledger.sqlite")
@@ -507,11 +511,12 @@ class Ahead(WithServer):
 
         def before(payload: bytes) -> None:
             request = request_of(payload)
+            # All before it are answered, so that nothing but the taking is waited for.
             if request:
                 await_true(lambda: len(taken) >= min(request.number + 4, 20))
                 ahead.append(len(taken) - request.number)
 
-        self.server.before = before
+        self.server.before, self.server.together = before, False
         self.assertEqual([outcome.number for outcome in self.client().run(operations())], list(range(1, 21)))
         # Of four under way the first is at work, and at most two are taken behind them.
         self.assertIn(max(ahead), range(4, 6))
