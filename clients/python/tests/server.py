@@ -1,4 +1,5 @@
-"""A server in a thread, over the plain volume: it can lose conversations, fail, and answer nonsense."""
+"""A server in a thread, over the plain volume: it can lose conversations, fail, and answer nonsense. And a conversation without one,
+in which nothing depends on who comes first."""
 
 from __future__ import annotations
 
@@ -6,8 +7,9 @@ import os
 import socket
 import struct
 import threading
-from typing import Callable, List, Optional
+from typing import Callable, List, Optional, Tuple
 
+from udfburn.connection import PIECE, Connection
 from udfburn.protocol import Answer, Frames, Request, decode_message, encode_answer, frame
 
 from .model import Volume
@@ -99,6 +101,35 @@ class Server:
         self.thread.join()
         self.listener.close()
         os.unlink(self.path)
+
+
+class Direct(Connection):
+    """A conversation with the plain volume itself: what goes out is answered at once, and comes in pieces of at most so many bytes."""
+
+    def __init__(self, volume: Volume, most: int = PIECE):
+        super().__init__()
+        self.volume, self.most = volume, most
+        self.asked, self.coming = Frames(), bytearray()
+
+    def close(self) -> None:
+        pass
+
+    def _wait(self, limit: float, writing: bool) -> Tuple[bool, bool]:
+        assert self.coming or writing, "what is waited for never comes"
+        return bool(self.coming), writing
+
+    def _read(self, most: int) -> bytes:
+        piece = bytes(self.coming[: min(most, self.most)])
+        del self.coming[: len(piece)]
+        return piece
+
+    def _write(self, data: memoryview) -> int:
+        self.asked.feed(bytes(data))
+        payload = self.asked.take()
+        while payload is not None:
+            self.coming += honestly(payload, self.volume.answer_payload(payload))
+            payload = self.asked.take()
+        return len(data)
 
 
 def is_probe(payload: bytes) -> bool:

@@ -18,7 +18,7 @@ from unittest import mock
 
 from udfburn import Client, cli, errors as e
 from udfburn import protocol as p
-from udfburn.connection import Connection, ImageConnection, Way
+from udfburn.connection import PIECE, Connection, ImageConnection, Way
 from udfburn.ledger import Ledger, Pending, Reply
 from udfburn.line import Line
 from udfburn.operations import Operation
@@ -26,7 +26,7 @@ from udfburn.session import Flight
 
 from .model import Volume
 from .programs import PATIENCE
-from .server import Server, honestly, is_probe, request_of
+from .server import Direct, Server, honestly, is_probe, request_of
 
 PACKAGE = os.path.join(os.path.dirname(__file__), "..")
 CODE = os.path.dirname(cli.__file__) + os.sep
@@ -57,6 +57,10 @@ class WithServer(unittest.TestCase):
         made = Client(f"unix:{self.server.path}", client, ledger or self.ledger, patience=patience, timeout=PATIENCE)
         self.addCleanup(made.close)
         return made
+
+    def direct(self, client: Client, most: int = PIECE) -> Any:
+        """A client's conversations are held with the volume itself meanwhile, whose answers come in pieces of at most so many bytes."""
+        return mock.patch.object(client.way, "open", lambda: Direct(self.volume, most))
 
     @property
     def volume(self) -> Volume:
@@ -537,7 +541,7 @@ class Ahead(WithServer):
             steps.append(-len(finished))
             return finished, troubled
 
-        with mock.patch.object(session, "_sent", sent), mock.patch.object(session, "_received", received):
+        with self.direct(client), mock.patch.object(session, "_sent", sent), mock.patch.object(session, "_received", received):
             self.assertEqual(len(list(client.run(creates(12)))), 12)
         self.assertEqual([step for step in steps if step][:10], [2, 2, -2, 2, -2, 2, -2, 2, -2, 2])
 
@@ -568,9 +572,8 @@ class Ahead(WithServer):
 class Foreseen(WithServer):
     """Transactions that are begun before the answers come, and what comes in place of what was foreseen."""
 
-    def done(self, operations: List[Operation], together: bool = True) -> Tuple[List[p.Code], int]:
+    def done(self, operations: List[Operation], most: int = PIECE) -> Tuple[List[p.Code], int]:
         """The codes of operations, and how many transactions were as foreseen."""
-        self.server.together = together
         client = self.client()
         ends: List[bool] = []
         ledger = client.session().ledger
@@ -580,10 +583,10 @@ class Foreseen(WithServer):
             ends.append(ledger._foreseen is not None and ledger._foreseen == words)
             real(*words)  # type: ignore[arg-type]
 
-        with mock.patch.object(ledger, "record", record):
+        with self.direct(client, most), mock.patch.object(ledger, "record", record):
             outcomes = list(client.run(operations))
         self.assertFalse(ledger._base.in_transaction)
-        history = ledger.history(client.session().volume())
+        history = ledger.history(client.session().volume())[-len(outcomes) :]
         self.assertEqual([(n, code, commit, True) for _, code, commit, n in outcomes], [(n, code, commit, sure) for n, _, code, commit, sure in history])
         client.close()
         return [outcome.code for outcome in outcomes], sum(ends)
@@ -591,8 +594,16 @@ class Foreseen(WithServer):
     def test_all_as_foreseen(self) -> None:
         self.assertEqual(self.done(creates(40)), ([p.Code.DONE] * 40, 18))
 
-    def test_answers_one_by_one(self) -> None:
-        self.assertEqual(self.done(creates(40), together=False)[0], [p.Code.DONE] * 40)
+    def test_answers_in_pieces(self) -> None:
+        """Those to two requests with their questions have 66 bytes: what came of them in part is not taken for what was foreseen."""
+        for most, foreseen in ((1, 0), (10, 0), (33, 0), (65, 0), (66, 18), (99, 18)):
+            self.assertEqual(self.done(creates(40, self.volume.commits), most), ([p.Code.DONE] * 40, foreseen), most)
+
+    def test_over_a_socket(self) -> None:
+        client = self.client()
+        for together in (True, False):
+            self.server.together = together
+            self.assertEqual([outcome.code for outcome in client.run(creates(40, self.volume.commits))], [p.Code.DONE] * 40)
 
     def test_a_refusal_in_place_of_what_was_foreseen(self) -> None:
         other = self.client(os.path.join(self.room, "other.sqlite"))
