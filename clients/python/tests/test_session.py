@@ -13,6 +13,7 @@ import threading
 import time
 import unittest
 from contextlib import closing, redirect_stderr
+from types import SimpleNamespace
 from typing import Any, Callable, Deque, Iterator, List, NoReturn, Optional, Tuple
 from unittest import mock
 
@@ -490,15 +491,23 @@ def interrupted(words: List[str], lines: int) -> NoReturn:
 class Turns(WithServer):
     def test_others_get_their_turn(self) -> None:
         """A long conversation is ended between two requests, and between two questions."""
+        now = [0]
+
+        def before(payload: bytes) -> None:
+            now[0] += 1
+
+        self.server.before = before
         client = self.client()
-        with mock.patch("udfburn.line.TURN", 0.02):
-            self.server.before = lambda payload: time.sleep(0.002)
+        # The clock counts what the server was asked. A turn is over behind 5 answers: then at most 6 requests with a question each were
+        # sent, or 20 questions, however far the server is ahead.
+        clock = SimpleNamespace(monotonic=lambda: now[0], sleep=time.sleep)
+        with mock.patch("udfburn.line.TURN", 4), mock.patch("udfburn.line.time", clock):
             list(client.run(creates(60)))
             imports = self.server.conversations
-            self.assertGreater(imports, 2)
+            self.assertGreaterEqual(imports, 60 / 6)
             self.assertEqual(self.volume.commits, 60)
             self.assertEqual(len(list(client.ask_all(p.Get((f"f{index}",)) for index in range(60)))), 60)
-            self.assertGreater(self.server.conversations, imports + 2)
+            self.assertGreaterEqual(self.server.conversations - imports, 60 / 20)
 
 
 class Ahead(WithServer):
@@ -562,7 +571,8 @@ class Ahead(WithServer):
             return honestly(payload, answer)
 
         self.server.before, self.server.say = before, say
-        with mock.patch("udfburn.line.TURN", 0.0):
+        # Each turn is over at once, also by a clock that stands still.
+        with mock.patch("udfburn.line.TURN", -1.0):
             outcomes = list(client.run(creates(7)))
         self.assertEqual([outcome.code for outcome in outcomes], [p.Code.DONE] * 7)
         self.assertEqual([outcome.number for outcome in outcomes], [1, 2, 1, 2, 3, 4, 5])
