@@ -376,17 +376,19 @@ class Two(WithServer):
 
         def work(name: str) -> None:
             try:
-                with Client(f"unix:{self.server.path}", ledger=os.path.join(self.room, f"two-{name}.sqlite")) as client:
+                with self.client(os.path.join(self.room, f"two-{name}.sqlite")) as client:
                     done = list(client.run(Operation(p.Create, (name, str(index)), 0, b"x") for index in range(300)))
                     assert [outcome.code for outcome in done] == [p.Code.DONE] * 300
             except BaseException as error:  # pylint: disable=broad-except
                 errors.append(error)
 
         threads = [threading.Thread(target=work, args=(name,)) for name in "ab"]
-        for thread in threads:
-            thread.start()
-        for thread in threads:
-            thread.join()
+        # So short that they come in turn.
+        with mock.patch("udfburn.line.TURN", 0.01):
+            for thread in threads:
+                thread.start()
+            for thread in threads:
+                thread.join()
         self.assertEqual(errors, [])
         self.assertEqual(len(self.volume.files()), 600)
 
