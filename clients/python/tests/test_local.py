@@ -6,8 +6,8 @@ import os
 import socket
 import stat
 import struct
-import time
 import unittest
+from types import SimpleNamespace
 from typing import Iterator, List, Optional, Tuple
 from unittest import mock
 
@@ -414,9 +414,9 @@ class Changes(Local):
 
     def test_the_moment_of_now(self) -> None:
         os.utime(self.write("a"), (5, 5))
-        before = time.time_ns() // 1000
-        self.put(moment="now")
-        self.assertTrue(before <= self.client().stat("/x/a").moment <= time.time_ns() // 1000)
+        with mock.patch("udfburn.operations.time", SimpleNamespace(time_ns=lambda: 1_700_000_000_123_456_789)):
+            self.put(moment="now")
+        self.assertEqual(self.client().stat("/x/a").moment, 1_700_000_000_123_456)
 
 
 class Fetch(Local):
