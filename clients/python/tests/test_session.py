@@ -12,9 +12,9 @@ import tempfile
 import threading
 import time
 import unittest
-from contextlib import closing, redirect_stderr
+from contextlib import closing, redirect_stderr, redirect_stdout
 from types import SimpleNamespace
-from typing import Any, Callable, Deque, Iterator, List, NoReturn, Optional, Tuple
+from typing import Any, Callable, Deque, Iterator, List, Optional, Tuple
 from unittest import mock
 
 from udfburn import Client, cli, errors as e
@@ -443,7 +443,11 @@ class Interrupted(WithServer):
             self.server.volume = Volume()
             child = os.fork()
             if not child:
-                interrupted(put, 1 + LINES * count)
+                status = 1
+                try:
+                    status = interrupted(put, 1 + LINES * count)
+                finally:
+                    os._exit(status)
             status = os.waitstatus_to_exitcode(os.waitpid(child, 0)[1])
             self.assertIn(status, (130, ENDED), f"interrupted at line {1 + LINES * count} of the client's code")
             self.assertEqual(cli.main(put), 0)
@@ -456,18 +460,37 @@ class Interrupted(WithServer):
                 break
         self.assertGreater(count, 40)
 
+    def test_reading_at_any_line(self) -> None:
+        """Also where answers are taken to the last one, and their end is not asked for."""
+        local, back, mask = os.path.join(self.room, "source"), os.path.join(self.room, "back"), os.umask(0o077)
+        self.addCleanup(os.umask, mask)
+        os.makedirs(local)
+        with open(os.path.join(local, "a"), "w", encoding="ascii") as file:
+            file.write("a")
+        with self.client() as client:
+            client.put_tree(local, "/x")
+        for words in (["get", "-r", "/x", back], ["get", "/x/a", back], ["verify", local, "/x"], ["ls", "-l", "/x"]):
+            lines, status = 1, 130
+            while status == 130:
+                shutil.rmtree(back, ignore_errors=True)
+                if os.path.exists(back):
+                    os.unlink(back)
+                status = interrupted([words[0], "--socket", self.server.path, *words[1:]], lines)
+                lines += LINES // 3
+            self.assertEqual(status, ENDED, f"{words} interrupted at line {lines - LINES // 3} of the client's code")
+            self.assertGreater(lines, 400)
+
 
 ENDED = 99
-"""The status of a process that ended before its interrupt."""
+"""The status of a command that ended before its interrupt."""
 
 LINES = 17
 """Lines between two of those that are interrupted."""
 
 
-def interrupted(words: List[str], lines: int) -> NoReturn:
-    """A command as a process of its own, which is interrupted before the line of the client's code that comes so many lines from its
-    beginning."""
-    left, status = [lines], 1
+def interrupted(words: List[str], lines: int) -> int:
+    """The status of a command that is interrupted before the line of the client's code that comes so many lines from its beginning."""
+    left = [lines]
 
     def line(frame: Any, event: str, argument: object) -> Any:
         if event == "line":
@@ -479,15 +502,13 @@ def interrupted(words: List[str], lines: int) -> NoReturn:
     def call(frame: Any, event: str, argument: object) -> Any:
         return line if frame.f_code.co_filename.startswith(CODE) and frame.f_code.co_filename != cli.__file__ else None
 
-    try:
-        with open(os.devnull, "w", encoding="ascii") as nothing, redirect_stderr(nothing):
-            sys.settrace(call)
+    with open(os.devnull, "w", encoding="ascii") as nothing, redirect_stdout(nothing), redirect_stderr(nothing):
+        sys.settrace(call)
+        try:
             status = cli.main(words)
+        finally:
             sys.settrace(None)
-        if left[0] > 0 and not status:
-            status = ENDED
-    finally:
-        os._exit(status)
+    return ENDED if left[0] > 0 and not status else status
 
 
 class Turns(WithServer):

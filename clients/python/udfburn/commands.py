@@ -5,7 +5,7 @@ from __future__ import annotations
 import argparse
 import os
 import sys
-from contextlib import contextmanager
+from contextlib import closing, contextmanager
 from typing import Iterator, List, Optional, Tuple
 
 from .client import Client, met
@@ -209,16 +209,17 @@ def get(arguments: argparse.Namespace) -> int:
         file = find_file(client, path, arguments.split)
         if client.stat(file.parts[0]).kind is NodeKind.DIRECTORY:
             raise IsDirectory(show(path))
-        _, parts = next(parts_of(client, [file]))
-        if arguments.local == "-":
-            for part in parts:
-                sys.stdout.buffer.write(part)
-            sys.stdout.buffer.flush()
-            return 0
-        local = arguments.local
-        if os.path.isdir(local):
-            local = os.path.join(local, path[-1])
-        count = save(local, parts, file.moment, arguments.force)
+        with parts_of(client, [file]) as files:
+            _, parts = next(files)
+            if arguments.local == "-":
+                for part in parts:
+                    sys.stdout.buffer.write(part)
+                sys.stdout.buffer.flush()
+                return 0
+            local = arguments.local
+            if os.path.isdir(local):
+                local = os.path.join(local, path[-1])
+            count = save(local, parts, file.moment, arguments.force)
         sync_names(os.path.dirname(local) or ".")
         progress.told("got", path, count, 0)
         progress.end()
@@ -250,19 +251,19 @@ def ls(arguments: argparse.Namespace) -> int:
 def list_names(client: Client, at: Path, names: Tuple[Name, ...], arguments: argparse.Namespace, progress: Progress) -> None:
     """Prints the names of a directory."""
     paths = [at + (name.name,) for name in names]
-    nodes: Iterator[object] = iter(client.ask_all(map(Stat, paths))) if arguments.long or arguments.json else iter(())
-    for path, name in zip(paths, names):
-        letter = "d" if name.kind is NodeKind.DIRECTORY else "f"
-        answer = next(nodes, None)
-        if answer is None:
-            progress.say(f"{letter} {name.name}")
-            continue
-        node = met(Stat(path), answer)  # type: ignore[arg-type]
-        assert isinstance(node, Node)
-        progress.say(
-            f"{letter} {node.size:>9} {moment(node.moment)} {name.name}",
-            path=show(path), kind=node.kind.name.lower(), size=node.size, moment=node.moment,
-        )
+    with closing(client.ask_all(map(Stat, paths if arguments.long or arguments.json else ()))) as nodes:
+        for path, name in zip(paths, names):
+            letter = "d" if name.kind is NodeKind.DIRECTORY else "f"
+            answer = next(nodes, None)
+            if answer is None:
+                progress.say(f"{letter} {name.name}")
+                continue
+            node = met(Stat(path), answer)
+            assert isinstance(node, Node)
+            progress.say(
+                f"{letter} {node.size:>9} {moment(node.moment)} {name.name}",
+                path=show(path), kind=node.kind.name.lower(), size=node.size, moment=node.moment,
+            )
 
 
 def verify(arguments: argparse.Namespace) -> int:

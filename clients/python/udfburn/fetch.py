@@ -5,6 +5,7 @@ from __future__ import annotations
 import errno
 import os
 import stat
+from contextlib import closing, contextmanager
 from itertools import islice
 from typing import Dict, Iterator, List, NamedTuple, Optional, Tuple
 
@@ -29,10 +30,11 @@ def stored_files(client: Client, at: Path, names: Tuple[Name, ...], split: bool)
     """The files in a directory, those in parts as one where that is asked for."""
     files = [name.name for name in names if name.kind is NodeKind.FILE]
     nodes: Dict[str, Node] = {}
-    for answer, name in zip(client.ask_all(Stat(at + (name,)) for name in files), files):
-        node = met(Stat(at + (name,)), answer)
-        assert isinstance(node, Node)
-        nodes[name] = node
+    with closing(client.ask_all(Stat(at + (name,)) for name in files)) as answers:
+        for answer, name in zip(answers, files):
+            node = met(Stat(at + (name,)), answer)
+            assert isinstance(node, Node)
+            nodes[name] = node
     whole: Dict[str, List[str]] = {}
     rest = files
     if split:
@@ -57,19 +59,20 @@ def find_file(client: Client, path: Path, split: bool) -> Stored:
     return Stored(path, [path], node.moment, node.size)
 
 
-def parts_of(client: Client, files: List[Stored]) -> Iterator[Tuple[Stored, Iterator[bytes]]]:
+@contextmanager
+def parts_of(client: Client, files: List[Stored]) -> Iterator[Iterator[Tuple[Stored, Iterator[bytes]]]]:
     """Files with their bytes, part by part. The parts of one are to be taken before the next."""
     queries = [Get(part) for file in files for part in file.parts]
-    answers = zip(client.ask_all(queries), queries)
+    with closing(client.ask_all(queries)) as answers:
+        asked = zip(answers, queries)
 
-    def data() -> bytes:
-        answer, query = next(answers)
-        got = met(query, answer)
-        assert isinstance(got, Data)
-        return got.data
+        def data() -> bytes:
+            answer, query = next(asked)
+            got = met(query, answer)
+            assert isinstance(got, Data)
+            return got.data
 
-    for file in files:
-        yield file, (data() for _ in file.parts)
+        yield ((file, (data() for _ in file.parts)) for file in files)
 
 
 def save(local: str, parts: Iterator[bytes], moment: Optional[int], force: bool) -> int:
@@ -137,10 +140,11 @@ def get_tree(client: Client, path: Path, local: str, split: bool = False, force:
         for at, names in walk(client, path):
             folder = os.path.join(local, *at[len(path) :])
             changed += make_folder(folder) + [os.path.abspath(folder)]
-            for file, parts in parts_of(client, stored_files(client, at, names, split)):
-                size = save(os.path.join(folder, file.path[-1]), parts, file.moment, force)
-                told("got", file.path, size, 0)
-                count += 1
+            with parts_of(client, stored_files(client, at, names, split)) as files:
+                for file, parts in files:
+                    size = save(os.path.join(folder, file.path[-1]), parts, file.moment, force)
+                    told("got", file.path, size, 0)
+                    count += 1
     for folder in dict.fromkeys(changed):
         sync_names(folder)
     return count
@@ -234,20 +238,20 @@ def compare_kind(path: str, kind: Optional[NodeKind], wanted: NodeKind, result: 
 def compare_files(client: Client, sources: List[Source], split: bool, result: Comparison, told: Told) -> None:
     """Compares the bytes of local files with those that are stored."""
     queries = [Get(part) for source in sources for part in stored_paths(source.path, source.identity.size, split)]
-    answers = client.ask_all(queries)
-    for source in sources:
-        count = len(stored_paths(source.path, source.identity.size, split))
-        found = [answer.data if isinstance(answer, Data) else None for answer in islice(answers, count)]
-        try:
-            same = list(read_parts(source)) == found
-        except SourceError as error:
-            result.differences.append((show(source.path), str(error)))
-            continue
-        result.files += 1
-        result.bytes += source.identity.size
-        told("same" if same else "differs", source.path, source.identity.size, 0)
-        if not same:
-            result.differences.append((show(source.path), "has other bytes there"))
+    with closing(client.ask_all(queries)) as answers:
+        for source in sources:
+            count = len(stored_paths(source.path, source.identity.size, split))
+            found = [answer.data if isinstance(answer, Data) else None for answer in islice(answers, count)]
+            try:
+                same = list(read_parts(source)) == found
+            except SourceError as error:
+                result.differences.append((show(source.path), str(error)))
+                continue
+            result.files += 1
+            result.bytes += source.identity.size
+            told("same" if same else "differs", source.path, source.identity.size, 0)
+            if not same:
+                result.differences.append((show(source.path), "has other bytes there"))
 
 
 __all__ = ["Comparison", "get_tree", "save", "sync_names", "verify_tree"]
