@@ -27,6 +27,8 @@ FILES = 9 * 440
 """Files that there are names for, in nine directories."""
 PER_KILL = 60
 """Files for each kill at most."""
+BATCH, BATCHES = 100, 40
+"""Files that are imported at once, and how many times a volume has room for the names of so many."""
 CODE = os.path.dirname(udfburn.__file__)
 TRACED = {os.path.join(CODE, name) for name in ("session.py", "ledger.py", "tree.py", "connection.py", "line.py")}
 
@@ -92,7 +94,7 @@ class DaemonKilled(WithPrograms):
         self.assertEqual([(number, commit) for number, _, _, commit, _ in history], [(number, number) for number in range(1, count + 1)])
         self.assertTrue(all(confirmed for *_, confirmed in history))
         self.assertEqual(self.commits(), count, "each request once")
-        with Client(f"unix:{self.path}") as reader:
+        with Client(f"unix:{self.path}", patience=PATIENCE) as reader:
             for answer, path in zip(reader.ask_all(map(p.Get, wanted)), wanted):
                 self.assertEqual(answer, p.Data(content(wanted[path])))
         self.assertEqual(self.udfburn("check", self.image), b"sound %d\n" % count)
@@ -111,13 +113,15 @@ class ClientKilled(WithPrograms):
         self.chance = random.Random(2)
         self.longest = 0.12
 
-    def sources(self, count: int) -> str:
-        """A folder of files that are not stored yet."""
-        self.batches += 1
-        for index in range(count):
+    def sources(self) -> None:
+        """A folder of files that are not stored yet; where the volume has no room for further names the last ones come again, which
+        are removed since it has them."""
+        self.batches = min(self.batches + 1, BATCHES)
+        for index in range(BATCH):
             number = self.batches * 1000 + index
-            self.files[self.write(f"sources/b{self.batches}/f{index}", content(number))] = number
-        return os.path.join(self.room, "sources")
+            local = self.write(f"sources/b{self.batches}/f{index}", content(number))
+            self.files[local] = number
+            self.gone.discard(local)
 
     def import_once(self, verify: bool) -> None:
         """What a user does again and again until it is done."""
@@ -132,8 +136,8 @@ class ClientKilled(WithPrograms):
         time.sleep(self.chance.uniform(0.0, self.longest))
         os.kill(child, signal.SIGKILL)
         killed = os.WIFSIGNALED(os.waitpid(child, 0)[1])
-        # On a fast machine it is killed sooner, so that it is seldom at its end.
-        self.longest *= 1.0 if killed else 0.8
+        # On a fast machine it is killed sooner, so that it is seldom at its end; but not at its beginning alone.
+        self.longest *= 1.0 if killed or self.longest < 0.02 else 0.8
         return killed
 
     def killed_by_line(self, verify: bool) -> bool:
@@ -165,7 +169,7 @@ class ClientKilled(WithPrograms):
         self.gone.update(gone)
 
     def kill_often(self, kills: int, kill: Any) -> None:
-        self.sources(100)
+        self.sources()
         killed = 0
         while killed < kills:
             ended = not kill(verify=killed % 2 == 0)
@@ -174,12 +178,12 @@ class ClientKilled(WithPrograms):
                 self.check_gone()
             if ended:
                 self.assertEqual(len(self.gone), len(self.files), "an import that ended stored all")
-                self.sources(100)
+                self.sources()
         self.import_once(True)
         self.check_gone()
         self.assertEqual(len(self.gone), len(self.files))
         # A directory for each folder, and each file once, whatever was killed.
-        with Client(self.way, ledger=self.ledger, program=UDFBURN) as client:
+        with Client(self.way, ledger=self.ledger, program=UDFBURN, patience=PATIENCE) as client:
             self.assertEqual(client.resume(), [])
             history = client.session().ledger.history(client.session().volume())
         self.assertEqual(self.commits(), 1 + self.batches + len(self.files))
