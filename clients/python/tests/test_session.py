@@ -470,7 +470,8 @@ class Interrupted(WithServer):
         with self.client() as client:
             client.put_tree(local, "/x")
         for words in (["get", "-r", "/x", back], ["get", "/x/a", back], ["verify", local, "/x"], ["ls", "-l", "/x"]):
-            lines, status = 1, 130
+            # As far as the first question they go as any command does.
+            lines, status = 401, 130
             while status == 130:
                 shutil.rmtree(back, ignore_errors=True)
                 if os.path.exists(back):
@@ -478,7 +479,7 @@ class Interrupted(WithServer):
                 status = interrupted([words[0], "--socket", self.server.path, *words[1:]], lines)
                 lines += LINES // 3
             self.assertEqual(status, ENDED, f"{words} interrupted at line {lines - LINES // 3} of the client's code")
-            self.assertGreater(lines, 400)
+            self.assertGreater(lines, 600)
 
 
 ENDED = 99
