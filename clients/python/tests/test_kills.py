@@ -136,8 +136,8 @@ class ClientKilled(WithPrograms):
         time.sleep(self.chance.uniform(0.0, self.longest))
         os.kill(child, signal.SIGKILL)
         killed = os.WIFSIGNALED(os.waitpid(child, 0)[1])
-        # On a fast machine it is killed sooner, so that it is seldom at its end; but not at its beginning alone.
-        self.longest *= 1.0 if killed or self.longest < 0.02 else 0.8
+        # However fast or slow the machine is, it is seldom at its end, and not at its beginning alone.
+        self.longest *= 1.03 if killed else 0.8
         return killed
 
     def killed_by_line(self, verify: bool) -> bool:
