@@ -9,7 +9,7 @@ from typing import Callable, Iterator, Union
 
 from faults import harness
 from faults.harness import Answer, Daemon, Model, Request
-from faults.load_support import Applying, Case, converse, during, expect_answers, spell_all
+from faults.load_support import Applying, Case, converse, during, expect_answers, spell_all, write_all
 
 Message = Union[Request, tuple[str, str]]
 
@@ -190,7 +190,7 @@ class Sending:
 
     def give(self, data: bytes) -> None:
         assert self.process.stdin is not None
-        self.process.stdin.write(data)
+        write_all(self.process.stdin.fileno(), data)
 
     def end(self) -> list[Answer]:
         output, _ = self.process.communicate(timeout=harness.PATIENCE)

@@ -145,6 +145,12 @@ def stop(process: int) -> None:
         raise AssertionError("the process did not stop")
 
 
+def write_all(descriptor: int, data: bytes) -> None:
+    """Writes into a pipe, whose writer may be woken with a part of it done."""
+    while data:
+        data = data[os.write(descriptor, data):]
+
+
 # ---- Writers --------------------------------------------------------------------------------------------------------------------
 
 
@@ -195,7 +201,7 @@ class Applying(Writer):
     def give(self, frames: bytes) -> None:
         assert self.process.stdin is not None
         try:
-            self.process.stdin.write(frames)
+            write_all(self.process.stdin.fileno(), frames)
         except BrokenPipeError:
             pass
 
