@@ -179,8 +179,12 @@ static int find(const char *target, char *name)
 				continue;
 			to[size] = 0;
 			if ((size_t)size > strlen(wanted) && !strcmp(to + size - strlen(wanted), wanted)) {
+				/* The kernel tells of a drive a moment before its node is there. */
+				int device;
 				sprintf(name, "/dev/sr%d", drive);
-				return open(name, O_RDONLY | O_CLOEXEC | O_NONBLOCK);
+				device = open(name, O_RDONLY | O_CLOEXEC | O_NONBLOCK);
+				if (device >= 0)
+					return device;
 			}
 		}
 		usleep(100000);
