@@ -1,5 +1,5 @@
 """A file whose writes and flushes are logged in order: a disk for a loop device, of which every state behind a loss of power can be
-made again. A write may be made to fail. It is served by FUSE, in the protocol of the kernel's fuse.h, and takes root."""
+made again. A write of chosen blocks may be made to fail. It is served by FUSE, in the protocol of the kernel's fuse.h, and takes root."""
 from __future__ import annotations
 
 import ctypes
@@ -9,6 +9,8 @@ import struct
 import time
 from pathlib import Path
 from typing import NamedTuple, NoReturn
+
+from faults.harness import BLOCK
 
 LOOKUP, FORGET, GETATTR, SETATTR, OPEN, READ, WRITE, STATFS, RELEASE, FSYNC, FLUSH, INIT = 1, 2, 3, 4, 14, 15, 16, 17, 18, 20, 25, 26
 OPENDIR_RELEASE, INTERRUPT, DESTROY, BATCH_FORGET = 29, 36, 38, 42
@@ -47,8 +49,22 @@ def _attributes(node: int, size: int) -> bytes:
     return struct.pack("<QQQQQQIIIIIIIIII", node, size if node == DISK else 0, size // 512, 0, 0, 0, 0, 0, 0, mode, 1, 0, 0, 0, 4096, 0)
 
 
+def _blocks(data: bytes) -> set[bytes]:
+    """The blocks of a write. Zeros are anybody's."""
+    return {data[at:at + BLOCK] for at in range(0, len(data), BLOCK)} - {bytes(BLOCK)}
+
+
+def _is_to_fail(failing: str, data: bytes) -> bool:
+    """Whether a write brings one of the blocks of the file `failing`."""
+    try:
+        with open(failing, "rb") as file:
+            return not _blocks(file.read()).isdisjoint(_blocks(data))
+    except FileNotFoundError:
+        return False
+
+
 def _serve(device: int, backing: str, size: int, log: str, failing: str) -> NoReturn:
-    """Answers the kernel's requests until the folder is unmounted. Where there is a file `failing` the next write is a failure, and
+    """Answers the kernel's requests until the folder is unmounted. The next write of a block of the file `failing` is a failure, and
     that file goes."""
     disk = os.open(backing, os.O_RDWR)
     logged = os.open(log, os.O_WRONLY | os.O_CREAT | os.O_APPEND, 0o600)
@@ -82,7 +98,7 @@ def _serve(device: int, backing: str, size: int, log: str, failing: str) -> NoRe
         elif operation == WRITE:
             _, offset, length = struct.unpack_from("<QQI", body)
             data = body[40:40 + length]
-            if os.path.exists(failing):
+            if _is_to_fail(failing, data):
                 os.unlink(failing)
                 error = -errno.EIO
             else:
@@ -104,7 +120,7 @@ def _serve(device: int, backing: str, size: int, log: str, failing: str) -> NoRe
 
 
 class FuseDisk:
-    """The file `disk` in a folder, mounted for as long as this is open. To make the next write fail, make the file `failing`."""
+    """The file `disk` in a folder, mounted for as long as this is open."""
 
     def __init__(self, folder: Path, backing: Path, log: Path) -> None:
         self.folder = folder
@@ -129,6 +145,14 @@ class FuseDisk:
         finally:
             os.close(device)
         self._libc = libc
+
+    def fail(self, blocks: bytes) -> None:
+        """Makes the next write of one of these blocks fail. What the system writes of its own accord, as it does behind half a minute,
+        is none of them."""
+        self.failing.write_bytes(blocks)
+
+    def has_failed(self) -> bool:
+        return not self.failing.exists()
 
     def size(self) -> int:
         """The size of the log: what reached the disk so far."""

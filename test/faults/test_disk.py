@@ -9,6 +9,7 @@ from __future__ import annotations
 import ctypes
 import os
 import random
+import shutil
 import signal
 import subprocess
 import threading
@@ -22,8 +23,7 @@ from faults.harness import Answer, Case, Daemon, Model, Request, answers_of, pat
 SIZE = 12 << 20
 JOURNAL = ("-J", "size=4")
 NO_JOURNAL = ("-O", "^has_journal")
-# With these the system writes nothing of its own accord, as it does behind some seconds: the write that fails is the one that is meant,
-# however long all takes.
+# With these the system writes little of its own accord.
 QUIET = "noinit_itable"
 QUIET_JOURNAL = QUIET + ",commit=3600"
 SECTOR = 4096
@@ -82,7 +82,7 @@ class Disks(Case):
                  ends: Optional[Ends]) -> tuple[list[Event], list[tuple[int, int]]]:
         """Formats an image on the file system, and serves the stream: what reached the disk, and how far it was at each
         acknowledgement (the format is number 0). Where `pushes`, another process has the system write out what is unsynced at any
-        moment, as a busy machine does. Where `fails`, the first write that reaches the disk for each request is a failure. Where
+        moment, as a busy machine does. Where `fails`, the first write of each request that reaches the disk is a failure. Where
         there is an `ends`, it lets a process write each request and end without an answer, so that the system keeps what the disk
         does not have."""
         folder, where = self.path("fuse"), self.path("mounted")
@@ -122,9 +122,9 @@ class Disks(Case):
             with Daemon(self.folder, image) as daemon, daemon.client() as client:
                 for request in () if ends else STREAM:
                     if fails:
-                        served.failing.touch()
+                        served.fail(self.blocks_of(image, request))
                         self.assertEqual(client.ask(spell(request)), Answer(harness.FAULT))
-                        self.assertFalse(served.failing.exists())
+                        self.assertTrue(served.has_failed())
                     answer = client.ask(spell(request))
                     size = served.size()
                     self.assertEqual(answer, model.answer(request))
@@ -142,23 +142,35 @@ class Disks(Case):
         self.assertGreater(len(found), 2 * len(STREAM))
         return found, said
 
+    def blocks_of(self, image: str, request: Request) -> bytes:
+        """The blocks that this request will write, by a copy of the image."""
+        ahead = self.path("ahead.img")
+        shutil.copyfile(image, ahead)
+        length = ahead.stat().st_size
+        self.apply(spell(request), "ahead.img")
+        blocks = ahead.read_bytes()[length:]
+        self.assertGreaterEqual(len(blocks), 2 * harness.BLOCK)
+        return blocks
+
     def dies(self, image: str, request: Request, served: FuseDisk) -> None:
         """The request's second write reaches the disk and fails there, and the process is killed before it cuts the file back."""
+        blocks = self.blocks_of(image, request)
         process = self.stopped([harness.built().udfburn, "apply", image], spell(request), image, "pwrite:2:H;ftruncate:1:K")
-        served.failing.touch()
+        served.fail(blocks)
         process.send_signal(signal.SIGCONT)
         output, _ = process.communicate(timeout=harness.PATIENCE)
         self.assertEqual((process.returncode, output), (-9, b""))
-        self.assertFalse(served.failing.exists())
+        self.assertTrue(served.has_failed())
 
     def refused(self, image: str, request: Request, served: FuseDisk) -> None:
         """The request is written, and the process is killed before the sync of its last blocks. The next one fails in the sync with
         which it begins, and so is refused."""
+        # Its entry, which fails also where the system writes it before the next process does.
+        served.fail(self.blocks_of(image, request)[-harness.BLOCK:])
         killed = self.apply(spell(request), image, rules="fsync:3:K")
         self.assertEqual((killed.status, killed.output), (-9, b""))
-        served.failing.touch()
         self.tell(self.apply(spell(request), image), 1, b"", b"udfburn: 64 Device\n")
-        self.assertFalse(served.failing.exists())
+        self.assertTrue(served.has_failed())
 
     @staticmethod
     def push(where: Path, is_over: threading.Event) -> None:
