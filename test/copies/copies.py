@@ -35,6 +35,8 @@ CAPACITY = 200_000
 # Seconds behind which what did not come counts as missing: more than any machine takes.
 PATIENCE = 300
 FORMAT_MOMENT = 77
+# Seconds without a word behind which the client leaves before the daemon lets it go, which does so behind 60.
+SILENCE = 20
 # As many replies as a volume keeps of a client: so many requests may be under way without one that gets lost.
 UNDER_WAY = 4
 # Behind so many the rest of the requests is sent without.
@@ -121,7 +123,10 @@ class Writer(threading.Thread):
         past = min(len(self.requests), asked + most)
         try:
             while self.answered < past:
+                silent = time.monotonic()
                 self.busy.wait()
+                if time.monotonic() - silent > SILENCE:
+                    return
                 while asked < past and asked - self.answered < UNDER_WAY:
                     asked += 1
                     self.sent = max(self.sent, asked)
