@@ -316,18 +316,16 @@ class Descriptors(Serving):
         with Daemon(self.folder, "d.img", "--connections", "6") as daemon:
             process = daemon.process.pid
             self.assertTrue(await_true(daemon.path.is_socket))
-            idle = len(descriptors_of(process))
+            idle = descriptors_of(process)
             self.next_is_served(daemon)
-            # So many that none is free.
             limits = resource.prlimit(process, resource.RLIMIT_NOFILE)
             for stretch in (1, 2):
-                # The connection before is closed, and the next one is waited for.
-                self.assertTrue(await_true(lambda: len(descriptors_of(process)) == idle and state_of(process) == "S"))
-                resource.prlimit(process, resource.RLIMIT_NOFILE, (max(descriptors_of(process)) + 1, limits[1]))
-                # The kernel keeps a descriptor for a wait that began before, so one more may come.
                 with daemon.client() as client:
                     request = self.request(b"before")
                     self.assertEqual(client.ask(harness.spell(request)), self.model.answer(request))
+                    # The connection has the lowest number that was free, so behind it none is.
+                    (number,) = set(descriptors_of(process)) - set(idle)
+                    resource.prlimit(process, resource.RLIMIT_NOFILE, (number, limits[1]))
                 before = seconds_of(process)
                 request = self.request(b"late")
                 with daemon.client() as client:
