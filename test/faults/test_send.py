@@ -22,6 +22,19 @@ TOO_LONG = bytes.fromhex("00000080")
 TOO_LONG_ANSWER = bytes.fromhex("04000000 2600 3300")
 
 
+def waiting(most: int) -> int:
+    """How many answers to requests a socket of this machine holds, or so many where it holds more."""
+    one, other = socket.socketpair(socket.AF_UNIX)
+    with one, other:
+        one.setblocking(False)
+        for count in range(most):
+            try:
+                one.send(ANSWERS[0])
+            except BlockingIOError:
+                return count
+    return most
+
+
 class Played(Case):
     """A daemon that the test plays: it reads what it likes, answers what it likes, and goes."""
 
@@ -202,15 +215,20 @@ class Killed(Case):
 
     def test_as_many_as_wait(self) -> None:
         """Answers that the daemon gives one by one, as many as docs/OPERATIONS.md says that the socket holds."""
+        # What a kernel reckons for a message differs.
+        count = waiting(250)
+        self.assertGreater(count, 150)
         self.fresh(capacity=60000)
         with Daemon(self.folder) as daemon:
             daemon.client().close()
-            ran = self.udfburn("send", "s", stdin=b"".join(map(spell, self.LARGE[:250])))
+            ran = self.udfburn("send", "s", stdin=b"".join(map(spell, self.LARGE[:count])))
             self.assertEqual((ran.status, ran.errors), (0, b""))
-            self.assertEqual([answer.commit for answer in answers_of(ran.output)], list(range(1, 251)))
+            self.assertEqual([answer.commit for answer in answers_of(ran.output)], list(range(1, count + 1)))
 
     def test_more_than_wait(self) -> None:
         """Neither side goes on, until the daemon lets go: that is told, and what was answered is done. The next parts go on from there."""
+        if waiting(len(self.LARGE)) == len(self.LARGE):
+            harness.lacks("a socket holds more answers than are asked for")
         self.fresh(capacity=60000)
         with Daemon(self.folder) as daemon:
             daemon.client().close()
@@ -219,7 +237,7 @@ class Killed(Case):
             self.assertIn(ran.errors, [READ, WRITE])
             self.assertEqual(daemon.errors(), b"udfburnd: 92 Write\n")
             answers, _ = harness.split_answers(ran.output)
-            self.assertGreaterEqual(len(answers), 250)
+            self.assertGreaterEqual(len(answers), waiting(250))
             self.assertLess(len(answers), len(self.LARGE))
             self.assertEqual([answer.commit for answer in answers], list(range(1, len(answers) + 1)))
             # The last one whose answer came is within the replies that are kept.
