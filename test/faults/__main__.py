@@ -96,6 +96,8 @@ def main() -> int:
         return run_module(asked.module)
     if len(asked.words) < 2:
         parser.error("the paths of the two programs are missing")
+    # Another user reads some of what is made here.
+    os.umask(0o022)
     os.environ["UDFBURN"], os.environ["UDFBURND"] = (os.path.abspath(word) for word in asked.words[:2])
     here = Path(__file__).resolve().parent
     found = {path.stem for pattern in ("test_*.py", "load_*.py") for path in here.glob(pattern)}

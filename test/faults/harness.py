@@ -11,6 +11,7 @@ import os
 import shutil
 import signal
 import socket
+import stat
 import struct
 import subprocess
 import tempfile
@@ -64,6 +65,13 @@ def need_root() -> None:
     if shutil.which("sudo") and subprocess.run(["sudo", "-n", "true"], capture_output=True).returncode == 0:
         leave_out("root is needed, and sudo gives it: run the tests by sudo")
     lacks("root is needed")
+
+
+def need_way() -> None:
+    """Leaves a test out where another user has no way to the folder below which tests work, as with a TMPDIR of one's own."""
+    for folder in Path(built().room).parents:
+        if not folder.stat().st_mode & stat.S_IXOTH:
+            lacks("%s is closed to other users" % folder)
 
 
 # ---- The programs and the shims -------------------------------------------------------------------------------------------------

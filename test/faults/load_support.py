@@ -68,6 +68,7 @@ def as_nobody() -> dict[str, Any]:
     """The words for a process of a user who may not write what others made. Without root the user is one whom a mode stops."""
     if os.geteuid() != 0:
         return {}
+    harness.need_way()
     return {"user": NOBODY, "group": NOBODY, "extra_groups": []}
 
 

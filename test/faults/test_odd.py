@@ -215,6 +215,7 @@ class Rights(Case):
         self.fresh()
         self.apply(spell(CREATE))
         if os.geteuid() == 0:
+            harness.need_way()
             self.user = {"user": NOBODY, "group": NOBODY, "extra_groups": []}
             os.chown(self.path("d.img"), NOBODY, NOBODY)
             os.chown(self.folder, NOBODY, NOBODY)
