@@ -9,9 +9,19 @@
 set -u
 PATH=$PATH:/usr/sbin:/sbin
 
-# install PACKAGE..: installs them. The lock stays with this process alone.
+# install PACKAGE..: installs them, where none has to go for it. The lock stays with this process alone.
 install() {
-    DEBIAN_FRONTEND=noninteractive apt-get -q -y --no-install-recommends -o DPkg::Lock::Timeout=300 install "$@" 9<&-
+    DEBIAN_FRONTEND=noninteractive apt-get -q -y --no-install-recommends --no-remove -o DPkg::Lock::Timeout=300 install "$@" 9<&-
+}
+
+# update: takes in the lists of packages, behind whoever does so just now, as a machine of its own accord.
+update() {
+    tries=60
+    while told=$(LC_ALL=C apt-get -q update 2>&1 9<&-); echo "$told"; do
+        case $told in *'Could not get lock'*) tries=$((tries - 1)) ;; *) return ;; esac
+        [ "$tries" -gt 0 ] || return
+        sleep 5
+    done
 }
 
 [ $# -gt 0 ] || exit 2
@@ -19,18 +29,19 @@ case $1 in
     --lists) shift ;;
     --suites)
         shift
-        for tool in gcc:gcc python3:python3 rsync:rsync mandoc:mandoc strace:strace udfclient:udfclient udfinfo:udftools blkid:util-linux; do
+        for tool in gcc:gcc python3:python3 rsync:rsync mandoc:mandoc strace:strace systemd-analyze:systemd udfclient:udfclient \
+            udfinfo:udftools blkid:util-linux mkfs.ext4:e2fsprogs mount:mount; do
             command -v "${tool%:*}" > /dev/null || set -- "$@" "${tool#*:}"
         done
+        [ -e /usr/include/stdio.h ] || set -- "$@" libc6-dev
         [ $# -gt 0 ] || exit 0
         ;;
 esac
 [ "$(id -u)" -eq 0 ] && command -v apt-get > /dev/null || exit 1
-# apt-get itself waits for another one only where it installs.
 exec 9< "$0"
 flock 9
 if [ $# -gt 0 ] && install "$@"; then exit 0; fi
-apt-get -q update 9<&-
+update
 status=0
 for package in "$@"; do
     install "$package" || status=1
