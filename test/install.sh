@@ -2,8 +2,8 @@
 # The installation and the Debian package, each in an empty root; the manual pages, and the unit of systemd.
 #
 # usage: test/install.sh [UDFBURN [UDFBURND]]
-# Its last line is 'install: N passed, M failed'. mandoc and strace are installed where they are not there and we may; what
-# cannot be had is said, and is a failure where CI=true.
+# Its last line is 'install: N passed, M failed'. mandoc, strace and systemd's commands are installed where they are not there
+# and we may; what cannot be had is said, and is a failure where CI=true.
 set -u
 absolute() {
     echo "$(cd "$(dirname "$1")" && pwd)/$(basename "$1")"
@@ -39,9 +39,9 @@ absent() {
     if [ "${CI:-}" = true ]; then failed=$((failed + 1)); fi
 }
 
-# need COMMAND: installs it from the package of its name where it is not there and we may, and says where it is still absent.
+# need COMMAND PACKAGE: installs it where it is not there and we may, and says where it is still absent.
 need() {
-    command -v "$1" > "$room/which" || test/packages.sh "$1" > "$room/apt.log" 2>&1
+    command -v "$1" > "$room/which" || test/packages.sh "$2" > "$room/apt.log" 2>&1
     command -v "$1" > "$room/which" || absent "$1"
 }
 
@@ -188,7 +188,7 @@ else
 fi
 
 # The manual pages.
-need mandoc
+need mandoc mandoc
 if command -v mandoc > "$room/which"; then
     for page in man/*.[1-9]; do
         # Which pages of other programs are there is the machine's own.
@@ -253,6 +253,7 @@ setting() {
 holds 'a daemon is started again however it ended' [ "$(setting Service Restart)" = always ]
 holds 'it is started again however often it ended' [ "$(setting Unit StartLimitIntervalSec)" = 0 ]
 holds 'no limit on files ends it in a commit' [ "$(setting Service LimitFSIZE)" = infinity ]
+need systemd-analyze systemd
 if command -v systemd-analyze > "$room/which"; then
     # It looks whether the program that a unit starts is there, as the one that was installed above is.
     unit=$prefix/lib/systemd/system/udfburnd@.service
@@ -261,7 +262,7 @@ if command -v systemd-analyze > "$room/which"; then
     holds 'little is exposed' systemd-analyze security --offline=yes --threshold=15 --no-pager "$room/udfburnd@archive.service"
 
     # What the unit's commands and the daemon call is within its filter.
-    need strace
+    need strace strace
     if command -v strace > "$room/which"; then
         for sign in '' '~'; do
             sed -n "s/^SystemCallFilter=$sign\(@.*\)/\1/p" "$unit" | tr ' ' '\n' > "$room/sets"
@@ -287,8 +288,6 @@ if command -v systemd-analyze > "$room/which"; then
             holds "$call is within the filter" sh -c 'grep -qx "$2" "$1/filter" && ! grep -qx "$2" "$1/filter~"' - "$room" "$call"
         done < "$room/called"
     fi
-else
-    absent systemd-analyze
 fi
 
 # The prefix, behind the use of what it has.
