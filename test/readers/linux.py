@@ -183,7 +183,9 @@ def mounts_here(guest: Path, room: Path) -> bool:
     subprocess.run(["sh", "-c", "modprobe udf 2> /dev/null"], check=False)
     if "\tudf\n" not in Path("/proc/filesystems").read_text():
         return False
-    # With no jobs it asks for mounts of its own alone, which a container may refuse.
-    (room / "none").write_bytes(b"")
+    # A job over zeros asks for mounts of its own and for a loop device, which a container may refuse. What has no volume is not mounted.
+    zeros = room / "zeros"
+    zeros.write_bytes(bytes(1 << 20))
+    (room / "none").write_bytes(job_lines([Job(zeros)], {zeros: (str(zeros), 0, 1 << 20)}, []))
     done = subprocess.run([str(guest), str(room / "none"), str(room / "output")], stderr=subprocess.DEVNULL)
     return done.returncode == 0
