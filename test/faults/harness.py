@@ -18,7 +18,7 @@ import tempfile
 import time
 import unittest
 from pathlib import Path
-from typing import Any, Iterable, Mapping, NamedTuple, NoReturn, Optional, Sequence, Union
+from typing import Any, Callable, Iterable, Mapping, NamedTuple, NoReturn, Optional, Sequence, Union
 
 HERE = Path(__file__).resolve().parent
 REPOSITORY = HERE.parent.parent
@@ -413,6 +413,39 @@ def paths_of(requests: Iterable[Request]) -> list[str]:
     return sorted(found)
 
 
+# ---- Processes seen from outside ------------------------------------------------------------------------------------------------
+
+
+def await_true(question: Callable[[], bool], patience: float = PATIENCE, pause: float = 0.001) -> bool:
+    """Whether the question is answered by yes before patience ends."""
+    end = time.monotonic() + patience
+    while not question():
+        if time.monotonic() > end:
+            return False
+        time.sleep(pause)
+    return True
+
+
+def fields_of(process: int) -> list[str]:
+    # The name in brackets may hold anything, so the fields are counted from behind it.
+    return Path("/proc/%d/stat" % process).read_text().rpartition(")")[2].split()
+
+
+def state_of(process: int) -> str:
+    """R, S, D, T (stopped), Z (ended), or X where there is none."""
+    try:
+        return fields_of(process)[0]
+    except OSError:
+        return "X"
+
+
+def stop(process: int) -> None:
+    """Stops a process, and waits until it is."""
+    os.kill(process, signal.SIGSTOP)
+    if not await_true(lambda: state_of(process) in "TZX"):
+        raise AssertionError("the process did not stop")
+
+
 # ---- Running the programs -------------------------------------------------------------------------------------------------------
 
 
@@ -507,6 +540,7 @@ class Daemon:
         self.folder = Path(folder)
         self.path = self.folder / socket_name
         self.lines = self.folder / (socket_name + ".errors")
+        self.is_logged = log is not None
         popen.setdefault("stdin", subprocess.DEVNULL)
         popen.setdefault("stdout", subprocess.DEVNULL)
         with open(self.lines, "wb") as errors:
@@ -532,6 +566,9 @@ class Daemon:
 
     def kill(self) -> None:
         if self.process.poll() is None:
+            if self.is_logged:
+                # Between two calls: inside one it might leave a part of a record in its log.
+                stop(self.process.pid)
             self.process.send_signal(signal.SIGKILL)
         self.process.wait()
 

@@ -15,8 +15,8 @@ from pathlib import Path
 from typing import Callable, Optional
 
 from faults import harness
-from faults.harness import Answer, Client, Daemon, Model, Ran, Request
-from faults.load_support import Case, as_nobody, await_true, descriptors_of, memory_of, seconds_of, state_of
+from faults.harness import Answer, Client, Daemon, Model, Ran, Request, await_true
+from faults.load_support import Case, as_nobody, descriptors_of, memory_of, seconds_of
 
 # Seconds without a byte behind which a client is let go (docs/OPERATIONS.md).
 SILENCE = 60.0

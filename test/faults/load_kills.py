@@ -13,9 +13,8 @@ import unittest
 from typing import Optional
 
 from faults import harness
-from faults.harness import Answer, Client, Daemon, Model, Request
-from faults.load_support import (PATHS, Applying, Case, Die, await_true, connect_or_none, counted, during, has_shim, listing,
-                                  log_lines, state_of, stop)
+from faults.harness import Answer, Client, Daemon, Model, Request, await_true, state_of, stop
+from faults.load_support import PATHS, Applying, Case, Die, connect_or_none, counted, during, has_shim, listing, log_lines
 
 QUESTIONS = ["/"] + PATHS
 # How many requests go out before their answers are read: a client's last four replies are kept.

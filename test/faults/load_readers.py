@@ -11,8 +11,8 @@ from contextlib import contextmanager
 from typing import Any, Callable, Iterator, Optional, Sequence
 
 from faults import harness
-from faults.harness import Daemon, Model, Ran, Request, built
-from faults.load_support import Case, Die, as_nobody, await_true, counted, during, listing, log_lines, state_of
+from faults.harness import Daemon, Model, Ran, Request, await_true, built, state_of
+from faults.load_support import Case, Die, as_nobody, counted, during, listing, log_lines
 from faults.pages import Disk
 
 # What is read all the time, beside the root.

@@ -19,22 +19,12 @@ from pathlib import Path
 from typing import Any, Callable, Iterable, Iterator, Optional, Sequence, TypeVar, Union
 
 from faults import harness
-from faults.harness import Answer, Client, Daemon, Model, Ran, Request, built
+from faults.harness import Answer, Client, Daemon, Model, Ran, Request, built, fields_of
 
 Item = TypeVar("Item")
 
 # A user who owns nothing here.
 NOBODY = 65534
-
-
-def await_true(question: Callable[[], bool], patience: float = harness.PATIENCE, pause: float = 0.001) -> bool:
-    """Whether the question is answered by yes before patience ends."""
-    end = time.monotonic() + patience
-    while not question():
-        if time.monotonic() > end:
-            return False
-        time.sleep(pause)
-    return True
 
 
 def in_pairs(work: Callable[[Item], None], items: Iterable[Item]) -> None:
@@ -120,30 +110,10 @@ def descriptors_of(process: int) -> list[int]:
     return sorted(int(name) for name in os.listdir("/proc/%d/fd" % process))
 
 
-def _fields_of(process: int) -> list[str]:
-    # The name in brackets may hold anything, so the fields are counted from behind it.
-    return Path("/proc/%d/stat" % process).read_text().rpartition(")")[2].split()
-
-
-def state_of(process: int) -> str:
-    """R, S, D, T (stopped), Z (ended), or X where there is none."""
-    try:
-        return _fields_of(process)[0]
-    except OSError:
-        return "X"
-
-
 def seconds_of(process: int) -> float:
     """The processor time, of the process and of the kernel for it."""
-    fields = _fields_of(process)
+    fields = fields_of(process)
     return (int(fields[11]) + int(fields[12])) / os.sysconf("SC_CLK_TCK")
-
-
-def stop(process: int) -> None:
-    """Stops a process, and waits until it is."""
-    os.kill(process, signal.SIGSTOP)
-    if not await_true(lambda: state_of(process) in "TZX"):
-        raise AssertionError("the process did not stop")
 
 
 def write_all(descriptor: int, data: bytes) -> None:

@@ -9,8 +9,8 @@ import unittest
 from typing import Callable, Optional
 
 from faults import harness
-from faults.harness import BLOCK, FORMATTED_BLOCKS, Answer, Model, Ran, Request, built, read_log
-from faults.load_support import Applying, Case, Serving, Writer, await_true, during, has_shim, log_lines, state_of
+from faults.harness import BLOCK, FORMATTED_BLOCKS, Answer, Model, Ran, Request, await_true, built, read_log, state_of
+from faults.load_support import Applying, Case, Serving, Writer, during, has_shim, log_lines
 
 # Where both writers wait for each other: nowhere, before they look at the image, and before they ask for the lock.
 GATES = ["", "open:1:H", "flock:1:H"]
