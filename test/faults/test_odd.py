@@ -361,6 +361,8 @@ class Limits(Case):
         with open(filler, "wb", buffering=0) as file:
             found = os.statvfs(where)
             file.write(bytes(max(found.f_bavail * found.f_frsize - 150000, 0)))
+            # So that it takes no more room when the system gets to it.
+            os.fsync(file.fileno())
         model = Model()
         paths = paths_of(self.STREAM)
         with Daemon(where, str(image), socket_name="s") as daemon, daemon.client() as client:
