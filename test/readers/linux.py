@@ -161,7 +161,8 @@ def mount_in_machine(guest: Path, kernel: Path, jobs: List[Job], room: Path, sec
     words = ["qemu-system-x86_64", "-nodefaults", "-no-user-config", "-display", "none", "-no-reboot", "-m", "768"]
     words += ["-machine", "q35,accel=tcg", "-cpu", "max", "-serial", "stdio"]
     words += ["-kernel", str(image), "-initrd", str(room / "archive")]
-    words += ["-append", "console=ttyS0 quiet panic=-1 random.trust_cpu=on"]
+    # Beside other work the machine may stand still just when the kernel looks whether its timer ticks.
+    words += ["-append", "console=ttyS0 quiet panic=-1 no_timer_check random.trust_cpu=on"]
     words += ["-device", "virtio-scsi-pci"]
     for at, name in enumerate(("disk", "output")):
         readonly = "on" if name == "disk" else "off"
