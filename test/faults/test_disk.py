@@ -18,7 +18,7 @@ from typing import Callable, Iterator, Optional, Sequence
 
 from faults import harness
 from faults.fusedisk import Event, FuseDisk, events
-from faults.harness import Answer, Case, Daemon, Model, Request, answers_of, paths_of, questions, spell
+from faults.harness import Answer, Case, Daemon, Model, Request, answers_of, paths_of, questions, read_log, spell
 
 SIZE = 12 << 20
 JOURNAL = ("-J", "size=4")
@@ -39,7 +39,8 @@ STREAM = [
     Request("rename", 1, 3, "/a", to="/d/a"),
     Request("replace", 2, 2, "/b", b"third" * 900),
     Request("create", 1, 4, "/b", b"refused"),
-    Request("create", 2, 3, "/d/long", bytes(range(256)) * 500),
+    # No two blocks of it are the same.
+    Request("create", 2, 3, "/d/long", b"".join(b"%08d" % number for number in range(16000))),
     Request("remove", 1, 5, "/d/a"),
     Request("create", 2, 4, "/last", b"last"),
 ]
@@ -142,14 +143,17 @@ class Disks(Case):
         self.assertGreater(len(found), 2 * len(STREAM))
         return found, said
 
-    def blocks_of(self, image: str, request: Request) -> bytes:
-        """The blocks that this request will write, by a copy of the image."""
-        ahead = self.path("ahead.img")
-        shutil.copyfile(image, ahead)
-        length = ahead.stat().st_size
-        self.apply(spell(request), "ahead.img")
-        blocks = ahead.read_bytes()[length:]
-        self.assertGreaterEqual(len(blocks), 2 * harness.BLOCK)
+    def blocks_of(self, image: str, request: Request, rules: str = "") -> bytes:
+        """The blocks that this request will write, by a copy of the image; where rules end it, those that it leaves unsynced."""
+        shutil.copyfile(image, self.path("ahead.img"))
+        self.apply(spell(request), "ahead.img", rules=rules, log=self.new_log())
+        blocks = b""
+        for record in read_log(self.log_path()):
+            if record.kind == "pwrite":
+                blocks += record.data
+            elif record.kind == "fsync" and rules:
+                blocks = b""
+        self.assertGreaterEqual(len(blocks), harness.BLOCK)
         return blocks
 
     def dies(self, image: str, request: Request, served: FuseDisk) -> None:
@@ -165,9 +169,10 @@ class Disks(Case):
     def refused(self, image: str, request: Request, served: FuseDisk) -> None:
         """The request is written, and the process is killed before the sync of its last blocks. The next one fails in the sync with
         which it begins, and so is refused."""
-        # Its entry, which fails also where the system writes it before the next process does.
-        served.fail(self.blocks_of(image, request)[-harness.BLOCK:])
-        killed = self.apply(spell(request), image, rules="fsync:3:K")
+        rules = "fsync:3:K"
+        # The failure waits for them, since the system may write them before the next process does.
+        served.fail(self.blocks_of(image, request, rules))
+        killed = self.apply(spell(request), image, rules=rules)
         self.assertEqual((killed.status, killed.output), (-9, b""))
         self.tell(self.apply(spell(request), image), 1, b"", b"udfburn: 64 Device\n")
         self.assertTrue(served.has_failed())
@@ -287,9 +292,11 @@ class Disks(Case):
 
     def test_writes_that_fail(self) -> None:
         """The system drops what it could not write, though it still shows it: the repeat writes it anew, and it is there."""
+        harness.need_shim()
         self.lose(JOURNAL, fails=True)
 
     def test_writes_that_fail_without_a_journal(self) -> None:
+        harness.need_shim()
         self.lose(NO_JOURNAL, fails=True)
 
     def test_a_kill_between_a_failed_sync_and_the_cut(self) -> None:
