@@ -93,7 +93,12 @@ def main() -> int:
         began = time.monotonic()
         for volume in volumes:
             large = volume.image.stat().st_size >= UDFCLIENT_LEAST * 2048
-            if large and volume.name not in UDFCLIENT_LEAVES:
+            if not large or volume.name in UDFCLIENT_LEAVES:
+                continue
+            # It makes directories as they are on the volume, where nobody may write.
+            if os.geteuid() != 0 and any(len(path) > 1 for path, _ in volume.tree.walk()):
+                print("readers: not tried: udfclient: %s, whose directories only root can fill" % volume.name)
+            else:
                 counts.check("udfclient: " + volume.name, compare.udfclient(volume, given.room))
                 shutil.rmtree(given.room / (volume.name + ".client"))
         print("readers: udfclient, %.1f s" % (time.monotonic() - began), flush=True)
