@@ -27,4 +27,5 @@ for tool in python3 gcc; do
     fi
 done
 cd "$home"
+PATH=$PATH:/usr/sbin:/sbin
 PYTHONDONTWRITEBYTECODE=1 exec python3 -m faults "$udfburn" "$udfburnd" "$@"
