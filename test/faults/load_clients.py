@@ -311,6 +311,15 @@ class Descriptors(Serving):
         self.assertGreaterEqual(len(lines), 1)
         self.assertEqual(set(lines), {b"udfburnd: 94 Socket\n"})
 
+    def rests(self, process: int) -> None:
+        """It takes next to no processor time, in one of some stretches: a machine may reckon its own time to a process."""
+        for _ in range(5):
+            before = seconds_of(process)
+            time.sleep(2.0)
+            if seconds_of(process) - before < 0.1:
+                return
+        self.fail("it takes processor time while it waits")
+
     def test_descriptors_that_ran_out(self) -> None:
         self.fresh(capacity=20000)
         with Daemon(self.folder, "d.img", "--connections", "6") as daemon:
@@ -326,14 +335,12 @@ class Descriptors(Serving):
                     # The connection has the lowest number that was free, so behind it none is.
                     (number,) = set(descriptors_of(process)) - set(idle)
                     resource.prlimit(process, resource.RLIMIT_NOFILE, (number, limits[1]))
-                before = seconds_of(process)
                 request = self.request(b"late")
                 with daemon.client() as client:
                     client.send(harness.spell(request))
                     self.assertTrue(await_true(lambda: len(daemon.errors().splitlines()) == stretch))
-                    time.sleep(2.0)
+                    self.rests(process)
                     self.assertIsNone(daemon.process.poll())
-                    self.assertLess(seconds_of(process) - before, 0.1)
                     self.lines_are(daemon, stretch)
                     resource.prlimit(process, resource.RLIMIT_NOFILE, limits)
                     begin = time.monotonic()
