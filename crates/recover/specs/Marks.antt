@@ -1,5 +1,5 @@
 -- A set of numbers as it is kept: the small ones in a table, the others as a hash set.
-use Rattle.std.specs.Prelude.{ℕ, Bool, false, if◌then◌else◌, get_or, nat_lt, nat_eq}
+use Rattle.std.specs.Prelude.{false, if◌then◌else◌, get_or, nat_lt, nat_eq}
 use Rattle.std.specs.HashSet.{contains}
 use Rattle.recover.specs.declared.marks.Marks.{Marks}
 use Rattle.recover.specs.Forest.{Numbers}

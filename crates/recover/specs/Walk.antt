@@ -1,5 +1,5 @@
 -- What the walk through the nodes of a tree sees, and what it keeps.
-use Rattle.std.specs.Prelude.{◌≡◌, ℕ, ◌+◌, ◌<◌, ◌≤◌, ◌^◌, ◌-◌, nat_eq, List, [], Option, Some, None, IfSome, take, slice_get, All}
+use Rattle.std.specs.Prelude.{◌≡◌, ℕ, ◌+◌, ◌<◌, ◌≤◌, ◌^◌, ◌-◌, List, [], Option, Some, None, IfSome, take, slice_get, All}
 use Rattle.std.specs.Int.{div_ceil}
 use Rattle.limits.specs.declared.TheConstants.{BLOCK_BYTES, PARTITION_START, PARTITION_BLOCKS, PATH_NAMES}
 use Rattle.drive.specs.Journal.{Event, held}

@@ -1,4 +1,4 @@
-use Rattle.std.proofs.Common.{◌≡◌, ℕ, sym, ◌∙◌, arith}
+use Rattle.std.proofs.Common.{◌≡◌, sym, ◌∙◌, arith}
 use Rattle.recover.proofs.Held.{lies_there}
 use Rattle.recover.proofs.Nodes.{extent_lies}
 use Rattle.recover.proofs.walk.is_known.Goals as goal

@@ -1,5 +1,5 @@
 use Rattle.std.proofs.Common.{ℕ, Option, None, subst, sym, arith}
-use Rattle.std.specs.Prelude.{IfSome, get_or}
+use Rattle.std.specs.Prelude.{IfSome}
 use Rattle.recover.specs.declared.kept.KeptEntry.{KeptEntry}
 use Rattle.recover.specs.Known.{IsEntrySaid}
 use Rattle.recover.proofs.Written.{holds_written}

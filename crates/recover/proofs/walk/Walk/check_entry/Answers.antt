@@ -1,7 +1,6 @@
-use Rattle.std.proofs.Common.{ℕ, ◌<◌, take, List, sym, ◌∙◌, subst}
+use Rattle.std.proofs.Common.{sym, ◌∙◌}
 use Rattle.std.proofs.lemmas.Bool.{false≢true}
-use Rattle.drive.specs.Journal.{Event, held}
-use Rattle.recover.specs.Walk.{HasNode}
+use Rattle.drive.specs.Journal.{held}
 use Rattle.recover.proofs.walk.Walk.check_entry.Goals as goal
 
 pub returns-then-not-is_known-clause-entry : goal.returns-then-not-is_known-clause-entry

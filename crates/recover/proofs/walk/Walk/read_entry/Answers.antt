@@ -1,11 +1,10 @@
-use Rattle.std.proofs.Common.{◌≡◌, ℕ, ◌+◌, ◌≤◌, List, take, sym, ◌∙◌, subst, arith}
+use Rattle.std.proofs.Common.{◌≡◌, ℕ, ◌+◌, ◌≤◌, take, sym, ◌∙◌, subst, arith}
 use Rattle.std.specs.Prelude.{IfSome, Option}
 use Rattle.std.specs.Int.{div_ceil}
 use Rattle.std.proofs.lemmas.Bool.{false≢true}
 use Rattle.std.proofs.lemmas.Result.{err_from_is_err_and}
-use Rattle.drive.specs.Journal.{Event, held}
+use Rattle.drive.specs.Journal.{held}
 use Rattle.recover.specs.declared.directory.Extent.{Extent}
-use Rattle.recover.specs.Known.{IsEntrySaid}
 use Rattle.recover.specs.Walk.{LiesBelow}
 use Rattle.recover.proofs.Held.{lies_there}
 use Rattle.recover.proofs.Nodes.{extent_lies}
