@@ -284,8 +284,8 @@ impl<'a> Walk<'a> {
         Ok(entry_at)
     }
 
-    /// Holds the node's entry beside what its directory says. (For one that is known this takes half the time of the other
-    /// way, which tells what does not agree.)
+    /// Holds the node's entry beside what its directory says. (One that is known and agrees needs nothing of the other way,
+    /// which reads an entry and tells what does not agree.)
     fn check_entry<D: Drive>(
         &mut self,
         drive: &mut D,
