@@ -5,9 +5,10 @@ use Rattle.std.specs.Prelude.{Result, IsOkAnd}
 use Rattle.std.proofs.lemmas.Bool.{false≢true}
 use Rattle.std.proofs.lemmas.List.{take-append-drop}
 use Rattle.std.proofs.lemmas.Option.{same_Some, slice_get_within}
-use Rattle.drive.specs.Journal.{Event, held, last_at, next_of}
+use Rattle.drive.specs.Journal.{Event, held}
 use Rattle.recover.specs.Nodes.{data_of}
-use Rattle.recover.proofs.Held.{held_at}
+use Rattle.recover.specs.declared.directory.Extent.{Extent}
+use Rattle.icb.proofs.VatIcbs.{one_entry}
 use Rattle.icb.specs.declared.entry.FileEntry.{FileEntry}
 use Rattle.icb.specs.declared.entry.Kind.{Kind}
 use Rattle.icb.specs.declared.fault.IcbFault.{IcbFault}
@@ -24,20 +25,22 @@ use Rattle.durability.specs.Volume.{Medium, HoldsBody, HoldsDirectory}
 use Rattle.durability.proofs.Lists.{get-take, part-append}
 use Rattle.udf.specs.Udf.{udf}
 use Rattle.udf.specs.Words.{fields_of, place_of}
+use Rattle.directories.specs.Cache.{IsEntryThere}
+use Rattle.directories.specs.declared.nodes.EntryAt.{EntryAt}
+use Rattle.directories.specs.declared.nodes.Placed.{Placed}
 use Rattle.directories.specs.Shows.{graph_below, LiesIn}
 
 pub shorter : {X : Type 0} (n : ℕ) (xs : List X) → length (take n xs) ≤ n
 shorter n xs = omega (arith, length-take n xs)
 
--- the block that is read is the one that is there
-pub entry_there : (at : ℕ) (entries : List (Option ℕ)) (J : List Event) (address number : ℕ) (block : Block) (s : Stored) → slice_get entries address ≡ Some (Some number) → number + 257 < next_of J
-    → last_at J (number + 257) ≡ Some block → (there : graph_below at entries J address s) → (there.block ≡ block) × (number + 257 ≡ there.number + 257)
-entry_there at entries J address number block s used within read there =
+-- the block that the journal holds there is the one that is stored
+pub entry_there : (at : ℕ) (entries : List (Option ℕ)) (J : List Event) (address number : ℕ) (block : Block) (s : Stored) → slice_get entries address ≡ Some (Some number)
+    → slice_get (held J) (number + 257) ≡ Some block → (there : graph_below at entries J address s) → (there.block ≡ block) × (number + 257 ≡ there.number + 257)
+entry_there at entries J address number block s used held_is there =
     let same : there.number ≡ number = same_Some there.number number (same_Some (Some there.number) (Some number) (sym there.used ∙ used)) in
     let below : there.number + 257 < length (take at (held J)) = slice_get_within (take at (held J)) (there.number + 257) there.block there.there in
     let low : there.number + 257 < at = omega (arith, below, shorter at (held J)) in
     let is : slice_get (held J) (there.number + 257) ≡ Some there.block = sym (get-take at (held J) (there.number + 257) low) ∙ there.there in
-    let held_is : slice_get (held J) (number + 257) ≡ Some block = held_at J (number + 257) block within read in
     (same_Some there.block block (sym is ∙ (ap (λ n. slice_get (held J) (n + 257)) same ∙ held_is)), ap (λ n. n + 257) (sym same))
 
 -- where something is stored the entry is used
@@ -87,19 +90,34 @@ extent_first icb.Place.Nowhere = 0
 extent_first (icb.Place.Extent first) = first
 extent_first (icb.Place.Inside bytes) = 0
 
--- where it lies, by what was decoded of the entry
-pub lies_in : (at : ℕ) (J : List Event) (s : Stored) (e : icb.Fields) (read : FileEntry) (first : ℕ) → HasData at J s e → icb.fields_of read ≡ e → read.place ≡ places.Extent first → LiesIn J (record { extent = record { first = first; size = read.size }; moment = read.moment }) s
+-- where a directory lies, by what its entry says
+pub lies_said : (at : ℕ) (entries : List (Option ℕ)) (J : List Event) (placed : Placed) (s : Stored) → slice_get entries placed.at.address ≡ Some (Some placed.at.number) → IsEntryThere J placed
+    → graph_below at entries J placed.at.address s → is_directory s ≡ true → LiesIn J placed s
 unfolding extent_first
-lies_in at J s e read first h same place =
-    let d = subst (λ (f : icb.Fields). HasData at J s f) (sym same) h in
-    let one : d.first ≡ first = ap extent_first (sym d.place ∙ ap icb.place_of place) in
+lies_said at entries J placed s used entry there directory =
+    let address = placed.at.address in
+    let says = entry.says in
+    let block = (entry_there at entries J address placed.at.number entry.block s used entry.there there).0 in
+    let same : fields_of there.fields ≡ says.fields =
+    (one_entry (fields_of there.fields) says.fields address address entry.block (subst (λ (b : Block). icb.IsEntry (fields_of there.fields) address b) block there.entry) says.is).0 in
+    let d = subst (λ (f : icb.Fields). HasData at J s f) same (has_data at entries J address s there directory) in
+    let first : d.first ≡ placed.extent.first = ap extent_first (sym d.place ∙ says.place) in
+    let extent : record { first = d.first; size = says.fields.size } ≡ placed.extent = λ i. record { first = first i; size = says.size i } in
     record {
       parent = d.parent;
       entries = d.entries;
       body = d.body;
-      is = subst (λ (n : ℕ). udf.IsDirectory d.parent d.entries n read.size (data_of (held J) (record { first = n; size = read.size }))) one d.is;
-      moment = d.moment;
+      is = subst (λ (x : Extent). udf.IsDirectory d.parent d.entries x.first x.size (data_of (held J) x)) extent d.is;
+      moment = sym says.time ∙ d.moment;
     }
+
+-- where it lies, by an entry that is kept or read for its virtual address
+pub lies_at : (at : ℕ) (entries : List (Option ℕ)) (J : List Event) (place : EntryAt) (address : ℕ) (placed : Placed) (s : Stored) → place.address ≡ address → slice_get entries place.address ≡ Some (Some place.number)
+    → placed.at ≡ place → IsEntryThere J placed → graph_below at entries J address s → is_directory s ≡ true → LiesIn J placed s
+lies_at at entries J place address placed s same used is entry there directory =
+    let used_too = subst (λ (p : EntryAt). slice_get entries p.address ≡ Some (Some p.number)) (sym is) used in
+    let address_too : placed.at.address ≡ address = ap (λ (p : EntryAt). p.address) is ∙ same in
+    lies_said at entries J placed s used_too entry (subst (λ (a : ℕ). graph_below at entries J a s) (sym address_too) there) directory
 
 pub lies_below : (at : ℕ) (J : List Event) (s : Stored) (e : icb.Fields) (read : FileEntry) (first : ℕ) → HasData at J s e → icb.fields_of read ≡ e → read.place ≡ places.Extent first → first + 257 + div_ceil read.size 2048 ≤ at
 unfolding extent_first

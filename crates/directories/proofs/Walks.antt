@@ -33,12 +33,12 @@ use Rattle.directories.specs.declared.nodes.Placed.{Placed}
 use Rattle.next_vat.specs.declared.node.Node.{Node}
 use Rattle.directories.specs.Cache.{AreKept, LiesThere}
 use Rattle.directories.specs.declared.directories.Directories.{Directories}
-use Rattle.directories.specs.Shows.{graph_below, LiesIn, IsOpened, IsNodeAt, IsFound, IsFoundDirectory, Shows}
+use Rattle.directories.specs.Shows.{graph_below, LiesIn, IsOpened, IsSaid, IsNodeAt, IsFound, IsFoundDirectory, Shows}
 
 -- ---- one directory
 
 -- what was read where a directory's data lie is that directory
-pub opened : (J : List Event) (placed : Placed) (s : Stored) (content : Content) → LiesIn J placed s → LiesThere J placed.extent content → IsOpened s placed content
+pub opened : (J : List Event) (placed : Placed) (s : Stored) (content : Content) → LiesIn J placed s → LiesThere J placed content → IsOpened s placed content
 opened J placed s content lies there =
     let blocks = data_of (held J) placed.extent in
     let holds = (directories_agree content.dir.parent placed.extent.first placed.extent.size content.dir.entries.entries blocks lies.is.blocks_are lies.is.low).0 there.is in
@@ -163,44 +163,35 @@ abbrev pub IsNext : Graph → Tree → Path → ℕ → Option DirEntry → Type
 IsNext graph tree names i None = get tree names ≡ None
 IsNext graph tree names i (Some e) = IsNodeAt graph (take (i + 1) names) (record { kind = e.kind; address = e.icb; unique = e.unique })
 
-module _ (at : ℕ) (entries : List (Option ℕ)) (J J1 J2 : List Event) (same1 : J1 ≡ J) (same2 : J2 ≡ J1) (tree : Tree) (is : IsTree tree) (makes : MakesTree (graph_below at entries J) tree) where
+module _ (at : ℕ) (entries : List (Option ℕ)) (J J1 : List Event) (same : J1 ≡ J) (tree : Tree) (is : IsTree tree) (makes : MakesTree (graph_below at entries J) tree) where
   one : IsFunctional (graph_below at entries J)
   one = stored_one udf exact (take at (held J)) entries
 
-  pub lies_at : (path : Path) (node : Node) (placed : Placed) (here : IsNodeAt (graph_below at entries J) path node) → names_directory node.kind ≡ true
-      → ((s : Stored) → graph_below at entries J1 node.address s → is_directory s ≡ true → LiesIn J1 placed s) → LiesIn J placed here.found.stored
-  lies_at path node placed here dir lies =
+  -- what a call tells of the directory that is stored at the node's address
+  pub told_at : (T : Stored → Type 0) (path : Path) (node : Node) (here : IsNodeAt (graph_below at entries J) path node) → names_directory node.kind ≡ true
+      → ((s : Stored) → graph_below at entries J1 node.address s → is_directory s ≡ true → T s) → T here.found.stored
+  told_at T path node here dir told =
       let there : graph_below at entries J node.address here.found.stored = subst (λ (a : ℕ). graph_below at entries J a here.found.stored) (sym here.address) here.found.is in
-      subst (λ (K : List Event). (s : Stored) → graph_below at entries K node.address s → is_directory s ≡ true → LiesIn K placed s) same1 lies here.found.stored there (sym here.kind ∙ dir)
+      told here.found.stored (subst (λ (K : List Event). graph_below at entries K node.address here.found.stored) (sym same) there) (sym here.kind ∙ dir)
 
-  pub next_at : (names : Path) (i : ℕ) (name : Name) (node : Node) (placed : Placed) (o : Option DirEntry) → i < length names → name ≡ get_or names i name → IsNodeAt (graph_below at entries J) (take i names) node → names_directory node.kind ≡ true
-      → ((s : Stored) → graph_below at entries J1 node.address s → is_directory s ≡ true → LiesIn J1 placed s)
-      → ((content : Content) × LiesThere J2 placed.extent content × (o ≡ lookup (pointwise nat_eq name) content.dir.entries.entries)) → IsNext (graph_below at entries J) tree names i o
-  next_at names i name node placed o lt same here dir lies read =
-      let in_it = lies_at (take i names) node placed here dir lies in
-      let there : LiesThere J placed.extent read.0 = subst (λ (K : List Event). LiesThere K placed.extent read.0) (same2 ∙ same1) read.1 in
-      let shown = opened J placed here.found.stored read.0 in_it there in
-      by o read.2 shown
+  pub next_at : (names : Path) (i : ℕ) (name : Name) (node : Node) (o : Option DirEntry) → i < length names → name ≡ get_or names i name → IsNodeAt (graph_below at entries J) (take i names) node → names_directory node.kind ≡ true
+      → ((s : Stored) → graph_below at entries J1 node.address s → is_directory s ≡ true → IsSaid s name o) → IsNext (graph_below at entries J) tree names i o
+  next_at names i name node o lt same_name here dir told =
+      by o (told_at (λ (s : Stored). IsSaid s name o) (take i names) node here dir told)
     where
-      by : (o : Option DirEntry) → o ≡ lookup (pointwise nat_eq name) read.0.dir.entries.entries → IsOpened here.found.stored placed read.0 → IsNext (graph_below at entries J) tree names i o
-      by None e shown = rest_none (graph_below at entries J) tree one is makes names i name lt same (step_none (graph_below at entries J) tree one is makes (take i names) node here placed read.0 shown name (sym e))
-      by (Some entry) e shown =
-          let front : take (i + 1) names ≡ take i names ++ name ∷ [] = take_more names i name lt ∙ ap (λ (n : Name). take i names ++ n ∷ []) (sym same) in
+      by : (o : Option DirEntry) → IsSaid here.found.stored name o → IsNext (graph_below at entries J) tree names i o
+      by None t = rest_none (graph_below at entries J) tree one is makes names i name lt same_name (step_none (graph_below at entries J) tree one is makes (take i names) node here t.placed t.content t.opened name (sym t.said))
+      by (Some entry) t =
+          let front : take (i + 1) names ≡ take i names ++ name ∷ [] = take_more names i name lt ∙ ap (λ (n : Name). take i names ++ n ∷ []) (sym same_name) in
           subst (λ (p : Path). IsNodeAt (graph_below at entries J) p (record { kind = entry.kind; address = entry.icb; unique = entry.unique })) (sym front)
-          (step_some (graph_below at entries J) tree one is makes (take i names) node here placed read.0 shown name entry (sym e))
+          (step_some (graph_below at entries J) tree one is makes (take i names) node here t.placed t.content t.opened name entry (sym t.said))
 
   pub file_at : (names : Path) (i : ℕ) (name : Name) (node : Node) → i < length names → name ≡ get_or names i name → IsNodeAt (graph_below at entries J) (take i names) node → names_directory node.kind ≡ false → get tree names ≡ None
-  file_at names i name node lt same here file =
-      rest_none (graph_below at entries J) tree one is makes names i name lt same (step_file (graph_below at entries J) tree one is makes (take i names) node here file name)
+  file_at names i name node lt same_name here file =
+      rest_none (graph_below at entries J) tree one is makes names i name lt same_name (step_file (graph_below at entries J) tree one is makes (take i names) node here file name)
 
   pub root_at : (names : Path) → identity_at tree [] ≡ 0 → IsNodeAt (graph_below at entries J) (take 0 names) (record { kind = kinds.Directory; address = 1; unique = 0 })
   root_at names zero_id = at_root (graph_below at entries J) tree one is makes zero_id
-
-  pub refused_at : (path : Path) (node : Node) (placed : Placed) (why : StoreFault) (here : IsNodeAt (graph_below at entries J) path node) → names_directory node.kind ≡ true
-      → ((s : Stored) → graph_below at entries J1 node.address s → is_directory s ≡ true → LiesIn J1 placed s)
-      → IsDirectoryRefused placed.extent (data_of (held J2) placed.extent) why → IsShortage why
-  refused_at path node placed why here dir lies refused =
-      not_refused J placed here.found.stored why (lies_at path node placed here dir lies) (subst (λ (K : List Event). IsDirectoryRefused placed.extent (data_of (held K) placed.extent) why) (same2 ∙ same1) refused)
 
   -- the directory at a path, or that there is none
   pub directory_at : (path : Path) (o : Option Node) → IsFound (graph_below at entries J) tree path o → IfSome o (λ node. names_directory node.kind ≡ true → IsFoundDirectory (graph_below at entries J) tree path (Some node))

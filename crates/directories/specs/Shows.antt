@@ -1,9 +1,12 @@
 -- What stands at the nodes of a state, and what a walk through them finds.
-use Rattle.std.specs.Prelude.{◌≡◌, ℕ, Bool, true, false, IsTrue, List, [], take, Option, Some, None}
+use Rattle.std.specs.Prelude.{◌≡◌, ℕ, Bool, true, false, IsTrue, List, [], take, Option, Some, None, nat_eq}
+use Rattle.std.specs.Cmp.Lexicographic.{pointwise}
+use Rattle.std.specs.Map.{lookup}
+use Rattle.dir.specs.declared.entry.Entry.{Entry as DirEntry}
 use Rattle.std.specs.FinMap.{get}
 use Rattle.drive.specs.Journal.{Event, held}
 use Rattle.recover.specs.Nodes.{data_of}
-use Rattle.model.specs.Tree.{Path, Tree, IsTree, is_directory_at, identity_at}
+use Rattle.model.specs.Tree.{Name, Path, Tree, IsTree, is_directory_at, identity_at}
 use Rattle.model.specs.Graph.{Graph, Stored, Entry, MakesTree, is_directory}
 use Rattle.model.specs.Graph.Body.{Entries}
 use Rattle.model.specs.Change.{Found}
@@ -32,6 +35,13 @@ pub record LiesIn (journal : List Event) (placed : Placed) (s : Stored) : Type 0
 pub record IsOpened (s : Stored) (placed : Placed) (content : Content) : Type 0 where
   pub body : s.body ≡ Entries content.dir.parent (said_entries content.dir.entries.entries)
   pub moment : placed.moment ≡ s.moment
+
+-- what the directory that is stored says of a name
+pub record IsSaid (s : Stored) (name : Name) (found : Option DirEntry) : Type 0 where
+  pub placed : Placed
+  pub content : Content
+  pub opened : IsOpened s placed content
+  pub said : found ≡ lookup (pointwise nat_eq name) content.dir.entries.entries
 
 -- an honest drive, kept directories that lie there, and nodes that make the tree
 pub record Shows (is_honest : Bool) (journal : List Event) (directories : Directories) (at : ℕ) (entries : List (Option ℕ)) (t : Tree) : Type 0 where

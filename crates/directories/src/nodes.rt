@@ -1,9 +1,9 @@
 //! The nodes of a state, by their virtual addresses.
 
 ghost use Rattle.limits.specs.declared.TheConstants.{ADDRESSES, BLOCK_BYTES, PARTITION_BLOCKS, PARTITION_START};
-ghost use Rattle.std.specs.Prelude.{◌≡◌, ◌+◌, ◌<◌, ◌≤◌, IsTrue, IfOk, IfErr, length, true};
+ghost use Rattle.std.specs.Prelude.{◌≡◌, ◌+◌, ◌≢◌, ◌<◌, ◌≤◌, ℕ, IsTrue, IfOk, IfErr, Some, length, slice_get, true};
 ghost use Rattle.std.specs.Int.{div_ceil};
-ghost use Rattle.drive.specs.Journal.{AreWhole, next_of};
+ghost use Rattle.drive.specs.Journal.{AreWhole, held, next_of};
 ghost use Rattle.drive.specs.Reads.{Reads};
 ghost use Rattle.model.specs.Addresses as addresses;
 ghost use Rattle.model.specs.Graph.{Stored, is_directory};
@@ -11,16 +11,25 @@ ghost use Rattle.recover.specs.Faults.{devices, failures_of};
 ghost use Rattle.recover.specs.declared.cause.TheConstants.{IDENTITY};
 ghost use Rattle.recover.specs.declared.fault.StoreFault.TheVariants.{Damaged, Device};
 ghost use Rattle.next_vat.specs.Below.{AreBelow, IsUsed};
-ghost use Rattle.directories.specs.Shows.{LiesIn, graph_below};
+ghost use Rattle.directories.specs.Shows.{graph_below};
+ghost use Rattle.directories.specs.Cache.{IsEntryThere};
 
 use drive::Drive;
 use ecma::{Block, Timestamp};
 use icb::{Place, decode_fe};
 use recover::{Extent, PARTITION_START, StoreFault, cause, damaged, lies_below, read_block};
 
-/// Where a directory's data lie, and its moment.
+/// Where the entry of a node stands: the number of its block, and the virtual address in its tag.
+#[derive(Clone, Copy, Debug, PartialEq, Eq, Hash)]
+pub struct EntryAt {
+    pub number: u32,
+    pub address: u32,
+}
+
+/// Where a directory's entry stands and its data lie, and its moment.
 #[derive(Clone, Copy, Debug)]
 pub struct Placed {
+    pub at: EntryAt,
     pub extent: Extent,
     pub moment: Timestamp,
 }
@@ -34,6 +43,37 @@ pub struct Nodes<'a> {
 }
 
 impl Nodes<'_> {
+    /// Where the entry of a node stands.
+    pub(crate) fn entry_at(&self, address: u32) -> Result<EntryAt, StoreFault>
+        ensures address { IfOk result (λ at. at.address ≡ address) }
+        ensures used { IfOk result (λ at. slice_get self.now.entries.now at.address ≡ Some (Some at.number)) }
+        ensures unused { IfErr result (λ fault. (number : ℕ) → slice_get self.now.entries.now address ≢ Some (Some number)) }
+        ensures device { devices result ≡ 0 }
+    {
+        let index = address as usize;
+        if index >= self.entries.len() {
+            return Err(damaged(self.at, cause::RANGE));
+        }
+        let Some(number) = self.entries[index] else {
+            return Err(damaged(self.at, cause::RANGE));
+        };
+        Ok(EntryAt { number, address })
+    }
+
+    /// The block of an entry that stands there, and its address.
+    fn block_at<D: Drive>(&self, drive: &mut D, at: EntryAt) -> Result<(Block, u32), StoreFault>
+        requires below { AreBelow self.now.at self.now.entries.now }
+        requires within { self.now.at ≤ next_of (D.journal drive.old) }
+        requires used { slice_get self.now.entries.now at.address ≡ Some (Some at.number) }
+        ensures read { IfOk result (λ read. (read.1 ≡ at.number + PARTITION_START) × (IsTrue (D.honest drive.new) → slice_get (held (D.journal drive.old)) (at.number + PARTITION_START) ≡ Some read.0)) }
+        ensures refused { IfErr result (λ fault. fault ≡ Device) }
+        ensures whole { IfOk result (λ _. AreWhole (D.journal drive.old)) }
+        ensures reads { Reads D.Drive (devices result) drive.old drive.new }
+    {
+        let number = at.number + PARTITION_START;
+        Ok((read_block(drive, number)?, number))
+    }
+
     /// The block of a node's entry, and its address.
     pub(crate) fn entry_block<D: Drive>(
         &self,
@@ -49,44 +89,38 @@ impl Nodes<'_> {
         ensures whole { IfOk result (λ _. AreWhole (D.journal drive.old)) }
         ensures reads { Reads D.Drive (devices result) drive.old drive.new }
     {
-        let table_at = self.at;
-        let index = address as usize;
-        if index >= self.entries.len() {
-            return Err(damaged(table_at, cause::RANGE));
-        }
-        let Some(number) = self.entries[index] else {
-            return Err(damaged(table_at, cause::RANGE));
-        };
-        let at = number + PARTITION_START;
-        Ok((read_block(drive, at)?, at))
+        let at = self.entry_at(address)?;
+        self.block_at(drive, at)
     }
 
-    /// Where the data of a directory lie, by the virtual address of its entry.
+    /// What the entry of a directory that stands there says.
     pub(crate) fn directory<D: Drive>(
         &self,
         drive: &mut D,
-        address: u32,
+        at: EntryAt,
     ) -> Result<Placed, StoreFault>
         requires below { AreBelow self.now.at self.now.entries.now }
         requires within { self.now.at ≤ next_of (D.journal drive.old) }
-        ensures placed { IfOk result (λ placed. IsTrue (D.honest drive.new) → (s : Stored) → graph_below self.now.at self.now.entries.now (D.journal drive.old) address s → is_directory s ≡ true → LiesIn (D.journal drive.old) placed s) }
-        ensures refused { IfErr result (λ fault. IsTrue (D.honest drive.new) → (s : Stored) → graph_below self.now.at self.now.entries.now (D.journal drive.old) address s → is_directory s ≡ true → fault ≡ Device) }
-        ensures used { IfOk result (λ _. IsUsed address self.now.entries.now) }
+        requires used { slice_get self.now.entries.now at.address ≡ Some (Some at.number) }
+        ensures at { IfOk result (λ placed. placed.at ≡ at) }
+        ensures stands { IfOk result (λ placed. IsTrue (D.honest drive.new) → IsEntryThere (D.journal drive.old) placed) }
+        ensures refused { IfErr result (λ fault. IsTrue (D.honest drive.new) → (s : Stored) → graph_below self.now.at self.now.entries.now (D.journal drive.old) at.address s → is_directory s ≡ true → fault ≡ Device) }
         ensures data { IfOk result (λ p. (0 < p.extent.size) × (p.extent.first ≤ PARTITION_BLOCKS) × (p.extent.first + PARTITION_START + div_ceil p.extent.size BLOCK_BYTES ≤ self.now.at)) }
         ensures reads { Reads D.Drive (devices result) drive.old drive.new }
     {
-        let (block, at) = self.entry_block(drive, address)?;
-        let entry = match decode_fe(&block, address) {
+        let (block, number) = self.block_at(drive, at)?;
+        let entry = match decode_fe(&block, at.address) {
             Ok(entry) => entry,
-            Err(fault) => return Err(damaged(at, fault.number())),
+            Err(fault) => return Err(damaged(number, fault.number())),
         };
         let Place::Extent(first) = entry.place else {
-            return Err(damaged(at, cause::RANGE));
+            return Err(damaged(number, cause::RANGE));
         };
         if !lies_below(first, entry.size, self.at) {
-            return Err(damaged(at, cause::RANGE));
+            return Err(damaged(number, cause::RANGE));
         }
         Ok(Placed {
+            at,
             extent: Extent {
                 first,
                 size: entry.size,

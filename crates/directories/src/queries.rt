@@ -72,7 +72,7 @@ impl Nodes<'_> {
         }
         let (placed, content) = self.open(alloc, drive, directories, node.address)?;
         let listing = listing_of(alloc, &content)?;
-        directories.keep(placed.extent, content);
+        directories.keep(placed, content);
         Ok(listing)
     }
 
@@ -146,7 +146,7 @@ impl Nodes<'_> {
     {
         let (placed, content) = self.open(alloc, drive, directories, address)?;
         let count = content.dir.entries.len() as u64;
-        directories.keep(placed.extent, content);
+        directories.keep(placed, content);
         Ok(count)
     }
 }

@@ -1,6 +1,8 @@
 //! The walk: from the root of a state's tree by names, and down to its leaves.
 
-ghost use Rattle.std.specs.Prelude.{◌≡◌, ◌≤◌, IsTrue, IfOk, IfErr, true};
+ghost use Rattle.limits.specs.declared.TheConstants.{BLOCK_BYTES, PARTITION_START};
+ghost use Rattle.std.specs.Prelude.{◌≡◌, ◌+◌, ◌≤◌, IsTrue, IfOk, IfErr, true};
+ghost use Rattle.std.specs.Int.{div_ceil};
 ghost use Rattle.drive.specs.Journal.{next_of};
 ghost use Rattle.drive.specs.Reads.{Reads};
 ghost use Rattle.next_vat.specs.Below.{AreBelow};
@@ -9,18 +11,18 @@ ghost use Rattle.model.specs.Graph.{Stored, is_directory};
 ghost use Rattle.recover.specs.Faults.{IsShortage, devices};
 ghost use Rattle.directories.specs.Cache.{AreKept, LiesThere};
 ghost use Rattle.directories.specs.Heights.{IsHeight};
-ghost use Rattle.directories.specs.Shows.{IsNodeAt, IsOpened, Shows, IsFound, IsFoundDirectory, graph_below};
+ghost use Rattle.directories.specs.Shows.{IsNodeAt, IsOpened, IsSaid, Shows, IsFound, IsFoundDirectory, graph_below};
 ghost use Rattle.udf.specs.Said.{names_directory};
 ghost use Rattle.next_vat.specs.declared.node.Node.{Node};
 
 use crate::content::Content;
 use crate::directories::Directories;
 use crate::nodes::{Nodes, Placed};
-use dir::Kind;
+use dir::{Entry, Kind};
 use drive::Drive;
 use next_vat::{Node, ROOT};
 use osta::Name;
-use recover::StoreFault;
+use recover::{StoreFault, read_directory};
 use std::alloc::Global;
 
 impl Nodes<'_> {
@@ -35,14 +37,42 @@ impl Nodes<'_> {
         requires below { AreBelow self.now.at self.now.entries.now }
         requires within { self.now.at ≤ next_of (D.journal drive.old) }
         ensures opened { IfOk result (λ read. IsTrue (D.honest drive.new) → AreKept (D.journal drive.old) directories.old → (s : Stored) → graph_below self.now.at self.now.entries.now (D.journal drive.old) address s → is_directory s ≡ true → IsOpened s read.0 read.1) }
-        ensures lies { IfOk result (λ read. IsTrue (D.honest drive.new) → AreKept (D.journal drive.old) directories.old → LiesThere (D.journal drive.old) read.0.extent read.1) }
+        ensures lies { IfOk result (λ read. IsTrue (D.honest drive.new) → AreKept (D.journal drive.old) directories.old → LiesThere (D.journal drive.old) read.0 read.1) }
+        // Also one that is kept lies below the table of this state.
+        ensures below { IfOk result (λ read. read.0.extent.first + PARTITION_START + div_ceil read.0.extent.size BLOCK_BYTES ≤ self.now.at) }
         ensures refused { IfErr result (λ fault. IsTrue (D.honest drive.new) → (s : Stored) → graph_below self.now.at self.now.entries.now (D.journal drive.old) address s → is_directory s ≡ true → IsShortage fault) }
         ensures kept { IsTrue (D.honest drive.new) → AreKept (D.journal drive.old) directories.old → AreKept (D.journal drive.old) directories.new }
         ensures reads { Reads D.Drive (devices result) drive.old drive.new }
     {
-        let placed = self.directory(drive, address)?;
-        let content = directories.take(alloc, drive, placed.extent)?;
-        Ok((placed, content))
+        let at = self.entry_at(address)?;
+        if let Some(opened) = directories.take(at, self.at) {
+            return Ok(opened);
+        }
+        let placed = self.directory(drive, at)?;
+        let dir = read_directory(alloc, drive, placed.extent)?;
+        Ok((placed, Content { dir }))
+    }
+
+    /// What the directory at a virtual address says of a name.
+    fn entry<D: Drive>(
+        &self,
+        alloc: Global,
+        drive: &mut D,
+        directories: &mut Directories,
+        address: u32,
+        name: &Name,
+    ) -> Result<Option<Entry>, StoreFault>
+        requires below { AreBelow self.now.at self.now.entries.now }
+        requires within { self.now.at ≤ next_of (D.journal drive.old) }
+        ensures found { IfOk result (λ found. IsTrue (D.honest drive.new) → AreKept (D.journal drive.old) directories.old → (s : Stored) → graph_below self.now.at self.now.entries.now (D.journal drive.old) address s → is_directory s ≡ true → IsSaid s name.now found) }
+        ensures refused { IfErr result (λ fault. IsTrue (D.honest drive.new) → (s : Stored) → graph_below self.now.at self.now.entries.now (D.journal drive.old) address s → is_directory s ≡ true → IsShortage fault) }
+        ensures kept { IsTrue (D.honest drive.new) → AreKept (D.journal drive.old) directories.old → AreKept (D.journal drive.old) directories.new }
+        ensures reads { Reads D.Drive (devices result) drive.old drive.new }
+    {
+        let (placed, content) = self.open(alloc, drive, directories, address)?;
+        let entry = content.dir.entries.get(name).copied();
+        directories.keep(placed, content);
+        Ok(entry)
     }
 
     /// The node that a path leads to.
@@ -65,8 +95,7 @@ impl Nodes<'_> {
             if !node.is_directory() {
                 return Ok(None);
             }
-            let placed = self.directory(drive, node.address)?;
-            node = match directories.entry(alloc, drive, placed.extent, name)? {
+            node = match self.entry(alloc, drive, directories, node.address, name)? {
                 Some(entry) => Node {
                     kind: entry.kind,
                     address: entry.icb,
@@ -133,7 +162,7 @@ impl Nodes<'_> {
             let below = self.height(alloc, drive, directories, entry.icb, left - 1)?;
             most = most.max(below + 1);
         }
-        directories.keep(placed.extent, content);
+        directories.keep(placed, content);
         Ok(most)
     }
 }

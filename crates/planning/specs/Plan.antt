@@ -3,6 +3,8 @@ use Rattle.std.specs.Prelude.{◌≡◌, ℕ, ◌+◌, ◌-◌, ◌<◌, ◌≤�
 use Rattle.std.specs.Int.{div_ceil}
 use Rattle.limits.specs.declared.TheConstants.{BLOCK_BYTES, PARTITION_START}
 use Rattle.dir.specs.Directory.{directory_blocks, IsDirectory}
+use Rattle.directories.specs.Cache.{SaysPlace}
+use Rattle.directories.specs.declared.nodes.Placed.{Placed}
 use Rattle.durability.specs.Formats.{NodeFields}
 use Rattle.durability.specs.Formats.Kind.{Table}
 use Rattle.durability.specs.Formats.NodePlace.{Extent}
@@ -36,11 +38,17 @@ abbrev pub directories_list : List PlacedDirectory → List (List ℕ)
 directories_list [] = []
 directories_list (p ∷ ps) = directory_list p ++ directories_list ps
 
--- the directory's data lie in its extent, which begins at a block number
+-- where a directory stands and lies, once it is written
+abbrev pub placed_of : PlacedDirectory → Placed
+placed_of p = record { at = record { number = p.number; address = p.directory.address }; extent = p.extent; moment = p.directory.moment }
+
+-- the directory's data lie in its extent, which begins at a block number, and its entry stands behind them and says so
 pub record IsLaid (from : ℕ) (p : PlacedDirectory) : Type 0 where
   pub first : p.extent.first ≡ from
   pub blocks : length (directory_data p) ≡ div_ceil p.extent.size BLOCK_BYTES
   pub is : IsDirectory p.directory.content.dir.parent p.directory.content.dir.entries.entries p.extent.first p.extent.size (directory_data p)
+  pub number : p.number ≡ from + length (directory_data p)
+  pub says : SaysPlace p.directory.address p.extent p.directory.moment p.entry
 
 -- the directories lie one behind the other
 abbrev pub AreLaid : ℕ → List PlacedDirectory → Type 0

@@ -197,7 +197,7 @@ impl Before<'_> {
         let (placed, mut content) = self.nodes.open(alloc, drive, directories, parent.address)?;
         let code = code_of_addition(self, &content, name);
         if code != Code::Done {
-            directories.keep(placed.extent, content);
+            directories.keep(placed, content);
             return Ok(Change::refused(alloc, code));
         }
         let address = self.nodes.free_address();
@@ -427,7 +427,7 @@ impl Before<'_> {
     {
         let (target, mut gaining) = self.nodes.open(alloc, drive, directories, gains.0.address)?;
         if gaining.dir.entries.len() >= DIRECTORY_NAMES {
-            directories.keep(target.extent, gaining);
+            directories.keep(target, gaining);
             return Ok(Change::refused(alloc, Code::DirectoryFull));
         }
         let mut change = Change::new(alloc);
@@ -502,7 +502,7 @@ impl Before<'_> {
         }
         let (placed, content) = self.nodes.open(alloc, drive, directories, node.address)?;
         let has_names = !content.dir.entries.is_empty();
-        directories.keep(placed.extent, content);
+        directories.keep(placed, content);
         Ok(has_names)
     }
 }

@@ -1,9 +1,10 @@
 //! The nodes of a commit with their places.
 
 ghost use Rattle.limits.specs.declared.TheConstants.{PARTITION_BLOCKS};
-ghost use Rattle.std.specs.Prelude.{◌≤◌};
+ghost use Rattle.std.specs.Prelude.{◌≡◌, ◌≤◌};
 
 use crate::change::{NewDirectory, NewFile};
+use directories::{EntryAt, Placed};
 use ecma::Block;
 use recover::Extent;
 use vat::Vat;
@@ -28,6 +29,22 @@ pub struct PlacedDirectory {
     /// The number of its entry.
     pub number: u32,
     pub ghost room: { extent.first ≤ PARTITION_BLOCKS },
+}
+
+impl PlacedDirectory {
+    /// Where it stands and lies, once it is written.
+    pub fn placed(&self) -> Placed
+        ensures { result ≡ record { at = record { number = self.now.number; address = self.now.directory.address }; extent = self.now.extent; moment = self.now.directory.moment } }
+    {
+        Placed {
+            at: EntryAt {
+                number: self.number,
+                address: self.directory.address,
+            },
+            extent: self.extent,
+            moment: self.directory.moment,
+        }
+    }
 }
 
 /// A table with its place.

@@ -6,6 +6,7 @@ ghost use Rattle.std.specs.Int.{div_ceil};
 ghost use Rattle.icb.specs.Entry.{FitsPlace, place_of};
 ghost use Rattle.icb.specs.declared.entry.Kind.TheVariants.{File};
 ghost use Rattle.dir.specs.Directory.{directory_blocks, directory_size};
+ghost use Rattle.directories.specs.Cache.{SaysPlace};
 ghost use Rattle.durability.specs.Plan.{packed, IsClearStart, IsPlaced, PlacesFile, WritesNode};
 ghost use Rattle.planning.specs.Needs as needs;
 ghost use Rattle.next_vat.specs.Outside.{outside};
@@ -156,7 +157,8 @@ fn directory_entry(directory: &NewDirectory, extent: Extent) -> Block
     requires few { extent.size ≤ 1_048_576 }
     requires room { extent.first + div_ceil extent.size BLOCK_BYTES ≤ PARTITION_BLOCKS }
     requires blocks { length (directory_blocks directory.now.content.dir extent.first) ≡ div_ceil extent.size BLOCK_BYTES }
-    ensures { WritesNode udf (directory_writing directory.now) extent.first (directory_blocks directory.now.content.dir extent.first ++ result ∷ []) (extent.first + div_ceil extent.size BLOCK_BYTES) }
+    ensures says { SaysPlace directory.now.address extent directory.now.moment result }
+    ensures written { WritesNode udf (directory_writing directory.now) extent.first (directory_blocks directory.now.content.dir extent.first ++ result ∷ []) (extent.first + div_ceil extent.size BLOCK_BYTES) }
 {
     // Read so that the proof has that it is of 32 bits.
     let _parent = directory.content.dir.parent;

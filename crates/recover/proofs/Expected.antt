@@ -21,10 +21,10 @@ use Rattle.recover.specs.Forest.{At, IsDrawn, by_address, by_identity}
 use Rattle.recover.specs.Forest.Forest.{End, Seen}
 use Rattle.recover.specs.Nodes.{is_directory}
 use Rattle.recover.specs.Refused.{Expects, IsBeside}
-use Rattle.recover.specs.Walk.{reached_in, uniques_in}
+use Rattle.recover.specs.Walk.{Begun, reached_in, uniques_in}
 use Rattle.recover.proofs.Forests.{adds_only, at_seen, head_same, leads_up}
 use Rattle.recover.proofs.Trees.{leads_push}
-use Rattle.recover.proofs.Walks.{Begun, kinds_same, names_said}
+use Rattle.recover.proofs.Walks.{kinds_same, names_said}
 
 -- ---- lists
 

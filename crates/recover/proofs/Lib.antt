@@ -1,6 +1,7 @@
 pub mod Blocks
 pub mod Expected
 pub mod Forests
+pub mod Found
 pub mod Fronts
 pub mod Held
 pub mod Maps

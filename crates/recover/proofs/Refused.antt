@@ -32,10 +32,10 @@ use Rattle.recover.specs.Forest.{IsDrawn}
 use Rattle.recover.specs.Nodes.{data_of, is_directory, links_of}
 use Rattle.recover.specs.Refused.{Expects, IsBodyRefused, IsNamesRefused, IsReachRefused, IsVisitRefused}
 use Rattle.recover.specs.Marks.{marked}
-use Rattle.recover.specs.Walk.{HasEntry, LeadsTo, LiesBelow, extent_in, icb_kind, nodes_of, reached_in, uniques_in}
+use Rattle.recover.specs.Walk.{Begun, HasEntry, LeadsTo, LiesBelow, extent_in, icb_kind, nodes_of, reached_in, uniques_in}
 use Rattle.recover.proofs.Expected.{child_expects, drawn, not_deep, not_reached, not_seen}
 use Rattle.recover.proofs.Nodes.{extent_below}
-use Rattle.recover.proofs.Walks.{Begun, links_said, part_below}
+use Rattle.recover.proofs.Walks.{links_said, part_below}
 
 -- ---- what the entry of a node says
 

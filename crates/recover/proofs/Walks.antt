@@ -32,7 +32,7 @@ use Rattle.recover.specs.declared.walk.Walk.{Walk}
 use Rattle.recover.specs.Forest.{Forest, IsSeen, IsWalked, IsDrawn, AreDrawn, Adds, Puts, Numbers, by_address, by_identity, named, height, files_in, directories_in}
 use Rattle.recover.specs.Forest.Forest.{End, Seen}
 use Rattle.recover.specs.Nodes.{data_of, is_directory}
-use Rattle.recover.specs.Walk.{Counts, HasEntry, HasNames, LeadsTo, LiesBelow, Tallied, Visits, extent_in, icb_kind, nodes_of, reached_in, uniques_in}
+use Rattle.recover.specs.Walk.{Begun, Counts, HasEntry, HasNames, LeadsTo, LiesBelow, Tallied, Visits, extent_in, icb_kind, nodes_of, reached_in, uniques_in}
 
 -- ---- parts of a medium
 
@@ -262,18 +262,6 @@ module _ (H : List (List ℕ)) (table : List (Option ℕ)) (node : Named) (body 
       )
 
 -- ---- a directory's nodes, one after another
-
--- a directory was entered, and the first of its nodes were seen
-pub record Begun (graph : Graph) (before now : Walk) (node : Named) (entries : List (List ℕ × DirEntry)) (i : ℕ) : Type 0 where
-  pub stored : Stored
-  pub seen : IsSeen graph node.above node.address stored
-  pub entries_are : entries_of stored ≡ said_entries entries
-  pub is : stored_is_directory stored ≡ true
-  pub identity : stored.identity ≡ node.unique
-  pub below : Forest
-  pub walked : IsWalked graph node.address below
-  pub names : named below ≡ said_entries (take i entries)
-  pub counts : Counts before now node.depth (Seen [] node.address stored below End)
 
 -- one more
 pub begun_more : (graph : Graph) (before now after : Walk) (node child : Named) (entries : List (List ℕ × DirEntry)) (i : ℕ) (name : List ℕ) (entry : DirEntry)

@@ -16,6 +16,7 @@ use Rattle.recover.specs.declared.kept.EntryPlace.{EntryPlace}
 use Rattle.recover.specs.declared.kept.Names.{Names}
 use Rattle.recover.specs.declared.kept.NodeEntry.{NodeEntry}
 use Rattle.recover.specs.Nodes.{data_of}
+use Rattle.recover.specs.Seen.{AreSeen}
 use Rattle.recover.specs.Walk.{extent_in}
 
 -- the entry there is that of the node with this virtual address, and says this
@@ -36,10 +37,11 @@ IsUnsaid medium place (Damaged at cause) =
     (at ≡ place.at) × ((block : List ℕ) (fields : Fields) → slice_get medium place.at ≡ Some block → IsEntry fields place.address block → ⊥)
 IsUnsaid medium place _ = ⊥
 
--- the blocks of this extent hold the directory
+-- the blocks of this extent hold the directory, and each of its files that is kept stands where it was found
 pub record IsNamed (medium : List (List ℕ)) (extent : Extent) (names : Names) : Type 0 where
   pub are : All IsBlock (data_of medium extent)
   pub is : IsDirectory names.dir.parent names.dir.entries.entries extent.first extent.size (data_of medium extent)
+  pub seen : AreSeen medium names.dir.entries.entries names.files
 
 -- each entry that is kept for a virtual address is what the medium has there
 abbrev pub AreEntries : List (List ℕ) → Entries → Type 0

@@ -6,6 +6,7 @@ pub mod Laws
 pub mod Marks
 pub mod Nodes
 pub mod Refused
+pub mod Seen
 pub mod State
 pub mod Tables
 pub mod Walk

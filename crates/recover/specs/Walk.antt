@@ -1,5 +1,5 @@
 -- What the walk through the nodes of a tree sees, and what it keeps.
-use Rattle.std.specs.Prelude.{◌≡◌, ℕ, ◌+◌, ◌<◌, ◌≤◌, ◌^◌, ◌-◌, List, [], Option, Some, None, IfSome, take, slice_get, All}
+use Rattle.std.specs.Prelude.{◌≡◌, ℕ, ◌+◌, ◌<◌, ◌≤◌, ◌^◌, ◌-◌, List, [], Option, Some, None, IfSome, true, take, slice_get, All}
 use Rattle.std.specs.Int.{div_ceil}
 use Rattle.limits.specs.declared.TheConstants.{BLOCK_BYTES, PARTITION_START, PARTITION_BLOCKS, PATH_NAMES}
 use Rattle.drive.specs.Journal.{Event, held}
@@ -8,17 +8,19 @@ use Rattle.icb.specs.declared.entry.Kind.TheVariants as icb_kinds
 use Rattle.icb.specs.Entry.{Fields, Place, IsEntry}
 use Rattle.icb.specs.Entry.Place.{Nowhere, Extent as IcbExtent, Inside}
 use Rattle.dir.specs.declared.entry.Dir.{Dir}
+use Rattle.dir.specs.declared.entry.Entry.{Entry as DirEntry}
 use Rattle.dir.specs.declared.entry.Kind.{Kind}
 use Rattle.dir.specs.declared.entry.Kind.TheVariants.{File, Directory}
 use Rattle.dir.specs.Directory.{IsDirectory}
-use Rattle.model.specs.Graph.{Graph, Stored, is_directory as stored_is_directory}
+use Rattle.model.specs.Graph.{Graph, Stored, entries_of, is_directory as stored_is_directory}
 use Rattle.durability.specs.Volume.{graph_of}
+use Rattle.udf.specs.Said.{said_entries}
 use Rattle.udf.specs.Udf.{IsBlock, udf}
 use Rattle.recover.specs.declared.directory.Extent.{Extent}
 use Rattle.recover.specs.declared.walk.Body.{Body}
 use Rattle.recover.specs.declared.walk.Named.{Named}
 use Rattle.recover.specs.declared.walk.Walk.{Walk}
-use Rattle.recover.specs.Forest.{Forest, IsWalked, AreDrawn, Adds, Numbers, by_address, by_identity, height, files_in, directories_in}
+use Rattle.recover.specs.Forest.{Forest, IsSeen, IsWalked, AreDrawn, Adds, Numbers, by_address, by_identity, height, files_in, directories_in, named}
 use Rattle.recover.specs.Forest.Forest.{End, Seen}
 use Rattle.recover.specs.Marks.{marked}
 use Rattle.recover.specs.Nodes.{data_of, is_directory, links_of}
@@ -100,3 +102,15 @@ pub record Visits (graph : Graph) (before after : Walk) (node : Named) : Type 0 
   pub identity : stored.identity ≡ node.unique
   pub walked : IsWalked graph node.above (Seen [] node.address stored below End)
   pub counts : Counts before after node.depth (Seen [] node.address stored below End)
+
+-- a directory was entered, and the first of its nodes were seen
+pub record Begun (graph : Graph) (before now : Walk) (node : Named) (entries : List (List ℕ × DirEntry)) (i : ℕ) : Type 0 where
+  pub stored : Stored
+  pub seen : IsSeen graph node.above node.address stored
+  pub entries_are : entries_of stored ≡ said_entries entries
+  pub is : stored_is_directory stored ≡ true
+  pub identity : stored.identity ≡ node.unique
+  pub below : Forest
+  pub walked : IsWalked graph node.address below
+  pub names : named below ≡ said_entries (take i entries)
+  pub counts : Counts before now node.depth (Seen [] node.address stored below End)

@@ -1,13 +1,15 @@
 //! Nodes as they were read, by where they lie.
 
 ghost use Rattle.limits.specs.declared.TheConstants.{BLOCK_BYTES, DIRECTORY_NAMES, PARTITION_BLOCKS, PARTITION_START};
-ghost use Rattle.std.specs.Prelude.{◌<◌, ◌≤◌, IfSome, length};
+ghost use Rattle.std.specs.Prelude.{◌≡◌, ◌<◌, ◌≤◌, IfSome, length};
 ghost use Rattle.std.proofs.Props.{props};
+ghost use Rattle.recover.specs.Nodes.{links_of};
 
-use crate::directory::{Extent, read_directory};
+use crate::directory::{Extent, link_count, read_directory};
 use crate::fault::{StoreFault, damaged};
 use crate::places::reach;
 use crate::reading::read_into;
+use crate::seen::SeenFiles;
 use dir::Dir;
 use drive::Drive;
 use icb::{FileEntry, Kind, Place, decode_fe};
@@ -82,7 +84,12 @@ impl NodeEntry {
 #[derive(Drop)]
 pub(crate) struct Names {
     pub dir: Dir,
+    /// The links that it has, which are counted once.
+    pub links: u16,
+    /// Those of its files that were found under their names.
+    pub files: SeenFiles,
     pub ghost few: { length dir.entries.entries ≤ DIRECTORY_NAMES },
+    pub ghost counted: { links ≡ links_of dir.entries.entries },
 }
 
 impl Names {
@@ -108,8 +115,11 @@ impl Names {
         ensures refused { IfErr result (λ fault. IsTrue (D.honest drive.new) → IsDirectoryRefused extent (data_of (held (D.journal drive.old)) extent) fault) }
         ensures reads { Reads D.Drive (devices result) drive.old drive.new }
     {
+        let dir = read_directory(alloc, drive, extent)?;
         Ok(Names {
-            dir: read_directory(alloc, drive, extent)?,
+            links: link_count(&dir),
+            dir,
+            files: SeenFiles::new(alloc),
         })
     }
 }

@@ -6,7 +6,8 @@
 //! of a table, from the end, and what is read is what the medium has. `state_at` looks at every node that a table leads to,
 //! and what it gives is the state that the blocks below the table's entry tell, which stands where that entry is the last.
 //! Where it tells of damage no state is told there. `state_sharing` gives the same, and reads no node again that the state
-//! had for which it was called before.
+//! had for which it was called before; of a file that stands where it was found under its name it asks no more than where
+//! the table leads.
 //!
 //! Left to others: whatever is written, and what is asked of a state.
 #![tactic(auto)]
@@ -20,6 +21,7 @@ mod laws;
 mod marks;
 mod places;
 mod reading;
+mod seen;
 mod state;
 mod table;
 mod walk;

@@ -22,7 +22,7 @@ pub(crate) struct Marks {
 }
 
 impl Marks {
-    ghost use Rattle.std.specs.Prelude.{◌≡◌, ℕ, IsTrue, IfOk, false, true};
+    ghost use Rattle.std.specs.Prelude.{◌≡◌, ◌<◌, ℕ, IsTrue, IfOk, false, true, vec_len};
     ghost use Rattle.recover.specs.Forest.{Puts};
     ghost use Rattle.recover.specs.Marks.{marked};
 
@@ -34,6 +34,28 @@ impl Marks {
             near: Vec::new(alloc),
             far: HashSet::new(alloc),
         }
+    }
+
+    /// Whether the number is not in the set and has a place in the table as it is.
+    #[inline]
+    pub(crate) fn has_place(&self, number: u32) -> bool
+        ensures near { IsTrue result → number < NEAR }
+        ensures within { IsTrue result → number < vec_len self.now.near }
+        ensures new { IsTrue result → marked self.now number ≡ false }
+    {
+        let place = number as usize;
+        number < NEAR && place < self.near.len() && !self.near[place]
+    }
+
+    /// Puts in a number that has a place in the table and is not in the set.
+    #[inline]
+    pub(crate) fn put(&mut self, number: u32)
+        requires near { number < NEAR }
+        requires within { number < vec_len self.old.near }
+        requires new { marked self.old number ≡ false }
+        ensures { Puts (marked self.old) number (marked self.new) }
+    {
+        self.near[number as usize] = true;
     }
 
     /// Puts a number in, and says whether it was not there.

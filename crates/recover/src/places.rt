@@ -23,7 +23,7 @@ pub(crate) fn reach<T: Copy>(table: &mut Vec<T>, place: usize, none: T) -> Resul
 
 /// Makes the table so long.
 #[cold]
-fn grow<T: Copy>(table: &mut Vec<T>, len: usize, none: T) -> Result<(), AllocError>
+pub(crate) fn grow<T: Copy>(table: &mut Vec<T>, len: usize, none: T) -> Result<(), AllocError>
     requires { vec_len table.old ≤ len }
     ensures len { OnOk result (vec_len table.new ≡ len) }
     ensures kept { OnErr result (table.new.items ≡ table.old.items) }

@@ -8,16 +8,18 @@ ghost use Rattle.drive.specs.Reads.{Reads};
 ghost use Rattle.recover.specs.Faults.{devices};
 ghost use Rattle.recover.specs.Known.{IsKnown};
 ghost use Rattle.recover.specs.Refused.{IsNamesRefused};
-ghost use Rattle.recover.specs.Walk.{HasNames, HasNode, LiesBelow, icb_kind};
+ghost use Rattle.recover.specs.Seen.{AreSeen};
+ghost use Rattle.recover.specs.Walk.{HasNames, HasNode, LeadsTo, LiesBelow, icb_kind};
 ghost use Rattle.dir.specs.declared.entry.Kind.TheVariants.{Directory, File};
 
 use crate::cause;
-use crate::directory::{Extent, link_count};
+use crate::directory::Extent;
 use crate::fault::{StoreFault, damaged};
-use crate::kept::{EntryPlace, Names};
+use crate::kept::{EntryPlace, Names, NodeEntry};
 use crate::known::Known;
 use crate::marks::Marks;
-use crate::reading::PARTITION_START;
+use crate::reading::{PARTITION_START, block_count};
+use crate::seen::{SeenFile, SeenFiles};
 use crate::table::{address_below, lies_below};
 use dir::{Entry, Kind};
 use drive::Drive;
@@ -112,15 +114,17 @@ pub(crate) struct Walk<'a> {
 }
 
 impl<'a> Walk<'a> {
-    ghost use Rattle.std.specs.Prelude.{◌≡◌, ◌+◌, ◌<◌, ◌≤◌, ◌^◌, ℕ, IsTrue, IfOk, IfErr, IfSome, OnOk, false, take};
+    ghost use Rattle.std.specs.Prelude.{◌≡◌, ◌+◌, ◌<◌, ◌≤◌, ◌^◌, ℕ, List, IsTrue, IfOk, IfErr, IfSome, OnOk, false, take, vec_len};
     ghost use Rattle.std.specs.Int.{div_ceil};
-    ghost use Rattle.drive.specs.Journal.{held, next_of};
+    ghost use Rattle.drive.specs.Journal.{Event, held, next_of};
     ghost use Rattle.recover.specs.Faults.{devices};
     ghost use Rattle.recover.specs.declared.fault.StoreFault.TheVariants.{Memory};
     ghost use Rattle.recover.specs.Forest.{IsDrawn, Puts};
     ghost use Rattle.recover.specs.Known.{IsKnown};
     ghost use Rattle.recover.specs.Refused.{IsBodyRefused, IsReachRefused, IsVisitRefused};
-    ghost use Rattle.recover.specs.Walk.{HasEntry, HasNode, LeadsTo, LiesBelow, Visits, nodes_of, reached_in, uniques_in};
+    ghost use Rattle.dir.specs.declared.entry.Entry.{Entry as DirEntry};
+    ghost use Rattle.recover.specs.Seen.{AreSeen, GoesOn, IsFileSeen, IsNamedAt, VisitsName};
+    ghost use Rattle.recover.specs.Walk.{HasEntry, HasNode, LeadsTo, LiesBelow, Tallied, Visits, nodes_of, reached_in, uniques_in};
     ghost use Rattle.dir.specs.declared.entry.Kind.TheVariants.{Directory, File};
 
     /// Nothing is seen yet of the tree of a table whose entry stands at `at`.
@@ -151,7 +155,6 @@ impl<'a> Walk<'a> {
     }
 
     /// Looks at a node, and at all below it. What is known is not read.
-    #[cycle(visit)]
     pub(crate) fn visit<D: Drive>(
         &mut self,
         alloc: Global,
@@ -189,70 +192,133 @@ impl<'a> Walk<'a> {
             alloc, drive, known, node.above, extent, body.links, entry_at,
         )?;
         self.directories = self.directories.saturating_add(1);
-        for index in 0..names.dir.entries.len() {
-            let (_, entry) = names.dir.entries.get_index(index).unwrap();
+        let Names {
+            dir,
+            mut files,
+            links,
+            ..
+        } = names;
+        let count = dir.entries.len();
+        let mut index = self.visit_seen(&files, 0, node.depth);
+        while index < count {
+            let (_, entry) = dir.entries.get_index(index).unwrap();
             let child = node.child(entry, extent.first + PARTITION_START);
-            self.visit_child(alloc, drive, known, &child)?;
+            self.visit(alloc, drive, known, &child)?;
+            self.keep_seen(known, &child, &mut files, index, count);
+            index = self.visit_seen(&files, index + 1, node.depth);
         }
-        known.keep_directory(extent, names);
+        known.keep_directory(extent, Names { dir, links, files });
         Ok(())
     }
 
-    /// Looks at a node, and at all below it. (A file needs no room for names.)
-    #[cycle(visit)]
-    fn visit_child<D: Drive>(
-        &mut self,
-        alloc: Global,
-        drive: &mut D,
-        known: &mut Known,
-        node: &Named,
-    ) -> Result<(), StoreFault>
-        requires low { PARTITION_START ≤ self.old.at }
-        requires within { self.old.at < next_of (D.journal drive.old) }
-        requires depth { node.now.depth ≤ 17 }
-        requires known { IsTrue (D.honest drive.old) → IsKnown (held (D.journal drive.old)) known.old }
-        ensures refused { IfErr result (λ fault. IsTrue (D.honest drive.new) → IsVisitRefused (nodes_of (D.journal drive.old) self.old) self.old node.now fault) }
-        ensures visits { OnOk result (IsTrue (D.honest drive.new) → Visits (nodes_of (D.journal drive.old) self.old) self.old self.new node.now) }
+    /// Looks at the files under the names from this place on, up to the first that was not found there or that the table
+    /// does not lead to. The place of that one.
+    // (Apart from what else is done for a directory, so that it has the registers.)
+    #[inline(never)]
+    fn visit_seen(&mut self, files: &SeenFiles, from: usize, depth: u32) -> usize
+        ensures visits { GoesOn self.old self.new files.now depth from result }
+        ensures on { from ≤ result }
         ensures at { self.new.at ≡ self.old.at }
-        ensures entries { self.new.entries.now ≡ self.old.entries.now }
+        ensures entries { self.new.entries ≡ self.old.entries }
         ensures next_unique { self.new.next_unique ≡ self.old.next_unique }
-        ensures counted { OnOk result (node.now.kind ≡ Directory → 1 ≤ self.new.directories) }
-        ensures more { self.old.directories ≤ self.new.directories }
-        ensures known { IsTrue (D.honest drive.new) → IsKnown (held (D.journal drive.new)) known.new }
-        ensures reads { Reads D.Drive (devices result) drive.old drive.new }
+        ensures directories { self.new.directories ≡ self.old.directories }
+    {
+        let mut index = from;
+        while self.passes(files, index, depth) {
+            index += 1;
+        }
+        index
+    }
+
+    /// Takes the file under the name at this place as seen, if it was found there and the table leads to where it stood.
+    /// Whether it did; else nothing is changed.
+    #[inline]
+    fn passes(&mut self, files: &SeenFiles, index: usize, depth: u32) -> bool
+        ensures visits { (journal : List Event) (entries : List (List ℕ × DirEntry)) → IsTrue result → self.old.at ≤ next_of journal → AreSeen (held journal) entries files.now → VisitsName (nodes_of journal self.old) self.old self.new entries index (depth + 1) }
+        ensures within { IsTrue result → index < vec_len files.now.files }
+        ensures unchanged { result ≡ false → self.new ≡ self.old }
+        ensures at { self.new.at ≡ self.old.at }
+        ensures entries { self.new.entries ≡ self.old.entries }
+        ensures next_unique { self.new.next_unique ≡ self.old.next_unique }
+        ensures directories { self.new.directories ≡ self.old.directories }
+    {
+        let is_deepest = depth >= PATH_NAMES;
+        if is_deepest {
+            return false;
+        }
+        match files.find(index) {
+            Some(file) => self.pass(&file),
+            None => false,
+        }
+    }
+
+    /// Takes the file as seen, if the table leads to where it was found and all that it needs lies below the table. Whether
+    /// it did; else nothing is changed.
+    #[inline]
+    fn pass(&mut self, file: &SeenFile) -> bool
+        ensures leads { IsTrue result → LeadsTo self.old.entries.now file.now.address (file.now.number + PARTITION_START) }
+        ensures below { IsTrue result → file.now.top ≤ self.old.at }
+        ensures drawn { IsTrue result → file.now.unique < self.old.next_unique }
+        ensures reached { IsTrue result → Puts (reached_in self.old) file.now.address (reached_in self.new) }
+        ensures uniques { IsTrue result → Puts (uniques_in self.old) file.now.unique (uniques_in self.new) }
+        ensures files { IsTrue result → Tallied self.old.files 1 self.new.files }
+        ensures unchanged { result ≡ false → self.new ≡ self.old }
+        ensures at { self.new.at ≡ self.old.at }
+        ensures entries { self.new.entries ≡ self.old.entries }
+        ensures next_unique { self.new.next_unique ≡ self.old.next_unique }
+        ensures directories { self.new.directories ≡ self.old.directories }
+    {
+        if !leads_to(self.entries, file) {
+            return false;
+        }
+        if file.top > self.at || file.unique >= self.next_unique {
+            return false;
+        }
+        if !self.uniques.has_place(file.unique) || !self.reached.has_place(file.address) {
+            return false;
+        }
+        self.uniques.put(file.unique);
+        self.reached.put(file.address);
+        self.files = self.files.saturating_add(1);
+        true
+    }
+
+    /// Keeps the file that was looked at just now, at the place of its name among so many.
+    fn keep_seen(
+        &self,
+        known: &Known,
+        node: &Named,
+        files: &mut SeenFiles,
+        index: usize,
+        count: usize,
+    )
+        requires { PARTITION_START ≤ self.now.at }
+        ensures { (medium : List (List ℕ)) (entries : List (List ℕ × DirEntry)) → IsKnown medium known.now → IsNamedAt entries index node.now → AreSeen medium entries files.old → AreSeen medium entries files.new }
+    {
+        if let Some(file) = self.seen_file(known, node) {
+            files.keep(count, index, file);
+        }
+    }
+
+    /// The file that was looked at just now, if its entry is known; none for a directory.
+    fn seen_file(&self, known: &Known, node: &Named) -> Option<SeenFile>
+        requires { PARTITION_START ≤ self.now.at }
+        ensures kind { IfSome result (λ file. node.now.kind ≡ File) }
+        ensures address { IfSome result (λ file. node.now.address ≡ file.address) }
+        ensures unique { IfSome result (λ file. node.now.unique ≡ file.unique) }
+        ensures seen { (medium : List (List ℕ)) → IsKnown medium known.now → IfSome result (IsFileSeen medium) }
     {
         match node.kind {
-            Kind::File => self.visit_file(drive, known, node),
-            Kind::Directory => self.visit(alloc, drive, known, node),
+            Kind::File => {}
+            Kind::Directory => return None,
         }
-    }
-
-    /// Looks at a file.
-    fn visit_file<D: Drive>(
-        &mut self,
-        drive: &mut D,
-        known: &mut Known,
-        node: &Named,
-    ) -> Result<(), StoreFault>
-        requires low { PARTITION_START ≤ self.old.at }
-        requires within { self.old.at < next_of (D.journal drive.old) }
-        requires depth { node.now.depth ≤ 17 }
-        requires known { IsTrue (D.honest drive.old) → IsKnown (held (D.journal drive.old)) known.old }
-        requires kind { node.now.kind ≡ File }
-        ensures refused { IfErr result (λ fault. IsTrue (D.honest drive.new) → IsVisitRefused (nodes_of (D.journal drive.old) self.old) self.old node.now fault) }
-        ensures visits { OnOk result (IsTrue (D.honest drive.new) → Visits (nodes_of (D.journal drive.old) self.old) self.old self.new node.now) }
-        ensures at { self.new.at ≡ self.old.at }
-        ensures entries { self.new.entries.now ≡ self.old.entries.now }
-        ensures next_unique { self.new.next_unique ≡ self.old.next_unique }
-        ensures counted { OnOk result (node.now.kind ≡ Directory → 1 ≤ self.new.directories) }
-        ensures more { self.old.directories ≤ self.new.directories }
-        ensures known { IsTrue (D.honest drive.new) → IsKnown (held (D.journal drive.new)) known.new }
-        ensures reads { Reads D.Drive (devices result) drive.old drive.new }
-    {
-        let entry_at = self.reach(node)?;
-        self.check_entry(drive, known, node, entry_at)?;
-        self.files = self.files.saturating_add(1);
-        Ok(())
+        if node.address == ROOT_ADDRESS || node.unique < FIRST_UNIQUE {
+            return None;
+        }
+        match address_below(self.entries, node.address, self.at) {
+            Some(entry_at) => seen_at(known, node, entry_at),
+            None => None,
+        }
     }
 
     /// The address of the node's entry, to which no name led before.
@@ -282,41 +348,6 @@ impl<'a> Walk<'a> {
             return Err(damaged(entry_at, cause::TOO_DEEP));
         }
         Ok(entry_at)
-    }
-
-    /// Holds the node's entry beside what its directory says. (One that is known and agrees needs nothing of the other way,
-    /// which reads an entry and tells what does not agree.)
-    fn check_entry<D: Drive>(
-        &mut self,
-        drive: &mut D,
-        known: &mut Known,
-        node: &Named,
-        entry_at: u32,
-    ) -> Result<(), StoreFault>
-        requires below { entry_at < self.old.at }
-        requires within { entry_at < next_of (D.journal drive.old) }
-        requires known { IsTrue (D.honest drive.old) → IsKnown (held (D.journal drive.old)) known.old }
-        ensures entry { OnOk result (IsTrue (D.honest drive.new) → HasNode (take self.old.at (held (D.journal drive.old))) self.old.at entry_at node.now) }
-        ensures refused { IfErr result (λ fault. IsTrue (D.honest drive.new) → IsBodyRefused (take self.old.at (held (D.journal drive.old))) self.old entry_at node.now fault) }
-        ensures drawn { OnOk result (IsDrawn self.old.next_unique node.now.address node.now.unique) }
-        ensures uniques { OnOk result (Puts (uniques_in self.old) node.now.unique (uniques_in self.new)) }
-        ensures at { self.new.at ≡ self.old.at }
-        ensures entries { self.new.entries ≡ self.old.entries }
-        ensures next_unique { self.new.next_unique ≡ self.old.next_unique }
-        ensures reached { self.new.reached ≡ self.old.reached }
-        ensures files { self.new.files ≡ self.old.files }
-        ensures directories { self.new.directories ≡ self.old.directories }
-        ensures known { IsTrue (D.honest drive.new) → IsKnown (held (D.journal drive.new)) known.new }
-        ensures reads { Reads D.Drive (devices result) drive.old drive.new }
-    {
-        if !is_known(known, node, entry_at, self.at) {
-            self.read_entry(drive, known, node, entry_at)?;
-            return Ok(());
-        }
-        if !self.is_new_unique(node)? {
-            return Err(damaged(entry_at, cause::IDENTITY));
-        }
-        Ok(())
     }
 
     /// Holds the node's entry beside what its directory says.
@@ -406,6 +437,7 @@ fn read_names<D: Drive>(
     requires within { extent.first + PARTITION_START + div_ceil extent.size BLOCK_BYTES ≤ next_of (D.journal drive.old) }
     requires known { IsTrue (D.honest drive.old) → IsKnown (held (D.journal drive.old)) known.old }
     ensures names { IfOk result (λ names. IsTrue (D.honest drive.new) → HasNames (held (D.journal drive.old)) above links extent names.dir) }
+    ensures seen { IfOk result (λ names. IsTrue (D.honest drive.new) → AreSeen (held (D.journal drive.old)) names.dir.entries.entries names.files) }
     ensures refused { IfErr result (λ fault. IsTrue (D.honest drive.new) → IsNamesRefused (held (D.journal drive.old)) above links extent fault) }
     ensures known { IsTrue (D.honest drive.new) → IsKnown (held (D.journal drive.new)) known.new }
     ensures reads { Reads D.Drive (devices result) drive.old drive.new }
@@ -414,10 +446,61 @@ fn read_names<D: Drive>(
     if names.dir.parent != above {
         return Err(damaged(extent.first + PARTITION_START, cause::IDENTITY));
     }
-    if links != link_count(&names.dir) {
+    if links != names.links {
         return Err(damaged(entry_at, cause::IDENTITY));
     }
     Ok(names)
+}
+
+/// The file whose entry stands there, if that is known and as its directory says.
+fn seen_at(known: &Known, node: &Named, entry_at: u32) -> Option<SeenFile>
+    requires low { PARTITION_START ≤ entry_at }
+    requires high { entry_at + 1 < 2 ^ 32 }
+    ensures address { IfSome result (λ file. node.now.address ≡ file.address) }
+    ensures unique { IfSome result (λ file. node.now.unique ≡ file.unique) }
+    ensures has { (medium : List (List ℕ)) → IsKnown medium known.now → IfSome result (λ file. HasNode (take file.top medium) file.top (file.number + PARTITION_START) node.now) }
+{
+    let place = EntryPlace {
+        at: entry_at,
+        address: node.address,
+    };
+    let Some(entry) = known.find(place) else {
+        return None;
+    };
+    let top = top_of(&entry, entry_at);
+    if !is_known(known, node, entry_at, top) {
+        return None;
+    }
+    Some(SeenFile {
+        address: node.address,
+        unique: node.unique,
+        number: entry_at - PARTITION_START,
+        top,
+    })
+}
+
+/// The least address that an entry which stands at `entry_at` and its bytes lie below.
+fn top_of(entry: &NodeEntry, entry_at: u32) -> u32
+    requires { entry_at + 1 < 2 ^ 32 }
+    ensures { entry_at < result }
+{
+    match entry.extent {
+        Some(extent) => {
+            let end = extent.first + PARTITION_START + block_count(extent.size);
+            end.max(entry_at + 1)
+        }
+        None => entry_at + 1,
+    }
+}
+
+/// Whether the table leads to the block in which the file was found.
+fn leads_to(entries: &[Option<u32>], file: &SeenFile) -> bool
+    ensures { IsTrue result → LeadsTo entries.now file.now.address (file.now.number + PARTITION_START) }
+{
+    match entries.get(file.address as usize) {
+        Some(Some(number)) => *number == file.number,
+        _ => false,
+    }
 }
 
 /// Whether the node's entry is known, and is as its directory says, with bytes below `at`.

@@ -107,8 +107,8 @@ impl Store {
         self.at = table.at;
         self.vat = table.vat;
         for placed in directories {
-            self.directories
-                .keep(placed.extent, placed.directory.content);
+            let lies = placed.placed();
+            self.directories.keep(lies, placed.directory.content);
         }
         Ok(reply)
     }

@@ -2,12 +2,23 @@ use Rattle.std.proofs.Common.{ℕ, ◌∙◌, refl, subst, arith, rules}
 use Rattle.dir.specs.Directory.{directory_blocks}
 use Rattle.durability.specs.Formats.Kind.{Directory}
 use Rattle.durability.specs.Formats.NodePlace.{Extent}
+use Rattle.icb.specs.Entry as icb
+use Rattle.icb.specs.declared.entry.Kind.TheVariants as entry
 use Rattle.udf.specs.Udf.{udf}
 use Rattle.planning.proofs.Writings.{links_agree, holds_directory}
 use Rattle.planning.proofs.places.directory_entry.Goals as goal
 
-pub returns : goal.returns
-returns c =
+pub returns-clause-says : goal.returns-clause-says
+returns-clause-says c = record {
+  fields = record { kind = entry.Directory; moment = c.args.directory.now.moment; links = c.link_count.result; unique = c.from.result; size = c.args.extent.size; place = icb.Place.Extent c.args.extent.first };
+  is = c.encode_fe.ensures;
+  place = refl;
+  size = refl;
+  time = refl;
+}
+
+pub returns-clause-written : goal.returns-clause-written
+returns-clause-written c =
     let d = c.args.directory.now in
     let dir = d.content.dir in
     let first = c.args.extent.first in

@@ -13,7 +13,7 @@ returns-in_default-clause-found g c tree s =
 pub returns-then-not-is_directory-clause-found : goal.returns-then-not-is_directory-clause-found
 returns-then-not-is_directory-clause-found g c tree s =
     let J = g.D.Drive.journal c.args.drive.now in
-    no_directory c.args.self.now.at c.args.self.now.entries.now J J J refl refl tree s.tree s.makes c.args.names.now (Some c.in-Some.node) (subst (λ (o : Option Node). IsFound (graph_below c.args.self.now.at c.args.self.now.entries.now J) tree c.args.names.now o) c.in-Some.is (c.in_ok-node.ensures.found tree s)) (sym c.is_directory.ensures ∙ c.if-not-is_directory.true)
+    no_directory c.args.self.now.at c.args.self.now.entries.now J J refl tree s.tree s.makes c.args.names.now (Some c.in-Some.node) (subst (λ (o : Option Node). IsFound (graph_below c.args.self.now.at c.args.self.now.entries.now J) tree c.args.names.now o) c.in-Some.is (c.in_ok-node.ensures.found tree s)) (sym c.is_directory.ensures ∙ c.if-not-is_directory.true)
 
 pub returns-clause-found : goal.returns-clause-found
 returns-clause-found g c tree s =

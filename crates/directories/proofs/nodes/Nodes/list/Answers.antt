@@ -49,6 +49,6 @@ pub returns-clause-kept : goal.returns-clause-kept
 returns-clause-kept g c honest kept =
     let same = c.in_ok-node.ensures.reads.journal in
     let kept1 = subst (λ (K : List Event). AreKept K c.node.new.directories) (sym same) (c.in_ok-node.ensures.kept (c.in_ok-placed.ensures.reads.honest honest) kept) in
-    let lies = subst (λ (K : List Event). LiesThere K c.in_ok-placed.placed.extent c.in_ok-placed.content) same (c.in_ok-placed.ensures.lies honest kept1) in
+    let lies = subst (λ (K : List Event). LiesThere K c.in_ok-placed.placed c.in_ok-placed.content) same (c.in_ok-placed.ensures.lies honest kept1) in
     let kept2 = subst (λ (K : List Event). AreKept K c.open.new.directories) same (c.in_ok-placed.ensures.kept honest kept1) in
     c.keep.ensures (g.D.Drive.journal c.args.drive.now) lies kept2

@@ -34,7 +34,7 @@ returns-clause-written c =
     let blocks : c.blocks-2.result ≡ (c.bytes.result + 2047) / 2048 = c.blocks-2.ensures.size ∙ ap blocks_of (sym c.bytes.ensures) in
     let from = c.args.self.now.next in
     let number : from + div_ceil c.bytes.result 2048 ≡ c.take.new.self.next = omega (arith, blocks, c.take.ensures.next) in
-    subst (λ n. WritesNode udf (directory_writing c.args.directory) from (directory_blocks c.args.directory.content.dir from ++ c.directory_entry-entry.result ∷ []) n) number c.directory_entry-entry.ensures
+    subst (λ n. WritesNode udf (directory_writing c.args.directory) from (directory_blocks c.args.directory.content.dir from ++ c.directory_entry-entry.result ∷ []) n) number c.directory_entry-entry.ensures.written
 
 pub returns-clause-laid : goal.returns-clause-laid
 returns-clause-laid c =
@@ -42,10 +42,13 @@ returns-clause-laid c =
     let from = c.args.self.now.next in
     let size : c.bytes.result ≡ directory_size dir = c.bytes.ensures ∙ c.data_size-size.ensures.size in
     let count : length (directory_blocks dir from) ≡ (c.bytes.result + 2047) / 2048 = c.data_size-size.ensures.blocks from ∙ ap blocks_of (sym size) in
+    let blocks : c.blocks-2.result ≡ (c.bytes.result + 2047) / 2048 = c.blocks-2.ensures.size ∙ ap blocks_of (sym c.bytes.ensures) in
     record {
       first = refl;
       blocks = (let long : length (directory_blocks dir from) ≡ div_ceil c.bytes.result 2048 = omega (arith, count) in long);
       is = laid_there dir from c.bytes.result (search rules) (search rules) c.requires.proper size;
+      number = omega (arith, count, blocks, c.take.ensures.next);
+      says = c.directory_entry-entry.ensures.says;
     }
 
 pub take-requires : goal.take-requires

@@ -6,8 +6,9 @@ use Rattle.recover.proofs.kept.Names.read.Goals as goal
 
 pub returns-clause-named : goal.returns-clause-named
 returns-clause-named g c = λ h.
-    let read = c.in_ok-read_directory.ensures.directory in
+    let read = c.in_ok-dir.ensures.directory in
     record {
       are = subst (All IsBlock) (read.1 h) read.2;
-      is = subst (λ blocks. IsDirectory c.in_ok-read_directory.field-0.parent c.in_ok-read_directory.field-0.entries.entries c.args.extent.first c.args.extent.size blocks) (read.1 h) read.3;
+      is = subst (λ blocks. IsDirectory c.in_ok-dir.dir.parent c.in_ok-dir.dir.entries.entries c.args.extent.first c.args.extent.size blocks) (read.1 h) read.3;
+      seen = c.new.ensures _ _;
     }

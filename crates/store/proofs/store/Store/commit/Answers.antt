@@ -5,10 +5,11 @@ use Rattle.drive.specs.Reads.{Follows, one_if}
 use Rattle.drive.specs.Sending.{SendsAlone}
 use Rattle.drive.proofs.Reading.{writes_follow}
 use Rattle.drive.specs.Journal.{next_of, written, AddsFront}
-use Rattle.planning.specs.Plan.{node_list, plan_blocks, table_data}
+use Rattle.planning.specs.Plan.{node_list, placed_of, plan_blocks, table_data}
 use Rattle.vat.specs.declared.table.Vat.{Vat}
 use Rattle.planning.specs.Last.{Keeps}
 use Rattle.directories.specs.Cache.{LiesThere}
+use Rattle.directories.specs.declared.nodes.Placed.{Placed}
 use Rattle.planning.specs.declared.layout.PlacedDirectory.{PlacedDirectory}
 use Rattle.planning.specs.declared.layout.PlacedTable.{PlacedTable}
 use Rattle.store.proofs.Keeping.{kept_front, kept_longer, plan_lies}
@@ -98,7 +99,7 @@ loop-placed-init g c = record {
   stopped = refl;
   kept = λ journal lie kept.
       let same : c.args.plan.directories.items ≡ into_iter_items c.into_iter-placed-iterator.result = sym (c.into_iter-placed-iterator.ensures.into_iter_gives.0 ∙ c.write-written.ensures.directories) in
-      (subst (λ (ps : List PlacedDirectory). All (λ (p : PlacedDirectory). LiesThere journal p.extent p.directory.content) ps) same lie, kept);
+      (subst (λ (ps : List PlacedDirectory). All (λ (p : PlacedDirectory). LiesThere journal (placed_of p) p.directory.content) ps) same lie, kept);
 }
 
 pub loop-placed-preserved : goal.loop-placed-preserved
@@ -109,8 +110,8 @@ loop-placed-preserved g c = record {
   stopped = c.loop-placed.invariant.stopped;
   kept = λ journal lie kept.
       let before = c.loop-placed.invariant.kept journal lie kept in
-      let next = all_next (λ (p : PlacedDirectory). LiesThere journal p.extent p.directory.content) (into_iter_items c.loop-placed.placed-iterator) (into_iter_items c.next.new.self) c.in-Some.placed c.in-Some.ensures.steps.0 before.0 in
-      (next.1, c.keep.ensures journal next.0 before.1);
+      let next = all_next (λ (p : PlacedDirectory). LiesThere journal (placed_of p) p.directory.content) (into_iter_items c.loop-placed.placed-iterator) (into_iter_items c.next.new.self) c.in-Some.placed c.in-Some.ensures.steps.0 before.0 in
+      (next.1, c.keep.ensures journal (subst (λ (p : Placed). LiesThere journal p c.in-Some.placed.directory.content) (sym c.placed-lies.ensures) next.0) before.1);
 }
 
 pub returns-clause-kept : goal.returns-clause-kept

@@ -3,6 +3,7 @@ use Rattle.std.specs.Prelude.{All}
 use Rattle.std.specs.Vec.Iter.{into_iter_items}
 use Rattle.drive.specs.Journal.{Event}
 use Rattle.directories.specs.Cache.{LiesThere, AreKept}
+use Rattle.planning.specs.Plan.{placed_of}
 use Rattle.planning.specs.declared.layout.PlacedDirectory.{PlacedDirectory}
 use Rattle.store.proofs.store.Store.commit.Given as goal
 
@@ -13,6 +14,6 @@ invariant-loop-placed g l = record {
   capacity : l.self.capacity ≡ l.fn.self.capacity;
   vat : l.self.vat ≡ l.table.vat;
   stopped : l.self.is_stopped ≡ false;
-  kept : (journal : List Event) → All (λ (p : PlacedDirectory). LiesThere journal p.extent p.directory.content) l.fn.plan.directories.items → AreKept journal l.fn.self.directories
-      → All (λ (p : PlacedDirectory). LiesThere journal p.extent p.directory.content) (into_iter_items l.placed-iterator) × AreKept journal l.self.directories;
+  kept : (journal : List Event) → All (λ (p : PlacedDirectory). LiesThere journal (placed_of p) p.directory.content) l.fn.plan.directories.items → AreKept journal l.fn.self.directories
+      → All (λ (p : PlacedDirectory). LiesThere journal (placed_of p) p.directory.content) (into_iter_items l.placed-iterator) × AreKept journal l.self.directories;
 }
