@@ -9,6 +9,7 @@ ghost use Rattle.drive.specs.Waiting.{Waiting, end_of, Takes, Stops};
 use crate::{Block, Drive, DriveFault, PACKET};
 use std::alloc::{AllocError, Global};
 use std::marker::Model;
+use std::slice;
 
 /// Writes the blocks from this address on, in packets. What is left is as if they had been one write.
 pub fn write_packets<D: Drive>(drive: &mut D, at: u32, blocks: &[Block]) -> Result<(), DriveFault>
@@ -109,7 +110,8 @@ impl PacketWriter {
                 Err(fault) => return Err(fault),
             }
         }
-        self.packet.push(*block).unwrap();
+        let one = slice::from_ref(block);
+        self.packet.extend_from_slice(one).unwrap();
         Ok(())
     }
 
