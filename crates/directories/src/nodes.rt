@@ -1,7 +1,7 @@
 //! The nodes of a state, by their virtual addresses.
 
 ghost use Rattle.limits.specs.declared.TheConstants.{ADDRESSES, BLOCK_BYTES, PARTITION_BLOCKS, PARTITION_START};
-ghost use Rattle.std.specs.Prelude.{◌≡◌, ◌+◌, ◌≢◌, ◌<◌, ◌≤◌, ℕ, IsTrue, IfOk, IfErr, Some, length, slice_get, true};
+ghost use Rattle.std.specs.Prelude.{◌≡◌, ◌+◌, ◌≢◌, ◌<◌, ◌≤◌, ℕ, IsTrue, IfOk, IfErr, Some, length, drop, slice_get, true};
 ghost use Rattle.std.specs.Int.{div_ceil};
 ghost use Rattle.drive.specs.Journal.{AreWhole, held, next_of};
 ghost use Rattle.drive.specs.Reads.{Reads};
@@ -18,6 +18,9 @@ use drive::Drive;
 use ecma::{Block, Timestamp};
 use icb::{Place, decode_fe};
 use recover::{Extent, PARTITION_START, StoreFault, cause, damaged, lies_below, read_block};
+
+/// How many virtual addresses are looked at at once for one that is unused.
+const RUN: usize = 4;
 
 /// Where the entry of a node stands: the number of its block, and the virtual address in its tag.
 #[derive(Clone, Copy, Debug, PartialEq, Eq, Hash)]
@@ -134,7 +137,13 @@ impl Nodes<'_> {
         ensures { result ≡ addresses.free_address self.now.entries.now }
     {
         let mut address = 2;
-        while address < self.entries.len() {
+        'runs: while self.entries.len() >= address + RUN {
+            if !are_used(self.entries, address) {
+                break;
+            }
+            address += RUN;
+        }
+        'each: while address < self.entries.len() {
             if self.entries[address].is_none() {
                 break;
             }
@@ -150,4 +159,14 @@ impl Nodes<'_> {
     {
         damaged(self.at, cause::IDENTITY)
     }
+}
+
+/// Whether the four virtual addresses from this one on are used.
+fn are_used(entries: &[Option<u32>], address: usize) -> bool
+    requires { address + 4 ≤ length entries.now }
+    ensures { IsTrue result → addresses.used_first (drop address entries.now) ≡ 4 + addresses.used_first (drop (address + 4) entries.now) }
+{
+    let front = entries[address].is_some() & entries[address + 1].is_some();
+    let back = entries[address + 2].is_some() & entries[address + 3].is_some();
+    front & back
 }

@@ -27,7 +27,9 @@ pub fn copied(alloc: Global, vat: &Vat) -> Result<Vat, StoreFault>
     ensures memory { IfErr result (λ fault. fault ≡ Memory) }
 {
     let records = Vec::from_slice(alloc, &vat.sessions.records)?;
-    let entries = Vec::from_slice(alloc, &vat.entries)?;
+    // A commit that makes a node adds an entry.
+    let mut entries = Vec::with_capacity(alloc, vat.entries.len() + 1)?;
+    entries.extend_from_slice(&vat.entries)?;
     Ok(Vat {
         label: vat.label,
         previous: vat.previous,

@@ -3,12 +3,22 @@ use Rattle.model.specs.Addresses.{free_address, used_first}
 use Rattle.directories.proofs.nodes.Nodes.free_address.Given as goal
 
 -- the addresses from 2 up to here are used
-abbrev pub invariant-loop-address : goal.invariant-loop-address
-invariant-loop-address l = record {
+abbrev pub invariant-runs : goal.invariant-runs
+invariant-runs l = record {
   low : 2 ≤ l.address;
   high : l.address ≤ 4097;
   used : free_address l.self.entries.now ≡ l.address + used_first (drop l.address l.self.entries.now);
 }
 
-abbrev pub decreases-loop-address : goal.decreases-loop-address
-decreases-loop-address l = length l.self.entries.now - l.address
+abbrev pub decreases-runs : goal.decreases-runs
+decreases-runs l = length l.self.entries.now - l.address
+
+abbrev pub invariant-each : goal.invariant-each
+invariant-each l = record {
+  low : 2 ≤ l.address;
+  high : l.address ≤ 4097;
+  used : free_address l.self.entries.now ≡ l.address + used_first (drop l.address l.self.entries.now);
+}
+
+abbrev pub decreases-each : goal.decreases-each
+decreases-each l = length l.self.entries.now - l.address
