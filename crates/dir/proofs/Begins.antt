@@ -10,7 +10,7 @@ use Rattle.dir.specs.Directory.{identifiers, IsDirectory, BlocksBegin}
 use Rattle.dir.specs.Identifier.{Identifier, plain_size, identifier}
 use Rattle.dir.specs.Layout.{stays, laid, onward, blocks_of, Stands, end_of}
 use Rattle.dir.specs.Split.{FitsIdentifier}
-use Rattle.dir.proofs.Identifiers.{length-identifier, tag-identifier}
+use Rattle.dir.proofs.Spelled.{length-identifier, tag-identifier}
 use Rattle.dir.proofs.Placing.{plain_bounds, laid-nil, laid-put, onward-full, onward-within, stands_within, stands_next}
 use Rattle.dir.proofs.Refusals.{all_Fit}
 

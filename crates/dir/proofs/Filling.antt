@@ -13,7 +13,7 @@ use Rattle.dir.specs.Directory.{identifiers, identifiers_of, of_name}
 use Rattle.dir.specs.Layout.{fits, stays, laid, onward, blocks_of, blocked, identifier_blocks, Stands, end_of}
 use Rattle.dir.specs.Laying.{identifiers_left}
 use Rattle.ecma.specs.Numbers.{u16_at}
-use Rattle.dir.proofs.Identifiers.{length-identifier, tag-identifier}
+use Rattle.dir.proofs.Spelled.{length-identifier, tag-identifier}
 use Rattle.dir.proofs.Placing.{plain_bounds, laid-put, laid-nil, onward-nil, onward-full, onward-within, stands_within, stands_next}
 
 pub drop_some : {X : Type 0} (xs : List X) (n : ℕ) (y : X) → slice_get xs n ≡ Some y → drop n xs ≡ y ∷ drop (suc n) xs

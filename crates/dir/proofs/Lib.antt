@@ -1,7 +1,7 @@
 pub mod Blocks
 pub mod Errors
 pub mod Zeros
-pub mod Identifiers
+pub mod Spelled
 pub mod Splits
 pub mod Placing
 pub mod Reading
@@ -10,6 +10,7 @@ pub mod Entries
 pub mod Directories
 pub mod Refusals
 pub mod Filling
+pub mod Fronts
 pub mod Sizes
 pub mod Once
 pub mod Begins

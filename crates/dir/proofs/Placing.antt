@@ -7,7 +7,7 @@ use Rattle.std.proofs.lemmas.List.{length-append}
 use Rattle.dir.specs.Identifier.{Identifier, plain_size, identifier}
 use Rattle.dir.specs.Layout.{fits, stays, laid, onward, Stands, end_of}
 use Rattle.dir.specs.Split.{name_size}
-use Rattle.dir.proofs.Identifiers.{length-identifier, name_size-identifier}
+use Rattle.dir.proofs.Spelled.{length-identifier, name_size-identifier}
 
 pub fits_cases : (size left : ℕ) → IsTrue (fits size left) → (size ≡ left) ⊎ (size + 32 ≤ left)
 fits_cases size left so = grind (arith, nat_tests)

@@ -9,7 +9,7 @@ use Rattle.dir.specs.Identifier.{Identifier, rounded, plain_size, use_of, head_o
 use Rattle.dir.specs.Kinds.{IsKind}
 use Rattle.dir.specs.Split.{name_size, use_size, size_of, said_by, HasHead, IsPadded, FitsIdentifier}
 use Rattle.ecma.proofs.Seals.{is_sealed}
-use Rattle.dir.proofs.Identifiers.{identifier_is, length-use_of, length-body_of, name_size-identifier, use_size-identifier, kind-identifier, icb-identifier, unique-identifier, head-identifier, tail-identifier}
+use Rattle.dir.proofs.Spelled.{identifier_is, length-use_of, length-body_of, name_size-identifier, use_size-identifier, kind-identifier, icb-identifier, unique-identifier, head-identifier, tail-identifier}
 
 -- the use of an identifier that is padded is a multiple of 4
 pub use_whole : (at : ℕ) (bytes behind : List ℕ) → IsPadded at bytes behind → use_size bytes % 4 ≡ 0

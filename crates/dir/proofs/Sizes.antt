@@ -11,7 +11,7 @@ use Rattle.dir.specs.Directory.{of_parent, of_name, identifiers, IsEntry}
 use Rattle.dir.specs.Identifier.{Identifier, plain_size, identifier}
 use Rattle.dir.specs.Layout.{fits, laid}
 use Rattle.dir.specs.Size.{End, next_end, parent_end, data_end, end_bytes, plain_sizes, name_sizes}
-use Rattle.dir.proofs.Identifiers.{length-identifier}
+use Rattle.dir.proofs.Spelled.{length-identifier}
 use Rattle.dir.proofs.Placing.{plain_bounds, fits_cases, laid-stays, laid-leaves, laid-nil}
 
 -- an identifier that is put, and those behind it

@@ -7,7 +7,7 @@ use Rattle.ecma.proofs.Pieces.{IsBytes}
 use Rattle.dir.specs.Identifier.{Identifier, plain_size, use_of, identifier}
 use Rattle.dir.specs.Layout.{fits, stays, laid, onward, Stands, end_of}
 use Rattle.dir.specs.Split.{name_size, use_size, size_of, said_by, IsSplit, HasHead, IsPadded, IsLengthened, FitsIdentifier}
-use Rattle.dir.proofs.Identifiers.{length-identifier, name_size-identifier, use_size-identifier}
+use Rattle.dir.proofs.Spelled.{length-identifier, name_size-identifier, use_size-identifier}
 use Rattle.dir.proofs.Placing.{fits_cases, fits_exactly, fits_with, plain_bounds, laid-put, stands_within, stands_next, name_size-laid, length-laid, onward-nil, onward-full}
 use Rattle.dir.proofs.Reading.{use_whole, size_whole, length-said_by, identifier_read, said_by-identifier, HasHead-identifier, filled-identifier, padding-identifier}
 use Rattle.dir.proofs.Splits.{name_size-front, use_size-front}

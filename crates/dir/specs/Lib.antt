@@ -5,6 +5,7 @@ pub mod Layout
 pub mod Item
 pub mod Split
 pub mod Directory
+pub mod Fronts
 pub mod Laying
 pub mod Reads
 pub mod Size

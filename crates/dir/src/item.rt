@@ -1,8 +1,8 @@
 //! One file identifier, as it is written.
 
 ghost use Rattle.limits.specs.declared.TheConstants.{BLOCK_BYTES};
-ghost use Rattle.std.specs.Prelude.{◌≡◌, length};
-ghost use Rattle.dir.specs.Identifier.{use_of};
+ghost use Rattle.std.specs.Prelude.{◌≡◌, ◌≤◌, length};
+ghost use Rattle.dir.specs.Identifier.{Identifier, identifier, use_of};
 
 use crate::characteristics::Characteristics;
 use crate::entry::Entry;
@@ -79,7 +79,7 @@ impl<'a> Item<'a> {
 }
 
 impl Item<'_> {
-    ghost use Rattle.std.specs.Prelude.{◌≡◌, ◌+◌, ◌≤◌, length};
+    ghost use Rattle.std.specs.Prelude.{◌≡◌, ◌+◌, ◌≤◌, IfSome, length};
     ghost use Rattle.dir.specs.Identifier.{plain_size, head_of, body_of, identifier};
     ghost use Rattle.dir.specs.Item.{said};
 
@@ -93,6 +93,23 @@ impl Item<'_> {
     {
         self.write_body(more, &mut into[TAG_SIZE..]);
         seal(FILE_IDENTIFIER, number, into);
+    }
+
+    /// Writes it as `write` does, by its bytes for the block number 0 and not lengthened, where these are kept.
+    pub(crate) fn write_from(&self, kept: Option<&[u8]>, number: u32, more: u16, into: &mut [u8])
+        requires kept { IfSome kept (λ bytes. bytes.now ≡ identifier 0 (said self.now) 0) }
+        requires name { length self.now.name.now ≤ 255 }
+        requires more { more ≤ BLOCK_BYTES }
+        requires size { length into.old ≡ plain_size (length self.now.name.now) + more }
+        ensures { into.new ≡ identifier number (said self.now) more }
+    {
+        match kept {
+            Some(bytes) if more == 0 => {
+                into.copy_from_slice(bytes);
+                relocate(number, into);
+            }
+            _ => self.write(number, more, into),
+        }
     }
 
     /// Writes what stands behind the tag, over all of the bytes.
@@ -130,6 +147,18 @@ impl Item<'_> {
         LittleEndian::write_u16(&mut fields[20..], more); // 36 length of implementation use
         fields
     }
+}
+
+/// Moves an identifier from block 0 to the block of this number. Its check covers no byte of the tag.
+fn relocate(number: u32, bytes: &mut [u8])
+    requires { TAG_SIZE ≤ length bytes.old }
+    ensures { (x : Identifier) → bytes.old ≡ identifier 0 x 0 → bytes.new ≡ identifier number x 0 }
+{
+    let location = number.to_le_bytes();
+    let [a, b, c, d] = location;
+    let sum = u32::from(bytes[4]) + u32::from(a) + u32::from(b) + u32::from(c) + u32::from(d);
+    bytes[4] = (sum % 256) as u8; // 4 tag checksum
+    bytes[12..TAG_SIZE].copy_from_slice(&location); // 12 tag location
 }
 
 /// Writes the implementation use that lengthens an identifier, over all of the bytes: the entity of this program, and zeros.

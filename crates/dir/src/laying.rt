@@ -2,9 +2,11 @@
 
 ghost use Rattle.limits.specs.declared.TheConstants.{BLOCK_BYTES, DIRECTORY_NAMES, PARTITION_BLOCKS};
 ghost use Rattle.std.specs.Prelude.{◌+◌, ◌≤◌, length};
+ghost use Rattle.dir.specs.Fronts.{AreLeft};
 
 use crate::entry::Dir;
 use crate::item::Item;
+use crate::kept::Identifiers;
 use crate::size::{BLOCK_SIZE, fits, plain_size};
 use ecma::Block;
 
@@ -22,17 +24,23 @@ pub struct Lay<'a> {
     next: usize,
     /// The number of the next block.
     number: u32,
+    /// How many of the names' identifiers are kept as bytes.
+    known: usize,
+    /// The bytes of those that are not laid yet.
+    kept: &'a [u8],
     ghost few: { length dir.now.entries.entries ≤ DIRECTORY_NAMES },
     ghost laid: { next ≤ length dir.now.entries.entries + 1 },
     ghost numbers: { number ≤ PARTITION_BLOCKS + next },
+    ghost left: { AreLeft known next dir.now.entries.entries kept.now },
 }
 
 impl<'a> Lay<'a> {
-    ghost use Rattle.std.specs.Prelude.{◌≡◌, ◌≤◌, ◌-◌, ◌+◌, ◌++◌, [], ◌∷◌, length, take, drop, replicate, slice_get, Some, IfSome, MatchOption};
+    ghost use Rattle.std.specs.Prelude.{◌≡◌, ◌≤◌, ◌-◌, ◌+◌, ◌++◌, [], ◌∷◌, length, take, drop, replicate, slice_get, Some, IfSome, IsTrue, MatchOption, false};
     ghost use Rattle.std.specs.Option.{option_map};
     ghost use Rattle.ecma.specs.Numbers.{u16_at};
     ghost use Rattle.dir.specs.Directory.{directory_blocks, identifiers_of};
     ghost use Rattle.dir.specs.Item.{said};
+    ghost use Rattle.dir.specs.Fronts.{IsFront};
     ghost use Rattle.dir.specs.Laying.{blocks_left, identifiers_left};
     ghost use Rattle.dir.specs.Layout.{end_of};
     ghost use Rattle.dir.specs.Identifier.{plain_size, identifier};
@@ -47,6 +55,24 @@ impl<'a> Lay<'a> {
             dir,
             next: 0,
             number: first,
+            known: 0,
+            kept: &[],
+        }
+    }
+
+    /// The same, laid by the identifiers that are kept of its first names.
+    pub fn over(dir: &'a Dir, identifiers: &'a Identifiers, first: u32) -> Lay<'a>
+        requires front { IsFront identifiers.now dir.now.entries.entries }
+        requires few { length dir.now.entries.entries ≤ MAX_NAMES }
+        requires first { first ≤ MAX_BLOCKS }
+        ensures { blocks_left result ≡ directory_blocks dir.now first }
+    {
+        Lay {
+            dir,
+            next: 0,
+            number: first,
+            known: identifiers.count,
+            kept: identifiers.bytes.as_slice(),
         }
     }
 
@@ -56,19 +82,32 @@ impl<'a> Lay<'a> {
         // It begins with an identifier's tag, and so is no file entry.
         ensures tag { IfSome result (λ block. u16_at 0 block ≡ 257) }
     {
-        if self.next > self.dir.entries.len() {
+        let mut block = [0; BLOCK_SIZE];
+        if !self.next_into(&mut block) {
             return None;
         }
-        let mut block = [0; 2048];
+        Some(block)
+    }
+
+    /// Writes the next block over all of this one, or says that there is none.
+    pub fn next_into(&mut self, block: &mut Block) -> bool
+        ensures some { IsTrue result → blocks_left self.old ≡ block.new ∷ blocks_left self.new }
+        ensures none { result ≡ false → blocks_left self.old ≡ [] }
+        ensures tag { IsTrue result → u16_at 0 block.new ≡ 257 }
+    {
+        if self.next > self.dir.entries.len() {
+            return false;
+        }
+        *block = [0; BLOCK_SIZE];
         let mut at = 0;
         while at < BLOCK_SIZE {
             let Some(item) = self.item(self.next) else {
                 break;
             };
-            at = self.put(&item, at, &mut block);
+            at = self.put(&item, at, block);
         }
         self.number += 1;
-        Some(block)
+        true
     }
 
     /// What the identifier at an index says, the parent's being the first.
@@ -96,14 +135,34 @@ impl<'a> Lay<'a> {
         ensures onward { at + plain_size (length item.now.name.now) ≤ result }
         ensures block { block.new ≡ take at block.old ++ (identifier self.old.number (said item.now) (result - (at + plain_size (length item.now.name.now))) ++ drop result block.old) }
     {
-        self.next += 1;
+        let kept = self.pass(item);
         let end = at + plain_size(item.name.len());
         let full = match self.item(self.next) {
             Some(next) => !fits(plain_size(next.name.len()), BLOCK_SIZE - end),
             None => false,
         };
         let behind = if full { BLOCK_SIZE } else { end };
-        item.write(self.number, (behind - end) as u16, &mut block[at..behind]);
+        let more = (behind - end) as u16;
+        item.write_from(kept, self.number, more, &mut block[at..behind]);
         behind
+    }
+
+    /// Goes on behind the next identifier, and tells its bytes for the block number 0 and not lengthened, if they are kept.
+    fn pass(&mut self, item: &Item<'a>) -> Option<&'a [u8]>
+        requires next { slice_get (identifiers_of self.old.dir.now) self.old.next ≡ Some (said item.now) }
+        requires short { length item.now.name.now ≤ 255 }
+        ensures dir { self.new.dir ≡ self.old.dir }
+        ensures next { self.new.next ≡ self.old.next + 1 }
+        ensures number { self.new.number ≡ self.old.number }
+        ensures kept { IfSome result (λ bytes. bytes.now ≡ identifier 0 (said item.now) 0) }
+    {
+        let next = self.next;
+        self.next += 1;
+        if next == 0 || next > self.known {
+            return None;
+        }
+        let (bytes, behind) = self.kept.split_at(plain_size(item.name.len()));
+        self.kept = behind;
+        Some(bytes)
     }
 }

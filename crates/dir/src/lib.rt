@@ -8,7 +8,7 @@
 //! `Lay` and `lay` give exactly these bytes. `read_dir` gives a directory exactly where the blocks are
 //! its data, and else a fault or want of memory; blocks are the data of one directory at most. `Fids`
 //! shows the identifiers as slices of the blocks. `DataSize` tells the size from the names' lengths
-//! alone.
+//! alone. `Identifiers` keeps what `Lay` would spell again where a directory is laid anew.
 //!
 //! What the addresses and unique IDs lead to, and where the blocks lie, is left to the layers above.
 #![tactic(auto)]
@@ -18,6 +18,7 @@ mod entry;
 mod fault;
 mod fids;
 mod item;
+mod kept;
 mod laws;
 mod laying;
 mod read;
@@ -28,6 +29,7 @@ mod whole;
 pub use entry::{Dir, Entry, Kind};
 pub use fault::DirFault;
 pub use fids::{Fid, Fids};
+pub use kept::Identifiers;
 pub use laws::{blocks_are_few, blocks_begin, data_is_sized, laid_is_directory, one_directory};
 pub use laying::{Lay, MAX_BLOCKS, MAX_NAMES};
 pub use read::read_dir;

@@ -1,6 +1,6 @@
 use Rattle.std.proofs.Common.{◌∙◌, arith, ap, length}
 use Rattle.dir.specs.Item.{said}
-use Rattle.dir.proofs.Identifiers.{behind_tag, identifier_is, length-body_of}
+use Rattle.dir.proofs.Spelled.{behind_tag, identifier_is, length-body_of}
 use Rattle.dir.proofs.item.Item.write.Goals as goal
 
 pub returns : goal.returns

@@ -1,7 +1,7 @@
 use Rattle.std.proofs.Common.{◌+◌, ◌∙◌, length, arith, ap}
 use Rattle.std.proofs.lemmas.List.{length-take}
 use Rattle.dir.specs.Item.{said}
-use Rattle.dir.proofs.Identifiers.{body_put}
+use Rattle.dir.proofs.Spelled.{body_put}
 use Rattle.dir.proofs.item.Item.write_body.Goals as goal
 
 pub copy_from_slice-requires : goal.copy_from_slice-requires

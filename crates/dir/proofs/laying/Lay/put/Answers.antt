@@ -9,8 +9,8 @@ use Rattle.dir.proofs.laying.Lay.put.Goals.{in-Some, in-None, then-full, else-fu
 
 pub returns-clause-end : goal.returns-clause-end
 returns-clause-end c =
-    let ids = identifiers_of c.args.self.now.dir.now in
-    let next = c.args.self.now.next + 1 in
+    let ids = identifiers_of c.pass-kept.new.self.dir.now in
+    let next = c.pass-kept.new.self.next in
     let end = c.args.at + c.plain_size.result in
     let full : c.match-item.full ≡ not (stays (drop next ids) (2048 - end)) = elim c.match-item.branch [
       | in-Some w ↦

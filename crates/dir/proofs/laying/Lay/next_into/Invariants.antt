@@ -1,6 +1,6 @@
 use Rattle.std.proofs.Common.{◌-◌}
 use Rattle.dir.proofs.Filling.{IsFilled}
-use Rattle.dir.proofs.laying.Lay.next_block.Given as goal
+use Rattle.dir.proofs.laying.Lay.next_into.Given as goal
 
 abbrev pub invariant-loop-at : goal.invariant-loop-at
 invariant-loop-at l = IsFilled l.initial.self l.self l.at l.block

@@ -1,12 +1,13 @@
 -- One identifier: its size, its parts, and the bytes that are one.
-use Rattle.std.proofs.Common.{◌≡◌, ℕ, ◌+◌, ◌-◌, ◌^◌, ◌<◌, ◌≤◌, min, List, ◌++◌, length, take, drop, replicate, refl, sym, ap, ◌∙◌, append_assoc, arith}
+use Rattle.std.proofs.Common.{◌≡◌, ℕ, ◌+◌, ◌-◌, ◌%◌, ◌^◌, ◌<◌, ◌≤◌, min, sum, List, ◌++◌, length, take, drop, replicate, refl, sym, ap, ◌∙◌, append_assoc, arith}
 use Rattle.std.proofs.lemmas.List.{append-nil, drop-drop, drop_all, drop_at, length-append, length-drop, length-replicate, length-take, take_at}
 use Rattle.ecma.specs.Tag.{Sealed}
 use Rattle.ecma.proofs.Pieces.{IsBytes}
 use Rattle.ecma.specs.EntityId.{developer}
 use Rattle.dir.specs.Identifier.{Identifier, plain_size, use_of, head_of, body_of, identifier}
 use borrow.Rule.Slice.PartMut.{put_mid}
-use Rattle.std.specs.Prelude.{slice_index}
+use Rattle.std.specs.Prelude.{slice_index, slice_set}
+use Rattle.std.specs.Int.{w32, to_le_bytes}
 use Rattle.ecma.specs.Numbers.{u16_at, u32_at}
 use Rattle.dir.specs.Split.{name_size, use_size}
 use Rattle.ecma.proofs.Seals.{sealed_is}
@@ -140,3 +141,11 @@ tail-identifier number more x rest =
 pub tag-identifier : (number more : ℕ) (x : Identifier) (rest : List ℕ) → u16_at 0 (identifier number x more ++ rest) ≡ 257
 unfolding identifier
 tag-identifier number more x rest = refl
+
+-- an identifier of block 0 with another number in its tag
+pub moved-identifier : (number total : ℕ) (x : Identifier) → total ≡ slice_index (identifier 0 x 0) 4 + sum (to_le_bytes w32 number)
+    → put_mid 12 4 (slice_set (identifier 0 x 0) 4 (total % 256)) (to_le_bytes w32 number) ≡ identifier number x 0
+unfolding identifier
+moved-identifier number total x is =
+    let checksum : total % 256 ≡ slice_index (identifier number x 0) 4 = omega arith in
+    ap (λ (n : ℕ). slice_set (identifier number x 0) 4 n) checksum

@@ -11,11 +11,11 @@ use Rattle.dir.specs.Laying.{identifiers_left}
 use Rattle.dir.specs.Layout.{Stands, identifier_blocks}
 use Rattle.dir.proofs.Placing.{stands_within}
 use Rattle.dir.proofs.Filling.{drop_some, drop_none, none_past, length-identifiers, no_blocks, laid_block, filled_more}
-use Rattle.dir.proofs.laying.Lay.next_block.Goals as goal
-use Rattle.dir.proofs.laying.Lay.next_block.Goals.{else-loop-at-test, then-loop-at-test+in_default}
+use Rattle.dir.proofs.laying.Lay.next_into.Goals as goal
+use Rattle.dir.proofs.laying.Lay.next_into.Goals.{else-loop-at-test, then-loop-at-test+in_default}
 
-pub returns-then-self-len-clause-next : goal.returns-then-self-len-clause-next
-returns-then-self-len-clause-next c =
+pub returns-then-self-len-clause-none : goal.returns-then-self-len-clause-none
+returns-then-self-len-clause-none c is =
     let self = c.args.self.now in
     let ids = identifiers_of self.dir.now in
     let many = length-identifiers self.dir.now.parent self.dir.now.entries.entries in
@@ -57,10 +57,10 @@ invariant_of-self c =
     ] in
     let further = filled.further some in
     let number = filled.number in
-    record { few = c.loop-at.self.few; laid = c.loop-at.self.laid; numbers = omega (arith, c.args.self.now.numbers) }
+    record { few = c.loop-at.self.few; laid = c.loop-at.self.laid; numbers = omega (arith, c.args.self.now.numbers); left = c.loop-at.self.left }
 
-pub returns-clause-next : goal.returns-clause-next
-returns-clause-next c =
+pub returns-clause-some : goal.returns-clause-some
+returns-clause-some c is =
     let ids = identifiers_of c.loop-at.self.dir.now in
     let filled = c.loop-at.invariant in
     let same = ap (λ (d : Bor Dir). length d.now.entries.entries) filled.dir in
@@ -85,7 +85,7 @@ returns-clause-next c =
     ∙ ap (λ (n : ℕ). c.loop-at.block ∷ identifier_blocks (n + 1) (identifiers_left c.loop-at.self)) (sym filled.number)
 
 pub returns-clause-tag : goal.returns-clause-tag
-returns-clause-tag c =
+returns-clause-tag c is =
     let ids = identifiers_of c.loop-at.self.dir.now in
     let filled = c.loop-at.invariant in
     let same = ap (λ (d : Bor Dir). length d.now.entries.entries) filled.dir in

@@ -1,0 +1,24 @@
+-- Identifiers as bytes that are kept from one layout to the next.
+use Rattle.std.specs.Prelude.{◌≡◌, ℕ, ◌-◌, ◌≤◌, List, length, map, take, drop}
+use Rattle.std.specs.List.{flat_map}
+use Rattle.dir.specs.declared.entry.Entry.{Entry}
+use Rattle.dir.specs.declared.kept.Identifiers.{Identifiers}
+use Rattle.dir.specs.Identifier.{Identifier, identifier}
+use Rattle.dir.specs.Directory.{of_name}
+
+-- an identifier for the block number 0, not lengthened
+abbrev pub plain : Identifier → List ℕ
+plain x = identifier 0 x 0
+
+-- the identifiers of names
+abbrev pub named : List (List ℕ × Entry) → List Identifier
+named entries = map (λ e. of_name e.0 e.1) entries
+
+-- the bytes of the identifiers of so many names that are left where so many identifiers are laid, the parent's first
+abbrev pub AreLeft : ℕ → ℕ → List (List ℕ × Entry) → List ℕ → Type 0
+AreLeft known next entries bytes = bytes ≡ flat_map plain (drop (next - 1) (take known (named entries)))
+
+-- they are those of a front of a directory's names
+pub record IsFront (ids : Identifiers) (entries : List (List ℕ × Entry)) : Type 0 where
+  pub few : ids.count ≤ length entries
+  pub bytes : ids.bytes.items ≡ flat_map plain (take ids.count (named entries))
