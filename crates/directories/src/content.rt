@@ -5,21 +5,37 @@ ghost use Rattle.std.specs.Prelude.{◌≡◌, [], ◌∷◌, ◌++◌, ◌<◌,
 ghost use Rattle.std.specs.Cmp.Lexicographic.{pointwise};
 ghost use Rattle.std.specs.Map.{lookup, remove_entry};
 ghost use Rattle.indexmap.specs.IndexMap.{insert_entry};
+ghost use Rattle.dir.specs.Fronts.{IsFront};
 ghost use Rattle.recover.specs.Faults.{devices};
 ghost use Rattle.recover.specs.declared.fault.StoreFault.TheVariants.{Memory};
 
-use dir::{Dir, Entry};
+use dir::{Dir, Entry, Identifiers};
 use osta::Name;
 use recover::StoreFault;
+use std::alloc::Global;
 
 /// A directory that a volume may have.
 #[derive(Drop)]
 pub struct Content {
     pub dir: Dir,
+    /// The identifiers of its first names, kept for its next layout.
+    pub identifiers: Identifiers,
     pub ghost few: { length dir.entries.entries ≤ DIRECTORY_NAMES },
+    pub ghost front: { IsFront identifiers dir.entries.entries },
 }
 
 impl Content {
+    /// A directory as it is read or made. No identifiers are kept of it yet.
+    pub fn of(alloc: Global, dir: Dir) -> Content
+        requires few { length dir.entries.entries ≤ DIRECTORY_NAMES }
+        ensures { result.dir ≡ dir }
+    {
+        Content {
+            dir,
+            identifiers: Identifiers::new(alloc),
+        }
+    }
+
     /// Adds a name behind the others.
     pub fn add(&mut self, name: Name, entry: Entry) -> Result<(), StoreFault>
         requires room { length self.old.dir.entries.entries < DIRECTORY_NAMES }
@@ -31,7 +47,11 @@ impl Content {
         ensures memory { IfErr result (λ fault. fault ≡ Memory) }
         ensures device { devices result ≡ 0 }
     {
-        self.dir.entries.insert(name, entry)?;
+        if self.dir.entries.insert(name, entry)?.is_some() {
+            self.identifiers.clear();
+        }
+        // Those that there is no memory for are spelled when the directory is laid.
+        let _ = self.identifiers.fill(&self.dir);
         Ok(())
     }
 
@@ -42,6 +62,7 @@ impl Content {
         ensures parent { self.new.dir.parent ≡ self.old.dir.parent }
         ensures room { IfSome result (λ _. length self.new.dir.entries.entries < DIRECTORY_NAMES) }
     {
+        self.identifiers.clear();
         self.dir.entries.shift_remove(name)
     }
 }

@@ -50,7 +50,7 @@ impl Nodes<'_> {
         }
         let placed = self.directory(drive, at)?;
         let dir = read_directory(alloc, drive, placed.extent)?;
-        Ok((placed, Content { dir }))
+        Ok((placed, Content::of(alloc, dir)))
     }
 
     /// What the directory at a virtual address says of a name.

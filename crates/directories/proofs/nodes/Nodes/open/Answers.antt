@@ -1,6 +1,7 @@
 use Rattle.std.proofs.Common.{◌∙◌, ap, sym, subst, ℕ, List, inl, arith}
 use Rattle.std.proofs.lemmas.Result.{err_from_is_err_and}
 use Rattle.drive.specs.Journal.{Event, held}
+use Rattle.dir.specs.declared.entry.Dir.{Dir}
 use Rattle.dir.specs.Directory.{IsDirectory}
 use Rattle.recover.specs.Faults.{IsShortage}
 use Rattle.recover.specs.Nodes.{IsDirectoryRefused, data_of}
@@ -52,7 +53,8 @@ returns-clause-lies g c honest kept =
     record {
       entry = c.in_ok-placed.ensures.stands (c.in_ok-dir.ensures.reads.honest honest);
       within = omega (arith, c.in_ok-placed.ensures.data.2, c.requires.within);
-      is = subst (λ (blocks : List (List ℕ)). IsDirectory c.in_ok-dir.dir.parent c.in_ok-dir.dir.entries.entries placed.extent.first placed.extent.size blocks) found read.3;
+      is = subst (λ (d : Dir). IsDirectory d.parent d.entries.entries placed.extent.first placed.extent.size (data_of (held (g.D.Drive.journal c.args.drive.now)) placed.extent)) (sym c.of.ensures)
+          (subst (λ (blocks : List (List ℕ)). IsDirectory c.in_ok-dir.dir.parent c.in_ok-dir.dir.entries.entries placed.extent.first placed.extent.size blocks) found read.3);
     }
 
 pub returns-clause-opened : goal.returns-clause-opened
