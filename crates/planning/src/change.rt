@@ -538,16 +538,15 @@ impl<'r> Change<'r> {
                 Kind::File
             }
             Thing::Directory => {
+                let dir = Dir {
+                    parent: parent.address,
+                    entries: IndexMap::new(alloc),
+                };
                 self.directories.push(NewDirectory {
                     address,
                     unique,
                     moment,
-                    content: Content {
-                        dir: Dir {
-                            parent: parent.address,
-                            entries: IndexMap::new(alloc),
-                        },
-                    },
+                    content: Content::of(alloc, dir),
                 })?;
                 Kind::Directory
             }

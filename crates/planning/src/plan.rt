@@ -142,7 +142,7 @@ fn write_directory<D: Drive>(
     ensures writes { Writes D.Drive (is_err result) drive.old drive.new }
 {
     let content = &placed.directory.content;
-    writer.put_directory(drive, &content.dir, placed.extent.first)?;
+    writer.put_directory(drive, content, placed.extent.first)?;
     writer.put(drive, &placed.entry)?;
     Ok(())
 }

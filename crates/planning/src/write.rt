@@ -11,7 +11,8 @@ ghost use Rattle.dir.specs.Directory.{directory_blocks};
 ghost use Rattle.ecma.specs.Descriptor.{padded};
 ghost use Rattle.durability.specs.Plan.{zeros, packed};
 
-use dir::{Dir, Lay, MAX_BLOCKS, MAX_NAMES};
+use dir::{Lay, MAX_BLOCKS};
+use directories::Content;
 use drive::{Drive, DriveFault, PACKET, PacketWriter};
 use ecma::Block;
 use std::alloc::{AllocError, Global};
@@ -150,19 +151,19 @@ impl Writer {
     pub(crate) fn put_directory<D: Drive>(
         &mut self,
         drive: &mut D,
-        directory: &Dir,
+        content: &Content,
         first: u32,
     ) -> Result<(), DriveFault>
-        requires few { length directory.now.entries.entries ≤ MAX_NAMES }
         requires first { first ≤ MAX_BLOCKS }
         requires begins { self.old.packets.at ≤ next_of (D.journal drive.old) }
-        requires fits { end_of self.old.packets + length (directory_blocks directory.now first) ≤ D.capacity drive.old }
-        ensures ok { OnOk result (Takes D.Drive drive.old self.old.packets (directory_blocks directory.now first) drive.new self.new.packets) }
-        ensures err { OnErr result (Stops D.Drive drive.old self.old.packets (directory_blocks directory.now first) drive.new) }
+        requires fits { end_of self.old.packets + length (directory_blocks content.now.dir first) ≤ D.capacity drive.old }
+        ensures ok { OnOk result (Takes D.Drive drive.old self.old.packets (directory_blocks content.now.dir first) drive.new self.new.packets) }
+        ensures err { OnErr result (Stops D.Drive drive.old self.old.packets (directory_blocks content.now.dir first) drive.new) }
         ensures writes { Writes D.Drive (is_err result) drive.old drive.new }
     {
-        let mut lay = Lay::new(directory, first);
-        while let Some(block) = lay.next_block() {
+        let mut lay = Lay::over(&content.dir, &content.identifiers, first);
+        let mut block = [0; BLOCK_SIZE];
+        while lay.next_into(&mut block) {
             self.put(drive, &block)?;
         }
         Ok(())

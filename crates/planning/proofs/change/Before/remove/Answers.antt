@@ -2,6 +2,7 @@ use Rattle.std.proofs.Common.{◌∙◌, [], ◌∷◌, ◌++◌, Bool, if◌the
 use Rattle.std.proofs.lemmas.Bool.{true≢false}
 use Rattle.std.proofs.lemmas.Result.{err_from_is_err_and}
 use Rattle.drive.specs.Journal.{Event, held}
+use Rattle.drive.proofs.Reading.{reads_then}
 use Rattle.durability.proofs.Stored.{stored_one}
 use Rattle.model.specs.Addresses.{free_address}
 use Rattle.model.specs.Operation.Operation.{Remove}
@@ -143,6 +144,11 @@ returns-in_err-push-clause-kept g c honest kept =
     let kept2 = kept_on J (g.D.Drive.journal c.find.new.drive) c.find.new.directories c.has_names.new.directories c.in_ok-node.ensures.reads.journal (c.in_ok-has_names.ensures.kept h2) (c.in_ok-node.ensures.kept (c.in_ok-has_names.ensures.reads.honest h2) kept) in
     let kept3 = kept_on J (g.D.Drive.journal c.has_names.new.drive) c.has_names.new.directories c.find_directory.new.directories same2 (c.in_ok-parent.ensures.kept h3) kept2 in
     kept_on J (g.D.Drive.journal c.find_directory.new.drive) c.find_directory.new.directories c.open.new.directories (c.in_ok-parent.ensures.reads.journal ∙ same2) (c.in_ok-content.ensures.kept honest) kept3
+
+pub returns-in_err-push-clause-reads : goal.returns-in_err-push-clause-reads
+returns-in_err-push-clause-reads g c =
+    let p = err_from_is_err_and c.from_residual-in_err-push.result c.from_residual-in_err-push.ensures.1 in
+    rw (p.1, p.2) (reads_then c.in_ok-node.ensures.reads (reads_then c.in_ok-has_names.ensures.reads (reads_then c.in_ok-parent.ensures.reads c.in_ok-content.ensures.reads)))
 
 pub returns-clause-does : goal.returns-clause-does
 returns-clause-does g c tree identity s =

@@ -6,11 +6,11 @@ use Rattle.dir.specs.Laying.{blocks_left}
 use Rattle.planning.proofs.write.Writer.put_directory.Given as goal
 
 -- the blocks that are not left were taken
-abbrev pub invariant-loop-block : goal.invariant-loop-block
-invariant-loop-block g l = record {
-  takes : (done : List (List ℕ)) × (directory_blocks l.directory l.first ≡ done ++ blocks_left l.lay) × Takes g.D.Drive l.fn.drive l.fn.self.packets done l.drive l.self.packets;
+abbrev pub invariant-loop-lay : goal.invariant-loop-lay
+invariant-loop-lay g l = record {
+  takes : (done : List (List ℕ)) × (directory_blocks l.content.dir l.first ≡ done ++ blocks_left l.lay) × Takes g.D.Drive l.fn.drive l.fn.self.packets done l.drive l.self.packets;
   writes : Writes g.D.Drive false l.fn.drive l.drive;
 }
 
-abbrev pub decreases-loop-block : goal.decreases-loop-block
-decreases-loop-block g l = length (blocks_left l.lay)
+abbrev pub decreases-loop-lay : goal.decreases-loop-lay
+decreases-loop-lay g l = length (blocks_left l.lay)
