@@ -4,7 +4,7 @@ use Rattle.std.specs.Int.{w16, w32, to_le_bytes}
 use Rattle.std.proofs.lemmas.Bool.{cases_lt}
 use Rattle.std.proofs.lemmas.List.{length-drop, get_or_append_left, get_or-drop, get_or_past}
 use Rattle.ecma.specs.Crc.{IsCrc, crc_of}
-use Rattle.ecma.specs.Descriptor.{IsDescriptor, padded}
+use Rattle.ecma.specs.Descriptor.{IsDescriptor, descriptor_block, padded}
 use Rattle.ecma.specs.Numbers.{u16_at, u32_at}
 use Rattle.ecma.specs.Tag.{Sealed, tag_cells, tag_sum}
 use Rattle.ecma.proofs.Pieces.{IsBytes, cut, u8_stands, u16_stands, u32_stands}
@@ -72,6 +72,21 @@ one_descriptor id loc body a b a-fits b-fits x y =
     let right : IsBytes y.descriptor = front_fits y.descriptor _ (rw y.whole at b-fits) in
     let same = one_seal id loc x.descriptor y.descriptor left right x.sealed y.sealed (x.fields ∙ sym y.fields) in
     x.whole ∙ ap padded same ∙ sym y.whole
+
+-- the block of the one descriptor with this body
+pub block_is : (id loc : ℕ) (body block : List ℕ) → IsBytes block → IsDescriptor id loc body block → block ≡ descriptor_block id loc body
+unfolding descriptor_block
+block_is id loc body block fits x =
+    x.whole ∙ ap padded (sealed_is id loc x.descriptor body (front_fits x.descriptor _ (rw x.whole at fits)) x.sealed x.fields)
+
+pub is_block : (id loc : ℕ) (body : List ℕ) → id < 2 ^ 16 → loc < 2 ^ 32 → length body < 2 ^ 16 → IsBytes body → IsDescriptor id loc body (descriptor_block id loc body)
+unfolding descriptor_block
+is_block id loc body id-fits loc-fits len-fits fits = record {
+  descriptor = tag_cells id (crc_of body) (length body) loc ++ body;
+  «sealed» = is_sealed id loc body id-fits loc-fits len-fits fits;
+  fields = refl;
+  whole = refl;
+}
 
 -- a byte of the tag stands in the block
 tag_byte : (id loc : ℕ) (body block : List ℕ) (d : IsDescriptor id loc body block) (i : ℕ) → i < 16 → get_or block i 0 ≡ get_or d.descriptor i 0
