@@ -1,0 +1,84 @@
+-- The block of an entry that is made when it is written.
+use Rattle.std.proofs.Common.{◌≡◌, ℕ, ◌+◌, ◌<◌, ◌≤◌, ◌^◌, List, [], ◌∷◌, length, replicate, sym, ap, ◌∙◌, arith}
+use Rattle.std.specs.Prelude.{codes}
+use Rattle.std.specs.Int.{w16, w32, to_le_bytes}
+use Rattle.std.specs.List.{concat}
+use Rattle.std.proofs.lemmas.List.{length-append}
+use Rattle.ecma.specs.Descriptor.{descriptor_block}
+use Rattle.ecma.specs.Timestamp.{IsMoment}
+use Rattle.ecma.proofs.Bytes.{bytes_of, bytes_concat, bytes_u16, bytes_u32, bytes_u64, bytes_zeros}
+use Rattle.ecma.proofs.Pieces.{IsBytes}
+use Rattle.ecma.proofs.Seals.{is_block}
+use Rattle.ecma.proofs.Timestamps.{moment_long, moment_bytes}
+use Rattle.icb.specs.declared.entry.Kind.{Kind}
+use Rattle.icb.specs.declared.entry.Kind.TheVariants.{Directory, File, Vat}
+use Rattle.icb.specs.declared.entry.Place as source
+use Rattle.icb.specs.declared.entry.Place.TheVariants as places
+use Rattle.icb.specs.declared.planned.PlannedEntry.TheInside as planned
+use Rattle.icb.specs.Entry.{Fields, FitsEntry, FitsPlace, IsEntry, Place, allocation, blocks_of, blocks_recorded, entry_parts, extent, file_type, flags_of, inside, permissions, place_of}
+use Rattle.icb.specs.Entry.Place.{Nowhere, Extent, Inside}
+use Rattle.icb.specs.Planned.{entry_body, planned_block}
+
+short_allocation : (kind : Kind) (size : ℕ) (place : Place) → FitsPlace kind size place → length (allocation size place) ≤ 1_872
+short_allocation kind size Nowhere fits = omega arith
+short_allocation kind size (Extent first) fits = omega arith
+short_allocation kind size (Inside bytes) fits = omega (arith, fits)
+
+allocation_bytes : (size : ℕ) (place : Place) → IsBytes (inside place) → IsBytes (allocation size place)
+allocation_bytes size Nowhere fits = bytes_of [] tt
+allocation_bytes size (Extent first) fits =
+    bytes_concat (to_le_bytes w32 size ∷ to_le_bytes w32 first ∷ to_le_bytes w16 0 ∷ replicate 6 0 ∷ []) (bytes_u32 size, (bytes_u32 first, (bytes_u16 0, (bytes_zeros 6, tt))))
+allocation_bytes size (Inside bytes) fits = fits
+
+small_type : (kind : Kind) → file_type kind < 256
+small_type Directory = omega arith
+small_type File = omega arith
+small_type Vat = omega arith
+
+name_bytes : IsBytes (0 ∷ codes "*udfburn")
+name_bytes = bytes_of (0 ∷ codes "*udfburn") (omega arith, (omega arith, (omega arith, (omega arith, (omega arith, (omega arith, (omega arith, (omega arith, (omega arith, tt)))))))))
+
+parts_bytes : (kind flags rights links size blocks : ℕ) (stamp : List ℕ) (unique len : ℕ) (behind : List ℕ) → kind < 256 → IsBytes stamp → IsBytes behind
+    → IsBytes (concat (entry_parts kind flags rights links size blocks stamp unique len behind))
+parts_bytes kind flags rights links size blocks stamp unique len behind low stamp-fits behind-fits =
+    let whole = entry_parts kind flags rights links size blocks stamp unique len behind in
+    bytes_concat whole (bytes_u32 0, (bytes_u16 4, (bytes_u16 0, (bytes_u16 1, (bytes_of (0 ∷ kind ∷ []) (omega arith, (low, tt)), (bytes_zeros 6, (bytes_u16 flags, (bytes_u32 0xFFFF_FFFF, (bytes_u32 0xFFFF_FFFF, (bytes_u32 rights, (bytes_u16 links, (bytes_zeros 2, (bytes_u32 0, (bytes_u64 size, (bytes_u64 blocks, (stamp-fits, (stamp-fits, (stamp-fits, (bytes_u32 1, (bytes_zeros 16, (name_bytes, (bytes_zeros 23, (bytes_u64 unique, (bytes_u32 0, (bytes_u32 len, (behind-fits, tt))))))))))))))))))))))))))
+
+parts_long : (kind flags rights links size blocks : ℕ) (stamp : List ℕ) (unique len : ℕ) (behind : List ℕ) → length stamp ≡ 12
+    → length (concat (entry_parts kind flags rights links size blocks stamp unique len behind)) ≡ 160 + length behind
+parts_long kind flags rights links size blocks stamp unique len behind twelve =
+    grind (arith, length-append {A = ℕ}, twelve)
+
+-- an entry that may say so has its block
+pub is_planned : (e : Fields) (loc : ℕ) (stamp : List ℕ) → FitsEntry e → IsMoment e.moment stamp → loc < 2 ^ 32 → IsBytes (inside e.place)
+    → IsEntry e loc (descriptor_block 261 loc (entry_body e stamp))
+is_planned e loc stamp fits moment loc-fits inside-fits =
+    let behind = allocation e.size e.place in
+    let few = short_allocation e.kind e.size e.place fits.place in
+    let long : length (entry_body e stamp) ≡ 160 + length behind =
+    parts_long (file_type e.kind) (flags_of e.place) (permissions e.kind) e.links e.size (blocks_recorded e.size e.place) stamp e.unique (length behind) behind (moment_long e.moment stamp moment) in
+    let body : IsBytes (entry_body e stamp) =
+    parts_bytes (file_type e.kind) (flags_of e.place) (permissions e.kind) e.links e.size (blocks_recorded e.size e.place) stamp e.unique (length behind) behind (small_type e.kind) (moment_bytes e.moment stamp moment) (allocation_bytes e.size e.place inside-fits) in
+    record {
+      fits = fits;
+      laid = record {
+        stamp = stamp;
+        moment = moment;
+        whole = is_block 261 loc (entry_body e stamp) (omega arith) loc-fits (omega (arith, long, few)) body;
+      };
+    }
+
+-- the block of an entry with its bytes in this place
+pub block_there : (p : planned.Inside) (place : source.Place) → p.entry.place ≡ place
+    → planned_block p ≡ descriptor_block 261 p.location (entry_body (record { kind = p.entry.kind; moment = p.entry.moment; links = p.entry.links; unique = p.entry.unique; size = p.entry.size; place = place_of place }) p.stamp)
+block_there p place is =
+    ap (λ (q : source.Place). descriptor_block 261 p.location (entry_body (record { kind = p.entry.kind; moment = p.entry.moment; links = p.entry.links; unique = p.entry.unique; size = p.entry.size; place = place_of q }) p.stamp)) is
+
+-- the block of an entry with its bytes in an extent, as it is written
+pub block_extended : (p : planned.Inside) (first blocks : ℕ) (behind : List ℕ) → p.entry.place ≡ places.Extent first → blocks ≡ blocks_of p.entry.size → behind ≡ extent p.entry.size first
+    → descriptor_block 261 p.location (concat (entry_parts (file_type p.entry.kind) 1 (permissions p.entry.kind) p.entry.links p.entry.size blocks p.stamp p.entry.unique (length behind) behind)) ≡ planned_block p
+block_extended p first blocks behind is blocks-are behind-is =
+    let parts : ℕ → List ℕ → List ℕ = λ (n : ℕ) (x : List ℕ). concat (entry_parts (file_type p.entry.kind) 1 (permissions p.entry.kind) p.entry.links p.entry.size n p.stamp p.entry.unique (length x) x) in
+    ap (λ (n : ℕ). descriptor_block 261 p.location (parts n behind)) blocks-are
+    ∙ ap (λ (x : List ℕ). descriptor_block 261 p.location (parts (blocks_of p.entry.size) x)) behind-is
+    ∙ sym (block_there p (places.Extent first) is)

@@ -1,0 +1,100 @@
+//! A file entry before it is written.
+
+ghost use Rattle.std.specs.Prelude.{◌≡◌, ◌<◌, ℕ, slice_index};
+ghost use Rattle.icb.specs.Entry.{inside, place_of};
+
+use crate::encode::{BYTES_INSIDE, LONG_DESCRIPTORS, extent, write_entry};
+use crate::entry::{FileEntry, Place};
+use ecma::Block;
+use std::marker::Model;
+
+/// A file entry that is made when it is written: what it says, and its location. To a caller it is its block.
+#[derive(Debug, Drop)]
+pub struct PlannedEntry<'a> {
+    entry: FileEntry<'a>,
+    /// The timestamp of the entry's moment.
+    stamp: [u8; 12],
+    /// The virtual address of a node, or the block number of a table's entry.
+    location: u32,
+}
+
+impl<'a> Model for PlannedEntry<'a> {
+    ghost use Rattle.std.specs.Prelude.{ℕ, List};
+
+    ghost Value = { List ℕ };
+
+    ghost use Rattle.icb.specs.Planned.{planned_block, IsPlanned};
+
+    ghost view = { planned_block };
+
+    ghost invariant = { IsPlanned };
+}
+
+impl<'a> PlannedEntry<'a> {
+    ghost use Rattle.icb.specs.Entry.{FitsEntry, IsEntry, fields_of};
+
+    /// The entry at a location: the virtual address of a node, or the block number of a table's entry.
+    pub fn new(entry: &FileEntry<'a>, location: u32) -> PlannedEntry<'a>
+        requires { FitsEntry (fields_of entry.now) }
+        ensures { IsEntry (fields_of entry.now) location result }
+    {
+        let stamp = entry.moment.to_bytes();
+        // Read so that the proof has that they are bytes.
+        let _inside = bytes_inside(&entry.place);
+        // Field by field, since no proof covers the copy of the whole from behind a reference.
+        let entry = FileEntry {
+            kind: entry.kind,
+            moment: entry.moment,
+            links: entry.links,
+            unique: entry.unique,
+            size: entry.size,
+            place: entry.place,
+        };
+        PlannedEntry {
+            entry,
+            stamp,
+            location,
+        }
+    }
+}
+
+impl PlannedEntry<'_> {
+    ghost use Rattle.std.specs.Prelude.{◌≡◌};
+
+    /// Writes the entry over the whole block.
+    pub fn write(&self, block: &mut Block)
+        ensures { block.new ≡ self.now }
+    {
+        let entry = &self.entry;
+        let loc = self.location;
+        let stamp = &self.stamp;
+        match entry.place {
+            Place::None => write_entry(entry, loc, LONG_DESCRIPTORS, 0, stamp, &[], block),
+            Place::Extent(first) => {
+                let blocks = u64::from(entry.size).div_ceil(2048);
+                let extent = extent(entry.size, first).to_bytes();
+                write_entry(entry, loc, LONG_DESCRIPTORS, blocks, stamp, &extent, block)
+            }
+            Place::Inside(bytes) => write_entry(entry, loc, BYTES_INSIDE, 0, stamp, bytes, block),
+        }
+    }
+}
+
+/// The bytes that stand inside an entry.
+fn bytes_inside<'a>(place: &Place<'a>) -> &'a [u8]
+    ensures value { result.now ≡ inside (place_of place.now) }
+    ensures bytes { (i : ℕ) → slice_index result.now i < 256 }
+{
+    match place {
+        Place::None | Place::Extent(_) => &[],
+        Place::Inside(bytes) => each_below_256(bytes),
+    }
+}
+
+/// The same bytes. To a proof an item of a slice that is lent by itself is a byte, and one behind a field is a number.
+fn each_below_256(bytes: &[u8]) -> &[u8]
+    ensures value { result.now ≡ bytes.now }
+    ensures bytes { (i : ℕ) → slice_index result.now i < 256 }
+{
+    bytes
+}
