@@ -13,3 +13,5 @@ mod files;
 mod messages;
 #[cfg(test)]
 mod plain;
+#[cfg(test)]
+mod reading;

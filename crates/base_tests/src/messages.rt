@@ -10,13 +10,13 @@ use std::process::Abort;
 use std::test::*;
 
 /// Client 7 number 1 creates `/a` with `hello`.
-const CREATE: [u8; 42] = [
+pub(crate) const CREATE: [u8; 42] = [
     0x26, 0, 0, 0, 1, 7, 0, 0, 0, 0, 0, 0, 0, 1, 0, 0, 0, 0, 0, 0, 0, 0, 0, 0, 0, 0, 0, 0, 0, 1, 1,
     0, 0x61, 5, 0, 0, 0, 0x68, 0x65, 0x6C, 0x6C, 0x6F,
 ];
 
 /// A length that no payload has.
-const OVERLONG: [u8; 4] = [0, 0, 0, 0x80];
+pub(crate) const OVERLONG: [u8; 4] = [0, 0, 0, 0x80];
 
 fn is_one_name(path: &Path, name: &str) -> bool {
     match path.names() {

@@ -8,3 +8,4 @@ pub mod FrameLaws
 pub mod AnswerLaws
 pub mod PathTexts
 pub mod Listings
+pub mod Room

@@ -5,6 +5,7 @@ pub mod Spelling
 pub mod Reading
 pub mod Payload
 pub mod Frames
+pub mod Streams
 pub mod Answers
 pub mod Numbers
 pub mod FirstFrame

@@ -1,35 +1,51 @@
 //! Messages out of a stream of bytes that comes in pieces.
 
-ghost use Rattle.std.specs.Prelude.{◌≡◌, ◌≤◌, ◌<◌, ◌-◌, ◌+◌, vec_len, length, drop, List, [], Some, None, OnOk, OnErr, IfSome, IfNone, MatchOption, is_none};
+ghost use Rattle.std.specs.Prelude.{◌≡◌, ◌≤◌, ◌<◌, ◌-◌, ◌+◌, vec_len, length, drop, take, List, [], Some, None, IfOk, IfErr, OnOk, OnErr, IfSome, IfNone, MatchOption, is_none};
+ghost use Rattle.std.specs.Io.KnownBytes.{Keeps, ReadConsumes};
 ghost use Rattle.request.specs.Frames.{length_at, fed, Takes, IsIdle};
 ghost use Rattle.request.specs.FirstFrame.{IsFirstFrame};
+ghost use Rattle.request.specs.Streams.{ReadsPiece};
 
 use crate::message::{Cause, Message};
 use crate::payload::read_payload;
 use std::alloc::{AllocError, Global};
+use std::io;
+use std::io::{ErrorKind, Read};
 use std::marker::Model;
 
 /// The longest payload of a frame, in bytes.
 pub const PAYLOAD_BYTES: usize = 1_114_112;
 
+/// Why no bytes of a stream were read.
+#[derive(Clone, Copy, Debug, PartialEq, Eq)]
+pub enum FeedFault {
+    /// There was no memory for them.
+    Memory,
+    /// The stream gave an error.
+    Read,
+}
+
 /// A reader of frames. It holds the bytes that were fed and not yet taken. A contract sees them, or `None`
 /// once a frame was longer than any payload can be: nothing behind it is read.
 #[derive(Debug, Drop)]
 pub struct Frames {
+    /// The bytes that are held, and behind them room for more.
     bytes: Vec<u8>,
     /// How many bytes at the front were taken already.
     taken: usize,
+    /// How many bytes stand before the room.
+    end: usize,
     failed: bool,
 }
 
 impl Model for Frames {
-    ghost use Rattle.std.specs.Prelude.{◌≤◌, ℕ, List, Option, Some, None, drop, vec_len, if◌then◌else◌};
+    ghost use Rattle.std.specs.Prelude.{◌≤◌, ℕ, List, Option, Some, None, drop, take, vec_len, if◌then◌else◌};
 
     ghost Value = { Option (List ℕ) };
 
-    ghost view = { λ f. if f.failed then None else Some (drop f.taken f.bytes.items) };
+    ghost view = { λ f. if f.failed then None else Some (drop f.taken (take f.end f.bytes.items)) };
 
-    ghost invariant = { λ f. f.taken ≤ vec_len f.bytes };
+    ghost invariant = { λ f. (f.taken ≤ f.end) × (f.end ≤ vec_len f.bytes) };
 }
 
 impl Frames {
@@ -40,6 +56,7 @@ impl Frames {
         Frames {
             bytes: Vec::new(alloc),
             taken: 0,
+            end: 0,
             failed: false,
         }
     }
@@ -52,12 +69,34 @@ impl Frames {
         if self.failed {
             return Ok(());
         }
-        // Each byte that was taken pays for one that is moved.
-        if self.taken >= self.bytes.len() - self.taken {
-            forget(&mut self.bytes, self.taken);
-            self.taken = 0;
+        self.close_up();
+        self.bytes.truncate(self.end);
+        self.bytes.extend_from_slice(piece)?;
+        self.end = self.bytes.len();
+        Ok(())
+    }
+
+    /// Reads the next bytes of a stream, at most so many, and takes them as `feed` does. It says how many they are: none at
+    /// the end of the stream alone. A read that a signal interrupts is tried again.
+    pub fn read_from<R: Read>(&mut self, reader: &mut R, most: usize) -> Result<usize, FeedFault>
+        requires { 0 < most }
+        ensures bound { IfOk result (λ count. count ≤ most) }
+        ensures ok { IfOk result (λ count. ReadsPiece count (R.remaining reader.old) (R.remaining reader.new) self.old self.new) }
+        ensures err { OnErr result ((self.new ≡ self.old) × Keeps (R.remaining reader.old) (R.remaining reader.new)) }
+        // Where there is no memory nothing is asked of the stream.
+        ensures unasked { IfErr result (λ fault. fault ≡ FeedFault.Memory → reader.new ≡ reader.old) }
+    {
+        self.close_up();
+        if make_room(&mut self.bytes, self.end, most).is_err() {
+            return Err(FeedFault::Memory);
         }
-        self.bytes.extend_from_slice(piece)
+        match fill(reader, &mut self.bytes, self.end, most) {
+            Ok(count) => {
+                self.end += count;
+                Ok(count)
+            }
+            Err(_) => Err(FeedFault::Read),
+        }
     }
 
     /// Whether a frame was longer than any payload can be, so that nothing more is read.
@@ -76,11 +115,13 @@ impl Frames {
         if self.failed {
             return None;
         }
-        let (_, waiting) = self.bytes.split_at(self.taken);
+        let (held, _) = self.bytes.split_at(self.end);
+        let (_, waiting) = held.split_at(self.taken);
         match first_frame(waiting) {
             FirstFrame::Partial => None,
             FirstFrame::Overlong => {
                 self.failed = true;
+                self.taken = self.end;
                 Some(Message::Malformed(Cause::TooLong))
             }
             FirstFrame::Whole(payload) => {
@@ -89,6 +130,17 @@ impl Frames {
                 self.taken += used;
                 Some(message)
             }
+        }
+    }
+
+    /// Moves what is held to the front, where each byte that is moved is paid for by one that was taken.
+    fn close_up(&mut self)
+        ensures { self.new ≡ self.old }
+    {
+        if self.taken >= self.end - self.taken {
+            forget(&mut self.bytes, self.taken, self.end);
+            self.end -= self.taken;
+            self.taken = 0;
         }
     }
 }
@@ -131,12 +183,53 @@ fn frame_length(bytes: &[u8]) -> Option<usize>
     Some(u32::from_le_bytes([front[0], front[1], front[2], front[3]]) as usize)
 }
 
-/// Closes up the first bytes.
-fn forget(bytes: &mut Vec<u8>, taken: usize)
-    requires { taken ≤ vec_len bytes.old }
-    ensures { bytes.new.items ≡ drop taken bytes.old.items }
+/// Moves the bytes between the two numbers to the front.
+fn forget(bytes: &mut Vec<u8>, taken: usize, end: usize)
+    requires from { taken ≤ end }
+    requires to { end ≤ vec_len bytes.old }
+    ensures len { vec_len bytes.new ≡ vec_len bytes.old }
+    ensures held { take (end - taken) bytes.new.items ≡ drop taken (take end bytes.old.items) }
 {
-    let rest = bytes.len() - taken;
-    bytes.copy_within(taken.., 0);
-    bytes.truncate(rest);
+    bytes.copy_within(taken..end, 0);
+}
+
+/// Makes room for so many bytes behind the first ones. Zeros are written only where there was none.
+fn make_room(bytes: &mut Vec<u8>, end: usize, most: usize) -> Result<(), AllocError>
+    requires { end ≤ vec_len bytes.old }
+    ensures held { take end bytes.new.items ≡ take end bytes.old.items }
+    ensures len { vec_len bytes.old ≤ vec_len bytes.new }
+    ensures ok { OnOk result (end + most ≤ vec_len bytes.new) }
+{
+    let Some(upto) = end.checked_add(most) else {
+        return Err(AllocError);
+    };
+    if bytes.len() < upto {
+        bytes.resize(upto, 0)?;
+    }
+    Ok(())
+}
+
+/// Reads at most so many bytes behind the first ones.
+fn fill<R: Read>(reader: &mut R, bytes: &mut Vec<u8>, end: usize, most: usize) -> io::Result<usize>
+    requires room { end + most ≤ vec_len bytes.old }
+    ensures held { take end bytes.new.items ≡ take end bytes.old.items }
+    ensures len { vec_len bytes.new ≡ vec_len bytes.old }
+    ensures bound { IfOk result (λ count. count ≤ most) }
+    ensures read { ReadConsumes (R.remaining reader.old) (R.remaining reader.new) result (drop end (take (end + most) bytes.new.items)) }
+{
+    read_some(reader, &mut bytes[end..end + most])
+}
+
+/// Reads the next bytes. A read that a signal interrupts is tried again.
+fn read_some<R: Read>(reader: &mut R, room: &mut [u8]) -> io::Result<usize>
+    ensures bound { IfOk result (λ count. count ≤ length room.new) }
+    ensures read { ReadConsumes (R.remaining reader.old) (R.remaining reader.new) result room.new }
+{
+    for _ in 0..u64::MAX {
+        match reader.read(room) {
+            Err(error) if error.kind() == ErrorKind::Interrupted => {}
+            told => return told,
+        }
+    }
+    Err(io::Error::from(ErrorKind::Interrupted))
 }

@@ -20,7 +20,7 @@ mod payload;
 
 pub use answer::{Answer, Code, DIRECTORY_NAMES, Listed, Listing, NodeKind, NodeStatus, Reply};
 pub use encode::encode_answer;
-pub use frames::{Frames, PAYLOAD_BYTES};
+pub use frames::{FeedFault, Frames, PAYLOAD_BYTES};
 pub use laws::{feeding_goes_on, no_answer_begins_another, one_reading, taking_goes_on};
 pub use message::{Cause, FILE_BYTES, FileData, MOMENT_LIMIT, Message, Op, Query, Request};
 pub use path::{MESSAGE_PATH_NAMES, Path, PathFault};
