@@ -1,10 +1,13 @@
 //! The identifiers of a directory's names as bytes, which are kept from one layout to the next.
 
-ghost use Rattle.std.specs.Prelude.{◌≡◌, ℕ, ◌+◌, ◌<◌, ◌≤◌, ◌^◌, ◌++◌, List, length, OnOk, OnErr};
+ghost use Rattle.std.specs.Prelude.{◌≡◌, ℕ, ◌+◌, ◌<◌, ◌≤◌, ◌^◌, ◌++◌, List, drop, length, take, vec_len, OnOk, OnErr};
+ghost use Rattle.std.specs.List.{flat_map, remove};
 ghost use Rattle.dir.specs.declared.entry.Entry.{Entry};
+ghost use Rattle.dir.specs.Fronts.{named, plain};
 
 use crate::entry::Dir;
 use crate::item::Item;
+use crate::laying::MAX_NAMES;
 use crate::size::plain_size;
 use std::alloc::{AllocError, Global};
 
@@ -57,6 +60,21 @@ impl Identifiers {
         Ok(())
     }
 
+    /// Takes away that of the name at an index, where it is kept, before the name itself goes.
+    pub fn remove(&mut self, dir: &Dir, index: usize)
+        requires few { length dir.now.entries.entries ≤ MAX_NAMES }
+        requires front { IsFront self.old dir.now.entries.entries }
+        requires there { index < length dir.now.entries.entries }
+        ensures { IsFront self.new (remove dir.now.entries.entries index) }
+    {
+        if index >= self.count {
+            return;
+        }
+        let (start, end) = place(dir, index);
+        cut(&mut self.bytes, start, end);
+        self.count -= 1;
+    }
+
     /// Adds one behind the others.
     fn push(&mut self, item: &Item<'_>) -> Result<(), AllocError>
         requires short { length item.now.name.now ≤ 255 }
@@ -72,4 +90,41 @@ impl Identifiers {
         self.count += 1;
         Ok(())
     }
+}
+
+/// Where the identifier of the name at an index begins and ends among those of all names.
+fn place(dir: &Dir, index: usize) -> (usize, usize)
+    requires few { length dir.now.entries.entries ≤ MAX_NAMES }
+    requires there { index < length dir.now.entries.entries }
+    ensures order { result.0 ≤ result.1 }
+    ensures start { result.0 ≡ length (flat_map plain (take index (named dir.now.entries.entries))) }
+    ensures end { result.1 ≡ length (flat_map plain (take (index + 1) (named dir.now.entries.entries))) }
+{
+    let mut start = 0;
+    for before in 0..index {
+        start += size_at(dir, before);
+    }
+    (start, start + size_at(dir, index))
+}
+
+/// The bytes of the identifier of the name at an index.
+fn size_at(dir: &Dir, index: usize) -> usize
+    requires { index < length dir.now.entries.entries }
+    ensures value { length (flat_map plain (take (index + 1) (named dir.now.entries.entries))) ≡ length (flat_map plain (take index (named dir.now.entries.entries))) + result }
+    ensures bound { result ≤ MOST_SIZE }
+{
+    let (name, entry) = dir.entries.get_index(index).unwrap();
+    let item = Item::of_name(name, *entry);
+    plain_size(item.name.len())
+}
+
+/// Takes the bytes from one place to another away.
+fn cut(bytes: &mut Vec<u8>, start: usize, end: usize)
+    requires order { start ≤ end }
+    requires within { end ≤ vec_len bytes.old }
+    ensures { bytes.new.items ≡ take start bytes.old.items ++ drop end bytes.old.items }
+{
+    let rest = bytes.len() - (end - start);
+    bytes.copy_within(end.., start);
+    bytes.truncate(rest);
 }
