@@ -5,7 +5,7 @@ ghost use Rattle.std.specs.Prelude.{◌≡◌, ◌≤◌};
 
 use crate::change::{NewDirectory, NewFile};
 use directories::{EntryAt, Placed};
-use ecma::Block;
+use icb::PlannedEntry;
 use recover::Extent;
 use vat::Vat;
 
@@ -15,7 +15,7 @@ pub struct PlacedFile<'r> {
     pub file: NewFile<'r>,
     /// The blocks of zeros before its bytes, where they are outside the entry.
     pub gap: u32,
-    pub entry: Block,
+    pub entry: PlannedEntry<'r>,
     /// The number of its entry.
     pub number: u32,
 }
@@ -25,7 +25,7 @@ pub struct PlacedFile<'r> {
 pub struct PlacedDirectory {
     pub directory: NewDirectory,
     pub extent: Extent,
-    pub entry: Block,
+    pub entry: PlannedEntry<'static>,
     /// The number of its entry.
     pub number: u32,
     pub ghost room: { extent.first ≤ PARTITION_BLOCKS },
@@ -57,7 +57,7 @@ pub struct PlacedTable {
     pub first: u32,
     /// The blocks of zeros before them.
     pub gap: u32,
-    pub entry: Block,
+    pub entry: PlannedEntry<'static>,
     /// The address of its entry.
     pub at: u32,
 }

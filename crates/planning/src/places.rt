@@ -17,8 +17,8 @@ ghost use Rattle.udf.specs.Udf.{udf};
 
 use crate::change::{NewDirectory, NewFile};
 use crate::layout::{PlacedDirectory, PlacedFile};
-use ecma::{Block, Timestamp};
-use icb::{FileEntry, Kind, Place, encode_fe};
+use ecma::Timestamp;
+use icb::{FileEntry, Kind, Place, PlannedEntry};
 use recover::{Extent, block_count, link_count};
 use vat::clear_start;
 
@@ -133,7 +133,7 @@ impl Numbers {
 }
 
 /// The entry of a file whose bytes, where they are outside of it, begin at the block of this number.
-fn file_entry(file: &NewFile<'_>, moment: Timestamp, first: u32) -> Block
+fn file_entry<'r>(file: &NewFile<'r>, moment: Timestamp, first: u32) -> PlannedEntry<'r>
     requires { first + div_ceil (length (outside file.now.bytes.now)) BLOCK_BYTES ≤ PARTITION_BLOCKS }
     ensures { (from : ℕ) (blocks : List (List ℕ)) → IsPlaced udf (outside file.now.bytes.now) from first blocks → WritesNode udf (file_writing moment file.now) from (blocks ++ result ∷ []) (from + length blocks) }
 {
@@ -146,11 +146,11 @@ fn file_entry(file: &NewFile<'_>, moment: Timestamp, first: u32) -> Block
         size: bytes.len() as u32,
         place: place_of_bytes(bytes, first),
     };
-    encode_fe(&entry, file.address)
+    PlannedEntry::new(&entry, file.address)
 }
 
 /// The entry of a directory whose data lie there.
-fn directory_entry(directory: &NewDirectory, extent: Extent) -> Block
+fn directory_entry(directory: &NewDirectory, extent: Extent) -> PlannedEntry<'static>
     requires proper { IsProper directory.now.content.dir }
     requires size { extent.size ≡ directory_size directory.now.content.dir }
     requires some { 0 < extent.size }
@@ -170,7 +170,7 @@ fn directory_entry(directory: &NewDirectory, extent: Extent) -> Block
         size: extent.size,
         place: Place::Extent(extent.first),
     };
-    encode_fe(&entry, directory.address)
+    PlannedEntry::new(&entry, directory.address)
 }
 
 /// The bytes of a file that lie outside its entry: all or none.

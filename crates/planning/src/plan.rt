@@ -35,8 +35,8 @@ use crate::write::Writer;
 use dir::Entry;
 use directories::Content;
 use drive::{Drive, DriveFault};
-use ecma::{Block, Timestamp};
-use icb::{FileEntry, Kind, Place, encode_fe};
+use ecma::Timestamp;
+use icb::{FileEntry, Kind, Place, PlannedEntry};
 use next_vat::{Node, add_node, copied, keep_reply, place_node, remove_node};
 use osta::Name;
 use recover::{PARTITION_START, StoreFault, block_count, cause, damaged};
@@ -89,15 +89,10 @@ impl Plan<'_> {
         Ok(())
     }
 
-    /// How many blocks are held encoded all the while: the entries, and the table's bytes.
+    /// How many blocks are held encoded all the while: the table's bytes.
     fn held(&self) -> usize {
-        let nodes = self
-            .directories
-            .len()
-            .saturating_add(usize::from(self.file.is_some()));
         let bytes = self.table.bytes.len();
-        let table = 1 + bytes.div_ceil(limits::BLOCK_BYTES as usize);
-        nodes.saturating_add(table)
+        bytes.div_ceil(limits::BLOCK_BYTES as usize)
     }
 
     /// The greatest number of encoded blocks that were held at once.
@@ -125,7 +120,7 @@ fn write_file<D: Drive>(
     };
     let bytes = placed.file.bytes.as_slice();
     writer.put_bytes(drive, placed.gap, outside_of(bytes))?;
-    writer.put(drive, &placed.entry)?;
+    writer.put_entry(drive, &placed.entry)?;
     Ok(())
 }
 
@@ -143,7 +138,7 @@ fn write_directory<D: Drive>(
 {
     let content = &placed.directory.content;
     writer.put_directory(drive, content, placed.extent.first)?;
-    writer.put(drive, &placed.entry)?;
+    writer.put_entry(drive, &placed.entry)?;
     Ok(())
 }
 
@@ -182,7 +177,7 @@ fn write_table<D: Drive>(
 {
     writer.put_bytes(drive, table.gap, &table.bytes)?;
     writer.finish(drive)?;
-    writer.put(drive, &table.entry)?;
+    writer.put_entry(drive, &table.entry)?;
     Ok(())
 }
 
@@ -501,7 +496,7 @@ fn place_table(
 }
 
 /// The entry of a table of so many bytes, which begin at the block of a number, for the block of another.
-fn table_entry(size: u32, first: u32, number: u32, moment: Timestamp) -> Block
+fn table_entry(size: u32, first: u32, number: u32, moment: Timestamp) -> PlannedEntry<'static>
     requires some { 0 < size }
     requires few { size ≤ 1_048_576 }
     requires room { first + div_ceil size BLOCK_BYTES ≤ PARTITION_BLOCKS }
@@ -515,5 +510,5 @@ fn table_entry(size: u32, first: u32, number: u32, moment: Timestamp) -> Block
         size,
         place: Place::Extent(first),
     };
-    encode_fe(&entry, number)
+    PlannedEntry::new(&entry, number)
 }

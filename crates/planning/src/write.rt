@@ -15,6 +15,7 @@ use dir::{Lay, MAX_BLOCKS};
 use directories::Content;
 use drive::{Drive, DriveFault, PACKET, PacketWriter};
 use ecma::Block;
+use icb::PlannedEntry;
 use std::alloc::{AllocError, Global};
 
 const BLOCK_SIZE: usize = limits::BLOCK_BYTES as usize;
@@ -67,6 +68,24 @@ impl Writer {
         let held = self.held.saturating_add(self.packets.waiting() + 1);
         self.most_held = self.most_held.max(held);
         self.packets.put(drive, block)
+    }
+
+    /// An entry, which is made here.
+    pub(crate) fn put_entry<D: Drive>(
+        &mut self,
+        drive: &mut D,
+        entry: &PlannedEntry<'_>,
+    ) -> Result<(), DriveFault>
+        requires begins { self.old.packets.at ≤ next_of (D.journal drive.old) }
+        requires fits { end_of self.old.packets < D.capacity drive.old }
+        ensures ok { OnOk result (Takes D.Drive drive.old self.old.packets (entry.now ∷ []) drive.new self.new.packets) }
+        ensures waits { OnOk result (0 < length self.new.packets.blocks) }
+        ensures err { OnErr result (Stops D.Drive drive.old self.old.packets [] drive.new) }
+        ensures writes { Writes D.Drive (is_err result) drive.old drive.new }
+    {
+        let mut made = ZEROS;
+        entry.write(&mut made);
+        self.put(drive, &made)
     }
 
     /// So many blocks of zeros.

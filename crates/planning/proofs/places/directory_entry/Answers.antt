@@ -11,7 +11,7 @@ use Rattle.planning.proofs.places.directory_entry.Goals as goal
 pub returns-clause-says : goal.returns-clause-says
 returns-clause-says c = record {
   fields = record { kind = entry.Directory; moment = c.args.directory.now.moment; links = c.link_count.result; unique = c.from.result; size = c.args.extent.size; place = icb.Place.Extent c.args.extent.first };
-  is = c.encode_fe.ensures;
+  is = c.new.ensures;
   place = refl;
   size = refl;
   time = refl;
@@ -24,14 +24,14 @@ returns-clause-written c =
     let first = c.args.extent.first in
     let size = c.args.extent.size in
     let links = c.link_count.ensures ∙ links_agree dir.parent dir.entries.entries in
-    let says : (l u : ℕ) → Type 0 = λ l u. udf.IsEntry (record { kind = Directory; moment = d.moment; links = l; identity = u; size = size; place = Extent first }) c.encode_fe.result d.address in
+    let says : (l u : ℕ) → Type 0 = λ l u. udf.IsEntry (record { kind = Directory; moment = d.moment; links = l; identity = u; size = size; place = Extent first }) c.new.result d.address in
     record {
       before = directory_blocks dir first;
-      entry = c.encode_fe.result;
+      entry = c.new.result;
       blocks_are = refl;
       number_is = omega (arith, c.requires.blocks);
       place = Extent first;
       size = size;
       body = (refl, c.requires.blocks, holds_directory dir first size (search rules) (search rules) c.requires.proper (omega (arith, c.requires.room)) c.requires.size);
-      is = subst (λ l. says l d.unique) links (subst (λ u. says c.link_count.result u) c.from.ensures c.encode_fe.ensures);
+      is = subst (λ l. says l d.unique) links (subst (λ u. says c.link_count.result u) c.from.ensures c.new.ensures);
     }

@@ -15,15 +15,15 @@ returns c from blocks placed =
     let size = length c.as_slice-bytes.result.now in
     let place = said_place (place_of c.place_of_bytes.result) in
     let fields : ℕ → Fields = λ u. record { kind = IcbFile; moment = c.args.moment; links = 1; unique = u; size = size; place = place_of c.place_of_bytes.result } in
-    let says : ℕ → Type 0 = λ u. udf.IsEntry (record { kind = File; moment = c.args.moment; links = 1; identity = u; size = size; place = place }) c.encode_fe.result f.address in
+    let says : ℕ → Type 0 = λ u. udf.IsEntry (record { kind = File; moment = c.args.moment; links = 1; identity = u; size = size; place = place }) c.new.result f.address in
     let places = subst (λ (bs : List ℕ). IsPlaced udf (outside bs) from c.args.first blocks → PlacesFile udf bs from blocks place) c.as_slice-bytes.ensures.bytes (c.place_of_bytes.ensures.places from blocks) in
     record {
       before = blocks;
-      entry = c.encode_fe.result;
+      entry = c.new.result;
       blocks_are = refl;
       number_is = refl;
       place = place;
       size = size;
       body = (ap length c.as_slice-bytes.ensures.bytes, places placed);
-      is = subst says c.from.ensures ((entries_agree (fields c.from.result) c.encode_fe.result f.address).0 c.encode_fe.ensures);
+      is = subst says c.from.ensures ((entries_agree (fields c.from.result) c.new.result f.address).0 c.new.ensures);
     }

@@ -15,8 +15,8 @@ put_bytes-requires-clause-fits g c =
     let t = c.args.table.now in
     omega (arith, c.requires.fits, length-append (table_data t) (t.entry ∷ []), length-padded t.gap t.bytes.items, ap (λ (bs : List ℕ). div_ceil (length bs) 2048) c.deref.ensures.value)
 
-pub put-requires-clause-begins : goal.put-requires-clause-begins
-put-requires-clause-begins g c =
+pub put_entry-requires-clause-begins : goal.put_entry-requires-clause-begins
+put_entry-requires-clause-begins g c =
     let J1 = c.put_bytes.new.drive in
     let J2 = c.finish.new.drive in
     let rest = takes_finished g.D.Drive J1 J2 c.put_bytes.new.self.packets c.finish.new.self.packets c.in_ok-finish.ensures.ok c.finish.ensures.sent c.in_ok-finish.ensures.empty in
@@ -41,9 +41,9 @@ returns-in_err-finish-clause-err g c =
     rw q.1 (stops_same J J2 c.args.writer.now.packets blocks (table_data t) same
     (takes_front J J1 J2 c.args.writer.now.packets c.put_bytes.new.self.packets blocks c.in_ok-put_bytes.ensures.ok c.in_err-finish.ensures.err c.finish.ensures.sent))
 
-pub returns-in_err-put-clause-err : goal.returns-in_err-put-clause-err
-returns-in_err-put-clause-err g c =
-    let q = err_from_is_err_and c.from_residual-in_err-put.result c.from_residual-in_err-put.ensures.1 in
+pub returns-in_err-put_entry-clause-err : goal.returns-in_err-put_entry-clause-err
+returns-in_err-put_entry-clause-err g c =
+    let q = err_from_is_err_and c.from_residual-in_err-put_entry.result c.from_residual-in_err-put_entry.ensures.1 in
     let t = c.args.table.now in
     let J = c.args.drive.now in
     let J1 = c.put_bytes.new.drive in
@@ -53,13 +53,13 @@ returns-in_err-put-clause-err g c =
     let blocks = replicate t.gap zeros ++ packed c.deref.result.now in
     let same = ap (λ (bs : List ℕ). replicate t.gap zeros ++ packed bs) c.deref.ensures.value in
     let taken = takes_both J J1 J2 c.args.writer.now.packets w1 w2 blocks [] blocks (append-nil blocks) c.in_ok-put_bytes.ensures.ok (takes_finished g.D.Drive J1 J2 w1 w2 c.in_ok-finish.ensures.ok c.finish.ensures.sent c.in_ok-finish.ensures.empty) in
-    rw q.1 (stops_second J J2 c.put.new.drive c.args.writer.now.packets w2 blocks [] (table_data t) (append-nil blocks ∙ same) taken c.in_err-put.ensures.err)
+    rw q.1 (stops_second J J2 c.put_entry.new.drive c.args.writer.now.packets w2 blocks [] (table_data t) (append-nil blocks ∙ same) taken c.in_err-put_entry.ensures.err)
 
 pub returns-clause-waits : goal.returns-clause-waits
 returns-clause-waits g c =
     let entry = c.args.table.now.entry in
-    one_waits c.in_ok-put.ensures.ok.sent c.put.new.self.packets.blocks entry
-    (sym (ap (λ (v : Waiting). v.blocks ++ entry ∷ []) c.in_ok-finish.ensures.empty) ∙ c.in_ok-put.ensures.ok.order) c.in_ok-put.ensures.waits
+    one_waits c.in_ok-put_entry.ensures.ok.sent c.put_entry.new.self.packets.blocks entry
+    (sym (ap (λ (v : Waiting). v.blocks ++ entry ∷ []) c.in_ok-finish.ensures.empty) ∙ c.in_ok-put_entry.ensures.ok.order) c.in_ok-put_entry.ensures.waits
 
 pub returns-clause-ok : goal.returns-clause-ok
 returns-clause-ok g c =
@@ -72,4 +72,4 @@ returns-clause-ok g c =
     let blocks = replicate t.gap zeros ++ packed c.deref.result.now in
     let whole = ap (λ (bs : List ℕ). (replicate t.gap zeros ++ packed bs) ++ t.entry ∷ []) c.deref.ensures.value in
     let taken = takes_both J J1 J2 c.args.writer.now.packets w1 w2 blocks [] blocks (append-nil blocks) c.in_ok-put_bytes.ensures.ok (takes_finished g.D.Drive J1 J2 w1 w2 c.in_ok-finish.ensures.ok c.finish.ensures.sent c.in_ok-finish.ensures.empty) in
-    takes_both J J2 c.put.new.drive c.args.writer.now.packets w2 c.put.new.self.packets blocks (t.entry ∷ []) (table_data t ++ t.entry ∷ []) whole taken c.in_ok-put.ensures.ok
+    takes_both J J2 c.put_entry.new.drive c.args.writer.now.packets w2 c.put_entry.new.self.packets blocks (t.entry ∷ []) (table_data t ++ t.entry ∷ []) whole taken c.in_ok-put_entry.ensures.ok
