@@ -1,6 +1,6 @@
 -- What was answered and written so far, and then a message more.
 use Rattle.std.proofs.Common.{◌≡◌, ℕ, ◌+◌, ◌<◌, ◌≤◌, List, [], ◌∷◌, ◌++◌, length, take, Option, Some, None, refl, sym, ap, subst, ◌∙◌, append_assoc, arith, length-append, inl, inr, Bool, true, false, Result, Ok, Err, rules}
-use Rattle.std.specs.Prelude.{IfErr, IsErrAnd, OnErr, OnOk, is_err, is_none}
+use Rattle.std.specs.Prelude.{IfErr, IsErrAnd, OnErr, is_none}
 use Rattle.std.specs.Io.KnownBytes.{Appends, Consumes, Keeps}
 use Rattle.std.proofs.lemmas.List.{append-nil, length-take-le}
 use Rattle.std.proofs.lemmas.Grind.{flat_map-append}
@@ -9,11 +9,12 @@ use Rattle.request.specs.declared.answer.Answer.{Answer}
 use Rattle.request.specs.declared.message.Message.{Message}
 use Rattle.request.specs.Answers.{answer_frame}
 use Rattle.request.specs.Frames.{Takes, IsIdle, MessagesAre, fed}
+use Rattle.request.specs.Streams.{ReadsPiece}
 use Rattle.request.proofs.FrameLaws.{feeding, taking}
 use Rattle.engine.specs.declared.serving.ServeFault.{ServeFault}
 use Rattle.engine.specs.declared.serving.ServeFault.TheVariants as faults
 use Rattle.engine.specs.Situation.{Situation}
-use Rattle.engine.specs.Streams.{PutsFront, PutsUntil, TakesPiece}
+use Rattle.engine.specs.Streams.{LeavesBy, PutsFront, PutsUntil, TakesPiece}
 use Rattle.engine.specs.Served.{AllAnswered, AllTold, IsAnswered, AllTaken, LastUntold, LeftAt, LeftBy, frames_of, Answering, AnswersSome, Serving, ServesUntil, ServesAll}
 use Rattle.engine.proofs.Served.{answered_more, served_holds, served_withstand}
 
@@ -281,6 +282,20 @@ serving_kept reader s t i l n o v h idle k = record {
   left_by = (idle, h.told);
 }
 
+-- what was read of a stream is a piece of it
+pub takes_piece : (count : ℕ) (l n reader later : Option (List ℕ)) → (h : ReadsPiece count l n reader later) → TakesPiece l n h.piece
+takes_piece count l n reader later h = record { consumed = h.consumed; end = λ none. h.end (sym h.long ∙ ap length none) }
+
+-- and is some where it is not of no bytes
+pub piece_some : (count : ℕ) (l n reader later : Option (List ℕ)) → (h : ReadsPiece count l n reader later) → (count ≡ 0 → ⊥) → h.piece ≡ [] → ⊥
+piece_some count l n reader later h some none = some (sym h.long ∙ ap length none)
+
+-- it is read no further
+pub serving_left : (fault : ServeFault) (reader : Option (List ℕ)) (s t : Situation) (i l n o v : Option (List ℕ)) → Serving reader s t i l o v → IsIdle reader → LeavesBy fault l n → ServesUntil fault s t i n o v
+serving_left faults.Read reader s t i l n o v h idle k = serving_kept reader s t i l n o v h idle k
+serving_left faults.Write reader s t i l n o v h idle k = absurd k
+serving_left faults.Memory reader s t i l n o v h idle k = serving_read reader s t i l n o v k.0 h idle k.2 k.1
+
 kept_self : (a : Option (List ℕ)) → Keeps a a
 kept_self None = tt
 kept_self (Some xs) = refl
@@ -288,24 +303,6 @@ kept_self (Some xs) = refl
 -- no more is read
 pub serving_stops : (reader : Option (List ℕ)) (s t : Situation) (i l o v : Option (List ℕ)) → Serving reader s t i l o v → IsIdle reader → ServesUntil faults.Read s t i l o v
 serving_stops reader s t i l o v h idle = serving_kept reader s t i l l o v h idle (kept_self l)
-
--- there was no memory to begin with
-pub serving_nothing : (s : Situation) (i o : Option (List ℕ)) → ServesUntil faults.Memory s s i i o o
-serving_nothing s i o = record {
-  some = record {
-    bytes = [];
-    messages = [];
-    answers = [];
-    reader = Some [];
-    consumed = nothing_read i;
-    messages_are = refl;
-    answered = refl;
-    holds = served_holds [] s [] s refl;
-    withstands = served_withstand [] s [] s refl;
-    front = (0, nothing_more o);
-  };
-  left_by = inr (inr (refl, nothing_more o));
-}
 
 -- the stream is at its end
 pub serving_ends : (reader : Option (List ℕ)) (s t : Situation) (i l n o v : Option (List ℕ)) (piece : List ℕ)
@@ -359,10 +356,6 @@ pub goes_on : (reader : Option (List ℕ)) → is_none reader ≡ false → (wai
 goes_on None h = let bad : ◌≡◌ {A = Bool} true false = h in absurd (search rules)
 goes_on (Some bytes) h = (bytes, refl)
 
--- so many bytes of a piece are no more than it has room for
-pub piece_fits : (n : ℕ) (xs : List ℕ) → n ≤ length xs → length xs ≡ 65536 → length (take n xs) ≤ 65536
-piece_fits n xs fits room = omega (arith, length-take-le n xs fits, fits, room)
-
 -- what holds of an `Err` may be shown of any
 pub on_err : {T E : Type 0} (r : Result T E) (X : Type 0) → X → OnErr r X
 on_err (Ok v) X x = tt
@@ -376,10 +369,6 @@ if_err (Err e) fault told X is same x = subst X (sym (is ∙ same)) x
 pub over : (reader : Option (List ℕ)) → is_none reader ≡ true → reader ≡ None
 over None h = refl
 over (Some bytes) h = let bad : ◌≡◌ {A = Bool} false true = h in absurd (search rules)
-
-pub on_ok : {T E : Type 0} (r : Result T E) (X : Type 0) → is_err r ≡ false → OnOk r X → X
-on_ok (Ok v) X e x = x
-on_ok (Err w) X e x = let bad : ◌≡◌ {A = Bool} true false = e in absurd (search rules)
 
 -- a buffer that was filled whole
 pub filled : (n : ℕ) (xs ys : List ℕ) → n ≡ length xs → take n (xs ++ ys) ≡ xs

@@ -18,3 +18,9 @@ abbrev pub PutsUntil : ServeFault → Option (List ℕ) → Option (List ℕ) �
 PutsUntil faults.Read before after bytes = ⊥
 PutsUntil faults.Write before after bytes = PutsFront before after bytes
 PutsUntil faults.Memory before after bytes = Keeps before after
+
+-- Why a stream is read no further: a read failed, and took nothing, or there was no memory for bytes that were read.
+abbrev pub LeavesBy : ServeFault → Option (List ℕ) → Option (List ℕ) → Type 0
+LeavesBy faults.Read before after = Keeps before after
+LeavesBy faults.Write before after = ⊥
+LeavesBy faults.Memory before after = (piece : List ℕ) × (piece ≡ [] → ⊥) × TakesPiece before after piece

@@ -1,23 +1,24 @@
 //! Messages from a stream, and answers to one.
 
-ghost use Rattle.std.specs.Prelude.{OnOk, IfErr};
+ghost use Rattle.std.specs.Prelude.{◌≤◌, OnOk, IfOk, IfErr};
 ghost use Rattle.std.specs.Io.KnownBytes.{Appends};
 ghost use Rattle.drive.specs.Reads.{Follows};
 ghost use Rattle.request.specs.Answers.{answer_frame};
 ghost use Rattle.request.specs.Frames.{IsIdle};
-ghost use Rattle.engine.specs.Streams.{PutsUntil};
+ghost use Rattle.request.specs.Streams.{ReadsPiece};
+ghost use Rattle.engine.specs.Streams.{LeavesBy, PutsUntil};
 ghost use Rattle.engine.specs.Situation.{IsReady, seen_on};
 ghost use Rattle.engine.specs.Served.{Answering, AnswersSome, ServesUntil, ServesAll};
 
 use crate::engine::Engine;
 use crate::streams::{put_all, read_piece};
 use drive::Drive;
-use request::{Answer, Frames, encode_answer};
+use request::{Answer, FeedFault, Frames, encode_answer};
 use std::alloc::Global;
 use std::io::{Read, Write};
 use thiserror::Error;
 
-/// How many bytes are read at once.
+/// How many bytes are read at once, at most.
 const PIECE_BYTES: usize = 65_536;
 
 /// Why a stream was left before its end. It is shown as its number and its name.
@@ -49,20 +50,12 @@ pub fn serve<R: Read, W: Write, D: Drive>(
     ensures ready { IsReady (seen_on D.Drive engine.new drive.new) }
     ensures lent { Follows D.Drive 0 drive.old drive.new }
 {
-    let mut piece = match vec![in alloc; 0u8; PIECE_BYTES] {
-        Ok(piece) => piece,
-        Err(_) => return Err(ServeFault::Memory),
-    };
     let mut frames = Frames::new(alloc);
     let mut answers = Vec::new(alloc);
     for _ in 0..u64::MAX {
-        let count = read_piece(reader, &mut piece)?;
+        let count = read_on(reader, &mut frames)?;
         if count == 0 {
             return Ok(());
-        }
-        let (bytes, _) = piece.split_at(count);
-        if frames.feed(bytes).is_err() {
-            return Err(ServeFault::Memory);
         }
         answer_all(alloc, &mut frames, &mut answers, writer, engine, drive)?;
         if frames.is_over() {
@@ -70,6 +63,26 @@ pub fn serve<R: Read, W: Write, D: Drive>(
         }
     }
     Err(ServeFault::Read)
+}
+
+/// Reads the next bytes of a stream into the reader of frames: how many they are, none at the end of the stream alone.
+fn read_on<R: Read>(reader: &mut R, frames: &mut Frames) -> Result<usize, ServeFault>
+    ensures bound { IfOk result (λ count. count ≤ PIECE_BYTES) }
+    ensures ok { IfOk result (λ count. ReadsPiece count (R.remaining reader.old) (R.remaining reader.new) frames.old frames.new) }
+    ensures err { IfErr result (λ fault. LeavesBy fault (R.remaining reader.old) (R.remaining reader.new)) }
+{
+    match frames.read_from(reader, PIECE_BYTES) {
+        Ok(count) => Ok(count),
+        Err(FeedFault::Read) => Err(ServeFault::Read),
+        Err(FeedFault::Memory) => {
+            // At its end a stream needs no memory.
+            let mut byte = [0u8; 1];
+            match read_piece(reader, &mut byte)? {
+                0 => Ok(0),
+                _ => Err(ServeFault::Memory),
+            }
+        }
+    }
 }
 
 /// Answers the messages that are whole.

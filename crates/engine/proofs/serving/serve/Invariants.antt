@@ -1,4 +1,4 @@
-use Rattle.std.proofs.Common.{◌≡◌, ℕ, List, Some, vec_len}
+use Rattle.std.proofs.Common.{◌≡◌, ℕ, List, Some}
 use Rattle.request.specs.Frames.{IsIdle}
 use Rattle.drive.specs.Reads.{Follows}
 use Rattle.engine.specs.Situation.{IsReady, seen_on}
@@ -15,5 +15,4 @@ invariant-loop g l = record {
   goes : (waiting : List ℕ) × (l.frames ≡ Some waiting);
   ready : IsReady (seen_on g.D.Drive l.engine l.drive);
   lent : Follows g.D.Drive 0 l.fn.drive l.drive;
-  room : vec_len l.piece ≡ 65536;
 }
