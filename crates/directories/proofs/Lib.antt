@@ -5,5 +5,6 @@ pub mod FileBytes
 pub mod FileSizes
 pub mod Heights
 pub mod Listings
+pub mod Removals
 pub mod StoredNodes
 pub mod Walks

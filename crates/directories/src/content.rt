@@ -62,7 +62,9 @@ impl Content {
         ensures parent { self.new.dir.parent ≡ self.old.dir.parent }
         ensures room { IfSome result (λ _. length self.new.dir.entries.entries < DIRECTORY_NAMES) }
     {
-        self.identifiers.clear();
+        if let Some(index) = self.dir.entries.get_index_of(name) {
+            self.identifiers.remove(&self.dir, index);
+        }
         self.dir.entries.shift_remove(name)
     }
 }
