@@ -5,6 +5,7 @@ use crate::report::{Report, since, used};
 use request::Frames;
 use std::alloc::{AllocError, Global};
 use std::io;
+use std::io::{Error, ErrorKind};
 
 /// What a frame of a file of one letter in the root has beside the file's bytes.
 const BESIDE: usize = 37;
@@ -35,17 +36,39 @@ fn small_frames(alloc: Global, count: u32) -> Result<Vec<u8>, AllocError> {
     Ok(bytes)
 }
 
+/// How many messages are whole.
+fn taken(frames: &mut Frames) -> u32 {
+    let mut count = 0u32;
+    for _ in 0..u32::MAX {
+        if frames.take().is_none() {
+            break;
+        }
+        count = count.wrapping_add(1);
+    }
+    count
+}
+
 /// How many messages a stream has that is fed in pieces.
 fn messages(alloc: Global, stream: &[u8], piece: usize) -> Result<u32, AllocError> {
     let mut frames = Frames::new(alloc);
     let mut count = 0u32;
     for part in stream.chunks(piece.max(1)) {
         frames.feed(part)?;
-        for _ in 0..u32::MAX {
-            if frames.take().is_none() {
-                break;
-            }
-            count = count.wrapping_add(1);
+        count = count.wrapping_add(taken(&mut frames));
+    }
+    Ok(count)
+}
+
+/// How many messages a stream has that is read in pieces.
+fn messages_read(alloc: Global, stream: &[u8], piece: usize) -> io::Result<u32> {
+    let mut frames = Frames::new(alloc);
+    let mut rest = stream;
+    let mut count = 0u32;
+    for _ in 0..=stream.len() {
+        match frames.read_from(&mut rest, piece.max(1)) {
+            Ok(0) => break,
+            Ok(_) => count = count.wrapping_add(taken(&mut frames)),
+            Err(_) => return Err(Error::from(ErrorKind::OutOfMemory)),
         }
     }
     Ok(count)
@@ -66,7 +89,11 @@ fn in_pieces(rt: &HostRuntime, report: Report, name: &str, stream: &[u8]) -> io:
         print!(rt; "{name}: {count} messages in pieces of {piece} bytes")?;
         report.took_beside(rt, taken, copy_time)?;
     }
-    Ok(())
+    let start = used(rt);
+    let count = messages_read(alloc, stream, 65_536)?;
+    let taken = since(rt, start);
+    print!(rt; "{name}: {count} messages read in pieces of 65536 bytes")?;
+    report.took_beside(rt, taken, copy_time)
 }
 
 /// So many frames of a mebibyte, 100 at most, and 10,000 times as many queries of 6 bytes.

@@ -6,8 +6,8 @@
 //! another's. A request keeps its ranges by its type, a path the rules of its names.
 //!
 //! Where there is no memory the frame is used up and gives `NoMemory`, bytes that are fed are refused and the
-//! reader stays as it was, and an answer is written whole or not at all. What a request does to a tree, which
-//! answer it gets, and the streams themselves are left to others.
+//! reader stays as it was, a stream is not read, and an answer is written whole or not at all. What a request does
+//! to a tree, which answer it gets, and when a stream is read or written are left to others.
 #![tactic(auto)]
 
 mod answer;
