@@ -24,7 +24,7 @@ const NAME: [u8; 40] = [
 ];
 
 /// A directory below the root, with nothing in it.
-fn empty(alloc: Global) -> Dir {
+pub(crate) fn empty(alloc: Global) -> Dir {
     Dir {
         parent: 1,
         entries: IndexMap::new(alloc),
@@ -283,7 +283,7 @@ fn check_data(rt: &impl Abort, alloc: Global, dir: &Dir, size: u32) -> Result<()
 }
 
 /// A text of so many letters that ends with the digits of a number.
-fn numbered(alloc: Global, number: usize, letters: usize) -> Result<String, Fail> {
+pub(crate) fn numbered(alloc: Global, number: usize, letters: usize) -> Result<String, Fail> {
     let digits = format!(in alloc; "{number}")?;
     let mut text = String::new(alloc);
     for _ in digits.len()..letters {

@@ -13,6 +13,8 @@ mod first_faults;
 #[cfg(test)]
 mod front;
 #[cfg(test)]
+mod kept;
+#[cfg(test)]
 mod structures;
 #[cfg(test)]
 mod table;
