@@ -10,8 +10,9 @@ use Rattle.std.proofs.lemmas.Str.{chars-encodes, chars-append, chars-IsAscii, Is
 use Rattle.osta.specs.FirstFault.{first_fault}
 use Rattle.osta.specs.Compressed.{is_narrow, two_bytes, spelling, compressed, characters, spelling_faults, writing_faults, Named}
 use Rattle.osta.specs.Dstring.{field_of, dstring, Dstring, dstring_count, dstring_spelling, dstring_faults}
-use Rattle.osta.specs.Name.{has_character, name_faults, IsName}
+use Rattle.osta.specs.Name.{has_character, name_faults, IsName, IsKept, kept_spelling}
 use Rattle.osta.specs.Label.{label_faults, IsLabel, dstring_text, IsLabelDstring, IsLabelField}
+use Rattle.osta.proofs.Ascii.{ascii_compressed, ascii_spellable}
 use Rattle.osta.proofs.Rows.{all_hold, faultless}
 use Rattle.osta.proofs.Spellings.{spelling_narrow, spelling_wide, bytes_narrow, read_back, characters-spelling, id_of}
 use Rattle.osta.proofs.Texts.{compressed-nil, some_compressed, Named-expanded, faultless_from_Named}
@@ -23,9 +24,11 @@ not_empty text told =
     omega (arith, apart)
 
 -- ---- names
+pub text_some : (text : List ℕ) → IsName text → 0 < length text
+text_some text name = not_empty text (not-true _ (all_hold (name_faults text) name.faultless).0)
+
 pub name_some : (text : List ℕ) → IsName text → 0 < length (compressed text)
-name_some text name =
-    some_compressed text name.utf8 (not_empty text (not-true _ (all_hold (name_faults text) name.faultless).0))
+name_some text name = some_compressed text name.utf8 (text_some text name)
 
 pub name_few : (text : List ℕ) → IsName text → length (compressed text) ≤ 255
 name_few text name = leb-true _ _ (all_hold (name_faults text) name.faultless).1.1.1.1.1.0
@@ -33,6 +36,43 @@ name_few text name = leb-true _ _ (all_hold (name_faults text) name.faultless).1
 pub name_spelled : (text : List ℕ) → IsName text → Named text (compressed text)
 name_spelled text name =
     record { utf8 = name.utf8; spellable = (all_hold (name_faults text) name.faultless).1.1.1.1.0; spelled = refl }
+
+-- the spelling of a name of ASCII
+pub ascii_named : (text bytes : List ℕ) → IsAscii text → IsName text → bytes ≡ 8 ∷ text → Named text bytes
+ascii_named text bytes ascii name is =
+    record { utf8 = name.utf8; spellable = ascii_spellable text ascii; spelled = is ∙ sym (ascii_compressed text ascii (text_some text name)) }
+
+-- a name of ASCII is kept by its text alone
+pub kept_ascii : (text spelled other : List ℕ) → IsAscii text → IsName text → spelled ≡ 8 ∷ text → other ≡ [] → IsKept spelled other
+kept_ascii text spelled other ascii name is none =
+    let same : drop 1 spelled ≡ text = ap (drop 1) is in
+    record {
+      front = is ∙ ap (λ (t : List ℕ). 8 ∷ t) (sym same);
+      name = subst IsName (sym same) name;
+      spelling =
+          ap (kept_spelling spelled) none ∙ is ∙ sym (ascii_compressed text ascii (text_some text name)) ∙ ap compressed (sym same);
+    }
+
+kept_some : (spelled other : List ℕ) → 0 < length other → kept_spelling spelled other ≡ other
+kept_some spelled [] some = absurd (omega arith)
+kept_some spelled (byte ∷ bytes) some = refl
+
+-- and any name with its spelling beside it
+pub kept_other : (text spelled other : List ℕ) → IsName text → spelled ≡ 8 ∷ text → other ≡ compressed text → IsKept spelled other
+kept_other text spelled other name is told =
+    let same : drop 1 spelled ≡ text = ap (drop 1) is in
+    record {
+      front = is ∙ ap (λ (t : List ℕ). 8 ∷ t) (sym same);
+      name = subst IsName (sym same) name;
+      spelling = kept_some spelled other (omega (arith, ap length told, name_some text name)) ∙ told ∙ ap compressed (sym same);
+    }
+
+-- the spelling of a kept name
+pub kept_alone : (spelled other : List ℕ) → IsKept spelled other → other ≡ [] → spelled ≡ compressed (drop 1 spelled)
+kept_alone spelled other kept none = sym (ap (kept_spelling spelled) none) ∙ kept.spelling
+
+pub kept_beside : (spelled other : List ℕ) → IsKept spelled other → 0 < length other → other ≡ compressed (drop 1 spelled)
+kept_beside spelled other kept some = sym (kept_some spelled other some) ∙ kept.spelling
 
 -- ---- labels
 pub label_from : (text : List ℕ) → IsUtf8 text → (length text == 0) ≡ false → has_character 0 text ≡ false → first_fault (writing_faults 31 text) ≡ None → IsLabel text

@@ -1,9 +1,9 @@
 -- The names of files and directories.
-use Rattle.std.specs.Prelude.{◌≡◌, ℕ, Bool, not, ◌||◌, ◌==◌, List, ◌∷◌, length, None, codes}
+use Rattle.std.specs.Prelude.{◌≡◌, ℕ, Bool, not, ◌||◌, ◌==◌, List, [], ◌∷◌, drop, length, None, codes}
 use Rattle.std.specs.List.{list_any}
 use Rattle.std.specs.Str.{chars, IsUtf8, bytes_eq}
 use Rattle.osta.specs.FirstFault.{first_fault}
-use Rattle.osta.specs.Compressed.{writing_faults}
+use Rattle.osta.specs.Compressed.{compressed, writing_faults}
 use Rattle.osta.specs.declared.fault.NameFault.{NameFault}
 use Rattle.osta.specs.declared.fault.NameFault.TheVariants.{Empty, Dot, Slash, Nul}
 
@@ -14,6 +14,10 @@ is_dots text = bytes_eq text (codes ".") || bytes_eq text (codes "..")
 -- the text has the character
 abbrev pub has_character : ℕ → List ℕ → Bool
 has_character c text = list_any (λ d. d == c) (chars text)
+
+-- the faults of a text as that of a directory itself or of the one above, or as none, each beside what must hold
+abbrev pub dots_faults : List ℕ → List (NameFault × Bool)
+dots_faults text = (Empty, not (length text == 0)) ∷ (Dot, not (is_dots text)) ∷ []
 
 -- the faults of a text as a name in their order, each beside what must hold
 abbrev pub name_faults : List ℕ → List (NameFault × Bool)
@@ -27,3 +31,14 @@ name_faults text =
 pub record IsName (text : List ℕ) : Type 0 where
   pub utf8 : IsUtf8 text
   pub faultless : first_fault (name_faults text) ≡ None
+
+-- the spelling of a kept name: where no other one is kept, the text behind the compression identifier
+abbrev pub kept_spelling : List ℕ → List ℕ → List ℕ
+kept_spelling spelled [] = spelled
+kept_spelling spelled (byte ∷ bytes) = byte ∷ bytes
+
+-- how a name is kept: its text behind the compression identifier 8, and its spelling where this is another one
+pub record IsKept (spelled other : List ℕ) : Type 0 where
+  pub front : spelled ≡ 8 ∷ drop 1 spelled
+  pub name : IsName (drop 1 spelled)
+  pub spelling : kept_spelling spelled other ≡ compressed (drop 1 spelled)

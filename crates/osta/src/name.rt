@@ -1,4 +1,4 @@
-ghost use Rattle.std.specs.Prelude.{◌≡◌, ◌==◌, ◌↔◌, ◌≤◌, ℕ, List, IsTrue, IfOk, IfErr, MatchOption, length, nat_eq, None, bytes_eq, codes};
+ghost use Rattle.std.specs.Prelude.{◌≡◌, ◌==◌, ◌↔◌, ◌<◌, ◌≤◌, ℕ, List, IsTrue, IsAscii, IfOk, IfErr, IfSome, MatchOption, ◌∷◌, length, nat_eq, None, bytes_eq, codes, string_bytes};
 ghost use Rattle.std.specs.Result.{result_err};
 ghost use Rattle.std.specs.List.{list_any};
 ghost use Rattle.std.specs.Hash as fed;
@@ -9,12 +9,12 @@ ghost use Rattle.std.proofs.Common.{rules};
 ghost use Rattle.osta.specs.FirstFault.{first_fault};
 ghost use Rattle.osta.specs.Fault.{text_fault};
 ghost use Rattle.osta.specs.Compressed.{compressed, Named};
-ghost use Rattle.osta.specs.Name.{name_faults, IsName, has_character};
+ghost use Rattle.osta.specs.Name.{dots_faults, name_faults, IsName, has_character};
 
 use crate::dstring::check_room;
 use crate::fault::NameFault;
 use crate::reading::{check_spelling, expand_checked};
-use crate::writing::compress;
+use crate::writing::{NARROW, compress};
 use std::alloc::{AllocError, Global};
 use std::hash::{Hash, Hasher};
 use std::marker::Model;
@@ -26,20 +26,21 @@ const NAME_ROOM: usize = 255;
 /// `..` and has no slash and no NUL. A contract sees it as its text.
 #[derive(Debug, Drop)]
 pub struct Name {
-    text: String,
-    compressed: Vec<u8>,
+    /// The text behind the compression identifier of characters of one byte, which is the spelling of ASCII.
+    spelled: String,
+    /// The spelling of a text that is no ASCII, and else nothing.
+    other: Vec<u8>,
 }
 
 impl Model for Name {
-    ghost use Rattle.std.specs.Prelude.{◌≡◌, ℕ, List, string_bytes};
-    ghost use Rattle.osta.specs.Compressed as spelled;
-    ghost use Rattle.osta.specs.Name.{IsName};
+    ghost use Rattle.std.specs.Prelude.{ℕ, List, drop, string_bytes};
+    ghost use Rattle.osta.specs.Name.{IsKept};
 
     ghost Value = { List ℕ };
 
-    ghost view = { λ n. string_bytes n.text };
+    ghost view = { λ n. drop 1 (string_bytes n.spelled) };
 
-    ghost invariant = { λ n. IsName (string_bytes n.text) × (n.compressed.items ≡ spelled.compressed (string_bytes n.text)) };
+    ghost invariant = { λ n. IsKept (string_bytes n.spelled) n.other.items };
 }
 
 impl Name {
@@ -47,12 +48,10 @@ impl Name {
     pub fn check(text: &str) -> Result<(), NameFault>
         ensures { result_err result ≡ first_fault (name_faults text.now) }
     {
-        if text.is_empty() {
-            return Err(NameFault::Empty);
+        if text.is_ascii() {
+            return check_ascii(text);
         }
-        if text == "." || text == ".." {
-            return Err(NameFault::Dot);
-        }
+        check_dots(text)?;
         if has_character(text, '/') {
             return Err(NameFault::Slash);
         }
@@ -69,16 +68,25 @@ impl Name {
         ensures fault { IfErr result (λ fault. text_fault fault ≡ first_fault (name_faults text.now)) }
     {
         Name::check(text)?;
-        let mut compressed = Vec::new(alloc);
-        compress(text, &mut compressed)?;
-        let text = String::from_str(alloc, text)?;
-        Ok(Name { text, compressed })
+        if text.is_ascii() {
+            return Ok(Name::of_ascii(alloc, text)?);
+        }
+        let mut other = Vec::new(alloc);
+        compress(text, &mut other)?;
+        let spelled = behind_identifier(alloc, text)?;
+        Ok(Name { spelled, other })
     }
 
     /// The name whose spelling the bytes are, if they are one's.
     pub fn of(alloc: Global, bytes: &[u8]) -> Result<Option<Name>, AllocError>
         ensures { IfOk result (λ found. MatchOption found ((text : List ℕ) → IsName text → ¬ (Named text bytes.now)) (λ name. IsName name × Named name bytes.now)) }
     {
+        if let Some(text) = ascii_of(bytes) {
+            if check_ascii(text).is_err() {
+                return Ok(None);
+            }
+            return Ok(Some(Name::of_ascii(alloc, text)?));
+        }
         if check_spelling(bytes).is_err() {
             return Ok(None);
         }
@@ -86,8 +94,22 @@ impl Name {
         if Name::check(text.as_str()).is_err() {
             return Ok(None);
         }
-        let compressed = Vec::from_slice(alloc, bytes)?;
-        Ok(Some(Name { text, compressed }))
+        let other = Vec::from_slice(alloc, bytes)?;
+        let spelled = behind_identifier(alloc, text.as_str())?;
+        Ok(Some(Name { spelled, other }))
+    }
+
+    /// The name that a text of ASCII is.
+    fn of_ascii(alloc: Global, text: &str) -> Result<Name, AllocError>
+        requires ascii { IsAscii text.now }
+        requires name { IsName text.now }
+        ensures { IfOk result (λ name. name ≡ text.now) }
+    {
+        let spelled = behind_identifier(alloc, text)?;
+        Ok(Name {
+            spelled,
+            other: Vec::new(alloc),
+        })
     }
 
     /// The name as text.
@@ -95,7 +117,8 @@ impl Name {
         ensures value { result.now ≡ self.now }
         ensures name { IsName self.now }
     {
-        self.text.as_str()
+        let (_, text) = self.spelled.as_str().split_at(1);
+        text
     }
 
     /// The 1 to 255 bytes that the name takes on the medium. Names are equal exactly where these are.
@@ -105,8 +128,66 @@ impl Name {
         ensures some { 1 ≤ length result.now }
         ensures few { length result.now ≤ 255 }
     {
-        self.compressed.as_slice()
+        let other = self.other.as_slice();
+        if other.is_empty() {
+            self.spelled.as_bytes()
+        } else {
+            other
+        }
     }
+}
+
+/// Whether a text of ASCII is a name, or its first fault. Its characters are bytes, and its spelling has one byte more.
+fn check_ascii(text: &str) -> Result<(), NameFault>
+    requires { IsAscii text.now }
+    ensures { result_err result ≡ first_fault (name_faults text.now) }
+{
+    check_dots(text)?;
+    let bytes = text.as_bytes();
+    if has_byte(bytes, '/') {
+        return Err(NameFault::Slash);
+    }
+    if has_byte(bytes, '\0') {
+        return Err(NameFault::Nul);
+    }
+    if bytes.len() >= NAME_ROOM {
+        return Err(NameFault::Long);
+    }
+    Ok(())
+}
+
+/// Refuses no text at all, and those of a directory itself and of the one above.
+fn check_dots(text: &str) -> Result<(), NameFault>
+    ensures { result_err result ≡ first_fault (dots_faults text.now) }
+{
+    if text.is_empty() {
+        return Err(NameFault::Empty);
+    }
+    if text == "." || text == ".." {
+        return Err(NameFault::Dot);
+    }
+    Ok(())
+}
+
+/// The text of ASCII whose spelling the bytes are, if they are one's.
+fn ascii_of(bytes: &[u8]) -> Option<&str>
+    ensures { IfSome result (λ text. IsAscii text.now × (bytes.now ≡ 8 ∷ text.now)) }
+{
+    let (id, rest) = bytes.split_first()?;
+    if *id != NARROW || !rest.is_ascii() {
+        return None;
+    }
+    str::from_utf8(rest).ok()
+}
+
+/// A text behind the compression identifier of characters of one byte.
+fn behind_identifier(alloc: Global, text: &str) -> Result<String, AllocError>
+    ensures { IfOk result (λ spelled. string_bytes spelled ≡ 8 ∷ text.now) }
+{
+    let mut spelled = String::with_capacity(alloc, text.len() + 1)?;
+    spelled.push(char::from(NARROW))?;
+    spelled.push_str(text)?;
+    Ok(spelled)
 }
 
 /// Whether a text has a character.
@@ -132,9 +213,9 @@ impl Clone for Name {
     ghost is_clone = { λ name copy. copy ≡ name };
 
     fn clone(&self) -> Result<Name, AllocError> {
-        let text = self.text.clone()?;
-        let compressed = self.compressed.clone()?;
-        Ok(Name { text, compressed })
+        let spelled = self.spelled.clone()?;
+        let other = self.other.clone()?;
+        Ok(Name { spelled, other })
     }
 }
 
