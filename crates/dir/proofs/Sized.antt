@@ -11,7 +11,7 @@ use Rattle.dir.specs.declared.entry.Entry.{Entry}
 use Rattle.dir.specs.Directory.{identifiers}
 use Rattle.dir.specs.Identifier.{plain_size}
 use Rattle.dir.specs.Layout.{fits, blocked, blocks_of, laid, identifier_blocks}
-use Rattle.dir.specs.Size.{End, end_bytes, next_end, parent_end, name_sizes}
+use Rattle.dir.specs.Size.{End, end_bytes, next_end, parent_end, name_sizes, plain_sizes}
 use Rattle.dir.proofs.Sizes.{data_sized_short, fits_not}
 use Rattle.dir.proofs.Placing.{plain_bounds}
 
@@ -35,6 +35,14 @@ end_more entries i e is =
     let lt = slice_get_within entries i e is in
     fold_more next_end parent_end (name_sizes entries) i 0 (omega (arith, length-name_sizes entries))
     ∙ ap (λ n. next_end (fold next_end parent_end (take i (name_sizes entries))) n) (name_size_at entries i e lt ∙ ap (λ (x : List ℕ × Entry). length (compressed x.0)) (get_or_from_slice_get entries i e e is))
+
+pub plain_more : (entries : List (List ℕ × Entry)) (i : ℕ) (e : List ℕ × Entry) → slice_get entries i ≡ Some e
+    → plain_sizes (name_sizes (take (i + 1) entries)) ≡ plain_sizes (name_sizes (take i entries)) + plain_size (length (compressed e.0))
+plain_more [] i e found = absurd (cc)
+plain_more (x ∷ es) zero e found = let same : x ≡ e = cc in omega (arith, ap (λ (y : List ℕ × Entry). plain_size (length (compressed y.0))) same)
+plain_more (x ∷ es) (suc i) e found =
+    let next : suc i + 1 ≡ suc (i + 1) = omega arith in
+    omega (arith, ap (λ n. plain_sizes (name_sizes (take n (x ∷ es)))) next, plain_more es i e found)
 
 -- one name more is short
 pub short_more : (entries : List (List ℕ × Entry)) (i : ℕ) (e : List ℕ × Entry) → slice_get entries i ≡ Some e → length (compressed e.0) ≤ 255

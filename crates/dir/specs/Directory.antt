@@ -1,8 +1,8 @@
 -- Directories: a parent, and names in stored order (ECMA-167 4/8.6).
-use Rattle.std.specs.Prelude.{◌≡◌, ℕ, ◌*◌, ◌-◌, ◌^◌, ◌<◌, ◌≤◌, nat_eq, List, [], ◌∷◌, ◌++◌, length, map, replicate}
+use Rattle.std.specs.Prelude.{◌≡◌, ℕ, ◌*◌, ◌-◌, ◌^◌, ◌<◌, ◌≤◌, nat_eq, Bool, true, false, List, [], ◌∷◌, ◌++◌, length, map, replicate}
 use Rattle.std.specs.Cmp.Lexicographic.{pointwise}
-use Rattle.std.specs.List.{All, IsDistinct, concat}
-use Rattle.std.specs.Map.{keys_of}
+use Rattle.std.specs.List.{All, IsDistinct, concat, count_by}
+use Rattle.std.specs.Map.{keys_of, values_of}
 use Rattle.limits.specs.declared.TheConstants.{BLOCK_BYTES, PARTITION_BLOCKS, DIRECTORY_NAMES}
 use Rattle.ecma.specs.Numbers.{u16_at}
 use Rattle.osta.specs.Compressed.{compressed}
@@ -19,6 +19,15 @@ use Rattle.dir.specs.Split.{AreBytes}
 abbrev pub characteristics_of : Kind → ℕ
 characteristics_of File = 0
 characteristics_of Directory = 2
+
+-- whether a name is of a directory
+abbrev pub is_directory : Kind → Bool
+is_directory File = false
+is_directory Directory = true
+
+-- how many names are of directories
+abbrev pub directory_count : List (List ℕ × Entry) → ℕ
+directory_count entries = count_by (λ (entry : Entry). is_directory entry.kind) (values_of entries)
 
 -- the identifier of the directory above
 abbrev pub of_parent : ℕ → Identifier

@@ -1,10 +1,11 @@
 -- Identifiers as bytes that are kept from one layout to the next.
 use Rattle.std.specs.Prelude.{◌≡◌, ℕ, ◌-◌, ◌≤◌, List, length, map, take, drop}
-use Rattle.std.specs.List.{flat_map}
+use Rattle.std.specs.List.{All, flat_map}
 use Rattle.dir.specs.declared.entry.Entry.{Entry}
 use Rattle.dir.specs.declared.kept.Identifiers.{Identifiers}
 use Rattle.dir.specs.Identifier.{Identifier, identifier}
-use Rattle.dir.specs.Directory.{of_name}
+use Rattle.dir.specs.Directory.{of_name, directory_count, IsEntry}
+use Rattle.dir.specs.Size.{end_of, data_end, name_sizes}
 
 -- an identifier for the block number 0, not lengthened
 abbrev pub plain : Identifier → List ℕ
@@ -18,7 +19,11 @@ named entries = map (λ e. of_name e.0 e.1) entries
 abbrev pub AreLeft : ℕ → ℕ → List (List ℕ × Entry) → List ℕ → Type 0
 AreLeft known next entries bytes = bytes ≡ flat_map plain (drop (next - 1) (take known (named entries)))
 
--- they are those of a front of a directory's names
+-- they are those of a front of a directory's names, and what is kept beside them is what these add up to
 pub record IsFront (ids : Identifiers) (entries : List (List ℕ × Entry)) : Type 0 where
   pub few : ids.count ≤ length entries
+  pub proper : All IsEntry (take ids.count entries)
   pub bytes : ids.bytes.items ≡ flat_map plain (take ids.count (named entries))
+  pub size : end_of ids.size ≡ data_end (take ids.count (name_sizes entries))
+  pub full : (end_of ids.size).full ≤ ids.count - 1
+  pub directories : ids.directories ≡ directory_count (take ids.count entries)

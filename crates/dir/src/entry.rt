@@ -10,6 +10,21 @@ pub enum Kind {
     Directory,
 }
 
+impl Kind {
+    ghost use Rattle.std.specs.Prelude.{◌≡◌};
+    ghost use Rattle.dir.specs.Directory as directory;
+
+    /// Whether a name of this kind is of a directory.
+    pub(crate) fn is_directory(self) -> bool
+        ensures { result ≡ directory.is_directory self }
+    {
+        match self {
+            Kind::File => false,
+            Kind::Directory => true,
+        }
+    }
+}
+
 /// What a directory says of a name.
 #[derive(Clone, Copy, Debug, PartialEq, Eq)]
 pub struct Entry {

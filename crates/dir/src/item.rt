@@ -36,6 +36,7 @@ pub(crate) struct Item<'a> {
 impl<'a> Item<'a> {
     ghost use Rattle.std.specs.Prelude.{◌≡◌, ◌≤◌, ◌↔◌, Bool, IsTrue, length};
     ghost use Rattle.dir.specs.Directory as directory;
+    ghost use Rattle.dir.specs.Directory.{IsEntry};
     ghost use Rattle.dir.specs.Item.{said};
     ghost use Rattle.dir.specs.Reads.{IsInPlace};
 
@@ -55,7 +56,10 @@ impl<'a> Item<'a> {
     pub(crate) fn of_name(name: &'a Name, entry: Entry) -> Item<'a>
         ensures value { said result ≡ directory.of_name name.now entry }
         ensures short { length result.name.now ≤ 255 }
+        ensures entry { IsEntry (name.now, entry) }
     {
+        // Read so that the proof has that it is a name.
+        let _text = name.as_str();
         Item {
             name: name.compressed(),
             characteristics: Characteristics::of(entry.kind),

@@ -1,31 +1,39 @@
 //! The identifiers of a directory's names as bytes, which are kept from one layout to the next.
 
-ghost use Rattle.std.specs.Prelude.{◌≡◌, ℕ, ◌+◌, ◌<◌, ◌≤◌, ◌^◌, ◌++◌, List, drop, length, take, vec_len, OnOk, OnErr};
-ghost use Rattle.std.specs.List.{flat_map, remove};
+ghost use Rattle.std.specs.Prelude.{◌≡◌, ℕ, ◌+◌, ◌-◌, ◌<◌, ◌≤◌, ◌++◌, List, drop, if◌then◌else◌, length, take, vec_len, OnOk, OnErr};
+ghost use Rattle.std.specs.List.{All, flat_map, remove};
 ghost use Rattle.dir.specs.declared.entry.Entry.{Entry};
 ghost use Rattle.dir.specs.Fronts.{named, plain};
+ghost use Rattle.dir.specs.Size.{data_end, end_of, name_sizes, plain_sizes};
 
-use crate::entry::Dir;
+use crate::entry::{Dir, Entry};
 use crate::item::Item;
 use crate::laying::MAX_NAMES;
-use crate::size::plain_size;
+use crate::size::{DataSize, plain_size};
+use osta::Name;
 use std::alloc::{AllocError, Global};
 
 /// The bytes of the longest identifier that is not lengthened, that of a name of 255 bytes.
 const MOST_SIZE: usize = 296;
 
 /// The identifiers of the first names of a directory as bytes, one behind another: each for the block number 0, and not
-/// lengthened.
+/// lengthened. What these names add up to is kept with them.
 #[derive(Drop)]
 pub struct Identifiers {
     pub(crate) bytes: Vec<u8>,
     /// How many they are.
     pub(crate) count: usize,
+    /// The size of the data of a directory of these names.
+    size: DataSize,
+    /// How many of these names are of directories.
+    directories: u16,
 }
 
 impl Identifiers {
-    ghost use Rattle.dir.specs.Identifier.{identifier};
-    ghost use Rattle.dir.specs.Item.{said};
+    ghost use Rattle.dir.specs.Directory.{directory_blocks, directory_count, directory_size, is_directory, of_name, IsEntry};
+    ghost use Rattle.dir.specs.Layout.{blocks_of};
+    ghost use Rattle.dir.specs.Size.{end_bytes, next_end};
+    ghost use Rattle.osta.specs.Compressed.{compressed};
     ghost use Rattle.dir.specs.Fronts.{IsFront};
 
     /// Those of no names.
@@ -35,6 +43,8 @@ impl Identifiers {
         Identifiers {
             bytes: Vec::new(alloc),
             count: 0,
+            size: DataSize::new(),
+            directories: 0,
         }
     }
 
@@ -44,10 +54,13 @@ impl Identifiers {
     {
         self.bytes.clear();
         self.count = 0;
+        self.size = DataSize::new();
+        self.directories = 0;
     }
 
     /// Adds those that are missing of the directory's names, as far as there is memory.
     pub fn fill(&mut self, dir: &Dir) -> Result<(), AllocError>
+        requires few { length dir.now.entries.entries ≤ MAX_NAMES }
         requires front { IsFront self.old dir.now.entries.entries }
         ensures front { IsFront self.new dir.now.entries.entries }
         ensures all { OnOk result (self.new.count ≡ length dir.now.entries.entries) }
@@ -55,7 +68,7 @@ impl Identifiers {
     {
         for index in self.count..dir.entries.len() {
             let (name, entry) = dir.entries.get_index(index).unwrap();
-            self.push(&Item::of_name(name, *entry))?;
+            self.push(name, *entry)?;
         }
         Ok(())
     }
@@ -65,29 +78,82 @@ impl Identifiers {
         requires few { length dir.now.entries.entries ≤ MAX_NAMES }
         requires front { IsFront self.old dir.now.entries.entries }
         requires there { index < length dir.now.entries.entries }
-        ensures { IsFront self.new (remove dir.now.entries.entries index) }
+        ensures front { IsFront self.new (remove dir.now.entries.entries index) }
+        ensures within { index < self.old.count → self.new.count + 1 ≡ self.old.count }
+        ensures behind { self.old.count ≤ index → self.new.count ≡ self.old.count }
     {
         if index >= self.count {
             return;
         }
+        let (_, entry) = dir.entries.get_index(index).unwrap();
         let (start, end) = place(dir, index);
         cut(&mut self.bytes, start, end);
+        self.size = size_without(dir, index, self.count);
+        self.directories -= u16::from(entry.kind.is_directory());
         self.count -= 1;
     }
 
-    /// Adds one behind the others.
-    fn push(&mut self, item: &Item<'_>) -> Result<(), AllocError>
-        requires short { length item.now.name.now ≤ 255 }
-        requires few { self.old.count + 1 < 2 ^ 64 }
-        ensures bytes { OnOk result (self.new.bytes.items ≡ self.old.bytes.items ++ identifier 0 (said item.now) 0) }
-        ensures count { OnOk result (self.new.count ≡ self.old.count + 1) }
-        ensures unchanged { OnErr result ((self.new.bytes.items ≡ self.old.bytes.items) × (self.new.count ≡ self.old.count)) }
+    /// The size of the directory's data, at once where all of its names are kept.
+    pub fn data_size(&self, dir: &Dir) -> DataSize
+        requires few { length dir.now.entries.entries ≤ MAX_NAMES }
+        requires front { IsFront self.now dir.now.entries.entries }
+        ensures size { end_bytes (end_of result) ≡ directory_size dir.now }
+        ensures full { (end_of result).full < MAX_NAMES }
+        ensures blocks { (first : ℕ) → length (directory_blocks dir.now first) ≡ blocks_of (directory_size dir.now) }
     {
+        if self.count == dir.entries.len() {
+            return self.size;
+        }
+        dir.data_size()
+    }
+
+    /// The bytes of the identifiers of all of the directory's names, none of them lengthened, at once where they are kept.
+    pub fn plain_size(&self, dir: &Dir) -> usize
+        requires few { length dir.now.entries.entries ≤ MAX_NAMES }
+        requires front { IsFront self.now dir.now.entries.entries }
+        ensures size { result ≡ plain_sizes (name_sizes dir.now.entries.entries) }
+        ensures proper { All IsEntry dir.now.entries.entries }
+    {
+        if self.count == dir.entries.len() {
+            return self.bytes.len();
+        }
+        dir.plain_size()
+    }
+
+    /// How many of the directory's names are of directories, at once where all of them are kept.
+    pub fn directory_count(&self, dir: &Dir) -> u16
+        requires few { length dir.now.entries.entries ≤ MAX_NAMES }
+        requires front { IsFront self.now dir.now.entries.entries }
+        ensures value { result ≡ directory_count dir.now.entries.entries }
+        ensures few { result ≤ MAX_NAMES }
+    {
+        if self.count == dir.entries.len() {
+            return self.directories;
+        }
+        dir.directory_count()
+    }
+
+    /// Adds that of a name behind the others.
+    fn push(&mut self, name: &Name, entry: Entry) -> Result<(), AllocError>
+        requires few { self.old.count < MAX_NAMES }
+        requires room { (end_of self.old.size).full < MAX_NAMES }
+        requires within { self.old.directories ≤ self.old.count }
+        ensures entry { IsEntry (name.now, entry) }
+        ensures bytes { OnOk result (self.new.bytes.items ≡ self.old.bytes.items ++ plain (of_name name.now entry)) }
+        ensures count { OnOk result (self.new.count ≡ self.old.count + 1) }
+        ensures size { OnOk result (end_of self.new.size ≡ next_end (end_of self.old.size) (length (compressed name.now))) }
+        ensures directories { OnOk result (self.new.directories ≡ self.old.directories + (if is_directory entry.kind then 1 else 0)) }
+        ensures unchanged { OnErr result (self.new.bytes.items ≡ self.old.bytes.items) }
+        ensures sums { OnErr result ((self.new.count ≡ self.old.count) × (self.new.size ≡ self.old.size) × (self.new.directories ≡ self.old.directories)) }
+    {
+        let item = Item::of_name(name, entry);
         let mut room = [0; MOST_SIZE];
         let bytes = &mut room[..plain_size(item.name.len())];
         item.write(0, 0, bytes);
         self.bytes.extend_from_slice(bytes)?;
         self.count += 1;
+        self.size.add(item.name.len());
+        self.directories += u16::from(entry.kind.is_directory());
         Ok(())
     }
 }
@@ -127,4 +193,21 @@ fn cut(bytes: &mut Vec<u8>, start: usize, end: usize)
     let rest = bytes.len() - (end - start);
     bytes.copy_within(end.., start);
     bytes.truncate(rest);
+}
+
+/// The size of the data of a directory of the first names, as many as `count`, without the one at an index of them.
+fn size_without(dir: &Dir, index: usize, count: usize) -> DataSize
+    requires few { length dir.now.entries.entries ≤ MAX_NAMES }
+    requires there { index < count }
+    requires within { count ≤ length dir.now.entries.entries }
+    ensures end { end_of result ≡ data_end (take (count - 1) (name_sizes (remove dir.now.entries.entries index))) }
+    ensures full { (end_of result).full ≤ count - 1 - 1 }
+{
+    let mut size = DataSize::new();
+    for left in 0..count - 1 {
+        let at = if left < index { left } else { left + 1 };
+        let (name, _) = dir.entries.get_index(at).unwrap();
+        size.add(name.compressed().len());
+    }
+    size
 }

@@ -8,7 +8,8 @@
 //! `Lay` and `lay` give exactly these bytes. `read_dir` gives a directory exactly where the blocks are
 //! its data, and else a fault or want of memory; blocks are the data of one directory at most. `Fids`
 //! shows the identifiers as slices of the blocks. `DataSize` tells the size from the names' lengths
-//! alone. `Identifiers` keeps what `Lay` would spell again where a directory is laid anew.
+//! alone. `Identifiers` keeps what `Lay` would spell again where a directory is laid anew, and what the
+//! names add up to.
 //!
 //! What the addresses and unique IDs lead to, and where the blocks lie, is left to the layers above.
 #![tactic(auto)]

@@ -1,13 +1,15 @@
-//! How much room a directory takes, before it is laid.
+//! What the names of a directory add up to.
 
 ghost use Rattle.std.specs.Prelude.{◌≡◌, ◌<◌, ◌≤◌, ℕ, length};
-ghost use Rattle.dir.specs.Directory.{directory_size, directory_blocks};
+ghost use Rattle.std.specs.List.{All};
+ghost use Rattle.dir.specs.Directory.{directory_size, directory_blocks, directory_count, IsEntry};
 ghost use Rattle.dir.specs.Layout.{blocks_of};
-ghost use Rattle.dir.specs.Size.{end_of, end_bytes};
+ghost use Rattle.dir.specs.Size.{end_of, end_bytes, name_sizes, plain_sizes};
 
 use crate::entry::Dir;
+use crate::item::Item;
 use crate::laying::MAX_NAMES;
-use crate::size::DataSize;
+use crate::size::{DataSize, plain_size};
 
 impl Dir {
     /// The size of the directory's data, from the lengths of its names alone, which are at most 512.
@@ -23,5 +25,33 @@ impl Dir {
             size.add(name.compressed().len());
         }
         size
+    }
+
+    /// The bytes of its names' identifiers, none of them lengthened.
+    pub fn plain_size(&self) -> usize
+        requires few { length self.now.entries.entries ≤ MAX_NAMES }
+        ensures size { result ≡ plain_sizes (name_sizes self.now.entries.entries) }
+        ensures proper { All IsEntry self.now.entries.entries }
+    {
+        let mut size = 0;
+        for i in 0..self.entries.len() {
+            let (name, entry) = self.entries.get_index(i).unwrap();
+            let item = Item::of_name(name, *entry);
+            size += plain_size(item.name.len());
+        }
+        size
+    }
+
+    /// How many of its names are of directories.
+    pub fn directory_count(&self) -> u16
+        requires few { length self.now.entries.entries ≤ MAX_NAMES }
+        ensures value { result ≡ directory_count self.now.entries.entries }
+        ensures few { result ≤ MAX_NAMES }
+    {
+        let directories = self
+            .entries
+            .values()
+            .filter(|entry| entry.kind.is_directory());
+        directories.count() as u16
     }
 }

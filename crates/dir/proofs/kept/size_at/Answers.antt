@@ -1,4 +1,4 @@
-use Rattle.std.proofs.Common.{◌≡◌, ◌+◌, ℕ, List, Some, arith, rules}
+use Rattle.std.proofs.Common.{◌≡◌, ℕ, List, Some, arith, rules}
 use Rattle.std.specs.Prelude.{slice_get}
 use Rattle.dir.specs.declared.entry.Entry.{Entry}
 use Rattle.dir.specs.Item.{said}

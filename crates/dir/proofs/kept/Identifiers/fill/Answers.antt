@@ -1,8 +1,7 @@
 use Rattle.std.proofs.Common.{◌≡◌, ◌+◌, ℕ, List, Some, ap, ◌∙◌, arith, rules}
 use Rattle.std.specs.Prelude.{slice_get}
 use Rattle.dir.specs.declared.entry.Entry.{Entry}
-use Rattle.dir.specs.Item.{said}
-use Rattle.dir.proofs.Fronts.{front_more}
+use Rattle.dir.proofs.Fronts.{front_more, front_directories}
 use Rattle.dir.proofs.kept.Identifiers.fill.Goals as goal
 
 pub loop-index-preserved : goal.loop-index-preserved
@@ -13,7 +12,10 @@ loop-index-preserved c =
     let found : slice_get es c.loop-index.self.count ≡ Some at = ap (slice_get es) c.loop-index.invariant.count ∙ here in
     let pushed = c.in_ok-push.ensures in
     record {
-      front = front_more es c.loop-index.self c.push.new.self at (said c.of_name.result) c.loop-index.invariant.front found c.of_name.ensures.value pushed.bytes pushed.count;
+      front = front_more es c.loop-index.self c.push.new.self at c.loop-index.invariant.front found pushed.entry pushed.bytes pushed.count pushed.size pushed.directories;
       count = pushed.count ∙ ap (λ n. n + 1) c.loop-index.invariant.count;
       onward = omega (arith, pushed.count, c.loop-index.invariant.onward);
     }
+
+pub push-requires-clause-within : goal.push-requires-clause-within
+push-requires-clause-within c = front_directories c.args.dir.now.entries.entries c.loop-index.self c.loop-index.invariant.front
