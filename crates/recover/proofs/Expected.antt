@@ -8,6 +8,7 @@ use Rattle.std.specs.Str.{bytes_eq}
 use Rattle.std.proofs.lemmas.List.{append_cancel_left}
 use Rattle.std.proofs.lemmas.Option.{none-some, same_Some}
 use Rattle.dir.specs.declared.entry.Entry.{Entry as DirEntry}
+use Rattle.dir.specs.Directory.{is_directory}
 use Rattle.model.specs.Tree.{Name, Path, Tree, IsTree, Has, found_identity, identity_at}
 use Rattle.model.specs.Graph.{Graph, Stored, Entry, HasParent, Leads, MakesTree, Reach, entries_of, node_of}
 use Rattle.model.specs.Identities.{HasIdentities}
@@ -19,7 +20,6 @@ use Rattle.recover.specs.declared.walk.Named.{Named}
 use Rattle.recover.specs.declared.walk.Walk.{Walk}
 use Rattle.recover.specs.Forest.{At, IsDrawn, by_address, by_identity}
 use Rattle.recover.specs.Forest.Forest.{End, Seen}
-use Rattle.recover.specs.Nodes.{is_directory}
 use Rattle.recover.specs.Refused.{Expects, IsBeside}
 use Rattle.recover.specs.Walk.{Begun, reached_in, uniques_in}
 use Rattle.recover.proofs.Forests.{adds_only, at_seen, head_same, leads_up}

@@ -8,7 +8,7 @@ use Rattle.std.proofs.lemmas.Option.{same_Some, slice_get_within}
 use Rattle.dir.specs.declared.entry.Entry.{Entry as DirEntry}
 use Rattle.dir.specs.declared.entry.Kind.{Kind}
 use Rattle.dir.specs.declared.entry.Kind.TheVariants.{File, Directory}
-use Rattle.dir.specs.Directory.{IsDirectory}
+use Rattle.dir.specs.Directory.{is_directory, IsDirectory}
 use Rattle.drive.specs.Journal.{Event, held}
 use Rattle.icb.specs.Entry.{Fields as IcbFields, IsEntry}
 use Rattle.icb.proofs.VatIcbs.{one_entry}
@@ -29,7 +29,7 @@ use Rattle.recover.specs.declared.walk.Body.{Body as ReadBody}
 use Rattle.recover.specs.declared.walk.Named.{Named}
 use Rattle.recover.specs.declared.walk.Walk.{Walk}
 use Rattle.recover.specs.Forest.{IsDrawn}
-use Rattle.recover.specs.Nodes.{data_of, is_directory, links_of}
+use Rattle.recover.specs.Nodes.{data_of, links_of}
 use Rattle.recover.specs.Refused.{Expects, IsBodyRefused, IsNamesRefused, IsReachRefused, IsVisitRefused}
 use Rattle.recover.specs.Marks.{marked}
 use Rattle.recover.specs.Walk.{Begun, HasEntry, LeadsTo, LiesBelow, extent_in, icb_kind, nodes_of, reached_in, uniques_in}

@@ -7,6 +7,7 @@ use Rattle.std.proofs.lemmas.Bool.{true≢false}
 use Rattle.std.proofs.lemmas.List.{length-take}
 use Rattle.std.proofs.lemmas.Option.{same_Some}
 use Rattle.dir.specs.declared.entry.Kind.TheVariants.{Directory}
+use Rattle.dir.specs.Directory.{is_directory}
 use Rattle.model.specs.Graph.{IsFunctional}
 use Rattle.model.specs.Identities.{HasIdentities}
 use Rattle.model.specs.Tree.{files_of, directories_of}
@@ -31,7 +32,6 @@ use Rattle.recover.specs.declared.walk.Walk.{Walk}
 use Rattle.recover.specs.Forest.{Adds, AreDrawn, IsWholeForest, IsWalked, by_address, by_identity, directories_in, files_in, whole}
 use Rattle.recover.specs.Forest.Forest.{End, Seen}
 use Rattle.recover.specs.Laws.{LastStands}
-use Rattle.recover.specs.Nodes.{is_directory}
 use Rattle.recover.specs.State.{HasTree, IsCounted, IsDescribed, IsShown, IsTreeRefused}
 use Rattle.recover.specs.Refused.{IsVisitRefused}
 use Rattle.recover.specs.Tables.{HasDataBelow, IsEntryAt, data_of, table_fields}

@@ -16,7 +16,7 @@ use Rattle.dir.specs.declared.entry.Dir.{Dir}
 use Rattle.dir.specs.declared.entry.Entry.{Entry as DirEntry}
 use Rattle.dir.specs.declared.entry.Kind.{Kind}
 use Rattle.dir.specs.declared.entry.Kind.TheVariants.{File, Directory}
-use Rattle.dir.specs.Directory.{IsDirectory}
+use Rattle.dir.specs.Directory.{is_directory, IsDirectory}
 use Rattle.model.specs.Tree.{Name}
 use Rattle.model.specs.Graph.{Graph, Stored, Entry, entries_of, is_directory as stored_is_directory}
 use Rattle.model.specs.Graph.Body.{Bytes, Entries}
@@ -31,7 +31,7 @@ use Rattle.recover.specs.declared.walk.Named.{Named}
 use Rattle.recover.specs.declared.walk.Walk.{Walk}
 use Rattle.recover.specs.Forest.{Forest, IsSeen, IsWalked, IsDrawn, AreDrawn, Adds, Puts, Numbers, by_address, by_identity, named, height, files_in, directories_in}
 use Rattle.recover.specs.Forest.Forest.{End, Seen}
-use Rattle.recover.specs.Nodes.{data_of, is_directory}
+use Rattle.recover.specs.Nodes.{data_of}
 use Rattle.recover.specs.Walk.{Begun, Counts, HasEntry, HasNames, LeadsTo, LiesBelow, Tallied, Visits, extent_in, icb_kind, nodes_of, reached_in, uniques_in}
 
 -- ---- parts of a medium

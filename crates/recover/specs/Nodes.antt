@@ -1,24 +1,17 @@
 -- What directories say of the nodes in them.
-use Rattle.std.specs.Prelude.{◌≡◌, ℕ, ◌+◌, ⊤, Bool, true, false, List, count_by}
+use Rattle.std.specs.Prelude.{◌≡◌, ℕ, ◌+◌, ⊤, List}
 use Rattle.std.specs.Int.{div_ceil}
-use Rattle.std.specs.Map.{values_of}
 use Rattle.limits.specs.declared.TheConstants.{BLOCK_BYTES, PARTITION_START}
 use Rattle.dir.specs.declared.entry.Entry.{Entry}
-use Rattle.dir.specs.declared.entry.Kind.{Kind}
-use Rattle.dir.specs.declared.entry.Kind.TheVariants.{File, Directory}
-use Rattle.dir.specs.Directory.{IsDirectory}
+use Rattle.dir.specs.Directory.{directory_count, IsDirectory}
 use Rattle.recover.specs.declared.directory.Extent.{Extent}
 use Rattle.recover.specs.declared.fault.StoreFault.{StoreFault}
 use Rattle.recover.specs.declared.fault.StoreFault.TheVariants.{Device, Memory, Damaged}
 use Rattle.recover.specs.Blocks.{blocks_at}
 
-abbrev pub is_directory : Kind → Bool
-is_directory File = false
-is_directory Directory = true
-
 -- the links of a directory: one, and one for each directory in it
 abbrev pub links_of : List (List ℕ × Entry) → ℕ
-links_of entries = 1 + count_by (λ (entry : Entry). is_directory entry.kind) (values_of entries)
+links_of entries = 1 + directory_count entries
 
 -- the blocks of a node's bytes
 abbrev pub data_of : List (List ℕ) → Extent → List (List ℕ)

@@ -2,7 +2,7 @@
 use Rattle.std.specs.Prelude.{◌≡◌, ℕ, ◌<◌, ◌≤◌, ⊤, true, false, List, ◌++◌, length, IfSome, All}
 use Rattle.limits.specs.declared.TheConstants.{PATH_NAMES}
 use Rattle.dir.specs.declared.entry.Entry.{Entry as DirEntry}
-use Rattle.dir.specs.Directory.{IsDirectory}
+use Rattle.dir.specs.Directory.{is_directory, IsDirectory}
 use Rattle.model.specs.Graph.{Graph, HasParent, MakesTree, Reach, Stored, is_directory as stored_is_directory}
 use Rattle.model.specs.Identities.{HasIdentities}
 use Rattle.model.specs.Tree.{Has, IsTree, Path, Tree, identity_at}
@@ -14,7 +14,7 @@ use Rattle.recover.specs.declared.walk.Body.{Body}
 use Rattle.recover.specs.declared.walk.Named.{Named}
 use Rattle.recover.specs.declared.walk.Walk.{Walk}
 use Rattle.recover.specs.Forest.{IsDrawn}
-use Rattle.recover.specs.Nodes.{data_of, is_directory, links_of}
+use Rattle.recover.specs.Nodes.{data_of, links_of}
 use Rattle.recover.specs.Walk.{HasEntry, LeadsTo, LiesBelow, reached_in, uniques_in}
 
 -- why no entry was reached: the table leads to none below its own, or it was reached before, or the path is too long

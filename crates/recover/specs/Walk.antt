@@ -11,7 +11,7 @@ use Rattle.dir.specs.declared.entry.Dir.{Dir}
 use Rattle.dir.specs.declared.entry.Entry.{Entry as DirEntry}
 use Rattle.dir.specs.declared.entry.Kind.{Kind}
 use Rattle.dir.specs.declared.entry.Kind.TheVariants.{File, Directory}
-use Rattle.dir.specs.Directory.{IsDirectory}
+use Rattle.dir.specs.Directory.{is_directory, IsDirectory}
 use Rattle.model.specs.Graph.{Graph, Stored, entries_of, is_directory as stored_is_directory}
 use Rattle.durability.specs.Volume.{graph_of}
 use Rattle.udf.specs.Said.{said_entries}
@@ -23,7 +23,7 @@ use Rattle.recover.specs.declared.walk.Walk.{Walk}
 use Rattle.recover.specs.Forest.{Forest, IsSeen, IsWalked, AreDrawn, Adds, Numbers, by_address, by_identity, height, files_in, directories_in, named}
 use Rattle.recover.specs.Forest.Forest.{End, Seen}
 use Rattle.recover.specs.Marks.{marked}
-use Rattle.recover.specs.Nodes.{data_of, is_directory, links_of}
+use Rattle.recover.specs.Nodes.{data_of, links_of}
 
 -- there are bytes, and they lie within the largest partition and below an address
 pub record LiesBelow (at : ℕ) (extent : Extent) : Type 0 where

@@ -12,7 +12,7 @@ ghost use Rattle.recover.specs.Nodes.{IsDirectoryRefused, data_of, links_of};
 
 use crate::fault::{StoreFault, damaged};
 use crate::reading::{PARTITION_START, block_count, read_blocks};
-use dir::{Dir, DirFault, Kind, MAX_BLOCKS, MAX_NAMES, read_dir};
+use dir::{Dir, DirFault, MAX_BLOCKS, MAX_NAMES, read_dir};
 use drive::Drive;
 use std::alloc::Global;
 
@@ -50,10 +50,5 @@ pub fn link_count(directory: &Dir) -> u16
     requires few { length directory.now.entries.entries ≤ MAX_NAMES }
     ensures { result ≡ links_of directory.now.entries.entries }
 {
-    let directories = directory
-        .entries
-        .values()
-        .filter(|entry| entry.kind == Kind::Directory)
-        .count();
-    1 + directories as u16
+    1 + directory.directory_count()
 }
