@@ -1,16 +1,19 @@
 -- A directory that is laid block by block.
 use Rattle.std.proofs.Common.{◌≡◌, ℕ, suc, ◌+◌, ◌-◌, ◌<◌, ◌≤◌, List, [], ◌∷◌, ◌++◌, length, take, drop, get_or, replicate, map, Some, None, true, false, zero, not, refl, subst, sym, ap, ◌∙◌, append_assoc, arith, inl, inr}
-use Rattle.std.specs.Prelude.{Bool, ◌⊎◌, slice_get, if◌then◌else◌}
+use Rattle.std.specs.Prelude.{Bool, ◌⊎◌, Option, slice_get, if◌then◌else◌}
+use Rattle.std.specs.Option.{is_some, option_map}
 use Rattle.std.proofs.lemmas.Bool.{cases_lt}
-use Rattle.std.proofs.lemmas.List.{append-nil, take-append-drop, take_at, drop_at, take_all, drop-drop, drop-replicate, get_or_append_left, get_or-take, length-append, length-take, length-map}
+use Rattle.std.proofs.lemmas.List.{append-nil, take-append-drop, take_at, drop_at, take_all, get_or_append_left, get_or-take, length-append, length-replicate, length-take, length-map}
 use Rattle.ecma.specs.Descriptor.{padded}
 use denote.Bor.{Bor}
 use Rattle.dir.specs.declared.entry.Dir.{Dir}
 use Rattle.dir.specs.declared.entry.Entry.{Entry}
+use Rattle.dir.specs.declared.item.Item.{Item}
 use Rattle.dir.specs.declared.laying.Lay.{Lay}
 use Rattle.dir.specs.Identifier.{Identifier, plain_size, identifier}
 use Rattle.dir.specs.Directory.{identifiers, identifiers_of, of_name}
 use Rattle.dir.specs.Layout.{fits, stays, laid, onward, blocks_of, blocked, identifier_blocks, Stands, end_of}
+use Rattle.dir.specs.Item.{said}
 use Rattle.dir.specs.Laying.{identifiers_left}
 use Rattle.ecma.specs.Numbers.{u16_at}
 use Rattle.dir.proofs.Spelled.{length-identifier, tag-identifier}
@@ -89,6 +92,38 @@ laid_block number at xs rest block e zeros len few some over =
           ∙ ap (λ (t : List (List ℕ)). block ∷ t) (sym (ap (identifier_blocks (number + 1)) none ∙ no_blocks (number + 1)))
     ]
 
+-- so is one of which the rest is cleared
+pub cleared_block : (number at : ℕ) (xs rest : List Identifier) (block cleared : List ℕ) → cleared ≡ take at block ++ replicate (2048 - at) 0
+    → laid number 0 xs ≡ take at block ++ onward number at rest → length block ≡ 2048 → at ≤ 2048 → 0 < at → (at ≡ 2048) ⊎ (rest ≡ [])
+    → identifier_blocks number xs ≡ cleared ∷ identifier_blocks (number + 1) rest
+cleared_block number at xs rest block cleared is e len few some over =
+    let size : length (take at block) ≡ at = omega (arith, length-take at block) in
+    let zeros : length (replicate {A = ℕ} (2048 - at) 0) ≡ 2048 - at = length-replicate (2048 - at) 0 in
+    let front : take at cleared ≡ take at block = ap (take at) is ∙ take_at (take at block) (replicate (2048 - at) 0) at size in
+    let back : drop at cleared ≡ replicate (2048 - at) 0 = ap (drop at) is ∙ drop_at (take at block) (replicate (2048 - at) 0) at size in
+    laid_block number at xs rest cleared (e ∙ ap (λ (t : List ℕ). t ++ onward number at rest) (sym front)) back
+    (omega (arith, ap length is, length-append (take at block) (replicate (2048 - at) 0))) few some over
+
+-- and its tag stays
+pub cleared_tag : (at : ℕ) (block cleared : List ℕ) → cleared ≡ take at block ++ replicate (2048 - at) 0 → length block ≡ 2048 → at ≤ 2048 → 38 ≤ at
+    → u16_at 0 block ≡ 257 → u16_at 0 cleared ≡ 257
+cleared_tag at block cleared is len few long told =
+    let size : length (take at block) ≡ at = omega (arith, length-take at block) in
+    let front_byte : (k : ℕ) → k < at → get_or cleared k 0 ≡ get_or block k 0 =
+    λ (k : ℕ) (lt : k < at).
+    ap (λ (t : List ℕ). get_or t k 0) is ∙ get_or_append_left (take at block) (replicate (2048 - at) 0) 0 k (omega arith) ∙ get_or-take at block k 0 lt in
+    omega (arith, told, front_byte 0 (omega arith), front_byte 1 (omega arith))
+
+-- an identifier that is there is within the others
+pub said_within : (o : Option Item) (xs : List Identifier) (n : ℕ) → option_map said o ≡ slice_get xs n → is_some o ≡ true → n < length xs
+said_within None xs n e is = absurd (cc)
+said_within (Some i) xs n e is = some_within xs n (said i) (sym e)
+
+-- and none is behind the last
+pub said_past : (o : Option Item) (xs : List Identifier) (n : ℕ) → option_map said o ≡ slice_get xs n → is_some o ≡ false → slice_get xs n ≡ None
+said_past None xs n e is = sym e
+said_past (Some i) xs n e is = absurd (cc)
+
 -- a block is filled up to a place: what was left at its start is what stands in it and what is still left
 pub record IsFilled (start here : Lay) (at : ℕ) (block : List ℕ) : Type 0 where
   pub within : at ≤ 2048
@@ -100,21 +135,30 @@ pub record IsFilled (start here : Lay) (at : ℕ) (block : List ℕ) : Type 0 wh
   pub tagged : 0 < at → u16_at 0 block ≡ 257
   pub filled : laid start.number 0 (identifiers_left start) ≡ take at block ++ onward start.number at (identifiers_left here)
   pub stood : at < 2048 → Stands at (identifiers_left here)
-  pub zeros : drop at block ≡ replicate (2048 - at) 0
   pub size : length block ≡ 2048
 
-pub identifier_at : (parent : ℕ) (entries : List (List ℕ × Entry)) (index : ℕ) (text : List ℕ) (e : Entry) → (index ≡ 0 → ⊥)
-    → Some (text, e) ≡ slice_get entries (index - 1) → slice_get (identifiers parent entries) index ≡ Some (of_name text e)
-identifier_at parent entries zero text e some there = absurd (some refl)
-identifier_at parent entries (suc n) text e some there =
-    let step : suc n - 1 ≡ n = omega arith in
-    mapped entries n (there ∙ ap (slice_get entries) step)
+-- the identifier of a name stands behind the parent's
+pub identifier_at : (parent : ℕ) (entries : List (List ℕ × Entry)) (index : ℕ) (text : List ℕ) (e : Entry) → Some (text, e) ≡ slice_get entries index
+    → slice_get (identifiers parent entries) (index + 1) ≡ Some (of_name text e)
+identifier_at parent entries index text e there =
+    let step : index + 1 ≡ suc index = omega arith in
+    ap (slice_get (identifiers parent entries)) step ∙ mapped entries index there
   where
     mapped : (es : List (List ℕ × Entry)) (k : ℕ) → Some (text, e) ≡ slice_get es k
         → slice_get (map (λ (p : List ℕ × Entry). of_name p.0 p.1) es) k ≡ Some (of_name text e)
     mapped [] k q = absurd (cc)
     mapped (p ∷ es) zero q = let same : (text, e) ≡ p = cc in ap (λ (r : List ℕ × Entry). Some (of_name r.0 r.1)) (sym same)
     mapped (p ∷ es) (suc k) q = mapped es k q
+
+-- where none is left, at least one was put
+pub begun : (start here : Lay) (at : ℕ) (block : List ℕ) → IsFilled start here at block → is_some start.item ≡ true
+    → slice_get (identifiers_of here.dir.now) here.next ≡ None → 0 < at
+begun start here at block f some none =
+    let ids = identifiers_of start.dir.now in
+    let same : slice_get ids here.next ≡ None = ap (λ (d : Bor Dir). slice_get (identifiers_of d.now) here.next) (sym f.dir) ∙ none in
+    let first = said_within start.item ids start.next start.said some in
+    let past = none_past ids here.next same in
+    elim (cases_lt 0 at) [ inl less ↦ less | inr none_put ↦ let there = f.before (omega arith) in absurd (omega arith) ]
 
 -- where an identifier that was put ends
 pub put_end : (at end behind : ℕ) (x : Identifier) (rest : List Identifier) (full : Bool) → end ≡ at + plain_size (length x.name)
@@ -152,9 +196,6 @@ filled_more start here new at end block written x f inside there short dir next 
     let front : take end written ≡ take at block ++ one =
     ap (take end) (put ∙ sym (append_assoc (take at block) one (drop end block)))
     ∙ take_at (take at block ++ one) (drop end block) end (omega (arith, length-append (take at block) one)) in
-    let back : drop end written ≡ drop end block =
-    ap (drop end) (put ∙ sym (append_assoc (take at block) one (drop end block)))
-    ∙ drop_at (take at block ++ one) (drop end block) end (omega (arith, length-append (take at block) one)) in
     let further : start.next < new.next =
     elim (cases_lt 0 at) [ inl some ↦ let less = f.further some in omega arith | inr none ↦ let start_is = f.before (omega arith) in omega arith ] in
     let front_byte : (k : ℕ) → k < at → get_or written k 0 ≡ get_or block k 0 =
@@ -186,8 +227,5 @@ filled_more start here new at end block written x f inside there short dir next 
           ∙ ap (λ (n : ℕ). one ++ onward start.number n rest) (sym end-is))
           ∙ sym (append_assoc (take at block) one (onward start.number end rest)) ∙ ap (λ (t : List ℕ). t ++ onward start.number end rest) (sym front);
       stood = λ (lt : end < 2048). subst (λ (n : ℕ). Stands n rest) (sym end-is) (stands_next at x rest (omega arith));
-      zeros =
-          back ∙ ap (λ (n : ℕ). drop n block) (omega arith) ∙ sym (drop-drop (end - at) at block) ∙ ap (drop (end - at)) f.zeros
-          ∙ drop-replicate (end - at) (2048 - at) 0 ∙ ap (λ (n : ℕ). replicate n 0) (omega arith);
       size = len;
     }

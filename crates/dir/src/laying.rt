@@ -1,8 +1,11 @@
 //! A directory as blocks, one by one.
 
 ghost use Rattle.limits.specs.declared.TheConstants.{BLOCK_BYTES, DIRECTORY_NAMES, PARTITION_BLOCKS};
-ghost use Rattle.std.specs.Prelude.{◌+◌, ◌≤◌, length};
+ghost use Rattle.std.specs.Prelude.{◌≡◌, ◌+◌, ◌-◌, ◌≤◌, ◌++◌, length, take, replicate, slice_get, IfSome};
+ghost use Rattle.std.specs.Option.{ForSome, option_map};
+ghost use Rattle.dir.specs.Directory.{identifiers_of};
 ghost use Rattle.dir.specs.Fronts.{AreLeft};
+ghost use Rattle.dir.specs.Item.{said};
 
 use crate::entry::Dir;
 use crate::item::Item;
@@ -22,6 +25,8 @@ pub struct Lay<'a> {
     dir: &'a Dir,
     /// The identifiers that are laid, the parent's first.
     next: usize,
+    /// What the next of them says, if there is one.
+    item: Option<Item<'a>>,
     /// The number of the next block.
     number: u32,
     /// How many of the names' identifiers are kept as bytes.
@@ -31,6 +36,8 @@ pub struct Lay<'a> {
     ghost few: { length dir.now.entries.entries ≤ DIRECTORY_NAMES },
     ghost laid: { next ≤ length dir.now.entries.entries + 1 },
     ghost numbers: { number ≤ PARTITION_BLOCKS + next },
+    ghost said: { option_map said item ≡ slice_get (identifiers_of dir.now) next },
+    ghost short: { ForSome item (λ item. length item.name.now ≤ 255) },
     ghost left: { AreLeft known next dir.now.entries.entries kept.now },
 }
 
@@ -54,6 +61,7 @@ impl<'a> Lay<'a> {
         Lay {
             dir,
             next: 0,
+            item: Some(Item::of_parent(dir.parent)),
             number: first,
             known: 0,
             kept: &[],
@@ -70,6 +78,7 @@ impl<'a> Lay<'a> {
         Lay {
             dir,
             next: 0,
+            item: Some(Item::of_parent(dir.parent)),
             number: first,
             known: identifiers.count,
             kept: identifiers.bytes.as_slice(),
@@ -95,31 +104,19 @@ impl<'a> Lay<'a> {
         ensures none { result ≡ false → blocks_left self.old ≡ [] }
         ensures tag { IsTrue result → u16_at 0 block.new ≡ 257 }
     {
-        if self.next > self.dir.entries.len() {
+        if self.item.is_none() {
             return false;
         }
-        *block = [0; BLOCK_SIZE];
         let mut at = 0;
         while at < BLOCK_SIZE {
-            let Some(item) = self.item(self.next) else {
+            let Some(item) = self.item else {
                 break;
             };
             at = self.put(&item, at, block);
         }
+        clear_behind(block, at);
         self.number += 1;
         true
-    }
-
-    /// What the identifier at an index says, the parent's being the first.
-    fn item(&self, index: usize) -> Option<Item<'a>>
-        ensures value { option_map said result ≡ slice_get (identifiers_of self.now.dir.now) index }
-        ensures short { IfSome result (λ item. length item.name.now ≤ 255) }
-    {
-        if index == 0 {
-            return Some(Item::of_parent(self.dir.parent));
-        }
-        let (name, entry) = self.dir.entries.get_index(index - 1)?;
-        Some(Item::of_name(name, *entry))
     }
 
     /// Writes the next identifier at a place of the block, and says where it ends.
@@ -137,7 +134,7 @@ impl<'a> Lay<'a> {
     {
         let kept = self.pass(item);
         let end = at + plain_size(item.name.len());
-        let full = match self.item(self.next) {
+        let full = match &self.item {
             Some(next) => !fits(plain_size(next.name.len()), BLOCK_SIZE - end),
             None => false,
         };
@@ -158,6 +155,7 @@ impl<'a> Lay<'a> {
     {
         let next = self.next;
         self.next += 1;
+        self.item = name_at(self.dir, next);
         if next == 0 || next > self.known {
             return None;
         }
@@ -165,4 +163,21 @@ impl<'a> Lay<'a> {
         self.kept = behind;
         Some(bytes)
     }
+}
+
+/// What the identifier of the name at an index says.
+fn name_at(dir: &Dir, index: usize) -> Option<Item<'_>>
+    ensures value { option_map said result ≡ slice_get (identifiers_of dir.now) (index + 1) }
+    ensures short { IfSome result (λ item. length item.name.now ≤ 255) }
+{
+    let (name, entry) = dir.entries.get_index(index)?;
+    Some(Item::of_name(name, *entry))
+}
+
+/// Clears a block from a place on.
+fn clear_behind(block: &mut Block, at: usize)
+    requires { at ≤ BLOCK_BYTES }
+    ensures { block.new ≡ take at block.old ++ replicate (BLOCK_BYTES - at) 0 }
+{
+    block[at..].fill(0);
 }

@@ -7,6 +7,7 @@ ghost use Rattle.dir.specs.Directory.{directory_blocks};
 
 use crate::entry::Dir;
 use crate::laying::{Lay, MAX_BLOCKS, MAX_NAMES};
+use crate::size::BLOCK_SIZE;
 use ecma::Block;
 use std::alloc::{AllocError, Global};
 
@@ -20,7 +21,8 @@ pub fn lay(alloc: Global, dir: &Dir, first: u32) -> Result<Vec<Block>, AllocErro
 {
     let mut lay = Lay::new(dir, first);
     let mut blocks = Vec::new(alloc);
-    while let Some(block) = lay.next_block() {
+    let mut block = [0; BLOCK_SIZE];
+    while lay.next_into(&mut block) {
         blocks.push(block)?;
     }
     Ok(blocks)
