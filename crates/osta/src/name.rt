@@ -1,4 +1,4 @@
-ghost use Rattle.std.specs.Prelude.{◌≡◌, ◌==◌, ◌↔◌, ◌<◌, ◌≤◌, ℕ, List, IsTrue, IsAscii, IfOk, IfErr, IfSome, MatchOption, ◌∷◌, length, nat_eq, None, bytes_eq, codes, string_bytes};
+ghost use Rattle.std.specs.Prelude.{◌≡◌, ◌==◌, ◌↔◌, ◌<◌, ◌≤◌, ℕ, List, IsTrue, IsAscii, IfOk, IfErr, IfSome, IfNone, ◌≢◌, MatchOption, ◌∷◌, length, nat_eq, None, bytes_eq, codes, string_bytes};
 ghost use Rattle.std.specs.Result.{result_err};
 ghost use Rattle.std.specs.List.{list_any};
 ghost use Rattle.std.specs.Hash as fed;
@@ -171,7 +171,8 @@ fn check_dots(text: &str) -> Result<(), NameFault>
 
 /// The text of ASCII whose spelling the bytes are, if they are one's.
 fn ascii_of(bytes: &[u8]) -> Option<&str>
-    ensures { IfSome result (λ text. IsAscii text.now × (bytes.now ≡ 8 ∷ text.now)) }
+    ensures some { IfSome result (λ text. IsAscii text.now × (bytes.now ≡ 8 ∷ text.now)) }
+    ensures none { IfNone result ((text : List ℕ) → IsAscii text → bytes.now ≢ 8 ∷ text) }
 {
     let (id, rest) = bytes.split_first()?;
     if *id != NARROW || !rest.is_ascii() {

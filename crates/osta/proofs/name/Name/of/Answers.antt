@@ -11,13 +11,13 @@ use Rattle.osta.proofs.name.Name.of.Goals as goal
 
 pub returns-then-is_err : goal.returns-then-is_err
 returns-then-is_err c = λ text name named.
-    let same = sym (ascii_expanded c.in-Some.text.now c.args.bytes.now c.in-Some.ensures.0 c.in-Some.ensures.1) ∙ expanded_from_Named text c.args.bytes.now named in
+    let same = sym (ascii_expanded c.in-Some.text.now c.args.bytes.now c.in-Some.ensures.some.0 c.in-Some.ensures.some.1) ∙ expanded_from_Named text c.args.bytes.now named in
     refused c.check_ascii.result (sym c.is_err.ensures.value ∙ c.if-is_err.true) (c.check_ascii.ensures ∙ (ap (λ (xs : List ℕ). first_fault (name_faults xs)) same ∙ name.faultless))
 
 pub of_ascii-requires-clause-name : goal.of_ascii-requires-clause-name
 of_ascii-requires-clause-name c =
     record {
-      utf8 = IsUtf8-from_ascii c.in-Some.text.now c.in-Some.ensures.0;
+      utf8 = IsUtf8-from_ascii c.in-Some.text.now c.in-Some.ensures.some.0;
       faultless = sym c.check_ascii.ensures ∙ accepted c.check_ascii.result (sym c.is_err.ensures.value ∙ c.if-is_err.false);
     }
 
@@ -41,10 +41,10 @@ invariant_of-result c =
 pub returns-in-Some : goal.returns-in-Some
 returns-in-Some c =
     let name : IsName c.in-Some.text.now = record {
-      utf8 = IsUtf8-from_ascii c.in-Some.text.now c.in-Some.ensures.0;
+      utf8 = IsUtf8-from_ascii c.in-Some.text.now c.in-Some.ensures.some.0;
       faultless = sym c.check_ascii.ensures ∙ accepted c.check_ascii.result (sym c.is_err.ensures.value ∙ c.if-is_err.false);
     } in
-    let named = ascii_named c.in-Some.text.now c.args.bytes.now c.in-Some.ensures.0 name c.in-Some.ensures.1 in
+    let named = ascii_named c.in-Some.text.now c.args.bytes.now c.in-Some.ensures.some.0 name c.in-Some.ensures.some.1 in
     let same = sym c.in_ok-of_ascii.ensures in
     (subst IsName same name, subst (λ (t : List ℕ). Named t c.args.bytes.now) same named)
 
