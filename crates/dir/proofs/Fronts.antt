@@ -4,9 +4,13 @@ use Rattle.std.specs.Prelude.{◌⊎◌, if◌then◌else◌, slice_get}
 use Rattle.std.specs.List.{All, flat_map, remove, sum_by}
 use Rattle.std.specs.Map.{values_of}
 use Rattle.std.proofs.lemmas.Grind.{flat_map-append}
+use Rattle.std.proofs.Math.Bridge.{le_prop}
+use Rattle.std.proofs.Math.Logic.{∥∥₁_elim, ∥∥₁_map}
+use Rattle.std.proofs.Props.{props}
 use Rattle.std.proofs.lemmas.List.Elements.{All-append, All-drop, All-more, All-take}
 use Rattle.std.proofs.lemmas.List.Sums.{count_by-le-length, sum_by-append}
 use Rattle.std.proofs.lemmas.Map.Entries.{length-values_of}
+use Rattle.std.proofs.lemmas.Str.{IsUtf8-had}
 use Rattle.std.proofs.lemmas.List.{drop_all, drop_at, drop-map, map-append, take-append-drop, take-append-le, take-map, take-take, take_all, take_at, length-append, length-drop, length-take, length-map, get_or-take}
 use Rattle.std.proofs.lemmas.Option.{slice_get_within, slice_get-get_or, get_or_from_slice_get}
 use Rattle.osta.specs.Compressed.{compressed}
@@ -16,7 +20,7 @@ use Rattle.dir.specs.declared.entry.Entry.{Entry}
 use Rattle.dir.specs.declared.kept.Identifiers.{Identifiers}
 use Rattle.dir.specs.Directory.{identifiers, of_name, is_directory, directory_count, IsEntry}
 use Rattle.dir.specs.Identifier.{Identifier, plain_size}
-use Rattle.dir.specs.Fronts.{plain, named, AreLeft, IsFront}
+use Rattle.dir.specs.Fronts.{plain, named, AreLeft, CanBeSaid, IsFront}
 use Rattle.dir.specs.Size.{End, end_of, next_end, data_end, name_sizes, plain_sizes}
 use Rattle.dir.proofs.Filling.{drop_some}
 use Rattle.dir.proofs.Sized.{end_more, full_more}
@@ -126,7 +130,7 @@ front_more entries ids new e front found is bytes count size directories =
     let full = full_more (end_of ids.size) (name_sizes entries) ids.count (length (compressed e.0)) (name_few e.0 is.name) front.size front.full in
     record {
       few = omega arith;
-      proper = subst (λ (n : ℕ). All IsEntry (take n entries)) (sym count) (all_more IsEntry entries ids.count e found is front.proper);
+      proper = subst (λ (n : ℕ). All CanBeSaid (take n entries)) (sym count) (all_more CanBeSaid entries ids.count e found ∣ is ∣₁ front.proper);
       bytes =
           bytes ∙ ap (λ (t : List ℕ). t ++ plain (of_name e.0 e.1)) front.bytes ∙ sym (named_more entries ids.count e (of_name e.0 e.1) found refl)
           ∙ ap (λ (n : ℕ). flat_map plain (take n (named entries))) (sym count);
@@ -147,7 +151,7 @@ front_same entries others ids front few same =
     let sizes : take n (name_sizes entries) ≡ take n (name_sizes others) = take-map size n entries ∙ ap (map size) same ∙ sym (take-map size n others) in
     record {
       few = few;
-      proper = subst (λ (es : List (List ℕ × Entry)). All IsEntry es) same front.proper;
+      proper = subst (λ (es : List (List ℕ × Entry)). All CanBeSaid es) same front.proper;
       bytes = front.bytes ∙ ap (flat_map plain) names;
       size = front.size ∙ ap data_end sizes;
       full = front.full;
@@ -204,7 +208,7 @@ front_without entries ids new i start end e front kept found starts ends bytes c
     let left = front_removed entries i new.count ids.count count kept front.few in
     record {
       few = omega (arith, front.few, length-append (take i entries) (drop (suc i) entries), length-take i entries, length-drop (suc i) entries);
-      proper = subst (λ (es : List (List ℕ × Entry)). All IsEntry es) (sym left) (All-append IsEntry (take i entries) (drop (suc i) (take ids.count entries)) first (All-drop IsEntry (suc i) (take ids.count entries) front.proper));
+      proper = subst (λ (es : List (List ℕ × Entry)). All CanBeSaid es) (sym left) (All-append CanBeSaid (take i entries) (drop (suc i) (take ids.count entries)) first (All-drop CanBeSaid (suc i) (take ids.count entries) front.proper));
       bytes =
           bytes ∙ ap (λ (b : List ℕ). b ++ drop end ids.bytes.items) before ∙ ap (λ (b : List ℕ). flat_map plain (take i n) ++ b) behind
           ∙ sym (flat_map-append plain (take i n) (drop (suc i) t)) ∙ ap (flat_map plain) (sym names);
@@ -213,8 +217,8 @@ front_without entries ids new i start end e front kept found starts ends bytes c
       directories = omega (arith, directories, front.directories, directories_without entries i new.count ids.count e found count kept front.few);
     }
   where
-    first : All IsEntry (take i entries)
-    first = subst (λ (es : List (List ℕ × Entry)). All IsEntry es) (take-take i ids.count entries (omega arith)) (All-take IsEntry i (take ids.count entries) front.proper)
+    first : All CanBeSaid (take i entries)
+    first = subst (λ (es : List (List ℕ × Entry)). All CanBeSaid es) (take-take i ids.count entries (omega arith)) (All-take CanBeSaid i (take ids.count entries) front.proper)
 
 -- one of a front's names is of a directory, where it is
 pub front_directory : (entries : List (List ℕ × Entry)) (ids : Identifiers) (i : ℕ) (e : List ℕ × Entry) → IsFront ids entries → i < ids.count → slice_get entries i ≡ Some e
@@ -228,11 +232,21 @@ front_longer entries more ids front =
 
 -- ---- a front of all names
 
+entry_had : (e : List ℕ × Entry) → CanBeSaid e → IsEntry e
+entry_had e said = record {
+  name = record {
+    utf8 = IsUtf8-had e.0 (∥∥₁_map said (λ (is : IsEntry e). is.name.utf8));
+    faultless = ∥∥₁_elim said (hlevel props) (λ (is : IsEntry e). is.name.faultless);
+  };
+  icb = ∥∥₁_elim said le_prop (λ (is : IsEntry e). is.icb);
+  unique = ∥∥₁_elim said le_prop (λ (is : IsEntry e). is.unique);
+}
+
 pub front_proper : (entries : List (List ℕ × Entry)) (ids : Identifiers) → IsFront ids entries → ids.count ≡ length entries → All IsEntry entries
-front_proper entries ids front all = subst (λ (es : List (List ℕ × Entry)). All IsEntry es) (take_all ids.count entries (omega arith)) front.proper
+front_proper entries ids front all k d lt = entry_had _ (subst (λ (es : List (List ℕ × Entry)). All CanBeSaid es) (take_all ids.count entries (omega arith)) front.proper k d lt)
 
 pub front_short : (entries : List (List ℕ × Entry)) (ids : Identifiers) → IsFront ids entries → All (λ (e : List ℕ × Entry). length (compressed e.0) ≤ 255) (take ids.count entries)
-front_short entries ids front k d lt = name_few _ (front.proper k d lt).name
+front_short entries ids front k d lt = name_few _ (entry_had _ (front.proper k d lt)).name
 
 length-named : (entries : List (List ℕ × Entry)) → length (flat_map plain (named entries)) ≡ plain_sizes (name_sizes entries)
 length-named [] = refl

@@ -1,5 +1,5 @@
 -- A directory's size, name by name.
-use Rattle.std.proofs.Common.{◌≡◌, ℕ, zero, suc, ◌+◌, ◌-◌, ◌<◌, ◌≤◌, List, [], ◌∷◌, length, take, drop, get_or, Bool, true, false, Some, refl, sym, ap, subst, ◌∙◌, arith, inl, inr}
+use Rattle.std.proofs.Common.{◌≡◌, ℕ, zero, suc, ◌+◌, ◌-◌, ◌*◌, ◌<◌, ◌≤◌, List, [], ◌∷◌, length, take, drop, get_or, Bool, true, false, Some, refl, sym, ap, subst, ◌∙◌, arith, inl, inr}
 use Rattle.std.specs.Prelude.{fold, slice_get, if◌then◌else◌}
 use Rattle.std.specs.List.{All}
 use Rattle.std.proofs.lemmas.List.Sums.{fold_more}
@@ -43,6 +43,12 @@ plain_more (x ∷ es) zero e found = let same : x ≡ e = cc in omega (arith, ap
 plain_more (x ∷ es) (suc i) e found =
     let next : suc i + 1 ≡ suc (i + 1) = omega arith in
     omega (arith, ap (λ n. plain_sizes (name_sizes (take n (x ∷ es)))) next, plain_more es i e found)
+
+pub plain_few : (entries : List (List ℕ × Entry)) → All (λ (e : List ℕ × Entry). length (compressed e.0) ≤ 255) entries → plain_sizes (name_sizes entries) ≤ 296 * length entries
+plain_few [] short = omega arith
+plain_few (e ∷ es) short =
+    let bounds = plain_bounds (length (compressed e.0)) in
+    omega (arith, bounds, short 0 e (omega arith), plain_few es (λ k d lt. short (suc k) d (omega (arith, lt))))
 
 -- one name more is short
 pub short_more : (entries : List (List ℕ × Entry)) (i : ℕ) (e : List ℕ × Entry) → slice_get entries i ≡ Some e → length (compressed e.0) ≤ 255

@@ -19,10 +19,15 @@ named entries = map (λ e. of_name e.0 e.1) entries
 abbrev pub AreLeft : ℕ → ℕ → List (List ℕ × Entry) → List ℕ → Type 0
 AreLeft known next entries bytes = bytes ≡ flat_map plain (drop (next - 1) (take known (named entries)))
 
+-- a directory can say this of a name. What a struct keeps has one proof at most, so the fact alone is kept, and
+-- proofs/Fronts.antt shows that it is enough
+abbrev pub CanBeSaid : List ℕ × Entry → Type 0
+CanBeSaid e = ∥ IsEntry e ∥₁
+
 -- they are those of a front of a directory's names, and what is kept beside them is what these add up to
 pub record IsFront (ids : Identifiers) (entries : List (List ℕ × Entry)) : Type 0 where
   pub few : ids.count ≤ length entries
-  pub proper : All IsEntry (take ids.count entries)
+  pub proper : All CanBeSaid (take ids.count entries)
   pub bytes : ids.bytes.items ≡ flat_map plain (take ids.count (named entries))
   pub size : end_of ids.size ≡ data_end (take ids.count (name_sizes entries))
   pub full : (end_of ids.size).full ≤ ids.count - 1

@@ -1,6 +1,6 @@
 //! The identifiers of a directory's names as bytes, which are kept from one layout to the next.
 
-ghost use Rattle.std.specs.Prelude.{◌≡◌, ℕ, ◌+◌, ◌-◌, ◌<◌, ◌≤◌, ◌++◌, List, drop, if◌then◌else◌, length, take, vec_len, OnOk, OnErr};
+ghost use Rattle.std.specs.Prelude.{◌≡◌, ℕ, ◌+◌, ◌-◌, ◌*◌, ◌<◌, ◌≤◌, ◌++◌, List, drop, if◌then◌else◌, length, take, vec_len, OnOk, OnErr};
 ghost use Rattle.std.specs.List.{All, flat_map, remove};
 ghost use Rattle.dir.specs.declared.entry.Entry.{Entry};
 ghost use Rattle.dir.specs.Fronts.{named, plain};
@@ -112,6 +112,7 @@ impl Identifiers {
         requires few { length dir.now.entries.entries ≤ MAX_NAMES }
         requires front { IsFront self.now dir.now.entries.entries }
         ensures size { result ≡ plain_sizes (name_sizes dir.now.entries.entries) }
+        ensures few { result ≤ 296 * MAX_NAMES }
         ensures proper { All IsEntry dir.now.entries.entries }
     {
         if self.count == dir.entries.len() {

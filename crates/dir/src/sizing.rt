@@ -1,6 +1,6 @@
 //! What the names of a directory add up to.
 
-ghost use Rattle.std.specs.Prelude.{◌≡◌, ◌<◌, ◌≤◌, ℕ, length};
+ghost use Rattle.std.specs.Prelude.{◌≡◌, ◌*◌, ◌<◌, ◌≤◌, ℕ, length};
 ghost use Rattle.std.specs.List.{All};
 ghost use Rattle.dir.specs.Directory.{directory_size, directory_blocks, directory_count, IsEntry};
 ghost use Rattle.dir.specs.Layout.{blocks_of};
@@ -31,6 +31,7 @@ impl Dir {
     pub fn plain_size(&self) -> usize
         requires few { length self.now.entries.entries ≤ MAX_NAMES }
         ensures size { result ≡ plain_sizes (name_sizes self.now.entries.entries) }
+        ensures few { result ≤ 296 * MAX_NAMES }
         ensures proper { All IsEntry self.now.entries.entries }
     {
         let mut size = 0;
