@@ -18,7 +18,7 @@ invariant_of-self c =
           let gone = (rw w.self-is at c.shift_remove.ensures.entries) ∙ removed_at test es w.in-Some.index (sym c.get_index_of.ensures.index ∙ w.in-Some.is) in
           rw w.self-is (record {
             few = search rules;
-            front = subst (λ (left : List (List ℕ × Entry)). IsFront w.remove.new.self left) (sym gone) w.remove.ensures;
+            front = subst (λ (left : List (List ℕ × Entry)). IsFront w.remove.new.self left) (sym gone) w.remove.ensures.front;
           })
       | in_default w ↦
           let stays = (rw w.self-is at c.shift_remove.ensures.entries) ∙ removed_none test es (none_of (lookup test es) (sym (ap is_some w.in_default.is) ∙ c.get_index_of.ensures.found)) in
