@@ -1,17 +1,6 @@
 -- Names of directories, one after another.
 use Rattle.std.proofs.Common.{◌≡◌, ℕ, zero, suc, ◌+◌, List, [], ◌∷◌, length, take, sym, ap, refl, subst, arith}
 use Rattle.std.specs.Prelude.{slice_get, Some, All}
-use Rattle.osta.specs.Compressed.{compressed}
-use Rattle.dir.specs.declared.entry.Entry.{Entry}
-use Rattle.dir.specs.Identifier.{plain_size}
-use Rattle.dir.specs.Size.{name_sizes, plain_sizes}
-
-pub size_more : (es : List (List ℕ × Entry)) (i : ℕ) (e : List ℕ × Entry) → slice_get es i ≡ Some e → plain_sizes (name_sizes (take (i + 1) es)) ≡ plain_sizes (name_sizes (take i es)) + plain_size (length (compressed e.0))
-size_more [] i e found = absurd (cc)
-size_more (x ∷ es) zero e found = let same : x ≡ e = cc in omega (arith, ap (λ (y : List ℕ × Entry). plain_size (length (compressed y.0))) same)
-size_more (x ∷ es) (suc i) e found =
-    let next : suc i + 1 ≡ suc (i + 1) = omega arith in
-    omega (arith, ap (λ n. plain_sizes (name_sizes (take n (x ∷ es)))) next, size_more es i e found)
 
 pub all_more : {X : Type 0} (P : X → Type 0) (xs : List X) (i : ℕ) (x : X) → slice_get xs i ≡ Some x → P x → All P (take i xs) → All P (take (i + 1) xs)
 all_more P [] i x found is all k d lt = absurd (cc)

@@ -7,7 +7,7 @@ use Rattle.dir.specs.declared.entry.Dir.{Dir}
 use Rattle.dir.specs.declared.entry.Entry.{Entry}
 use Rattle.dir.specs.declared.entry.Kind.{Kind}
 use Rattle.dir.specs.declared.entry.Kind.TheVariants.{File, Directory}
-use Rattle.dir.specs.Directory.{identifiers, directory_blocks, directory_size, IsDirectory}
+use Rattle.dir.specs.Directory.{identifiers, directory_blocks, directory_size, is_directory, IsDirectory}
 use Rattle.dir.specs.Layout.{laid}
 use Rattle.dir.proofs.Once.{laid_directory}
 use Rattle.dir.specs.Size.{name_sizes, plain_sizes}
@@ -19,7 +19,7 @@ use Rattle.durability.specs.Formats.{Block}
 use Rattle.durability.specs.Volume.{blocks_for}
 use Rattle.durability.specs.Plan.{zeros, packed, Writing, Written, IsClearStart, IsPlaced, WritesNode, WritesNodes}
 use Rattle.durability.proofs.Packed.{length-packed}
-use Rattle.recover.specs.Nodes.{is_directory, links_of}
+use Rattle.recover.specs.Nodes.{links_of}
 use Rattle.udf.specs.Said.{names_directory, said_entries}
 use Rattle.udf.specs.Udf.{udf, HoldsDirectory}
 use Rattle.udf.proofs.Said.{directories_agree}

@@ -19,7 +19,7 @@ use crate::change::{NewDirectory, NewFile};
 use crate::layout::{PlacedDirectory, PlacedFile};
 use ecma::Timestamp;
 use icb::{FileEntry, Kind, Place, PlannedEntry};
-use recover::{Extent, block_count, link_count};
+use recover::{Extent, block_count};
 use vat::clear_start;
 
 /// The most bytes of a file that stand inside its entry.
@@ -114,7 +114,8 @@ impl Numbers {
         ensures most { self.new.next ≤ self.old.next + needs.directory_need directory }
         ensures end { self.new.end ≡ self.old.end }
     {
-        let size = directory.content.dir.data_size();
+        let content = &directory.content;
+        let size = content.identifiers.data_size(&content.dir);
         let extent = Extent {
             first: self.next,
             size: size.bytes() as u32,
@@ -160,12 +161,13 @@ fn directory_entry(directory: &NewDirectory, extent: Extent) -> PlannedEntry<'st
     ensures says { SaysPlace directory.now.address extent directory.now.moment result }
     ensures written { WritesNode udf (directory_writing directory.now) extent.first (directory_blocks directory.now.content.dir extent.first ++ result ∷ []) (extent.first + div_ceil extent.size BLOCK_BYTES) }
 {
+    let content = &directory.content;
     // Read so that the proof has that it is of 32 bits.
-    let _parent = directory.content.dir.parent;
+    let _parent = content.dir.parent;
     let entry = FileEntry {
         kind: Kind::Directory,
         moment: directory.moment,
-        links: link_count(&directory.content.dir),
+        links: 1 + content.identifiers.directory_count(&content.dir),
         unique: u64::from(directory.unique),
         size: extent.size,
         place: Place::Extent(extent.first),

@@ -7,9 +7,6 @@ ghost use Rattle.drive.specs.Journal.{next_of, written, AddsFront};
 ghost use Rattle.drive.specs.Reads.{Reads, Writes};
 ghost use Rattle.drive.specs.Sending.{SendsAlone};
 ghost use Rattle.drive.specs.Waiting.{end_of, Takes, Stops};
-ghost use Rattle.osta.specs.Compressed.{compressed};
-ghost use Rattle.dir.specs.Directory.{IsEntry};
-ghost use Rattle.dir.specs.Identifier.{plain_size};
 ghost use Rattle.dir.specs.Size.{name_sizes, plain_sizes};
 ghost use Rattle.durability.specs.Formats.Kind.{Table};
 ghost use Rattle.durability.specs.Formats.NodePlace.{Extent};
@@ -32,13 +29,11 @@ use crate::change::{Change, NewDirectory, NewFile};
 use crate::layout::{PlacedDirectory, PlacedFile, PlacedTable};
 use crate::places::{Numbers, outside_of};
 use crate::write::Writer;
-use dir::Entry;
 use directories::Content;
 use drive::{Drive, DriveFault};
 use ecma::Timestamp;
 use icb::{FileEntry, Kind, Place, PlannedEntry};
 use next_vat::{Node, add_node, copied, keep_reply, place_node, remove_node};
-use osta::Name;
 use recover::{PARTITION_START, StoreFault, block_count, cause, damaged};
 use request::{Reply, Request};
 use std::alloc::Global;
@@ -336,26 +331,9 @@ fn identifiers_size(content: &Content) -> u64
     ensures size { result ≡ 40 + plain_sizes (name_sizes content.now.dir.entries.entries) }
     ensures proper { IsProper content.now.dir }
 {
-    let entries = &content.dir.entries;
-    let mut size = 40;
-    for i in 0..entries.len() {
-        let (name, entry) = entries.get_index(i).unwrap();
-        size += identifier_size(name, *entry);
-    }
-    size
-}
-
-/// The bytes of a name's identifier, not lengthened.
-fn identifier_size(name: &Name, entry: Entry) -> u64
-    ensures size { result ≡ plain_size (length (compressed name.now)) }
-    ensures few { result ≤ 296 }
-    ensures entry { IsEntry (name.now, entry) }
-{
-    let Entry { icb, unique, .. } = entry;
-    // Both are read so that the proof has what a name and its numbers are within.
-    let _text = name.as_str();
-    let _said = (icb, unique);
-    (38 + name.compressed().len() as u64).div_ceil(4) * 4
+    // Asked so that the proof has that no name is there twice.
+    let _many = content.dir.entries.len();
+    40 + content.identifiers.plain_size(&content.dir) as u64
 }
 
 /// Places a file, if one is written, at this moment, and enters it in the table. The table of the state before stands at

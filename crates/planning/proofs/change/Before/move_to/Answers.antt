@@ -221,6 +221,14 @@ returns-clause-kept g c honest kept =
     let b3 = behind_more J J2 J3 c.args.directories.now c.set_parent.new.directories c.open-2.new.directories (g.D.Drive.honest c.args.drive.now) (g.D.Drive.honest c.set_parent.new.drive) (g.D.Drive.honest c.open-2.new.drive) b2 c.in_ok-losing.ensures.reads.journal c.in_ok-losing.ensures.reads.honest c.in_ok-losing.ensures.kept in
     b3.kept honest kept
 
+pub returns-in_default-clause-reads : goal.returns-in_default-clause-reads
+returns-in_default-clause-reads g c = rw c.damaged.ensures.failures (reads_then c.in_ok-target.ensures.reads (reads_then c.in_ok-set_parent.ensures.reads c.in_ok-losing.ensures.reads))
+
+pub returns-in_err-clone-clause-reads : goal.returns-in_err-clone-clause-reads
+returns-in_err-clone-clause-reads g c =
+    let p = err_from_is_err_and c.from_residual-in_err-clone.result c.from_residual-in_err-clone.ensures.1 in
+    rw (p.1, p.2) (reads_then c.in_ok-target.ensures.reads (reads_then c.in_ok-set_parent.ensures.reads c.in_ok-losing.ensures.reads))
+
 pub returns-in_err-add-clause-reads : goal.returns-in_err-add-clause-reads
 returns-in_err-add-clause-reads g c =
     let p = err_from_is_err_and c.from_residual-in_err-add.result c.from_residual-in_err-add.ensures.1 in

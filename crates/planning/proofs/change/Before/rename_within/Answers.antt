@@ -31,6 +31,11 @@ returns-in_err-add-clause-short g c tree from to s w =
     let p = err_from_is_err_and c.from_residual-in_err-add.result c.from_residual-in_err-add.ensures.1 in
     rw p.1 (inr (p.2 ∙ c.in_err-add.ensures.memory))
 
+pub returns-in_err-push-clause-short : goal.returns-in_err-push-clause-short
+returns-in_err-push-clause-short g c tree from to s w =
+    let p = err_from_is_err_and c.from_residual-in_err-push.result c.from_residual-in_err-push.ensures.1 in
+    rw p.1 (inr p.2)
+
 pub returns-clause-does : goal.returns-clause-does
 returns-clause-does g c tree from to identity s w =
     let at = c.args.self.now.nodes.at in
