@@ -1,7 +1,7 @@
 -- A directory that is laid block by block.
 use Rattle.std.proofs.Common.{◌≡◌, ℕ, suc, ◌+◌, ◌-◌, ◌<◌, ◌≤◌, List, [], ◌∷◌, ◌++◌, length, take, drop, get_or, replicate, map, Some, None, true, false, zero, not, refl, subst, sym, ap, ◌∙◌, append_assoc, arith, inl, inr}
-use Rattle.std.specs.Prelude.{Bool, ◌⊎◌, Option, slice_get, if◌then◌else◌}
-use Rattle.std.specs.Option.{is_some, option_map}
+use Rattle.std.specs.Prelude.{Bool, ◌⊎◌, IfSome, Option, slice_get, if◌then◌else◌}
+use Rattle.std.specs.Option.{ForSome, is_some, option_map}
 use Rattle.std.proofs.lemmas.Bool.{cases_lt}
 use Rattle.std.proofs.lemmas.List.{append-nil, take-append-drop, take_at, drop_at, take_all, get_or_append_left, get_or-take, length-append, length-replicate, length-take, length-map}
 use Rattle.ecma.specs.Descriptor.{padded}
@@ -14,7 +14,7 @@ use Rattle.dir.specs.Identifier.{Identifier, plain_size, identifier}
 use Rattle.dir.specs.Directory.{identifiers, identifiers_of, of_name}
 use Rattle.dir.specs.Layout.{fits, stays, laid, onward, blocks_of, blocked, identifier_blocks, Stands, end_of}
 use Rattle.dir.specs.Item.{said}
-use Rattle.dir.specs.Laying.{identifiers_left}
+use Rattle.dir.specs.Laying.{identifiers_left, left_of, IsFilled, IsFilledTo}
 use Rattle.ecma.specs.Numbers.{u16_at}
 use Rattle.dir.proofs.Spelled.{length-identifier, tag-identifier}
 use Rattle.dir.proofs.Placing.{plain_bounds, laid-put, laid-nil, onward-nil, onward-full, onward-within, stands_within, stands_next}
@@ -124,19 +124,6 @@ pub said_past : (o : Option Item) (xs : List Identifier) (n : ℕ) → option_ma
 said_past None xs n e is = sym e
 said_past (Some i) xs n e is = absurd (cc)
 
--- a block is filled up to a place: what was left at its start is what stands in it and what is still left
-pub record IsFilled (start here : Lay) (at : ℕ) (block : List ℕ) : Type 0 where
-  pub within : at ≤ 2048
-  pub dir : here.dir ≡ start.dir
-  pub number : here.number ≡ start.number
-  pub before : at ≡ 0 → here.next ≡ start.next
-  pub further : 0 < at → start.next < here.next
-  pub long : 0 < at → 38 ≤ at
-  pub tagged : 0 < at → u16_at 0 block ≡ 257
-  pub filled : laid start.number 0 (identifiers_left start) ≡ take at block ++ onward start.number at (identifiers_left here)
-  pub stood : at < 2048 → Stands at (identifiers_left here)
-  pub size : length block ≡ 2048
-
 -- the identifier of a name stands behind the parent's
 pub identifier_at : (parent : ℕ) (entries : List (List ℕ × Entry)) (index : ℕ) (text : List ℕ) (e : Entry) → Some (text, e) ≡ slice_get entries index
     → slice_get (identifiers parent entries) (index + 1) ≡ Some (of_name text e)
@@ -150,15 +137,24 @@ identifier_at parent entries index text e there =
     mapped (p ∷ es) zero q = let same : (text, e) ≡ p = cc in ap (λ (r : List ℕ × Entry). Some (of_name r.0 r.1)) (sym same)
     mapped (p ∷ es) (suc k) q = mapped es k q
 
--- where none is left, at least one was put
-pub begun : (start here : Lay) (at : ℕ) (block : List ℕ) → IsFilled start here at block → is_some start.item ≡ true
-    → slice_get (identifiers_of here.dir.now) here.next ≡ None → 0 < at
-begun start here at block f some none =
+-- no more is put into a block that is filled up to there: it is full, or none is left
+pub record IsOver (start here : Lay) (at : ℕ) (block : List ℕ) : Type 0 where
+  pub filled : IsFilled start here at block
+  pub over : (at ≡ 2048) ⊎ (slice_get (identifiers_of here.dir.now) here.next ≡ None)
+
+-- at least one was put then
+pub begun : (start here : Lay) (at : ℕ) (block : List ℕ) → IsOver start here at block → is_some start.item ≡ true → 0 < at
+begun start here at block over some =
+    let f = over.filled in
     let ids = identifiers_of start.dir.now in
-    let same : slice_get ids here.next ≡ None = ap (λ (d : Bor Dir). slice_get (identifiers_of d.now) here.next) (sym f.dir) ∙ none in
-    let first = said_within start.item ids start.next start.said some in
-    let past = none_past ids here.next same in
-    elim (cases_lt 0 at) [ inl less ↦ less | inr none_put ↦ let there = f.before (omega arith) in absurd (omega arith) ]
+    elim over.over [
+      | inl full ↦ omega arith
+      | inr none ↦
+          let same : slice_get ids here.next ≡ None = ap (λ (d : Bor Dir). slice_get (identifiers_of d.now) here.next) (sym f.dir_is) ∙ none in
+          let first = said_within start.item ids start.next start.said some in
+          let past = none_past ids here.next same in
+          elim (cases_lt 0 at) [ inl less ↦ less | inr none_put ↦ let there = f.before (omega arith) in absurd (omega arith) ]
+    ]
 
 -- where an identifier that was put ends
 pub put_end : (at end behind : ℕ) (x : Identifier) (rest : List Identifier) (full : Bool) → end ≡ at + plain_size (length x.name)
@@ -171,32 +167,51 @@ put_end at end behind x rest full end-is full-is behind-is =
     turned true = end-is
     turned false = refl
 
+-- what stands in a block up to a place is all that its filling is of
+pub filled_front : (start : Lay) (dir : Bor Dir) (next number at : ℕ) (block written : List ℕ) → IsFilledTo start dir next number at block
+    → take at written ≡ take at block → length written ≡ 2048 → IsFilledTo start dir next number at written
+filled_front start dir next number at block written f same len =
+    let byte : (k : ℕ) → k < at → get_or written k 0 ≡ get_or block k 0 =
+    λ (k : ℕ) (lt : k < at). sym (get_or-take at written k 0 lt) ∙ ap (λ (t : List ℕ). get_or t k 0) same ∙ get_or-take at block k 0 lt in
+    record {
+      within = f.within;
+      dir_is = f.dir_is;
+      number_is = f.number_is;
+      before = f.before;
+      further = f.further;
+      long = f.long;
+      tagged = λ (some : 0 < at).
+          let long = f.long some in
+          omega (arith, f.tagged some, byte 0 (omega arith), byte 1 (omega arith));
+      filled = f.filled ∙ ap (λ (t : List ℕ). t ++ onward start.number at (left_of dir.now next)) (sym same);
+      stood = f.stood;
+      size = len;
+    }
+
 -- one identifier more is put
-pub filled_more : (start here new : Lay) (at end : ℕ) (block written : List ℕ) (x : Identifier) → IsFilled start here at block → at < 2048
-    → slice_get (identifiers_of here.dir.now) here.next ≡ Some x → length x.name ≤ 255
-    → new.dir ≡ here.dir → new.next ≡ here.next + 1 → new.number ≡ here.number
-    → end ≡ end_of at x (identifiers_left new) → end ≤ 2048 → at + plain_size (length x.name) ≤ end
-    → written ≡ take at block ++ (identifier here.number x (end - (at + plain_size (length x.name))) ++ drop end block)
-    → length written ≡ 2048 → IsFilled start new end written
-filled_more start here new at end block written x f inside there short dir next number end-is few onwards put len =
-    let ids = identifiers_of here.dir.now in
-    let rest = identifiers_left new in
+pub filled_more : (start : Lay) (dir : Bor Dir) (before next number at end : ℕ) (block written : List ℕ) (x : Identifier) → IsFilledTo start dir before number at block → at < 2048
+    → slice_get (identifiers_of dir.now) before ≡ Some x → length x.name ≤ 255 → next ≡ before + 1
+    → end ≡ end_of at x (left_of dir.now next) → end ≤ 2048 → at + plain_size (length x.name) ≤ end
+    → written ≡ take at block ++ (identifier number x (end - (at + plain_size (length x.name))) ++ drop end block)
+    → length written ≡ 2048 → IsFilledTo start dir next number end written
+filled_more start dir before next number at end block written x f inside there short next_more end-is few onwards put len =
+    let ids = identifiers_of dir.now in
+    let rest = left_of dir.now next in
     let more = end - (at + plain_size (length x.name)) in
-    let one = identifier here.number x more in
+    let one = identifier number x more in
     let bounds = plain_bounds (length x.name) in
-    let next_is : new.next ≡ suc here.next = omega arith in
-    let same : rest ≡ drop (suc here.next) ids =
-    ap (λ (n : ℕ). drop n (identifiers_of new.dir.now)) next_is ∙ ap (λ (d : Bor Dir). drop (suc here.next) (identifiers_of d.now)) dir in
-    let left : identifiers_left here ≡ x ∷ rest = drop_some ids here.next x there ∙ ap (λ (t : List Identifier). x ∷ t) (sym same) in
+    let next_is : next ≡ suc before = omega arith in
+    let same : rest ≡ drop (suc before) ids = ap (λ (n : ℕ). drop n ids) next_is in
+    let left : left_of dir.now before ≡ x ∷ rest = drop_some ids before x there ∙ ap (λ (t : List Identifier). x ∷ t) (sym same) in
     let stood : Stands at (x ∷ rest) = subst (λ (t : List Identifier). Stands at t) left (f.stood inside) in
     let room = stands_within at x rest short (omega arith) stood in
     let sized : length block ≡ 2048 = f.size in
     let at_size : length (take at block) ≡ at = omega (arith, length-take at block) in
-    let one_size : length one ≡ plain_size (length x.name) + more = length-identifier here.number more x in
+    let one_size : length one ≡ plain_size (length x.name) + more = length-identifier number more x in
     let front : take end written ≡ take at block ++ one =
     ap (take end) (put ∙ sym (append_assoc (take at block) one (drop end block)))
     ∙ take_at (take at block ++ one) (drop end block) end (omega (arith, length-append (take at block) one)) in
-    let further : start.next < new.next =
+    let further : start.next < next =
     elim (cases_lt 0 at) [ inl some ↦ let less = f.further some in omega arith | inr none ↦ let start_is = f.before (omega arith) in omega arith ] in
     let front_byte : (k : ℕ) → k < at → get_or written k 0 ≡ get_or block k 0 =
     λ (k : ℕ) (lt : k < at).
@@ -208,13 +223,13 @@ filled_more start here new at end block written x f inside there short dir next 
           omega (arith, told, front_byte 0 (omega arith), front_byte 1 (omega arith))
       | inr none ↦
           let start_is : at ≡ 0 = omega arith in
-          ap (u16_at 0) (put ∙ ap (λ (n : ℕ). take n block ++ (one ++ drop end block)) start_is) ∙ tag-identifier here.number more x (drop end block)
+          ap (u16_at 0) (put ∙ ap (λ (n : ℕ). take n block ++ (one ++ drop end block)) start_is) ∙ tag-identifier number more x (drop end block)
     ] in
     let end_more : end_of at x rest - (at + plain_size (length x.name)) ≡ more = omega arith in
     record {
       within = few;
-      dir = dir ∙ f.dir;
-      number = number ∙ f.number;
+      dir_is = f.dir_is;
+      number_is = f.number_is;
       before = λ (e : end ≡ 0). absurd (omega arith);
       further = λ (lt : 0 < end). further;
       long = λ (lt : 0 < end). omega arith;
@@ -223,9 +238,26 @@ filled_more start here new at end block written x f inside there short dir next 
           f.filled ∙ ap (λ (t : List ℕ). take at block ++ t) (ap (onward start.number at) left ∙ onward-within start.number at (x ∷ rest) inside
           ∙ laid-put start.number at x rest room
           ∙ ap (λ (m : ℕ). identifier start.number x m ++ onward start.number (end_of at x rest) rest) end_more
-          ∙ ap (λ (n : ℕ). identifier n x more ++ onward start.number (end_of at x rest) rest) (sym f.number)
+          ∙ ap (λ (n : ℕ). identifier n x more ++ onward start.number (end_of at x rest) rest) (sym f.number_is)
           ∙ ap (λ (n : ℕ). one ++ onward start.number n rest) (sym end-is))
           ∙ sym (append_assoc (take at block) one (onward start.number end rest)) ∙ ap (λ (t : List ℕ). t ++ onward start.number end rest) (sym front);
       stood = λ (lt : end < 2048). subst (λ (n : ℕ). Stands n rest) (sym end-is) (stands_next at x rest (omega arith));
       size = len;
     }
+
+-- the same of a directory that is laid
+pub filled_put : (start here new : Lay) (at end : ℕ) (block written : List ℕ) (x : Identifier) → IsFilled start here at block → at < 2048
+    → slice_get (identifiers_of here.dir.now) here.next ≡ Some x → length x.name ≤ 255
+    → new.dir ≡ here.dir → new.next ≡ here.next + 1 → new.number ≡ here.number
+    → end ≡ end_of at x (identifiers_left new) → end ≤ 2048 → at + plain_size (length x.name) ≤ end
+    → written ≡ take at block ++ (identifier here.number x (end - (at + plain_size (length x.name))) ++ drop end block)
+    → length written ≡ 2048 → IsFilled start new end written
+filled_put start here new at end block written x f inside there short dir next number end-is few onwards put len =
+    let filled = filled_more start here.dir here.next new.next here.number at end block written x f inside there short next
+    (end-is ∙ ap (λ (d : Bor Dir). end_of at x (left_of d.now new.next)) dir) few onwards put len in
+    subst (λ (d : Bor Dir). IsFilledTo start d new.next new.number end written) (sym dir)
+    (subst (λ (n : ℕ). IsFilledTo start here.dir new.next n end written) (sym number) filled)
+
+-- what is said of a name that is found
+pub short_said : (found : Option Item) → IfSome found (λ item. length item.name.now ≤ 255) → ForSome found (λ item. length item.name.now ≤ 255)
+short_said found short v is = subst (λ (o : Option Item). IfSome o (λ item. length item.name.now ≤ 255)) is short

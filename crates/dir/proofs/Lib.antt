@@ -11,6 +11,7 @@ pub mod Directories
 pub mod Refusals
 pub mod Filling
 pub mod Fronts
+pub mod Runs
 pub mod Sizes
 pub mod Once
 pub mod Begins

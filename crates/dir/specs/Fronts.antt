@@ -6,6 +6,7 @@ use Rattle.dir.specs.declared.kept.Identifiers.{Identifiers}
 use Rattle.dir.specs.Identifier.{Identifier, identifier}
 use Rattle.dir.specs.Directory.{of_name, directory_count, IsEntry}
 use Rattle.dir.specs.Size.{end_of, data_end, name_sizes}
+use Rattle.osta.specs.Compressed.{compressed}
 
 -- an identifier for the block number 0, not lengthened
 abbrev pub plain : Identifier → List ℕ
@@ -32,3 +33,8 @@ pub record IsFront (ids : Identifiers) (entries : List (List ℕ × Entry)) : Ty
   pub size : end_of ids.size ≡ data_end (take ids.count (name_sizes entries))
   pub full : (end_of ids.size).full ≤ ids.count - 1
   pub directories : ids.directories ≡ directory_count (take ids.count entries)
+
+-- so many of a directory's names may be kept: that many there are, and each is short
+pub record AreKnown (known : ℕ) (entries : List (List ℕ × Entry)) : Type 0 where
+  pub few : known ≤ length entries
+  pub short : All (λ (e : List ℕ × Entry). length (compressed e.0) ≤ 255) (take known entries)

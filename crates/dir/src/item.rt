@@ -154,7 +154,7 @@ impl Item<'_> {
 }
 
 /// Moves an identifier from block 0 to the block of this number. Its check covers no byte of the tag.
-fn relocate(number: u32, bytes: &mut [u8])
+pub(crate) fn relocate(number: u32, bytes: &mut [u8])
     requires { TAG_SIZE ≤ length bytes.old }
     ensures { (x : Identifier) → bytes.old ≡ identifier 0 x 0 → bytes.new ≡ identifier number x 0 }
 {

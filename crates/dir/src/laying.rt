@@ -1,14 +1,16 @@
 //! A directory as blocks, one by one.
 
 ghost use Rattle.limits.specs.declared.TheConstants.{BLOCK_BYTES, DIRECTORY_NAMES, PARTITION_BLOCKS};
-ghost use Rattle.std.specs.Prelude.{◌≡◌, ◌+◌, ◌-◌, ◌≤◌, ◌++◌, length, take, replicate, slice_get, IfSome};
+ghost use Rattle.std.specs.Prelude.{min, ◌≡◌, ◌+◌, ◌-◌, ◌<◌, ◌≤◌, ◌++◌, drop, length, take, replicate, slice_get, IfSome};
 ghost use Rattle.std.specs.Option.{ForSome, option_map};
 ghost use Rattle.dir.specs.Directory.{identifiers_of};
-ghost use Rattle.dir.specs.Fronts.{AreLeft};
+ghost use Rattle.dir.specs.Fronts.{AreKnown, AreLeft};
+ghost use Rattle.dir.specs.Identifier as spec;
+ghost use Rattle.dir.specs.Split.{name_size};
 ghost use Rattle.dir.specs.Item.{said};
 
 use crate::entry::Dir;
-use crate::item::Item;
+use crate::item::{Item, relocate};
 use crate::kept::Identifiers;
 use crate::size::{BLOCK_SIZE, fits, plain_size};
 use ecma::Block;
@@ -18,6 +20,9 @@ pub const MAX_NAMES: usize = limits::DIRECTORY_NAMES as usize;
 
 /// The blocks of the largest partition.
 pub const MAX_BLOCKS: u32 = limits::PARTITION_BLOCKS;
+
+/// Where an identifier has the length of its name.
+const NAME_SIZE: usize = 19;
 
 /// The blocks of a directory in order, each made when it is asked for. It takes no memory.
 #[derive(Drop)]
@@ -38,6 +43,7 @@ pub struct Lay<'a> {
     ghost numbers: { number ≤ PARTITION_BLOCKS + next },
     ghost said: { option_map said item ≡ slice_get (identifiers_of dir.now) next },
     ghost short: { ForSome item (λ item. length item.name.now ≤ 255) },
+    ghost known_are: { AreKnown known dir.now.entries.entries },
     ghost left: { AreLeft known next dir.now.entries.entries kept.now },
 }
 
@@ -48,8 +54,9 @@ impl<'a> Lay<'a> {
     ghost use Rattle.dir.specs.Directory.{directory_blocks, identifiers_of};
     ghost use Rattle.dir.specs.Item.{said};
     ghost use Rattle.dir.specs.Fronts.{IsFront};
-    ghost use Rattle.dir.specs.Laying.{blocks_left, identifiers_left};
-    ghost use Rattle.dir.specs.Layout.{end_of};
+    ghost use Rattle.dir.specs.Laying.{blocks_left, identifiers_left, IsFilled};
+    ghost use Rattle.dir.specs.Layout.{end_of, Stands};
+    ghost use Rattle.dir.specs.declared.laying.Lay.{Lay};
     ghost use Rattle.dir.specs.Identifier.{plain_size, identifier};
 
     /// The blocks of a directory of at most 512 names, the first of them having this number.
@@ -109,6 +116,7 @@ impl<'a> Lay<'a> {
         }
         let mut at = 0;
         while at < BLOCK_SIZE {
+            at = self.put_kept(at, block);
             let Some(item) = self.item else {
                 break;
             };
@@ -117,6 +125,39 @@ impl<'a> Lay<'a> {
         clear_behind(block, at);
         self.number += 1;
         true
+    }
+
+    /// Writes the next identifiers from a place of the block on that are kept, as long as the one behind each is kept too and
+    /// stays in the block, and says where they end. No name is looked at for them.
+    fn put_kept(&mut self, start: usize, block: &mut Block) -> usize
+        requires inside { start < BLOCK_BYTES }
+        requires stood { Stands start (identifiers_left self.old) }
+        ensures within { result < BLOCK_BYTES }
+        ensures onward { start ≤ result }
+        ensures filled { (from : Lay) → IsFilled from self.old start block.old → IsFilled from self.new result block.new }
+    {
+        if self.next == 0 || self.next >= self.known {
+            return start;
+        }
+        copy_front(self.kept, &mut block[start..]);
+        let mut at = start;
+        let mut next = self.next;
+        let mut kept = self.kept;
+        while next < self.known {
+            let (one, behind) = kept.split_at(kept_size(kept));
+            let end = at + one.len();
+            if !fits(kept_size(behind), BLOCK_SIZE - end) {
+                break;
+            }
+            relocate(self.number, &mut block[at..end]);
+            at = end;
+            kept = behind;
+            next += 1;
+        }
+        self.kept = kept;
+        self.next = next;
+        self.item = name_at(self.dir, next - 1);
+        at
     }
 
     /// Writes the next identifier at a place of the block, and says where it ends.
@@ -172,6 +213,22 @@ fn name_at(dir: &Dir, index: usize) -> Option<Item<'_>>
 {
     let (name, entry) = dir.entries.get_index(index)?;
     Some(Item::of_name(name, *entry))
+}
+
+/// How many bytes the identifier takes that bytes begin with, if it is not lengthened.
+fn kept_size(bytes: &[u8]) -> usize
+    requires { 20 ≤ length bytes.now }
+    ensures { result ≡ spec.plain_size (name_size bytes.now) }
+{
+    plain_size(usize::from(bytes[NAME_SIZE]))
+}
+
+/// Writes bytes over the front of others, as far as these reach.
+fn copy_front(bytes: &[u8], into: &mut [u8])
+    ensures { let count = min (length bytes.now) (length into.old) in into.new ≡ take count bytes.now ++ drop count into.old }
+{
+    let count = bytes.len().min(into.len());
+    into[..count].copy_from_slice(&bytes[..count]);
 }
 
 /// Clears a block from a place on.

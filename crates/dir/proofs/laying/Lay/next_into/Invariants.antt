@@ -1,5 +1,5 @@
 use Rattle.std.proofs.Common.{◌-◌}
-use Rattle.dir.proofs.Filling.{IsFilled}
+use Rattle.dir.specs.Laying.{IsFilled}
 use Rattle.dir.proofs.laying.Lay.next_into.Given as goal
 
 abbrev pub invariant-loop-at : goal.invariant-loop-at

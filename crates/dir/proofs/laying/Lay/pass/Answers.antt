@@ -1,15 +1,9 @@
-use Rattle.std.proofs.Common.{◌<◌, ◌≤◌, ◌∙◌, arith, inl, inr, length, subst}
-use Rattle.std.specs.Prelude.{Option, IfSome}
-use Rattle.std.specs.Option.{ForSome}
-use Rattle.dir.specs.declared.item.Item.{Item}
+use Rattle.std.proofs.Common.{◌<◌, ◌∙◌, arith, inl, inr}
 use Rattle.dir.specs.Directory.{identifiers_of}
 use Rattle.dir.specs.Item.{said}
-use Rattle.dir.proofs.Filling.{length-identifiers, some_within}
+use Rattle.dir.proofs.Filling.{length-identifiers, short_said, some_within}
 use Rattle.dir.proofs.Fronts.{left_unknown, left_known, left_within, left_taken, left_behind}
 use Rattle.dir.proofs.laying.Lay.pass.Goals as goal
-
-short_next : (found : Option Item) → IfSome found (λ item. length item.name.now ≤ 255) → ForSome found (λ item. length item.name.now ≤ 255)
-short_next found short v is = subst (λ (o : Option Item). IfSome o (λ item. length item.name.now ≤ 255)) is short
 
 pub invariant_of-self : goal.invariant_of-self
 invariant_of-self c =
@@ -19,7 +13,8 @@ invariant_of-self c =
       laid = omega (arith, c.if-next-eq0.true);
       numbers = omega (arith, self.numbers);
       said = c.name_at-self.ensures.value;
-      short = short_next c.name_at-self.result c.name_at-self.ensures.short;
+      short = short_said c.name_at-self.result c.name_at-self.ensures.short;
+      known_are = self.known_are;
       left = left_unknown self.known self.next self.dir.now.entries.entries self.kept.now (inl c.if-next-eq0.true) self.left;
     }
 
@@ -34,7 +29,8 @@ invariant_of-self-then-next-self c =
       laid = omega arith;
       numbers = omega (arith, self.numbers);
       said = c.name_at-self.ensures.value;
-      short = short_next c.name_at-self.result c.name_at-self.ensures.short;
+      short = short_said c.name_at-self.result c.name_at-self.ensures.short;
+      known_are = self.known_are;
       left = left_unknown self.known self.next dir.entries.entries self.kept.now (inr c.if-next-self.true) self.left;
     }
 
@@ -61,7 +57,8 @@ invariant_of-self-2 c =
       laid = omega arith;
       numbers = omega (arith, self.numbers);
       said = c.name_at-self.ensures.value;
-      short = short_next c.name_at-self.result c.name_at-self.ensures.short;
+      short = short_said c.name_at-self.result c.name_at-self.ensures.short;
+      known_are = self.known_are;
       left = c.split_at.ensures.back ∙ left_behind self.known self.next dir.entries.entries x self.kept.now c.plain_size.result c.plain_size.ensures first;
     }
 
