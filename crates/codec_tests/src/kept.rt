@@ -79,16 +79,6 @@ fn check_laid(
     Ok(())
 }
 
-/// Keeps the identifiers of all names.
-fn fill(rt: &impl Abort, dir: &Dir, identifiers: &mut Identifiers) -> Result<(), Fail>
-    requires { IsFront identifiers.old dir.now.entries.entries }
-    ensures { IsFront identifiers.new dir.now.entries.entries }
-{
-    assert!(rt; dir.entries.len() <= 512);
-    identifiers.fill(dir)?;
-    Ok(())
-}
-
 #[test]
 fn laid_by_what_is_kept(rt: HostRuntime) -> Result<(), Fail> {
     let alloc = rt.alloc();
@@ -96,11 +86,11 @@ fn laid_by_what_is_kept(rt: HostRuntime) -> Result<(), Fail> {
     let mut identifiers = Identifiers::new(alloc);
     add_all(&rt, alloc, &mut dir, &identifiers, 0, 150)?;
     check_laid(&rt, alloc, &dir, &identifiers)?;
-    fill(&rt, &dir, &mut identifiers)?;
+    identifiers.fill(&dir)?;
     check_laid(&rt, alloc, &dir, &identifiers)?;
     add_all(&rt, alloc, &mut dir, &identifiers, 150, 300)?;
     check_laid(&rt, alloc, &dir, &identifiers)?;
-    fill(&rt, &dir, &mut identifiers)?;
+    identifiers.fill(&dir)?;
     check_laid(&rt, alloc, &dir, &identifiers)?;
     assert_eq!(rt; dir.entries.len(), 300);
     Ok(())

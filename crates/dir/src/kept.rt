@@ -58,14 +58,18 @@ impl Identifiers {
         self.directories = 0;
     }
 
-    /// Adds those that are missing of the directory's names, as far as there is memory.
+    /// Adds those that are missing of the directory's names, as far as there is memory. Of more names than a directory of a
+    /// volume has, none is added.
     pub fn fill(&mut self, dir: &Dir) -> Result<(), AllocError>
-        requires few { length dir.now.entries.entries ≤ MAX_NAMES }
         requires front { IsFront self.old dir.now.entries.entries }
         ensures front { IsFront self.new dir.now.entries.entries }
         ensures all { OnOk result (self.new.count ≡ length dir.now.entries.entries) }
         ensures onward { self.old.count ≤ self.new.count }
     {
+        // What they add up to is counted in few bits.
+        if dir.entries.len() > MAX_NAMES {
+            return Err(AllocError);
+        }
         for index in self.count..dir.entries.len() {
             let (name, entry) = dir.entries.get_index(index).unwrap();
             self.push(name, *entry)?;
