@@ -17,3 +17,4 @@ pub mod Once
 pub mod Begins
 pub mod Short
 pub mod Sized
+pub mod Heads

@@ -1,5 +1,5 @@
 -- How bytes splits into identifiers.
-use Rattle.std.proofs.Common.{◌≡◌, ℕ, ◌+◌, ◌-◌, ◌≤◌, min, List, ◌++◌, length, take, drop, replicate, sym, ap, ◌∙◌, arith}
+use Rattle.std.proofs.Common.{◌≡◌, ℕ, ◌+◌, ◌-◌, ◌≤◌, min, List, [], ◌∷◌, ◌++◌, length, take, drop, replicate, refl, sym, ap, ◌∙◌, arith}
 use Rattle.std.proofs.lemmas.List.{drop-take, take-take, get_or-take, take_all, take_at, drop_at, take-append-drop, length-take, length-drop}
 use Rattle.dir.specs.declared.fids.Fid.{Fid}
 use Rattle.dir.specs.Identifier.{rounded, use_of}
@@ -118,3 +118,11 @@ use_shown fid whole =
     let n = length-use fid whole in
     let shown = whole.shown.implementation_use in
     (λ e. sym shown ∙ e ∙ ap use_of n, λ e. shown ∙ e ∙ ap use_of (sym n))
+
+-- none is one that lengthens by nothing
+empty_use : (used : List ℕ) → length used ≡ 0 → used ≡ use_of (length used)
+empty_use [] none = refl
+empty_use (byte ∷ used) none = absurd (omega arith)
+
+pub no_use : (fid : Fid) → IsWholeIdentifier fid → length fid.implementation_use.now ≡ 0 → IsUse fid.bytes.now
+no_use fid whole none = (use_shown fid whole).0 (empty_use fid.implementation_use.now none)

@@ -52,11 +52,15 @@ said_by bytes = record {
   unique = u32_at 32 bytes;
 }
 
+-- the fields are those of an identifier that says what the bytes say
+abbrev pub HasFields : List ℕ → Type 0
+HasFields bytes = IsAt 16 (head_of (slice_index bytes 18) (name_size bytes) (u32_at 24 bytes) (u32_at 32 bytes) (use_size bytes)) bytes
+
 -- the fields that say the same in each identifier, and the tag
 pub record HasHead (number : ℕ) (bytes : List ℕ) : Type 0 where
   pub «sealed» : Sealed 257 number bytes
   pub kind : IsKind (slice_index bytes 18)
-  pub fields : IsAt 16 (head_of (slice_index bytes 18) (name_size bytes) (u32_at 24 bytes) (u32_at 32 bytes) (use_size bytes)) bytes
+  pub fields : HasFields bytes
 
 -- an implementation use lengthens the identifier at a place to its block's end, since what comes behind it was not
 -- put into the block

@@ -4,9 +4,9 @@ ghost use Rattle.std.specs.Prelude.{◌≡◌, ◌↔◌, ◌+◌, ◌<◌, ◌^
 use crate::characteristics::Characteristics;
 use crate::entry::Entry;
 use crate::fault::DirFault;
-use crate::item::{FILE_IDENTIFIER, HEAD_SIZE, Item, VERSION};
+use crate::item::{FILE_IDENTIFIER, HEAD_SIZE, Item, has_fields};
 use crate::size::{BLOCK_SIZE, fits, plain_size, rounded};
-use ecma::{Block, EntityId, Field, LongAd, open_tag, stands_at, u16_at, u32_at};
+use ecma::{Block, EntityId, open_tag, u16_at, u32_at};
 use osta::Name;
 use std::alloc::Global;
 
@@ -63,29 +63,14 @@ impl<'a> Fid<'a> {
             return None;
         }
         let characteristics = Characteristics::read(self.bytes[18])?;
-        let icb = u32_at(self.bytes, 24);
-        let unique = u32_at(self.bytes, 32);
-        let head = [
-            Field::U16(VERSION),
-            Field::U8(self.bytes[18]),
-            Field::U8(self.bytes[19]),
-            Field::LongAd(LongAd {
-                length: 2048,
-                block: icb,
-                partition: 1,
-                flags: 0,
-                unique,
-            }),
-            Field::U16(u16_at(self.bytes, 36)),
-        ];
-        if !stands_at(&head, self.bytes, 16) {
+        if !has_fields(self.bytes) {
             return None;
         }
         Some(Item {
             name: self.name,
             characteristics,
-            icb,
-            unique,
+            icb: u32_at(self.bytes, 24),
+            unique: u32_at(self.bytes, 32),
         })
     }
 }
@@ -105,11 +90,11 @@ impl Fid<'_> {
         if !self.has_zeros() {
             return false;
         }
-        if !self.has_use() {
-            return false;
-        }
         if self.implementation_use.is_empty() {
             return true;
+        }
+        if !self.has_use() {
+            return false;
         }
         self.is_lengthened(at, behind)
     }

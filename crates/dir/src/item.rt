@@ -1,20 +1,21 @@
 //! One file identifier, as it is written.
 
 ghost use Rattle.limits.specs.declared.TheConstants.{BLOCK_BYTES};
-ghost use Rattle.std.specs.Prelude.{◌≡◌, ◌≤◌, length};
+ghost use Rattle.std.specs.Prelude.{◌≡◌, ◌↔◌, ◌≤◌, IsTrue, length};
 ghost use Rattle.dir.specs.Identifier.{Identifier, identifier, use_of};
+ghost use Rattle.dir.specs.Split.{HasFields};
 
 use crate::characteristics::Characteristics;
 use crate::entry::Entry;
 use bitflags::Flags;
 use byteorder::{ByteOrder, LittleEndian};
-use ecma::{EntityId, LongAd, TAG_SIZE, seal};
+use ecma::{EntityId, LongAd, TAG_SIZE, is_u16_at, is_u32_at, seal};
 use osta::Name;
 
 pub(crate) const FILE_IDENTIFIER: u16 = 257;
 
 /// The file version number of each identifier (ECMA-167 4/14.4.2).
-pub(crate) const VERSION: u16 = 1;
+const VERSION: u16 = 1;
 
 /// The bytes of an identifier in front of its implementation use.
 pub(crate) const HEAD_SIZE: usize = 38;
@@ -151,6 +152,24 @@ impl Item<'_> {
         LittleEndian::write_u16(&mut fields[20..], more); // 36 length of implementation use
         fields
     }
+}
+
+/// Whether the fields between tag and implementation use that are the same in each identifier stand
+/// in a whole one.
+pub(crate) fn has_fields(bytes: &[u8]) -> bool
+    requires { 38 ≤ length bytes.now }
+    ensures { IsTrue result ↔ HasFields bytes.now }
+{
+    if !is_u16_at(VERSION, bytes, 16) {
+        return false;
+    }
+    if !is_u32_at(2048, bytes, 20) {
+        return false;
+    }
+    if !is_u16_at(1, bytes, 28) {
+        return false;
+    }
+    is_u16_at(0, bytes, 30)
 }
 
 /// Moves an identifier from block 0 to the block of this number. Its check covers no byte of the tag.
