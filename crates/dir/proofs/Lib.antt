@@ -1,6 +1,5 @@
 pub mod Blocks
 pub mod Errors
-pub mod Zeros
 pub mod Spelled
 pub mod Splits
 pub mod Placing

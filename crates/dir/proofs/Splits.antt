@@ -4,10 +4,9 @@ use Rattle.std.proofs.lemmas.List.{drop-take, take-take, get_or-take, take_all, 
 use Rattle.dir.specs.declared.fids.Fid.{Fid}
 use Rattle.dir.specs.Identifier.{rounded, use_of}
 use Rattle.ecma.specs.EntityId.{developer}
-use Rattle.std.specs.Prelude.{Bool, IsTrue, ◌↔◌, EachIndex, slice_index}
+use Rattle.std.specs.Prelude.{Bool, IsTrue, ◌↔◌}
 use Rattle.std.specs.Str.{bytes_eq}
 use Rattle.std.proofs.lemmas.Slice.Eq.{bytes_eq-Decides}
-use Rattle.dir.proofs.Zeros.{zeros_from_each}
 use Rattle.dir.specs.Split.{Shows, IsSplit, IsWholeIdentifier, IsUse, name_size, use_size, size_of}
 
 -- a part of a front is that part of the whole
@@ -100,14 +99,14 @@ parts_from_use used e =
 
 -- the test of an implementation use
 pub use_tested : (used id behind : List ℕ) (m : ℕ) (r : Bool) → m ≡ min (length used) 32 → id ≡ take m used → behind ≡ drop m used
-    → EachIndex behind (λ k. slice_index behind k ≡ 0) → r ≡ bytes_eq id (take m developer) → IsTrue r ↔ (used ≡ use_of (length used))
+    → behind ≡ replicate (length behind) 0 → r ≡ bytes_eq id (take m developer) → IsTrue r ↔ (used ≡ use_of (length used))
 use_tested used id behind m r m-is id-is behind-is zeros tested =
     let decides = bytes_eq-Decides id (take m developer) in
     let front : id ≡ take (min (length used) 32) used = id-is ∙ ap (λ (n : ℕ). take n used) m-is in
     let known : take m developer ≡ take (min (length used) 32) developer = ap (λ (n : ℕ). take n developer) m-is in
     let tail : behind ≡ drop (min (length used) 32) used = behind-is ∙ ap (λ (n : ℕ). drop n used) m-is in
     let len : length behind ≡ length used - 32 = omega (arith, ap length tail, length-drop (min (length used) 32) used) in
-    let rest : drop (min (length used) 32) used ≡ replicate (length used - 32) 0 = sym tail ∙ zeros_from_each behind zeros ∙ ap (λ (n : ℕ). replicate n 0) len in (
+    let rest : drop (min (length used) 32) used ≡ replicate (length used - 32) 0 = sym tail ∙ zeros ∙ ap (λ (n : ℕ). replicate n 0) len in (
       λ so. use_from_parts used (sym front ∙ decides.0 (sym tested ∙ so) ∙ known) rest,
       λ e. tested ∙ decides.1 (front ∙ (parts_from_use used e).0 ∙ sym known),
     )

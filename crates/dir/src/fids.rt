@@ -1,12 +1,12 @@
 ghost use Rattle.limits.specs.declared.TheConstants.{BLOCK_BYTES};
-ghost use Rattle.std.specs.Prelude.{◌≡◌, ◌↔◌, ◌+◌, ◌<◌, ◌^◌, IsTrue, EachIndex, slice_index, length};
+ghost use Rattle.std.specs.Prelude.{◌≡◌, ◌↔◌, ◌+◌, ◌<◌, ◌^◌, IsTrue, length};
 
 use crate::characteristics::Characteristics;
 use crate::entry::Entry;
 use crate::fault::DirFault;
 use crate::item::{FILE_IDENTIFIER, HEAD_SIZE, Item, has_fields};
 use crate::size::{BLOCK_SIZE, fits, plain_size, rounded};
-use ecma::{Block, EntityId, open_tag, u16_at, u32_at};
+use ecma::{Block, EntityId, are_zeros, open_tag, u16_at, u32_at};
 use osta::Name;
 use std::alloc::Global;
 
@@ -146,13 +146,6 @@ impl Fid<'_> {
         }
         !fits(plain_size(usize::from(behind[19])), size)
     }
-}
-
-/// Whether each byte is zero.
-pub(crate) fn are_zeros(bytes: &[u8]) -> bool
-    ensures { IsTrue result ↔ EachIndex bytes.now (λ k. slice_index bytes.now k ≡ 0) }
-{
-    bytes.iter().all(|byte| *byte == 0)
 }
 
 /// The file identifiers of a directory's data in order, up to the first that passes the data's end

@@ -9,9 +9,9 @@ ghost use Rattle.dir.specs.declared.entry.Entry.{Entry};
 
 use crate::entry::Dir;
 use crate::fault::DirFault;
-use crate::fids::{Fids, are_zeros};
+use crate::fids::Fids;
 use crate::laying::{MAX_BLOCKS, MAX_NAMES};
-use ecma::Block;
+use ecma::{Block, are_zeros};
 use indexmap::IndexMap;
 use std::alloc::Global;
 

@@ -1,7 +1,6 @@
 use Rattle.std.proofs.Common.{◌≡◌, ◌*◌, ◌-◌, length, drop, replicate, ap, ◌∙◌, sym, arith}
 use Rattle.std.specs.List.{concat}
 use Rattle.std.proofs.lemmas.List.Concat.{concat_is}
-use Rattle.dir.proofs.Zeros.{zeros_from_each, each_from_zeros}
 use Rattle.dir.proofs.read.ends_in_zeros.Goals as goal
 
 pub returns : goal.returns
@@ -11,6 +10,6 @@ returns c =
     let is : behind ≡ drop size (concat c.args.blocks.now) =
     c.split_at.ensures.back ∙ ap (drop size) (c.as_flattened.ensures.value ∙ sym (concat_is c.args.blocks.now)) in
     let len : length behind ≡ 2048 * length c.args.blocks.now - size = omega (arith, c.split_at.ensures.back_len, c.as_flattened.ensures.len) in (
-      λ so. sym is ∙ zeros_from_each behind (c.are_zeros.ensures.0 so) ∙ ap (λ m. replicate m 0) len,
-      λ e. c.are_zeros.ensures.1 (each_from_zeros behind (2048 * length c.args.blocks.now - size) len (is ∙ e)),
+      λ so. sym is ∙ c.are_zeros.ensures.0 so ∙ ap (λ m. replicate m 0) len,
+      λ e. c.are_zeros.ensures.1 (is ∙ e ∙ ap (λ m. replicate m 0) (sym len)),
     )

@@ -1,8 +1,7 @@
-use Rattle.std.proofs.Common.{◌≡◌, ◌-◌, ◌∙◌, ℕ, List, length, take, drop, replicate, ap}
+use Rattle.std.proofs.Common.{◌≡◌, ◌-◌, ◌∙◌, ℕ, List, length, take, drop, replicate, sym, ap}
 use Rattle.std.specs.Str.{bytes_eq}
 use Rattle.std.proofs.lemmas.List.{length-replicate}
 use Rattle.dir.proofs.Splits.{parts_from_use, use_tested, use_shown}
-use Rattle.dir.proofs.Zeros.{each_from_zeros}
 use Rattle.dir.proofs.fids.Fid.has_use.Goals as goal
 
 pub returns-then-not-are_zeros : goal.returns-then-not-are_zeros
@@ -14,7 +13,7 @@ returns-then-not-are_zeros c =
           let parts = parts_from_use used ((use_shown c.args.self.now c.requires).1 is_use) in
           let zeros : behind ≡ replicate (length used - 32) 0 = c.split_at.ensures.back ∙ ap (λ m. drop m used) c.min-id_size.ensures ∙ parts.1 in
           let len : length behind ≡ length used - 32 = ap length zeros ∙ length-replicate (length used - 32) 0 in
-          absurd (let so = c.are_zeros.ensures.1 (each_from_zeros behind (length used - 32) len zeros) in cc),
+          absurd (let so = c.are_zeros.ensures.1 (zeros ∙ ap (λ m. replicate m 0) (sym len)) in cc),
     )
 
 pub returns : goal.returns
