@@ -1,5 +1,5 @@
 -- The fields between the tag and the implementation use, one by one.
-use Rattle.std.proofs.Common.{ℕ, ◌≤◌, List, [], ◌∷◌, ◌++◌, length, refl, arith}
+use Rattle.std.proofs.Common.{◌≡◌, get_or, ℕ, ◌≤◌, List, [], ◌∷◌, ◌++◌, length, refl, arith}
 use Rattle.std.specs.Prelude.{slice_index}
 use Rattle.std.specs.Int.{w16, w32, to_le_bytes}
 use Rattle.ecma.specs.Field.{IsAt}
@@ -63,3 +63,14 @@ fields_apart bytes has =
       partition = front_at 28 (to_le_bytes w16 1) (from_flags bytes) bytes partition;
       flags = front_at 30 (to_le_bytes w16 0) (from_unique bytes) bytes flags;
     }
+
+-- as many bytes as these fields take, one by one
+abbrev each_field : List ℕ → List ℕ
+each_field s =
+    get_or s 0 0 ∷ get_or s 1 0 ∷ get_or s 2 0 ∷ get_or s 3 0 ∷ get_or s 4 0 ∷ get_or s 5 0 ∷ get_or s 6 0 ∷ get_or s 7 0
+    ∷ get_or s 8 0 ∷ get_or s 9 0 ∷ get_or s 10 0 ∷ get_or s 11 0 ∷ get_or s 12 0 ∷ get_or s 13 0 ∷ get_or s 14 0 ∷ get_or s 15 0
+    ∷ get_or s 16 0 ∷ get_or s 17 0 ∷ get_or s 18 0 ∷ get_or s 19 0 ∷ get_or s 20 0 ∷ get_or s 21 0 ∷ []
+
+pub fields_each : (s : List ℕ) → length s ≡ 22 → s ≡ each_field s
+fields_each (a ∷ b ∷ c ∷ d ∷ e ∷ f ∷ g ∷ h ∷ i ∷ j ∷ k ∷ l ∷ m ∷ n ∷ o ∷ p ∷ q ∷ r ∷ s ∷ t ∷ u ∷ v ∷ []) long = refl
+fields_each _ long = absurd (omega arith)

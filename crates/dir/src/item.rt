@@ -9,13 +9,22 @@ use crate::characteristics::Characteristics;
 use crate::entry::Entry;
 use bitflags::Flags;
 use byteorder::{ByteOrder, LittleEndian};
-use ecma::{EntityId, LongAd, TAG_SIZE, is_u16_at, is_u32_at, seal};
+use ecma::{EntityId, TAG_SIZE, is_u16_at, is_u32_at, seal};
 use osta::Name;
 
 pub(crate) const FILE_IDENTIFIER: u16 = 257;
 
 /// The file version number of each identifier (ECMA-167 4/14.4.2).
 const VERSION: u16 = 1;
+
+/// The bytes of the extent that holds an entry.
+const EXTENT_LENGTH: u32 = limits::BLOCK_BYTES;
+
+/// The partition of that extent, the virtual one.
+const PARTITION: u16 = 1;
+
+/// The flags of that extent.
+const FLAGS: u16 = 0;
 
 /// The bytes of an identifier in front of its implementation use.
 pub(crate) const HEAD_SIZE: usize = 38;
@@ -126,31 +135,27 @@ impl Item<'_> {
     {
         let use_end = FIELDS_SIZE + usize::from(more);
         let name_end = use_end + self.name.len();
-        into[..FIELDS_SIZE].copy_from_slice(&self.fields(more));
+        self.write_fields(more, &mut into[..FIELDS_SIZE]);
         write_use(&mut into[FIELDS_SIZE..use_end]);
         into[use_end..name_end].copy_from_slice(self.name);
         into[name_end..].fill(0);
     }
 
-    /// The fields between the tag and the implementation use.
-    fn fields(&self, more: u16) -> [u8; FIELDS_SIZE]
+    /// Writes the fields between the tag and the implementation use, over all of the bytes.
+    fn write_fields(&self, more: u16, into: &mut [u8])
         requires name { length self.now.name.now ≤ 255 }
-        ensures { result ≡ head_of self.now.characteristics.0 (length self.now.name.now) self.now.icb self.now.unique more }
+        requires size { length into.old ≡ 22 }
+        ensures { into.new ≡ head_of self.now.characteristics.0 (length self.now.name.now) self.now.icb self.now.unique more }
     {
-        let icb = LongAd {
-            length: 2048,
-            block: self.icb,
-            partition: 1,
-            flags: 0,
-            unique: self.unique,
-        };
-        let mut fields = [0; FIELDS_SIZE];
-        LittleEndian::write_u16(&mut fields[..2], VERSION); // 16 file version number
-        fields[2] = self.characteristics.bits(); // 18 file characteristics
-        fields[3] = self.name.len() as u8; // 19 length of file identifier
-        fields[4..20].copy_from_slice(&icb.to_bytes()); // 20 ICB
-        LittleEndian::write_u16(&mut fields[20..], more); // 36 length of implementation use
-        fields
+        LittleEndian::write_u16(&mut into[..2], VERSION); // 16 file version number
+        into[2] = self.characteristics.bits(); // 18 file characteristics
+        into[3] = self.name.len() as u8; // 19 length of file identifier
+        LittleEndian::write_u32(&mut into[4..8], EXTENT_LENGTH); // 20 ICB: extent length
+        LittleEndian::write_u32(&mut into[8..12], self.icb); // 24 extent location: block number
+        LittleEndian::write_u16(&mut into[12..14], PARTITION); // 28 partition
+        LittleEndian::write_u16(&mut into[14..16], FLAGS); // 30 implementation use: flags
+        LittleEndian::write_u32(&mut into[16..20], self.unique); // 32 unique ID
+        LittleEndian::write_u16(&mut into[20..], more); // 36 length of implementation use
     }
 }
 
@@ -163,13 +168,13 @@ pub(crate) fn has_fields(bytes: &[u8]) -> bool
     if !is_u16_at(VERSION, bytes, 16) {
         return false;
     }
-    if !is_u32_at(2048, bytes, 20) {
+    if !is_u32_at(EXTENT_LENGTH, bytes, 20) {
         return false;
     }
-    if !is_u16_at(1, bytes, 28) {
+    if !is_u16_at(PARTITION, bytes, 28) {
         return false;
     }
-    is_u16_at(0, bytes, 30)
+    is_u16_at(FLAGS, bytes, 30)
 }
 
 /// Moves an identifier from block 0 to the block of this number. Its check covers no byte of the tag.
