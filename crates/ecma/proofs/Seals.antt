@@ -100,3 +100,13 @@ begins id loc body block d = omega (arith, tag_byte id loc body block d 0 (omega
 pub located : (id loc : ℕ) (body block : List ℕ) → IsDescriptor id loc body block → u32_at 12 block ≡ loc
 located id loc body block d =
     omega (arith, tag_byte id loc body block d 12 (omega arith), tag_byte id loc body block d 13 (omega arith), tag_byte id loc body block d 14 (omega arith), tag_byte id loc body block d 15 (omega arith), d.sealed.location)
+
+-- the bytes of a tag, one by one
+abbrev each_byte : List ℕ → List ℕ
+each_byte s =
+    get_or s 0 0 ∷ get_or s 1 0 ∷ get_or s 2 0 ∷ get_or s 3 0 ∷ get_or s 4 0 ∷ get_or s 5 0 ∷ get_or s 6 0 ∷ get_or s 7 0
+    ∷ get_or s 8 0 ∷ get_or s 9 0 ∷ get_or s 10 0 ∷ get_or s 11 0 ∷ get_or s 12 0 ∷ get_or s 13 0 ∷ get_or s 14 0 ∷ get_or s 15 0 ∷ []
+
+pub tag_each : (s : List ℕ) → length s ≡ 16 → s ≡ each_byte s
+tag_each (a ∷ b ∷ c ∷ d ∷ e ∷ f ∷ g ∷ h ∷ i ∷ j ∷ k ∷ l ∷ m ∷ n ∷ o ∷ p ∷ []) long = refl
+tag_each _ long = absurd (omega arith)

@@ -1,5 +1,6 @@
 use Rattle.std.proofs.Common.{refl}
-use Rattle.ecma.proofs.tag.tag_bytes.Goals as goal
+use Rattle.ecma.proofs.Seals.{tag_each}
+use Rattle.ecma.proofs.tag.write_tag.Goals as goal
 
 pub returns : goal.returns
 returns c =
@@ -11,4 +12,5 @@ returns c =
       c.write_u16-3.ensures,
       c.write_u16-2.ensures,
       c.write_u16.ensures,
+      tag_each c.args.into.now c.requires,
     ) refl
