@@ -1,4 +1,4 @@
-use Rattle.std.proofs.Common.{◌+◌, ◌∙◌, length, arith, ap}
+use Rattle.std.proofs.Common.{◌+◌, length, arith}
 use Rattle.std.proofs.lemmas.List.{length-take}
 use Rattle.dir.specs.Item.{said}
 use Rattle.dir.proofs.Spelled.{body_put}
