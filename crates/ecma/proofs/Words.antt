@@ -50,10 +50,10 @@ word_rest q = low_rest (q % 2 ^ 16)
 
 -- ---- each is that of a sum by summands
 
-shr : (k a b : ℕ) → (a ⊕ b) / 2 ^ k ≡ a / 2 ^ k ⊕ b / 2 ^ k
+pub shr : (k a b : ℕ) → (a ⊕ b) / 2 ^ k ≡ a / 2 ^ k ⊕ b / 2 ^ k
 shr k a b = xor_shr a b k
 
-pair : (f g : ℕ → ℕ) (a b : ℕ) → f (a ⊕ b) ≡ f a ⊕ f b → g (a ⊕ b) ≡ g a ⊕ g b → f (a ⊕ b) ⊕ g (a ⊕ b) ≡ (f a ⊕ g a) ⊕ (f b ⊕ g b)
+pub pair : (f g : ℕ → ℕ) (a b : ℕ) → f (a ⊕ b) ≡ f a ⊕ f b → g (a ⊕ b) ≡ g a ⊕ g b → f (a ⊕ b) ⊕ g (a ⊕ b) ≡ (f a ⊕ g a) ⊕ (f b ⊕ g b)
 pair f g a b e1 e2 = ap (λ (x : ℕ). x ⊕ g (a ⊕ b)) e1 ∙ ap (λ (x : ℕ). (f a ⊕ f b) ⊕ x) e2 ∙ middle (f a) (f b) (g a) (g b)
 
 by_eighth-sum : (a b : ℕ) → by_eighth (a ⊕ b) ≡ by_eighth a ⊕ by_eighth b
@@ -62,12 +62,12 @@ by_eighth-sum a b = pair (λ t. t) (λ t. t / 2 ^ 32) a b refl (shr 32 a b)
 by_fourth-sum : (a b : ℕ) → by_fourth (a ⊕ b) ≡ by_fourth a ⊕ by_fourth b
 by_fourth-sum a b = pair (λ t. t) (λ t. t / 2 ^ 16 ⊕ t / 2 ^ 44) a b refl (pair (λ t. t / 2 ^ 16) (λ t. t / 2 ^ 44) a b (shr 16 a b) (shr 44 a b))
 
-by_second-sum : (a b : ℕ) → by_second (a ⊕ b) ≡ by_second a ⊕ by_second b
+pub by_second-sum : (a b : ℕ) → by_second (a ⊕ b) ≡ by_second a ⊕ by_second b
 by_second-sum a b =
     pair (λ t. t ⊕ t / 2 ^ 8) (λ t. t / 2 ^ 22 ⊕ t / 2 ^ 32) a b
     (pair (λ t. t) (λ t. t / 2 ^ 8) a b refl (shr 8 a b)) (pair (λ t. t / 2 ^ 22) (λ t. t / 2 ^ 32) a b (shr 22 a b) (shr 32 a b))
 
-by_first-sum : (a b : ℕ) → by_first (a ⊕ b) ≡ by_first a ⊕ by_first b
+pub by_first-sum : (a b : ℕ) → by_first (a ⊕ b) ≡ by_first a ⊕ by_first b
 by_first-sum a b =
     pair (λ t. t ⊕ t / 2 ^ 4) (λ t. t / 2 ^ 11 ⊕ t / 2 ^ 16) a b
     (pair (λ t. t) (λ t. t / 2 ^ 4) a b refl (shr 4 a b)) (pair (λ t. t / 2 ^ 11) (λ t. t / 2 ^ 16) a b (shr 11 a b) (shr 16 a b))
@@ -79,13 +79,13 @@ word_quotient-sum a b =
     ∙ ap by_first (by_second-sum (by_fourth (by_eighth a)) (by_fourth (by_eighth b)))
     ∙ by_first-sum (by_second (by_fourth (by_eighth a))) (by_second (by_fourth (by_eighth b)))
 
-by_sixteenth-sum : (a b : ℕ) → by_sixteenth (a ⊕ b) ≡ by_sixteenth a ⊕ by_sixteenth b
+pub by_sixteenth-sum : (a b : ℕ) → by_sixteenth (a ⊕ b) ≡ by_sixteenth a ⊕ by_sixteenth b
 by_sixteenth-sum a b = pair (λ t. t) (λ t. t / 2 ^ 64) a b refl (shr 64 a b)
 
 wide_eighth-sum : (a b : ℕ) → wide_eighth (a ⊕ b) ≡ wide_eighth a ⊕ wide_eighth b
 wide_eighth-sum a b = pair (λ t. t) (λ t. t / 2 ^ 32 ⊕ t / 2 ^ 88) a b refl (pair (λ t. t / 2 ^ 32) (λ t. t / 2 ^ 88) a b (shr 32 a b) (shr 88 a b))
 
-wide_fourth-sum : (a b : ℕ) → wide_fourth (a ⊕ b) ≡ wide_fourth a ⊕ wide_fourth b
+pub wide_fourth-sum : (a b : ℕ) → wide_fourth (a ⊕ b) ≡ wide_fourth a ⊕ wide_fourth b
 wide_fourth-sum a b =
     pair (λ t. t ⊕ t / 2 ^ 16) (λ t. t / 2 ^ 44 ⊕ t / 2 ^ 64) a b
     (pair (λ t. t) (λ t. t / 2 ^ 16) a b refl (shr 16 a b)) (pair (λ t. t / 2 ^ 44) (λ t. t / 2 ^ 64) a b (shr 44 a b) (shr 64 a b))
@@ -106,29 +106,41 @@ low_rest-sum a b =
     pair (λ t. t ⊕ t * 2 ^ 5 % 2 ^ 16) (λ t. t * 2 ^ 12 % 2 ^ 16) a b
     (pair (λ t. t) (λ t. t * 2 ^ 5 % 2 ^ 16) a b refl (cut_shift 5 a b)) (cut_shift 12 a b)
 
-word_rest-sum : (a b : ℕ) → word_rest (a ⊕ b) ≡ word_rest a ⊕ word_rest b
+pub word_rest-sum : (a b : ℕ) → word_rest (a ⊕ b) ≡ word_rest a ⊕ word_rest b
 word_rest-sum a b = ap low_rest (xor_mod a b 16) ∙ low_rest-sum (a % 2 ^ 16) (b % 2 ^ 16)
 
 -- ---- so each is settled by its single terms
 
-abbrev product : (ℕ → ℕ) → ℕ → ℕ
-product quotient t = times_generator (quotient t) ⊕ word_rest (quotient t)
+-- what a quotient and a rest stand for
+abbrev pub product : (quotient rest : ℕ → ℕ) → ℕ → ℕ
+product quotient rest t = times_generator (quotient t) ⊕ rest t
 
-abbrev IsLinear : (ℕ → ℕ) → Type 0
-IsLinear quotient = (a b : ℕ) → quotient (a ⊕ b) ≡ quotient a ⊕ quotient b
+abbrev pub IsLinear : (ℕ → ℕ) → Type 0
+IsLinear f = (a b : ℕ) → f (a ⊕ b) ≡ f a ⊕ f b
 
-product-sum : (quotient : ℕ → ℕ) → IsLinear quotient → IsLinear (product quotient)
-product-sum quotient linear a b =
-    ap (λ (q : ℕ). times_generator q ⊕ word_rest q) (linear a b)
-    ∙ pair times_generator word_rest (quotient a) (quotient b) (times_generator-sum (quotient a) (quotient b)) (word_rest-sum (quotient a) (quotient b))
+product-sum : (quotient rest : ℕ → ℕ) → IsLinear quotient → IsLinear rest → IsLinear (product quotient rest)
+product-sum quotient rest linear rest-linear a b =
+    pair (λ t. times_generator (quotient t)) rest a b (ap times_generator (linear a b) ∙ times_generator-sum (quotient a) (quotient b)) (rest-linear a b)
 
-abbrev is_reduced : (ℕ → ℕ) → ℕ → Bool
-is_reduced quotient k = eqb (2 ^ k * 2 ^ 16) (product quotient (2 ^ k))
+abbrev pub is_reduced : (quotient rest : ℕ → ℕ) → ℕ → Bool
+is_reduced quotient rest k = eqb (2 ^ k * 2 ^ 16) (product quotient rest (2 ^ k))
 
-words_reduced : holds_below (is_reduced word_quotient) 64 ≡ true
+abbrev word_reduced : ℕ → ℕ
+word_reduced t = word_rest (word_quotient t)
+
+abbrev pair_reduced : ℕ → ℕ
+pair_reduced t = word_rest (pair_quotient t)
+
+word_reduced-sum : IsLinear word_reduced
+word_reduced-sum a b = ap word_rest (word_quotient-sum a b) ∙ word_rest-sum (word_quotient a) (word_quotient b)
+
+pair_reduced-sum : IsLinear pair_reduced
+pair_reduced-sum a b = ap word_rest (pair_quotient-sum a b) ∙ word_rest-sum (pair_quotient a) (pair_quotient b)
+
+words_reduced : holds_below (is_reduced word_quotient word_reduced) 64 ≡ true
 words_reduced = refl
 
-pairs_reduced : holds_below (is_reduced pair_quotient) 128 ≡ true
+pairs_reduced : holds_below (is_reduced pair_quotient pair_reduced) 128 ≡ true
 pairs_reduced = refl
 
 top_term : (n t : ℕ) → 2 ^ n ≤ t → t < 2 ^ n * 2 → 2 ^ n ⊕ (t - 2 ^ n) ≡ t
@@ -137,42 +149,43 @@ top_term n t low high =
     let joined = rw one at (xor_shifted 1 n (t - 2 ^ n) (omega arith)) in
     omega (arith, joined)
 
-reduced_below : (quotient : ℕ → ℕ) (count n t : ℕ) → IsLinear quotient → product quotient 0 ≡ 0 → holds_below (is_reduced quotient) count ≡ true
-    → n ≤ count → t < 2 ^ n → t * 2 ^ 16 ≡ product quotient t
-reduced_below quotient count zero t linear nothing all le lt =
+pub reduced_below : (quotient rest : ℕ → ℕ) (count n t : ℕ) → IsLinear quotient → IsLinear rest → product quotient rest 0 ≡ 0
+    → holds_below (is_reduced quotient rest) count ≡ true → n ≤ count → t < 2 ^ n → t * 2 ^ 16 ≡ product quotient rest t
+reduced_below quotient rest count zero t linear rest-linear nothing all le lt =
     let none : t ≡ 0 = omega arith in
     rw none (sym nothing)
-reduced_below quotient count (suc n) t linear nothing all le lt =
+reduced_below quotient rest count (suc n) t linear rest-linear nothing all le lt =
     let twice : 2 ^ suc n ≡ 2 ^ n * 2 = pow-suc 2 n in
+    let below = λ (x : ℕ) (less : x < 2 ^ n). reduced_below quotient rest count n x linear rest-linear nothing all (omega arith) less in
     elim (cases_lt t (2 ^ n)) [
-      | inl less ↦ reduced_below quotient count n t linear nothing all (omega arith) less
+      | inl less ↦ below t less
       | inr more ↦
           let low = t - 2 ^ n in
           let whole : 2 ^ n ⊕ low ≡ t = top_term n t more (omega arith) in
-          let term : 2 ^ n * 2 ^ 16 ≡ product quotient (2 ^ n) = eqb-true _ _ (one_below (is_reduced quotient) count n all (omega arith)) in
-          let rest = reduced_below quotient count n low linear nothing all (omega arith) (omega arith) in
+          let term : 2 ^ n * 2 ^ 16 ≡ product quotient rest (2 ^ n) = eqb-true _ _ (one_below (is_reduced quotient rest) count n all (omega arith)) in
           ap (λ (x : ℕ). x * 2 ^ 16) (sym whole) ∙ shift 16 (2 ^ n) low ∙ ap (λ (x : ℕ). x ⊕ low * 2 ^ 16) term
-          ∙ ap (λ (x : ℕ). product quotient (2 ^ n) ⊕ x) rest ∙ sym (product-sum quotient linear (2 ^ n) low) ∙ ap (product quotient) whole
+          ∙ ap (λ (x : ℕ). product quotient rest (2 ^ n) ⊕ x) (below low (omega arith))
+          ∙ sym (product-sum quotient rest linear rest-linear (2 ^ n) low) ∙ ap (product quotient rest) whole
     ]
 
-low_rest-lt : (low : ℕ) → low < 2 ^ 16 → low_rest low < 2 ^ 16
+pub low_rest-lt : (low : ℕ) → low < 2 ^ 16 → low_rest low < 2 ^ 16
 low_rest-lt low lt = xor_lt 16 (low ⊕ low * 2 ^ 5 % 2 ^ 16) (low * 2 ^ 12 % 2 ^ 16) (xor_lt 16 low (low * 2 ^ 5 % 2 ^ 16) lt (omega arith)) (omega arith)
 
 -- the remainder of as many bits as a word or a pair has, as shifts of these and then of 16 give it
 pub IsRemainder-word : (t : ℕ) → t < 2 ^ 64 → IsRemainder t (word_rest (word_quotient t))
 IsRemainder-word t fits = record {
   below = low_rest-lt (word_quotient t % 2 ^ 16) (omega arith);
-  divides = (word_quotient t, reduced_below word_quotient 64 64 t word_quotient-sum refl words_reduced (omega arith) fits);
+  divides = (word_quotient t, reduced_below word_quotient word_reduced 64 64 t word_quotient-sum word_reduced-sum refl words_reduced (omega arith) fits);
 }
 
 pub IsRemainder-pair : (t : ℕ) → t < 2 ^ 128 → IsRemainder t (word_rest (pair_quotient t))
 IsRemainder-pair t fits = record {
   below = low_rest-lt (pair_quotient t % 2 ^ 16) (omega arith);
-  divides = (pair_quotient t, reduced_below pair_quotient 128 128 t pair_quotient-sum refl pairs_reduced (omega arith) fits);
+  divides = (pair_quotient t, reduced_below pair_quotient pair_reduced 128 128 t pair_quotient-sum pair_reduced-sum refl pairs_reduced (omega arith) fits);
 }
 
 -- and that of a polynomial with more terms, by the one of its remainder with them
-more_terms : (j k p r new s : ℕ) → r * 2 ^ k ≡ r * 2 ^ j * 2 ^ 16 → (p * 2 ^ k + new) * 2 ^ 16 ≡ p * 2 ^ 16 * 2 ^ k ⊕ new * 2 ^ 16
+pub more_terms : (j k p r new s : ℕ) → r * 2 ^ k ≡ r * 2 ^ j * 2 ^ 16 → (p * 2 ^ k + new) * 2 ^ 16 ≡ p * 2 ^ 16 * 2 ^ k ⊕ new * 2 ^ 16
     → IsRemainder p r → IsRemainder (r * 2 ^ j ⊕ new) s → IsRemainder (p * 2 ^ k + new) s
 more_terms j k p r new s moved joined before reduced =
     IsRemainder-step k p r new reduced.divides.0 s joined (ap (λ (x : ℕ). x ⊕ new * 2 ^ 16) moved ∙ sym (shift 16 (r * 2 ^ j) new) ∙ reduced.divides.1) reduced.below before
@@ -215,7 +228,7 @@ all_reckoned bytes [] r none so_far = rw (so_far.whole, append-nil) so_far.remai
 all_reckoned bytes (byte ∷ rest) r none so_far = absurd (omega arith)
 
 -- with so many bytes more, as one number
-reckoned : (k : ℕ) (bytes rest behind first : List ℕ) (r s number : ℕ) → rest ≡ first ++ behind
+pub reckoned : (k : ℕ) (bytes rest behind first : List ℕ) (r s number : ℕ) → rest ≡ first ++ behind
     → ((front : List ℕ) → polynomial (front ++ first) ≡ polynomial front * 2 ^ k + number)
     → ((p : ℕ) → IsRemainder p r → IsRemainder (p * 2 ^ k + number) s) → IsReckoned bytes rest r → IsReckoned bytes behind s
 reckoned k bytes rest behind first r s number cut value step so_far =
@@ -261,15 +274,15 @@ word_reckoned bytes rest behind r s number long read cut =
     (λ front. eight_more rest front ∙ ap (λ (x : ℕ). polynomial front * 2 ^ 64 + x) (sym read))
 
 -- the first sixteen, one by one
-abbrev sixteen : List ℕ → List ℕ
+abbrev pub sixteen : List ℕ → List ℕ
 sixteen s = get_or s 0 0 ∷ get_or s 1 0 ∷ get_or s 2 0 ∷ get_or s 3 0 ∷ get_or s 4 0 ∷ get_or s 5 0 ∷ get_or s 6 0 ∷ get_or s 7 0
     ∷ get_or s 8 0 ∷ get_or s 9 0 ∷ get_or s 10 0 ∷ get_or s 11 0 ∷ get_or s 12 0 ∷ get_or s 13 0 ∷ get_or s 14 0 ∷ get_or s 15 0 ∷ []
 
-sixteen_first : (s : List ℕ) → 16 ≤ length s → s ≡ sixteen s ++ drop 16 s
+pub sixteen_first : (s : List ℕ) → 16 ≤ length s → s ≡ sixteen s ++ drop 16 s
 sixteen_first (a ∷ b ∷ c ∷ d ∷ e ∷ f ∷ g ∷ h ∷ i ∷ j ∷ k ∷ l ∷ m ∷ n ∷ o ∷ p ∷ s) long = refl
 sixteen_first _ long = absurd (omega arith)
 
-sixteen_more : (s front : List ℕ) → polynomial (front ++ sixteen s) ≡ polynomial front * 2 ^ 128 + big_number 16 s
+pub sixteen_more : (s front : List ℕ) → polynomial (front ++ sixteen s) ≡ polynomial front * 2 ^ 128 + big_number 16 s
 sixteen_more s front = rw fold-append (omega arith)
 
 pub pair_reckoned : (bytes rest behind : List ℕ) (r s number : ℕ) → 16 ≤ length rest → number ≡ big_number 16 rest → behind ≡ drop 16 rest
