@@ -11,8 +11,8 @@ use Rattle.ecma.proofs.Words.{by_first, by_second, wide_fourth, by_sixteenth, wo
 
 -- ---- the quotient of all 256 bits, once they stand from x^16 on
 
-abbrev quad_second : ℕ → ℕ
-quad_second t = t ⊕ t / 2 ^ 128
+abbrev by_thirty_second : ℕ → ℕ
+by_thirty_second t = t ⊕ t / 2 ^ 128
 
 abbrev quad_sixteenth : ℕ → ℕ
 quad_sixteenth t = t ⊕ (t / 2 ^ 64 ⊕ t / 2 ^ 176)
@@ -25,7 +25,7 @@ abbrev last_factors : ℕ → ℕ
 last_factors t = by_first (by_second (wide_fourth t))
 
 abbrev quad_quotient : ℕ → ℕ
-quad_quotient t = last_factors (quad_eighth (quad_sixteenth (quad_second t)))
+quad_quotient t = last_factors (quad_eighth (quad_sixteenth (by_thirty_second t)))
 
 -- ---- and the rest of it, reckoned from the two halves
 
@@ -78,8 +78,8 @@ low_half-sum a b = xor_mod a b 128
 last_factors-sum : IsLinear last_factors
 last_factors-sum = after by_first (λ t. by_second (wide_fourth t)) by_first-sum (after by_second wide_fourth by_second-sum wide_fourth-sum)
 
-quad_second-sum : IsLinear quad_second
-quad_second-sum = sum (λ t. t) (λ t. t / 2 ^ 128) same (shr 128)
+by_thirty_second-sum : IsLinear by_thirty_second
+by_thirty_second-sum = sum (λ t. t) (λ t. t / 2 ^ 128) same (shr 128)
 
 quad_sixteenth-sum : IsLinear quad_sixteenth
 quad_sixteenth-sum = sum (λ t. t) (λ t. t / 2 ^ 64 ⊕ t / 2 ^ 176) same (sum (λ t. t / 2 ^ 64) (λ t. t / 2 ^ 176) (shr 64) (shr 176))
@@ -91,8 +91,8 @@ quad_eighth-sum =
 
 quad_quotient-sum : IsLinear quad_quotient
 quad_quotient-sum =
-    after last_factors (λ t. quad_eighth (quad_sixteenth (quad_second t))) last_factors-sum
-    (after quad_eighth (λ t. quad_sixteenth (quad_second t)) quad_eighth-sum (after quad_sixteenth quad_second quad_sixteenth-sum quad_second-sum))
+    after last_factors (λ t. quad_eighth (quad_sixteenth (by_thirty_second t))) last_factors-sum
+    (after quad_eighth (λ t. quad_sixteenth (by_thirty_second t)) quad_eighth-sum (after quad_sixteenth by_thirty_second quad_sixteenth-sum by_thirty_second-sum))
 
 low_sixteenth-sum : (high low : ℕ → ℕ) → IsLinear high → IsLinear low → IsLinear (λ t. low_sixteenth (high t) (low t))
 low_sixteenth-sum high low high-linear low-linear =
