@@ -25,7 +25,7 @@ fn is_one_name(path: &Path, name: &str) -> bool {
     }
 }
 
-fn is_the_create(message: &Message) -> bool {
+fn is_the_create(message: &Message<'_>) -> bool {
     let Message::Request(request) = message else {
         return false;
     };
@@ -39,7 +39,7 @@ fn is_the_create(message: &Message) -> bool {
         && bytes.as_slice() == b"hello".as_slice()
 }
 
-fn cause_of(message: &Message) -> Option<u16> {
+fn cause_of(message: &Message<'_>) -> Option<u16> {
     match message {
         Message::Malformed(cause) => Some(cause.number()),
         _ => None,
@@ -53,21 +53,23 @@ fn payload() -> &'static [u8] {
 }
 
 fn gives_nothing(frames: &mut Frames) -> bool {
-    frames.take().is_none()
+    frames.first().is_none()
 }
 
+/// Whether the next message is the create, which is let go.
 fn gives_the_create(frames: &mut Frames) -> bool {
-    match frames.take() {
-        Some(message) => is_the_create(&message),
-        None => false,
-    }
+    let gives = frames
+        .first()
+        .is_some_and(|message| is_the_create(&message));
+    frames.skip();
+    gives
 }
 
+/// Whether the next message has this cause, and is let go.
 fn gives_the_cause(frames: &mut Frames, cause: u16) -> bool {
-    match frames.take() {
-        Some(message) => cause_of(&message) == Some(cause),
-        None => false,
-    }
+    let found = frames.first().and_then(|message| cause_of(&message));
+    frames.skip();
+    found == Some(cause)
 }
 
 /// Whether the create comes out when its second piece has come, and not before.
@@ -176,14 +178,16 @@ fn cause_of_kind(kind: u8) -> u16 {
 #[test]
 fn payloads_of_one_and_two_bytes(rt: HostRuntime) {
     for kind in 0..=255u8 {
-        let message = read_payload(rt.alloc(), &[kind]);
+        let payload = [kind];
+        let message = read_payload(rt.alloc(), &payload);
         assert_eq!(rt;
             cause_of(&message),
             Some(cause_of_kind(kind)),
             "kind {kind}"
         );
         for count in 0..=255u8 {
-            let message = read_payload(rt.alloc(), &[kind, count]);
+            let payload = [kind, count];
+            let message = read_payload(rt.alloc(), &payload);
             if count == 0 && (16..=18).contains(&kind) {
                 assert!(rt; matches!(message, Message::Query(_)), "kind {kind}");
             } else {
@@ -287,12 +291,24 @@ fn queries(rt: HostRuntime) -> Result<(), Fail> {
     frames.feed(&[5, 0, 0, 0, 0x10, 1, 1, 0, 0x61])?;
     frames.feed(&[2, 0, 0, 0, 0x11, 0])?;
     frames.feed(&[5, 0, 0, 0, 0x12, 1, 1, 0, 0x61])?;
-    let get = frames.take().ok_or("a query")?;
+    let get = frames.first().ok_or("a query")?;
     assert!(rt; matches!(&get, Message::Query(Query::Get(path)) if is_one_name(path, "a")));
-    let list = frames.take().ok_or("a query")?;
+    frames.skip();
+    let list = frames.first().ok_or("a query")?;
     assert!(rt; matches!(&list, Message::Query(Query::List(path)) if path.names().is_empty()));
-    let stat = frames.take().ok_or("a query")?;
+    frames.skip();
+    let stat = frames.first().ok_or("a query")?;
     assert!(rt; matches!(&stat, Message::Query(Query::Stat(path)) if is_one_name(path, "a")));
+    // It is held until it is let go, once.
+    let again = frames.first().ok_or("a query")?;
+    assert!(rt; matches!(&again, Message::Query(Query::Stat(_))));
+    frames.skip();
+    assert!(rt; gives_nothing(&mut frames));
+    frames.skip();
+    frames.feed(&[2, 0, 0])?;
+    frames.skip();
+    frames.feed(&[0, 0x11, 0])?;
+    assert!(rt; matches!(frames.first(), Some(Message::Query(Query::List(_)))));
     Ok(())
 }
 

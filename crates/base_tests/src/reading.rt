@@ -84,11 +84,9 @@ fn stream(alloc: Global) -> Result<Vec<u8>, AllocError> {
 
 /// Adds what the messages that are whole say, in words.
 fn tell(alloc: Global, frames: &mut Frames, told: &mut Vec<String>) -> Result<(), AllocError> {
-    for _ in 0..u32::MAX {
-        match frames.take() {
-            Some(message) => told.push(format!(in alloc; "{message:?}")?)?,
-            None => break,
-        }
+    while let Some(message) = frames.first() {
+        told.push(format!(in alloc; "{message:?}")?)?;
+        frames.skip();
     }
     Ok(())
 }
@@ -174,20 +172,21 @@ fn a_read_that_fails_takes_nothing(rt: HostRuntime) -> Result<(), Fail> {
     assert_eq!(rt; frames.read_from(&mut reader, 64), Err(FeedFault::Read));
     reader.turn = Turn::Interrupted;
     assert_eq!(rt; frames.read_from(&mut reader, 64), Ok(0));
-    assert!(rt; frames.take().is_none());
+    assert!(rt; frames.first().is_none());
     reader = reader_of(back, 100);
     // No memory holds so many bytes, and none is read.
     let told = frames.read_from(&mut reader, usize::MAX);
     assert_eq!(rt; told, Err(FeedFault::Memory));
     assert_eq!(rt; reader.bytes.len(), 12);
     assert_eq!(rt; frames.read_from(&mut reader, 64), Ok(12));
-    let message = frames.take().ok_or("a message")?;
+    let message = frames.first().ok_or("a message")?;
     let wanted = told_of(alloc, &CREATE)?;
     assert!(rt;
         wanted.first().is_some_and(|text| format!(in alloc; "{message:?}").is_ok_and(|found| *text
             == found))
     );
-    assert!(rt; frames.take().is_none());
+    frames.skip();
+    assert!(rt; frames.first().is_none());
     Ok(())
 }
 

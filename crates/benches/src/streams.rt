@@ -40,9 +40,10 @@ fn small_frames(alloc: Global, count: u32) -> Result<Vec<u8>, AllocError> {
 fn taken(frames: &mut Frames) -> u32 {
     let mut count = 0u32;
     for _ in 0..u32::MAX {
-        if frames.take().is_none() {
+        if frames.first().is_none() {
             break;
         }
+        frames.skip();
         count = count.wrapping_add(1);
     }
     count

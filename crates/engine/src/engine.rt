@@ -37,15 +37,15 @@ impl Engine {
     }
 
     /// The answer to a message. Where a write fails, the medium is opened again for the next message that needs it.
-    pub fn answer<D: Drive>(&mut self, alloc: Global, drive: &mut D, message: Message) -> Answer
+    pub fn answer<D: Drive>(&mut self, alloc: Global, drive: &mut D, message: Message<'_>) -> Answer
         requires { IsReady (seen_on D.Drive self.old drive.old) }
-        ensures answered { Answered message (seen_on D.Drive self.old drive.old) result (seen_on D.Drive self.new drive.new) }
+        ensures answered { Answered message.entry (seen_on D.Drive self.old drive.old) result (seen_on D.Drive self.new drive.new) }
         // On an honest drive, where a state stands that an open store knows.
-        ensures calls { (volume : ℕ) (S : State) → IsTrue (D.honest drive.new) → HoldsState volume S (seen_on D.Drive self.old drive.old) → Calls volume message S (seen_on D.Drive self.old drive.old) result (seen_on D.Drive self.new drive.new) }
+        ensures calls { (volume : ℕ) (S : State) → IsTrue (D.honest drive.new) → HoldsState volume S (seen_on D.Drive self.old drive.old) → Calls volume message.entry S (seen_on D.Drive self.old drive.old) result (seen_on D.Drive self.new drive.new) }
         // Whatever part of its writes a loss of power leaves, where a disk keeps any choice of the blocks of the last one that it was given.
-        ensures withstands { (volume : ℕ) (S : State) → IsTrue (D.honest drive.new) → HoldsState volume S (seen_on D.Drive self.old drive.old) → Withstands (D.capacity drive.old) volume (D.journal drive.old) S (AsksFor message) (D.writes drive.old) (D.writes drive.new) }
+        ensures withstands { (volume : ℕ) (S : State) → IsTrue (D.honest drive.new) → HoldsState volume S (seen_on D.Drive self.old drive.old) → Withstands (D.capacity drive.old) volume (D.journal drive.old) S (AsksFor message.entry) (D.writes drive.old) (D.writes drive.new) }
         // On an honest drive where nothing stands.
-        ensures nothing { IsTrue (D.honest drive.new) → HoldsNothing (seen_on D.Drive self.old drive.old) → IsNothingThere message (seen_on D.Drive self.old drive.old) result (seen_on D.Drive self.new drive.new) }
+        ensures nothing { IsTrue (D.honest drive.new) → HoldsNothing (seen_on D.Drive self.old drive.old) → IsNothingThere message.entry (seen_on D.Drive self.old drive.old) result (seen_on D.Drive self.new drive.new) }
         ensures lent { drives.Follows D.Drive (faults result) drive.old drive.new }
     {
         match message {
@@ -95,7 +95,7 @@ fn answer_request<D: Drive>(
     store: &mut Store,
     alloc: Global,
     drive: &mut D,
-    request: &Request,
+    request: &Request<'_>,
 ) -> Answer
     requires { Agrees (D.journal drive.old) (D.capacity drive.old) store.old }
     ensures due { IsDue (due_of store.old request.now.client request.now.number) (situation_on D.Drive (Some store.old) drive.old) result (situation_on D.Drive (Some store.new) drive.new) }

@@ -86,7 +86,7 @@ fn read_on<R: Read>(reader: &mut R, frames: &mut Frames) -> Result<usize, ServeF
 }
 
 /// Answers the messages that are whole.
-#[tactic(auto, using(crate::proofs::Messages::answering_none, crate::proofs::Messages::answering_more, crate::proofs::Messages::answering_some, crate::proofs::Messages::answering_kept, crate::proofs::Messages::answering_flushed, crate::proofs::Messages::taken_less))]
+#[tactic(auto, using(crate::proofs::Messages::answering_none, crate::proofs::Messages::answering_more, crate::proofs::Messages::answering_some, crate::proofs::Messages::answering_kept, crate::proofs::Messages::answering_flushed, crate::proofs::Messages::taken_less, request::proofs::FrameLaws::taken_first))]
 fn answer_all<W: Write, D: Drive>(
     alloc: Global,
     frames: &mut Frames,
@@ -104,8 +104,9 @@ fn answer_all<W: Write, D: Drive>(
     ensures ready { IsReady (seen_on D.Drive engine.new drive.new) }
     ensures lent { Follows D.Drive 0 drive.old drive.new }
 {
-    while let Some(message) = frames.take() {
+    while let Some(message) = frames.first() {
         let answer = engine.answer(alloc, drive, message);
+        frames.skip();
         write_answer(writer, answer, answers)?;
     }
     if writer.flush().is_err() {

@@ -35,7 +35,7 @@ use indexmap::IndexMap;
 use next_vat::{NewNode, Node};
 use osta::Name;
 use recover::StoreFault;
-use request::{Code, DIRECTORY_NAMES, FileData, Op, Request};
+use request::{Code, DIRECTORY_NAMES, FileSlice, Op, Request};
 use std::alloc::Global;
 
 /// The greatest number of names in a path of the tree.
@@ -58,7 +58,7 @@ pub struct NewFile<'r> {
     /// The virtual address of its entry.
     pub address: u32,
     pub unique: u32,
-    pub bytes: &'r FileData,
+    pub bytes: &'r FileSlice<'r>,
 }
 
 /// A directory that is written.
@@ -84,7 +84,7 @@ pub struct Change<'r> {
 /// What is put at a new path.
 #[derive(Clone, Copy, Debug)]
 enum Thing<'r> {
-    File(&'r FileData),
+    File(&'r FileSlice<'r>),
     Directory,
 }
 
@@ -127,7 +127,7 @@ impl Before<'_> {
         alloc: Global,
         drive: &mut D,
         directories: &mut Directories,
-        request: &'r Request,
+        request: &'r Request<'r>,
         moment: Timestamp,
     ) -> Result<Change<'r>, StoreFault>
         requires below { AreBelow self.now.nodes.at self.now.nodes.entries.now }
@@ -222,7 +222,7 @@ impl Before<'_> {
         drive: &mut D,
         directories: &mut Directories,
         names: &[Name],
-        bytes: &'r FileData,
+        bytes: &'r FileSlice<'r>,
     ) -> Result<Change<'r>, StoreFault>
         requires below { AreBelow self.now.nodes.at self.now.nodes.entries.now }
         requires within { self.now.nodes.at ≤ next_of (D.journal drive.old) }

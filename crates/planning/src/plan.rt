@@ -192,7 +192,7 @@ impl LastTable<'_> {
         &self,
         alloc: Global,
         drive: &mut D,
-        request: &Request,
+        request: &Request<'_>,
         change: Change<'r>,
         moment: Timestamp,
     ) -> Result<Plan<'r>, StoreFault>
@@ -247,7 +247,7 @@ impl LastTable<'_> {
     fn next_table(
         &self,
         alloc: Global,
-        request: &Request,
+        request: &Request<'_>,
         change: &Change<'_>,
     ) -> Result<Vat, StoreFault>
         requires keeps { Keeps self.now.at self.now.vat.now }

@@ -1,17 +1,18 @@
 -- Frames of a stream: one reading, however the stream was cut.
 use Rattle.std.proofs.Common.{◌≡◌, ℕ, ◌+◌, ◌^◌, ◌<◌, ◌≤◌, List, [], ◌∷◌, ◌++◌, length, take, drop, Option, Some, None, Result, refl, sym, ap, subst, ◌∙◌, append_assoc, arith, inl, inr, ◌⊎◌, length-append}
-use Rattle.std.specs.Prelude.{IfSome}
+use Rattle.std.specs.Prelude.{IfSome, MatchOption, if◌then◌else◌, Bool, true, false}
 use Rattle.std.specs.List.{AllZip}
 use Rattle.std.specs.Int.{w32, from_le_bytes}
-use Rattle.std.proofs.lemmas.List.{take-append-le}
+use Rattle.std.proofs.lemmas.List.{take-append-le, drop-drop}
 use Rattle.std.proofs.lemmas.Nat.{from_le_bytes-to_le_bytes_4}
 use Rattle.std.proofs.Math.Seq.{take-append_seam, drop-append_seam}
 use Rattle.request.specs.declared.message.Cause.{Cause}
 use Rattle.request.specs.declared.message.Message.{Message}
+use Rattle.request.specs.declared.message.Message.TheVariants.{NoMemory}
 use Rattle.request.specs.Spelling.{Said}
 use Rattle.request.specs.Reading.{said_at}
 use Rattle.request.specs.Payload.{told_by, TellsPayload}
-use Rattle.request.specs.Frames.{frame, length_at, IsOverlong, IsPartial, Begins, FirstIs, fed, Takes, IsIdle, MessagesAre, Agree}
+use Rattle.request.specs.Frames.{frame, length_at, IsOverlong, IsPartial, Begins, FirstIs, fed, IsFirst, Takes, IsIdle, MessagesAre, Agree}
 
 length_of_frame : (payload rest : List ℕ) → length payload < 2 ^ 32 → length_at (frame payload ++ rest) ≡ length payload
 length_of_frame payload rest lt = from_le_bytes-to_le_bytes_4 (length payload) lt
@@ -98,6 +99,39 @@ first_agree : (bytes : List ℕ) (m n : Message) (x y : List ℕ) → FirstIs by
 first_agree bytes m n x y p q =
     let same = same_frames p.0 q.0 x y (omega (arith, p.1.fits)) (omega (arith, q.1.fits)) (sym p.1.whole ∙ q.1.whole) in
     (tells_one (told_by m) (told_by n) q.0 (subst (TellsPayload m) same.0 p.2) q.2, same.1)
+
+-- a reader that gives a message is left in one way
+taken_once : (reader x y : Option (List ℕ)) (m n : Message) → Takes reader m x → Takes reader n y → x ≡ y
+taken_once None x y m n h k = absurd h
+taken_once (Some bytes) None None m n h k = refl
+taken_once (Some bytes) None (Some y) m n h k = absurd (whole_not_overlong bytes k.0 (is_whole bytes k.0 y k.1) h.0)
+taken_once (Some bytes) (Some x) None m n h k = absurd (whole_not_overlong bytes h.0 (is_whole bytes h.0 x h.1) k.0)
+taken_once (Some bytes) (Some x) (Some y) m n h k = ap (λ (rest : List ℕ). Some rest) (first_agree bytes m n x y h k).1
+
+-- what is held begins with a frame
+begins_held : (reader : Option (List ℕ)) (waiting payload rest : List ℕ) (message : Message) → MatchOption reader (waiting ≡ []) (λ bytes. waiting ≡ bytes)
+    → Begins waiting payload rest → TellsPayload message payload → Takes reader message (Some rest)
+begins_held None waiting payload rest message held b t = absurd (omega (arith, ap length held, (is_whole waiting payload rest b).has_length))
+begins_held (Some bytes) waiting payload rest message held b t = (payload, subst (λ (bs : List ℕ). Begins bs payload rest) held b, t)
+
+pub is_first : (reader : Option (List ℕ)) (waiting payload rest : List ℕ) (message : Message) → MatchOption reader (waiting ≡ []) (λ bytes. waiting ≡ bytes)
+    → Begins waiting payload rest → TellsPayload message payload → IsFirst reader message
+is_first reader waiting payload rest message held b t = (Some rest, begins_held reader waiting payload rest message held b t)
+
+-- and is left so, where no other way is left
+pub taken_first : (reader left : Option (List ℕ)) (message : Message) → IsFirst reader message → ((m : Message) (after : Option (List ℕ)) → Takes reader m after → left ≡ after) → Takes reader message left
+taken_first reader left message first skips = subst (Takes reader message) (sym (skips message first.0 first.1)) first.1
+
+-- letting a frame go lets the bytes go that it takes
+pub skipped : (failed : Bool) (taken : ℕ) (bytes waiting payload : List ℕ) (reader : Option (List ℕ)) → (if failed then None else Some (drop taken bytes)) ≡ reader
+    → MatchOption reader (waiting ≡ []) (λ held. waiting ≡ held) → Begins waiting payload (drop (4 + length payload) waiting)
+    → (message : Message) (after : Option (List ℕ)) → Takes reader message after → (if failed then None else Some (drop (taken + (4 + length payload)) bytes)) ≡ after
+skipped true taken bytes waiting payload reader is held b message after t = absurd (subst (λ (r : Option (List ℕ)). Takes r message after) (sym is) t)
+skipped false taken bytes waiting payload reader is held b message after t =
+    let used = 4 + length payload in
+    let behind : drop (taken + used) bytes ≡ drop used waiting = sym (drop-drop used taken bytes) ∙ ap (drop used) (sym (subst (λ (r : Option (List ℕ)). MatchOption r (waiting ≡ []) (λ bs. waiting ≡ bs)) (sym is) held)) in
+    ap (λ (rest : List ℕ). Some rest) behind
+    ∙ taken_once reader (Some (drop used waiting)) after NoMemory message (begins_held reader waiting payload (drop used waiting) NoMemory held b tt) t
 
 pub one_reading : (messages others : List Message) (bytes : List ℕ) (reader other : Option (List ℕ)) → MessagesAre bytes messages reader → IsIdle reader → MessagesAre bytes others other → IsIdle other
     → (reader ≡ other) × AllZip Agree messages others

@@ -41,6 +41,10 @@ Takes None message after = ⊥
 Takes (Some bytes) message (Some rest) = FirstIs bytes message rest
 Takes (Some bytes) message None = IsOverlong bytes × (message ≡ Malformed TooLong)
 
+-- the reader's next message is this one
+abbrev pub IsFirst : Option (List ℕ) → Message → Type 0
+IsFirst reader message = (after : Option (List ℕ)) × Takes reader message after
+
 -- the reader gives nothing before more bytes are fed
 abbrev pub IsIdle : Option (List ℕ) → Type 0
 IsIdle None = Unit {0}

@@ -1,8 +1,9 @@
 //! Messages out of a stream of bytes that comes in pieces.
 
-ghost use Rattle.std.specs.Prelude.{◌≡◌, ◌≤◌, ◌<◌, ◌-◌, ◌+◌, vec_len, length, drop, take, List, [], Some, None, IfOk, IfErr, OnOk, OnErr, IfSome, IfNone, MatchOption, is_none};
+ghost use Rattle.std.specs.Prelude.{◌≡◌, ◌≤◌, ◌<◌, ◌-◌, ◌+◌, vec_len, length, drop, take, ℕ, List, Option, [], Some, None, IfOk, IfErr, OnOk, OnErr, IfSome, IfNone, MatchOption, is_none};
 ghost use Rattle.std.specs.Io.KnownBytes.{Keeps, ReadConsumes};
-ghost use Rattle.request.specs.Frames.{length_at, fed, Takes, IsIdle};
+ghost use Rattle.request.specs.declared.message.Message.{Message};
+ghost use Rattle.request.specs.Frames.{length_at, fed, IsFirst, Takes, IsIdle};
 ghost use Rattle.request.specs.FirstFrame.{IsFirstFrame};
 ghost use Rattle.request.specs.Streams.{ReadsPiece};
 
@@ -106,31 +107,46 @@ impl Frames {
         self.failed
     }
 
-    /// The next message, once its frame is whole. A frame that is longer than any payload is told of as soon
-    /// as its length is there, and nothing comes behind it.
-    pub fn take(&mut self) -> Option<Message>
-        ensures some { IfSome result (λ message. Takes self.old message self.new) }
-        ensures none { IfNone result ((self.new ≡ self.old) × IsIdle self.old) }
+    /// The next message, once its frame is whole: it is read where it is held, and stays so until `skip`. A frame that is
+    /// longer than any payload is told of as soon as its length is there.
+    #[tactic(auto, using(crate::proofs::FrameLaws::is_first))]
+    pub fn first(&self) -> Option<Message<'_>>
+        ensures some { IfSome result (IsFirst self.now) }
+        ensures none { IfNone result (IsIdle self.now) }
     {
-        if self.failed {
-            return None;
-        }
-        let (held, _) = self.bytes.split_at(self.end);
-        let (_, waiting) = held.split_at(self.taken);
-        match first_frame(waiting) {
+        match first_frame(self.waiting()) {
             FirstFrame::Partial => None,
+            FirstFrame::Overlong => Some(Message::Malformed(Cause::TooLong)),
+            FirstFrame::Whole(payload) => Some(read_payload(*self.bytes.allocator(), payload)),
+        }
+    }
+
+    /// Lets the next message's frame go. Nothing comes behind one that is longer than any payload. Where no frame is whole the
+    /// reader stays as it was.
+    pub fn skip(&mut self)
+        ensures taken { (message : Message) (after : Option (List ℕ)) → Takes self.old message after → self.new ≡ after }
+        ensures idle { IsIdle self.old → self.new ≡ self.old }
+    {
+        match first_frame(self.waiting()) {
+            FirstFrame::Partial => {}
             FirstFrame::Overlong => {
                 self.failed = true;
                 self.taken = self.end;
-                Some(Message::Malformed(Cause::TooLong))
             }
-            FirstFrame::Whole(payload) => {
-                let used = 4 + payload.len();
-                let message = read_payload(*self.bytes.allocator(), payload);
-                self.taken += used;
-                Some(message)
-            }
+            FirstFrame::Whole(payload) => self.taken += 4 + payload.len(),
         }
+    }
+
+    /// What is held, and nothing behind a frame that was longer than any payload.
+    fn waiting(&self) -> &[u8]
+        ensures { MatchOption self.now (result.now ≡ []) (λ bytes. result.now ≡ bytes) }
+    {
+        if self.failed {
+            return &[];
+        }
+        let (held, _) = self.bytes.split_at(self.end);
+        let (_, waiting) = held.split_at(self.taken);
+        waiting
     }
 
     /// Moves what is held to the front, where each byte that is moved is paid for by one that was taken.

@@ -5,9 +5,12 @@
 //! can be said has one payload, and is read from it. An answer has one frame, and no answer's bytes begin
 //! another's. A request keeps its ranges by its type, a path the rules of its names.
 //!
-//! Where there is no memory the frame is used up and gives `NoMemory`, bytes that are fed are refused and the
-//! reader stays as it was, a stream is not read, and an answer is written whole or not at all. What a request does
-//! to a tree, which answer it gets, and when a stream is read or written are left to others.
+//! The bytes that a request gives a file are not copied: a message stands on the frame that the reader holds, until that
+//! is let go.
+//!
+//! Where there is no memory a frame gives `NoMemory`, bytes that are fed are refused and the reader stays as it was, a
+//! stream is not read, and an answer is written whole or not at all. What a request does to a tree, which answer it gets,
+//! and when a stream is read or written are left to others.
 #![tactic(auto)]
 
 mod answer;
@@ -22,6 +25,8 @@ pub use answer::{Answer, Code, DIRECTORY_NAMES, Listed, Listing, NodeKind, NodeS
 pub use encode::encode_answer;
 pub use frames::{FeedFault, Frames, PAYLOAD_BYTES};
 pub use laws::{feeding_goes_on, no_answer_begins_another, one_reading, taking_goes_on};
-pub use message::{Cause, FILE_BYTES, FileData, MOMENT_LIMIT, Message, Op, Query, Request};
+pub use message::{
+    Cause, FILE_BYTES, FileData, FileSlice, MOMENT_LIMIT, Message, Op, Query, Request,
+};
 pub use path::{MESSAGE_PATH_NAMES, Path, PathFault};
 pub use payload::read_payload;

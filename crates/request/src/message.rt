@@ -44,13 +44,45 @@ impl FileData {
     }
 }
 
+/// The bytes that a request gives a file, at most 1,048,576, where its payload has them.
+#[derive(Debug, Drop)]
+pub struct FileSlice<'a> {
+    bytes: &'a [u8],
+}
+
+impl<'a> Model for FileSlice<'a> {
+    ghost Value = { List ℕ };
+
+    ghost view = { λ s. s.bytes.now };
+
+    ghost invariant = { λ s. length s.bytes.now ≤ 1048576 };
+}
+
+impl<'a> FileSlice<'a> {
+    /// The bytes of a file, where they stand.
+    pub fn new(bytes: &'a [u8]) -> FileSlice<'a>
+        requires { length bytes.now ≤ 1048576 }
+        ensures { result ≡ bytes.now }
+    {
+        FileSlice { bytes }
+    }
+
+    /// The bytes.
+    pub fn as_slice(&self) -> &'a [u8]
+        ensures bytes { result.now ≡ self.now }
+        ensures few { length result.now ≤ 1048576 }
+    {
+        self.bytes
+    }
+}
+
 /// What a request changes.
 #[derive(Debug, Drop)]
-pub enum Op {
+pub enum Op<'a> {
     /// Makes a file that is not there yet.
-    Create { path: Path, bytes: FileData },
+    Create { path: Path, bytes: FileSlice<'a> },
     /// Gives a file other bytes.
-    Replace { path: Path, bytes: FileData },
+    Replace { path: Path, bytes: FileSlice<'a> },
     /// Makes an empty directory.
     MakeDir { path: Path },
     /// Moves a file or a directory, with all that is below it.
@@ -59,14 +91,14 @@ pub enum Op {
     Remove { path: Path },
 }
 
-/// A change that a client asks for. A client counts its requests from 1 on.
+/// A change that a client asks for. A client counts its requests from 1 on. It stands as long as its payload does.
 #[derive(Debug, Drop)]
-pub struct Request {
+pub struct Request<'a> {
     pub client: u64,
     pub number: u64,
     /// Microseconds from 1970-01-01 UTC.
     pub moment: u64,
-    pub op: Op,
+    pub op: Op<'a>,
     pub ghost client_above_zero: { 0 < client },
     pub ghost number_above_zero: { 0 < number },
     pub ghost moment_in_range: { moment < 4102444800000000 },
@@ -126,8 +158,8 @@ impl Cause {
 
 /// What the payload of a frame says.
 #[derive(Debug, Drop)]
-pub enum Message {
-    Request(Request),
+pub enum Message<'a> {
+    Request(Request<'a>),
     Query(Query),
     /// The payload is no message.
     Malformed(Cause),

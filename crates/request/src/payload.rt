@@ -8,7 +8,7 @@ ghost use Rattle.request.specs.Reading.{Gives, Fails, number_at, client_at, numb
 ghost use Rattle.request.specs.Payload.{TellsPayload, IsSpelled, told_by, said_by};
 ghost use Rattle.request.specs.declared.payload.ReadError.TheVariants.{Memory};
 
-use crate::message::{Cause, FILE_BYTES, FileData, MOMENT_LIMIT, Message, Op, Query, Request};
+use crate::message::{Cause, FILE_BYTES, FileSlice, MOMENT_LIMIT, Message, Op, Query, Request};
 use crate::path::{MESSAGE_PATH_NAMES, Path};
 use osta::{Name, NameFault};
 use std::alloc::{AllocError, AllocFailed, Global};
@@ -61,7 +61,7 @@ enum Kind {
 }
 
 /// What the payload of a frame says.
-pub fn read_payload(alloc: Global, payload: &[u8]) -> Message
+pub fn read_payload(alloc: Global, payload: &[u8]) -> Message<'_>
     // It is the one thing that the payload says, or its first fault from left to right, unless there was no memory.
     ensures exact { TellsPayload result payload.now }
     // What is said may be said, and the payload is its spelling.
@@ -77,7 +77,7 @@ pub fn read_payload(alloc: Global, payload: &[u8]) -> Message
 }
 
 #[tactic(auto, unfolding(crate::specs::Reading::said_at, crate::specs::Reading::fields_at))]
-fn message_of(alloc: Global, payload: &[u8]) -> Result<Message, ReadError>
+fn message_of(alloc: Global, payload: &[u8]) -> Result<Message<'_>, ReadError>
     ensures ok { IfOk result (λ m. TellsPayload m payload.now) }
     ensures err { IfErr result (λ e. Fails e (said_at payload.now)) }
 {
@@ -116,7 +116,7 @@ fn kind_of(bytes: &[u8]) -> Result<(Kind, &[u8]), ReadError>
 }
 
 #[tactic(auto, unfolding(crate::specs::Reading::change_at))]
-fn request_of(alloc: Global, change: Change, bytes: &[u8]) -> Result<Request, ReadError>
+fn request_of(alloc: Global, change: Change, bytes: &[u8]) -> Result<Request<'_>, ReadError>
     ensures { Gives said_by result (change_at change bytes.now) }
 {
     let (client, rest) = client_of(bytes)?;
@@ -146,17 +146,17 @@ fn query_of(alloc: Global, question: Question, bytes: &[u8]) -> Result<Query, Re
 }
 
 #[tactic(auto, unfolding(crate::specs::Reading::op_at))]
-fn op_of(alloc: Global, change: Change, bytes: &[u8]) -> Result<(Op, &[u8]), ReadError>
+fn op_of(alloc: Global, change: Change, bytes: &[u8]) -> Result<(Op<'_>, &[u8]), ReadError>
     ensures { Gives (λ x. (x.0, x.1.now)) result (op_at change bytes.now) }
 {
     let (path, rest) = path_of(alloc, bytes)?;
     match change {
         Change::Create => {
-            let (bytes, rest) = data_of(alloc, rest)?;
+            let (bytes, rest) = data_of(rest)?;
             Ok((Op::Create { path, bytes }, rest))
         }
         Change::Replace => {
-            let (bytes, rest) = data_of(alloc, rest)?;
+            let (bytes, rest) = data_of(rest)?;
             Ok((Op::Replace { path, bytes }, rest))
         }
         Change::MakeDir => Ok((Op::MakeDir { path }, rest)),
@@ -256,7 +256,7 @@ fn read_name(alloc: Global, bytes: &[u8]) -> Result<Name, ReadError>
 }
 
 #[tactic(auto, unfolding(crate::specs::Reading::data_at))]
-fn data_of(alloc: Global, bytes: &[u8]) -> Result<(FileData, &[u8]), ReadError>
+fn data_of(bytes: &[u8]) -> Result<(FileSlice<'_>, &[u8]), ReadError>
     ensures { Gives (λ x. (x.0, x.1.now)) result (data_at bytes.now) }
 {
     let (len, rest) = u32_of(bytes)?;
@@ -268,7 +268,7 @@ fn data_of(alloc: Global, bytes: &[u8]) -> Result<(FileData, &[u8]), ReadError>
         return Err(ReadError::Malformed(Cause::Short));
     }
     let (data, rest) = rest.split_at(len);
-    Ok((FileData::new(Vec::from_slice(alloc, data)?), rest))
+    Ok((FileSlice::new(data), rest))
 }
 
 fn nothing_behind(bytes: &[u8]) -> Result<(), ReadError>

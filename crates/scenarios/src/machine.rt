@@ -274,7 +274,7 @@ fn frames_of(alloc: Global, answers: &[Answer]) -> Result<Vec<u8>, Trouble> {
 }
 
 /// The answer of a store to a message.
-fn answer(alloc: Global, store: &mut Store, drive: &mut MemDrive, message: Message) -> Answer
+fn answer(alloc: Global, store: &mut Store, drive: &mut MemDrive, message: Message<'_>) -> Answer
     requires { Agrees (journal_of drive.old) (capacity_of drive.old) store.old }
     ensures { Agrees (journal_of drive.new) (capacity_of drive.new) store.new }
 {
@@ -291,7 +291,7 @@ fn answer_request(
     alloc: Global,
     store: &mut Store,
     drive: &mut MemDrive,
-    request: &Request,
+    request: &Request<'_>,
 ) -> Answer
     requires { Agrees (journal_of drive.old) (capacity_of drive.old) store.old }
     ensures { Agrees (journal_of drive.new) (capacity_of drive.new) store.new }

@@ -31,7 +31,7 @@ impl Store {
         &mut self,
         alloc: Global,
         drive: &mut D,
-        request: &Request,
+        request: &Request<'_>,
     ) -> Result<Reply, StoreFault>
         requires agrees { Agrees (D.journal drive.old) (D.capacity drive.old) self.old }
         requires next { IsNext request.now.client request.now.number self.old.vat.sessions.records.items }
