@@ -1,6 +1,6 @@
 -- A file that was found under a name is a node of each tree whose table leads to it.
-use Rattle.std.proofs.Common.{◌≡◌, ℕ, ◌+◌, ◌<◌, ◌≤◌, List, take, length, Option, Some, None, refl, sym, ap, subst, ◌∙◌, arith, length-take}
-use Rattle.std.specs.Prelude.{slice_get, IfSome}
+use Rattle.std.proofs.Common.{◌≡◌, ℕ, ◌+◌, ◌<◌, ◌≤◌, List, take, length, Option, Some, None, refl, sym, subst, ◌∙◌, arith, length-take}
+use Rattle.std.specs.Prelude.{IfSome}
 use Rattle.std.proofs.lemmas.Option.{slice_get_within}
 use Rattle.drive.specs.Journal.{Event, held, next_of}
 use Rattle.dir.specs.declared.entry.Entry.{Entry as DirEntry}

@@ -1,5 +1,5 @@
 -- Files as they were found under the names of a directory.
-use Rattle.std.specs.Prelude.{◌≡◌, ◌+◌, ◌≤◌, ℕ, List, Option, Some, None, IfSome, take, get_or, slice_get}
+use Rattle.std.specs.Prelude.{◌≡◌, ◌+◌, ◌≤◌, ℕ, List, Some, None, IfSome, take, get_or, slice_get}
 use Rattle.limits.specs.declared.TheConstants.{FIRST_UNIQUE, PARTITION_START}
 use Rattle.drive.specs.Journal.{Event, held, next_of}
 use Rattle.dir.specs.declared.entry.Entry.{Entry}

@@ -46,7 +46,7 @@ pub fn read_directory<D: Drive>(
 }
 
 /// The links of a directory: one, and one for each directory in it.
-pub fn link_count(directory: &Dir) -> u16
+pub(crate) fn link_count(directory: &Dir) -> u16
     requires few { length directory.now.entries.entries ≤ MAX_NAMES }
     ensures { result ≡ links_of directory.now.entries.entries }
 {

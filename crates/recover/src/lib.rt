@@ -26,7 +26,7 @@ mod state;
 mod table;
 mod walk;
 
-pub use directory::{Extent, link_count, read_directory};
+pub use directory::{Extent, read_directory};
 pub use fault::{StoreFault, damaged};
 pub use known::Known;
 pub use laws::last_state_stands;

@@ -1,4 +1,4 @@
-use Rattle.std.proofs.Common.{◌≡◌, ℕ, ◌+◌, ◌-◌, List, take, subst, arith}
+use Rattle.std.proofs.Common.{◌≡◌, ℕ, ◌+◌, ◌-◌, take, subst, arith}
 use Rattle.recover.specs.Walk.{HasNode}
 use Rattle.recover.proofs.walk.seen_at.Goals as goal
 

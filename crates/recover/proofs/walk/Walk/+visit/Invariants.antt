@@ -1,4 +1,4 @@
-use Rattle.std.proofs.Common.{◌≡◌, ◌+◌, ◌*◌, ◌-◌, ◌≤◌, IsTrue}
+use Rattle.std.proofs.Common.{◌≡◌, ◌-◌, ◌≤◌, IsTrue}
 use Rattle.std.specs.Prelude.{All}
 use Rattle.drive.specs.Journal.{held}
 use Rattle.drive.specs.Reads.{Reads}
