@@ -52,24 +52,28 @@ fn payload() -> &'static [u8] {
     payload
 }
 
-fn gives_nothing(frames: &mut Frames) -> bool {
+fn gives_nothing(frames: &Frames) -> bool {
     frames.first().is_none()
 }
 
 /// Whether the next message is the create, which is let go.
 fn gives_the_create(frames: &mut Frames) -> bool {
-    let gives = frames
-        .first()
-        .is_some_and(|message| is_the_create(&message));
+    let gives = match frames.first() {
+        Some(message) => is_the_create(&message),
+        None => false,
+    };
     frames.skip();
     gives
 }
 
 /// Whether the next message has this cause, and is let go.
 fn gives_the_cause(frames: &mut Frames, cause: u16) -> bool {
-    let found = frames.first().and_then(|message| cause_of(&message));
+    let gives = match frames.first() {
+        Some(message) => cause_of(&message) == Some(cause),
+        None => false,
+    };
     frames.skip();
-    found == Some(cause)
+    gives
 }
 
 /// Whether the create comes out when its second piece has come, and not before.
@@ -125,7 +129,7 @@ fn a_frame_byte_by_byte(rt: HostRuntime) -> Result<(), Fail> {
     }
     assert!(rt; waits_for_the_last(&mut frames, &OVERLONG)?);
     assert!(rt; gives_the_cause(&mut frames, 51));
-    assert!(rt; gives_nothing(&mut frames));
+    assert!(rt; gives_nothing(&frames));
     Ok(())
 }
 
@@ -133,7 +137,7 @@ fn a_frame_byte_by_byte(rt: HostRuntime) -> Result<(), Fail> {
 fn the_longest_payload(rt: HostRuntime) -> Result<(), Fail> {
     let mut frames = Frames::new(rt.alloc());
     frames.feed(&1_114_112u32.to_le_bytes())?;
-    assert!(rt; gives_nothing(&mut frames));
+    assert!(rt; gives_nothing(&frames));
     let mut frames = Frames::new(rt.alloc());
     frames.feed(&1_114_113u32.to_le_bytes())?;
     assert!(rt; gives_the_cause(&mut frames, 51));
@@ -153,7 +157,7 @@ fn several_frames_in_one_piece(rt: HostRuntime) -> Result<(), Fail> {
         assert!(rt; gives_the_create(&mut frames));
         assert!(rt; gives_the_cause(&mut frames, 52));
     }
-    assert!(rt; gives_nothing(&mut frames));
+    assert!(rt; gives_nothing(&frames));
     Ok(())
 }
 
@@ -246,43 +250,80 @@ fn the_first_fault_is_told(rt: HostRuntime) -> Result<(), Fail> {
     Ok(())
 }
 
+/// A payload of this kind, of client 7 and number 2 at moment 9, with these fields behind.
+fn payload_with(alloc: Global, kind: u8, fields: &[u8]) -> Result<Vec<u8>, AllocError> {
+    let mut bytes = Vec::new(alloc);
+    bytes.push(kind)?;
+    for number in [7u64, 2, 9] {
+        bytes.extend_from_slice(&number.to_le_bytes())?;
+    }
+    bytes.extend_from_slice(fields)?;
+    Ok(bytes)
+}
+
+fn is_replace(message: &Message<'_>) -> bool {
+    match message {
+        Message::Request(request) => matches!(request.op, Op::Replace { .. }),
+        _ => false,
+    }
+}
+
+fn is_the_make_dir(message: &Message<'_>) -> bool {
+    let Message::Request(request) = message else {
+        return false;
+    };
+    request.client == 7
+        && request.number == 2
+        && request.moment == 9
+        && matches!(&request.op, Op::MakeDir { path } if is_one_name(path, "d"))
+}
+
+fn is_the_rename(message: &Message<'_>) -> bool {
+    let Message::Request(request) = message else {
+        return false;
+    };
+    match &request.op {
+        Op::Rename { from, to } => is_one_name(from, "d") && to.names().len() == 2,
+        _ => false,
+    }
+}
+
+fn is_the_removal(message: &Message<'_>) -> bool {
+    let Message::Request(request) = message else {
+        return false;
+    };
+    matches!(&request.op, Op::Remove { path } if path.names().is_empty())
+}
+
 #[test]
 fn every_kind(rt: HostRuntime) -> Result<(), Fail> {
     let replace = edited(rt.alloc(), 0, &[2], &[])?;
-    let Message::Request(request) = read_payload(rt.alloc(), &replace) else {
-        return Err(Fail::from("a replace"));
-    };
-    assert!(rt; matches!(request.op, Op::Replace { .. }));
-    let head = [
-        7, 0, 0, 0, 0, 0, 0, 0, 2, 0, 0, 0, 0, 0, 0, 0, 9, 0, 0, 0, 0, 0, 0, 0,
-    ];
-    let mut make = vec![in rt.alloc(); 3]?;
-    make.extend_from_slice(&head)?;
-    make.extend_from_slice(&[1, 1, 0, 0x64])?;
-    let Message::Request(request) = read_payload(rt.alloc(), &make) else {
-        return Err(Fail::from("a directory"));
-    };
-    assert_eq!(rt; (request.client, request.number, request.moment), (7, 2, 9));
-    assert!(rt; matches!(&request.op, Op::MakeDir { path } if is_one_name(path, "d")));
-    let mut rename = vec![in rt.alloc(); 4]?;
-    rename.extend_from_slice(&head)?;
-    rename.extend_from_slice(&[1, 1, 0, 0x64, 2, 1, 0, 0x65, 1, 0, 0x64])?;
-    let Message::Request(request) = read_payload(rt.alloc(), &rename) else {
-        return Err(Fail::from("a rename"));
-    };
-    let Op::Rename { from, to } = &request.op else {
-        return Err(Fail::from("a rename"));
-    };
-    assert!(rt; is_one_name(from, "d"));
-    assert_eq!(rt; to.names().len(), 2);
-    let mut remove = vec![in rt.alloc(); 5]?;
-    remove.extend_from_slice(&head)?;
-    remove.extend_from_slice(&[0])?;
-    let Message::Request(request) = read_payload(rt.alloc(), &remove) else {
-        return Err(Fail::from("a removal"));
-    };
-    assert!(rt; matches!(&request.op, Op::Remove { path } if path.names().is_empty()));
+    assert!(rt; is_replace(&read_payload(rt.alloc(), &replace)));
+    let make = payload_with(rt.alloc(), 3, &[1, 1, 0, 0x64])?;
+    assert!(rt; is_the_make_dir(&read_payload(rt.alloc(), &make)));
+    let rename = payload_with(rt.alloc(), 4, &[1, 1, 0, 0x64, 2, 1, 0, 0x65, 1, 0, 0x64])?;
+    assert!(rt; is_the_rename(&read_payload(rt.alloc(), &rename)));
+    let remove = payload_with(rt.alloc(), 5, &[0])?;
+    assert!(rt; is_the_removal(&read_payload(rt.alloc(), &remove)));
     Ok(())
+}
+
+/// Whether the next message asks for the bytes of this file of the root.
+fn first_is_get(frames: &Frames, name: &str) -> bool {
+    let first = frames.first();
+    matches!(&first, Some(Message::Query(Query::Get(path))) if is_one_name(path, name))
+}
+
+/// Whether the next message asks for the names of the root.
+fn first_is_list(frames: &Frames) -> bool {
+    let first = frames.first();
+    matches!(&first, Some(Message::Query(Query::List(path))) if path.names().is_empty())
+}
+
+/// Whether the next message asks what is known of this node of the root.
+fn first_is_stat(frames: &Frames, name: &str) -> bool {
+    let first = frames.first();
+    matches!(&first, Some(Message::Query(Query::Stat(path))) if is_one_name(path, name))
 }
 
 #[test]
@@ -291,24 +332,25 @@ fn queries(rt: HostRuntime) -> Result<(), Fail> {
     frames.feed(&[5, 0, 0, 0, 0x10, 1, 1, 0, 0x61])?;
     frames.feed(&[2, 0, 0, 0, 0x11, 0])?;
     frames.feed(&[5, 0, 0, 0, 0x12, 1, 1, 0, 0x61])?;
-    let get = frames.first().ok_or("a query")?;
-    assert!(rt; matches!(&get, Message::Query(Query::Get(path)) if is_one_name(path, "a")));
+    assert!(rt; first_is_get(&frames, "a"));
     frames.skip();
-    let list = frames.first().ok_or("a query")?;
-    assert!(rt; matches!(&list, Message::Query(Query::List(path)) if path.names().is_empty()));
+    assert!(rt; first_is_list(&frames));
     frames.skip();
-    let stat = frames.first().ok_or("a query")?;
-    assert!(rt; matches!(&stat, Message::Query(Query::Stat(path)) if is_one_name(path, "a")));
-    // It is held until it is let go, once.
-    let again = frames.first().ok_or("a query")?;
-    assert!(rt; matches!(&again, Message::Query(Query::Stat(_))));
-    frames.skip();
-    assert!(rt; gives_nothing(&mut frames));
+    assert!(rt; first_is_stat(&frames, "a"));
+    Ok(())
+}
+
+#[test]
+fn a_message_is_held_until_it_is_let_go(rt: HostRuntime) -> Result<(), Fail> {
+    let mut frames = Frames::new(rt.alloc());
     frames.skip();
     frames.feed(&[2, 0, 0])?;
     frames.skip();
     frames.feed(&[0, 0x11, 0])?;
-    assert!(rt; matches!(frames.first(), Some(Message::Query(Query::List(_)))));
+    assert!(rt; first_is_list(&frames));
+    assert!(rt; first_is_list(&frames));
+    frames.skip();
+    assert!(rt; gives_nothing(&frames));
     Ok(())
 }
 
