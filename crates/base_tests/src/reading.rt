@@ -187,6 +187,7 @@ fn a_read_that_fails_takes_nothing(rt: HostRuntime) -> Result<(), Fail> {
     let wanted = told_of(alloc, &CREATE)?;
     let mut found = Vec::new(alloc);
     tell(alloc, &mut frames, &mut found)?;
+    assert_eq!(rt; found.len(), 1);
     assert!(rt; found == wanted);
     assert!(rt; frames.first().is_none());
     Ok(())
