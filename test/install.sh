@@ -242,6 +242,8 @@ supervise() {
     while read -r command; do
         holds "before the start: ${command%% *}" "$@" $command
     done < "$room/before"
+    # Words of the unit, and none or two of a test's.
+    # shellcheck disable=SC2046
     "$@" $(commands ExecStart) $more > "$room/daemon" 2>&1 &
     daemon=$!
     holds 'the daemon answers' same "$room/wanted" asked

@@ -132,7 +132,8 @@ def built() -> Built:
     if _built is None:
         room = os.environ.get("FAULTS_BUILT")
         if room:
-            _built = Built(*(os.path.join(room, name) for name in ("udfburn", "udfburnd", "shim.so", "allocfail.so")), room)
+            udfburn, udfburnd, shim, allocfail = (os.path.join(room, name) for name in ("udfburn", "udfburnd", "shim.so", "allocfail.so"))
+            _built = Built(udfburn, udfburnd, shim, allocfail, room)
         else:
             _built = build()
     return _built
@@ -609,7 +610,7 @@ class Case(unittest.TestCase):
         made = subprocess.run(["mount", *words, str(where)], capture_output=True, text=True)
         if made.returncode:
             lacks("mount %s: %s" % (" ".join(words), first_line(made.stderr)))
-        self.addCleanup(subprocess.run, ["umount", str(where)], check=True)
+        self.addCleanup(subprocess.check_call, ["umount", str(where)])
         return where
 
     def program(self, words: Sequence[str], stdin: bytes = b"", image: str = "d.img",

@@ -8,7 +8,7 @@ import subprocess
 import threading
 import unittest
 from contextlib import contextmanager
-from typing import Any, Callable, Iterator, Optional, Sequence
+from typing import Any, Callable, Iterator, Sequence
 
 from faults import harness
 from faults.harness import Daemon, Model, Ran, Request, await_true, built, state_of

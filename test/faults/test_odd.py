@@ -80,7 +80,7 @@ class Kinds(Case):
         if made.returncode:
             harness.lacks("no loop device can be had: " + harness.first_line(made.stderr))
         device = made.stdout.strip()
-        self.addCleanup(subprocess.run, ["losetup", "--detach", device], check=True)
+        self.addCleanup(subprocess.check_call, ["losetup", "--detach", device])
         self.refused(device)
         subprocess.run(["sync", device], check=True)
         self.assertEqual(self.path("backing").read_bytes(), bytes(1 << 20))

@@ -6,7 +6,7 @@ image must be a state of the run, and not one before the last acknowledged commi
 from __future__ import annotations
 
 import random
-from typing import Callable, Optional, Sequence
+from typing import Callable, Dict, Optional, Sequence
 
 from faults import harness
 from faults.harness import (BLOCK, FORMATTED_BLOCKS, Answer, Case, Client, Daemon, Model, Ran, Record, Request, answers_of, paths_of,
@@ -67,7 +67,7 @@ class Power(Case):
         states = states_of(requests)
         paths = paths_of(requests)
         told = [state.told(paths) for state in states]
-        said = {}
+        said: Dict[int, int] = {}
         for index, answer in told_by(records, daemon):
             if answer.is_commit:
                 said[index] = max(said.get(index, 0), answer.commit)
