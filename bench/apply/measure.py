@@ -16,7 +16,9 @@ REPOSITORY = HERE.parent.parent
 # The shim that logs calls, its log and the frames are those of the tests.
 sys.path.insert(0, str(REPOSITORY / "test"))
 
-from faults.harness import answers_of, committed, compile_shim, read_log  # noqa: E402
+from faults.log import read_log  # noqa: E402
+from faults.programs import compile_shim  # noqa: E402
+from protocol import answers_of, committed  # noqa: E402
 from plans import Plan, plan_of, two_sync_plan  # noqa: E402
 from streams import Stream, creations, history  # noqa: E402
 from timing import ENVIRONMENT, Ended, Taken, clocks, difference, least_ratio, load, median_of, processors, ratio, run, sync_time  # noqa: E402

@@ -4,7 +4,8 @@ from __future__ import annotations
 import struct
 from typing import NamedTuple, Sequence
 
-from faults.harness import Record
+from faults.log import Record
+
 
 BLOCK = 2048
 

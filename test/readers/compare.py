@@ -8,7 +8,7 @@ from pathlib import Path
 from typing import Callable, Dict, List, Tuple
 
 import naming
-from frames import BLOCK, Directory, File, Node, Tree
+from protocol import BLOCK, Directory, File, Node, Tree
 from linux import Mount
 from volumes import Volume
 
