@@ -36,7 +36,10 @@ class Commands(Local):
         self.assertEqual(self.words("ls", "/x/y"), ["f a.txt"])
         self.assertEqual(self.words("ls", "-l", "/x/y"), ["f         5 2023-11-14T22:13:20Z a.txt"])
         self.assertEqual(self.words("ls", "-R", "/"), ["/:", "d x", "/x:", "d y", "/x/y:", "f a.txt"])
-        self.assertEqual([json.loads(line) for line in self.words("ls", "--json", "/x/y")], [{"path": "/x/y/a.txt", "kind": "file", "size": 5, "moment": 1_700_000_000_000_000}])
+        self.assertEqual(
+            [json.loads(line) for line in self.words("ls", "--json", "/x/y")],
+            [{"path": "/x/y/a.txt", "kind": "file", "size": 5, "moment": 1_700_000_000_000_000}, {"did": "ls", "failures": [], "status": 0}],
+        )
         self.assertEqual(self.words("mv", "/x/y/a.txt", "/x/"), ["moved /x/y/a.txt to /x/a.txt"])
         self.assertEqual(self.words("verify", local, "/x/a.txt"), ["1 file, 5 B: all are there"])
         self.assertEqual(self.words("verify", local, "/x/y", status=1)[-1], "0 files, 0 B: 1 difference")
@@ -185,7 +188,7 @@ class Commands(Local):
 
     def test_help(self) -> None:
         """Each command tells what it does, and what each of its words and options is."""
-        for name in cli.COMMANDS:
+        for name in cli.parser().get_default("names"):
             output = StringIO()
             with self.assertRaises(SystemExit) as raised, redirect_stdout(output), mock.patch.dict(os.environ, {"COLUMNS": "1000"}):
                 cli.main([name, "--help"])

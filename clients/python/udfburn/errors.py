@@ -172,15 +172,23 @@ class Differs(UdfburnError):
     """What is on the volume is not what it should be."""
 
 
+class DiskFull(UdfburnError):
+    """A local file system has no room: that of the image, of the ledger or of a local file."""
+
+
+class OutputFailed(UdfburnError):
+    """The standard output is closed, or takes no more."""
+
+
 class UsageError(UdfburnError):
     """Words that are no command."""
 
 
 __all__ = [
     "AnswerCode", "BadAnswer", "ClientsFull", "Code", "ConnectionFailed", "Damaged", "Differs", "DirectoryFull",
-    "DoesNotFit", "DriveFailed", "Exists", "ForeignReply", "Full", "IntoItself", "InvalidName", "InvalidPath",
+    "DiskFull", "DoesNotFit", "DriveFailed", "Exists", "ForeignReply", "Full", "IntoItself", "InvalidName", "InvalidPath",
     "IsDirectory", "IsRoot", "LedgerBusy", "LedgerError", "MISSES", "NoParent", "NotCommitted", "NotDirectory",
-    "NotEmpty", "NotFound", "NumberUsedElsewhere", "OutOfMemory", "ProgramFailed", "REFUSALS",
+    "NotEmpty", "NotFound", "NumberUsedElsewhere", "OutOfMemory", "OutputFailed", "ProgramFailed", "REFUSALS",
     "Refused", "Rejected", "SourceChanged", "SourceError", "TooDeep", "TooLarge", "TooMany", "UdfburnError",
     "UsageError", "VolumeBehind",
 ]
