@@ -579,6 +579,7 @@ class Left(Local):
         for before, size, left in ((2 * full + 1, 5, ["big"]), (2 * full + 1, full + 1, ["big.000", "big.001"]), (5, full + 1, ["big.000", "big.001"])):
             for options in ({}, {"skip_same": True}):
                 self.server.volume = Volume()
+                self.ledger = os.path.join(self.room, f"{before}-{size}-{len(options)}.sqlite")
                 self.write("big", bytes(before))
                 self.put(split=True)
                 self.write("big", bytes(size))

@@ -37,6 +37,7 @@ class Client:
         program: Optional[str] = None,
         patience: float = 10.0,
         timeout: float = 120.0,
+        shared: bool = False,
     ):
         if not 0 <= patience < float("inf"):
             raise UsageError(f"{patience!r} is no count of seconds: one is a number from 0 on")
@@ -45,6 +46,7 @@ class Client:
         self._wanted = client
         self._ledger_path = ledger
         self._patience = patience
+        self._shared = shared
         self._session: Optional[Session] = None
         self._held = 0
 
@@ -78,7 +80,7 @@ class Client:
             from .ledger import Ledger, default_path
             from .session import Session
 
-            self._session = Session(self.line, Ledger(self._ledger_path or default_path(), self._wanted, self._patience))
+            self._session = Session(self.line, Ledger(self._ledger_path or default_path(), self._wanted, self._patience), self._shared)
         return self._session
 
     # ---- requests

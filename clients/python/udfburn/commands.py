@@ -35,7 +35,7 @@ def progress_of(arguments: argparse.Namespace) -> Progress:
 
 def writer(arguments: argparse.Namespace) -> Client:
     """A client with its ledger."""
-    return Client(way_of(arguments), arguments.client, arguments.ledger, arguments.program, **patience_of(arguments))
+    return Client(way_of(arguments), arguments.client, arguments.ledger, arguments.program, shared=arguments.shared, **patience_of(arguments))
 
 
 @contextmanager

@@ -69,6 +69,7 @@ def command(
     if ledger:
         where.add_argument("--ledger", metavar="PATH", help="the file of numbers and replies: one a machine (~/.local/state/udfburn/ledger.sqlite)")
         where.add_argument("--client", metavar="N", type=client_number, help="the number of a new ledger at the volume, which is drawn else")
+        where.add_argument("--shared", action="store_true", help="other clients change the same paths: do not take that for another volume")
         sub.add_argument("--dry-run", action="store_true", help="say what would be done, and do nothing")
     add_output(sub)
     return sub
