@@ -82,9 +82,10 @@ class Commands(Local):
     def test_json(self) -> None:
         self.write("a", b"hello")
         lines = [json.loads(line) for line in self.words("put", "--json", "-r", self.folder, "/x")]
-        self.assertEqual([line["did"] for line in lines], ["made", "stored", "put"])
+        self.assertEqual([line["did"] for line in lines], ["made", "stored", "not kept", "put"])
         self.assertEqual((lines[1]["path"], lines[1]["bytes"], lines[1]["commit"]), ("/x/a", 5, 2))
-        self.assertEqual((lines[2]["files"], lines[2]["failures"]), (1, []))
+        self.assertEqual(lines[2], {"did": "not kept", "folder_times": 1})
+        self.assertEqual((lines[3]["files"], lines[3]["failures"], lines[3]["status"]), (1, [], 0))
         result = json.loads(self.words("verify", "--json", self.folder, "/x")[-1])
         self.assertEqual((result["files"], result["differences"]), (1, 0))
 
@@ -101,7 +102,7 @@ class Commands(Local):
         with self.client() as client:
             client.put("/a", b"hello")
         synced: List[str] = []
-        with mock.patch("udfburn.fetch.os.fsync", lambda descriptor: synced.append(os.readlink(f"/proc/self/fd/{descriptor}"))):
+        with mock.patch("udfburn.disk.os.fsync", lambda descriptor: synced.append(os.readlink(f"/proc/self/fd/{descriptor}"))):
             self.assertEqual(self.words("get", "/a", os.path.join(self.room, "a")), ["got /a (5 bytes)"])
         self.assertEqual(synced[1:], [os.path.realpath(self.room)])
 

@@ -10,13 +10,15 @@ from typing import TYPE_CHECKING, Any, Dict, Tuple
 from .client import Client, met
 from .commands import progress_of, reader
 from .connection import find_program
-from .errors import IsDirectory, SourceError, UsageError
+from .errors import SourceError, UsageError
+from .escape import decode
 from .progress import Progress, moment, plural, size
 from .protocol import Name, Node, NodeKind, Path, Stat, path_of, show, shown
 from .tree import walk
 from .words import command, commit_number
 
 if TYPE_CHECKING:
+    from .fetch import Fetched
     from .words import Subs
 
 PAST: Dict[str, Any] = dict(metavar="COMMIT", type=commit_number, help="read the tree as it was after a commit of 'udfburn log' (with --image)")
@@ -37,7 +39,8 @@ def add(subs: Subs) -> None:
     compare.add_argument("local", metavar="LOCAL", help="the local file or folder")
     compare.add_argument("path", metavar="PATH", help="the path that it was stored at")
     compare.add_argument("--split", action="store_true", help="large files are stored in parts")
-    compare.add_argument("--skip-odd", action="store_true", help="leave out symbolic links, pipes, sockets and devices")
+    compare.add_argument("--skip-odd", action="store_true", help="leave out and name what cannot be stored")
+    compare.add_argument("--escape", action="store_true", help="names that UDF cannot spell are stored under another spelling")
     compare.add_argument("--exact", action="store_true", help="names that are only on the volume are differences too")
     compare.add_argument("--as-of", **PAST)
     picture = command(
@@ -53,7 +56,8 @@ def add_get(subs: Subs) -> None:
     """The words of `get`."""
     words = command(
         subs, "get", get, "copy a file, or with -r a directory, from the volume",
-        "A local file has its name once all its bytes are on the disk, and at the end all names are there too.",
+        "A local file has its name once all its bytes are on the disk, and at the end all names are there too. Interrupted, the same"
+        " line goes on: files that are there whole are compared, and not written anew.",
     )
     words.add_argument("path", metavar="PATH", help="the file or directory on the volume, from the root on")
     words.add_argument("local", metavar="LOCAL", help="the new file or folder; - is the standard output")
@@ -65,7 +69,7 @@ def add_get(subs: Subs) -> None:
 
 def get(arguments: argparse.Namespace) -> int:
     """Copies a file or a directory."""
-    from .fetch import find_file, get_tree, parts_of, save, sync_names
+    from .fetch import Fetcher, find_file, parts_of
 
     progress = progress_of(arguments)
     path = path_of(arguments.path)
@@ -74,27 +78,39 @@ def get(arguments: argparse.Namespace) -> int:
         if arguments.recursive:
             raise UsageError("a directory does not go to the standard output: name a folder")
     with reader(arguments) as client, client.held():
-        if arguments.recursive:
-            count = get_tree(client, path, arguments.local, arguments.split, arguments.force, progress.told)
-            progress.result(f"got {plural(count, 'file', 'files')}", files=count)
-            return 0
-        file = find_file(client, path, arguments.split)
-        if client.stat(file.parts[0]).kind is NodeKind.DIRECTORY:
-            raise IsDirectory(show(path))
-        with parts_of(client, [file]) as files:
-            _, parts = next(files)
-            if arguments.local == "-":
-                for part in parts:
+        if arguments.local == "-":
+            with parts_of(client, [find_file(client, path, arguments.split)]) as files:
+                for part in next(files)[1]:
                     progress.write(part)
-                return 0
-            local = arguments.local
-            if os.path.isdir(local):
-                local = os.path.join(local, path[-1])
-            count = save(local, parts, file.moment, arguments.force)
-        sync_names(os.path.dirname(local) or ".")
-        progress.told("got", path, count, 0)
-        progress.end()
-    return 0
+            return 0
+        fetcher = Fetcher(client, arguments.split, arguments.force, progress.told)
+        try:
+            if arguments.recursive:
+                fetcher.tree(path, arguments.local)
+            else:
+                fetcher.file(path, place_of(arguments.local, path))
+        finally:
+            progress.end()
+            for failure in fetcher.summary.failures:
+                progress.fail(failure)
+    return got(fetcher.summary, arguments.recursive, progress)
+
+
+def place_of(local: str, path: Path) -> str:
+    """The local file that a file becomes: in a folder it has its own name."""
+    return os.path.join(local, decode(path[-1])) if os.path.isdir(local) and path else local
+
+
+def got(summary: Fetched, recursive: bool, progress: Progress) -> int:
+    """Says what was copied, and gives the status."""
+    words = f"got {plural(summary.files, 'file', 'files')}, {size(summary.bytes)}"
+    words += f", {summary.same:,} were there" if summary.same else ""
+    fields = {"files": summary.files, "bytes": summary.bytes, "same": summary.same}
+    if recursive:
+        progress.result(words, **fields)
+    else:
+        progress.outcome = dict(fields)
+    return 1 if summary.failures else 0
 
 
 def ls(arguments: argparse.Namespace) -> int:
@@ -132,12 +148,12 @@ def list_names(client: Client, at: Path, names: Tuple[Name, ...], arguments: arg
 
 def verify(arguments: argparse.Namespace) -> int:
     """Compares."""
-    from .fetch import verify_tree
+    from .compare import verify_tree
 
     progress = progress_of(arguments)
     progress.quiet, quiet = True, progress.quiet
     with reader(arguments) as client:
-        result = verify_tree(client, arguments.local, path_of(arguments.path), arguments.split, arguments.skip_odd, progress.told)
+        result = verify_tree(client, arguments.local, path_of(arguments.path), arguments.split, arguments.skip_odd, progress.told, arguments.escape)
     progress.end()
     progress.quiet = quiet
     for line in result.skipped:

@@ -3,11 +3,10 @@
 from __future__ import annotations
 
 import argparse
-import os
-import struct
 from typing import List, NamedTuple, Optional
 
 from .client import Client
+from .errors import Damaged
 from .protocol import NodeKind, Path, Stat, limits, shown
 from .words import patience_of
 
@@ -16,7 +15,8 @@ class Status(NamedTuple):
     """What is known of a volume. None stands for what is not known.
 
     `moment` is that of the format, in microseconds from 1970; `uuid` is what `blkid` shows of it. `written`, `capacity` and `left`
-    count blocks of 2,048 bytes, `loose` those after the newest commit. `nodes` counts the root too.
+    count blocks of 2,048 bytes, `loose` those after the newest commit. `nodes` counts the root too. `unknown` names what is not
+    known, `notes` what was met that is not as it must be.
     """
 
     where: str
@@ -34,36 +34,27 @@ class Status(NamedTuple):
     bytes: Optional[int] = None
     clients: Optional[int] = None
     unknown: List[str] = []
+    notes: List[str] = []
 
 
-def of_image(image: str, program: str) -> Status:
-    """The state of an image, which is only read."""
-    from .blocks import PARTITION, space_of
-    from .map import dstring
-    from .past import commits
+def of_image(image: str) -> Status:
+    """The state of an image, which is only read, also while a daemon writes it. Raises `Damaged` where it holds no volume."""
+    from .reader import Kind, Medium, NoVolume, Volume
 
-    newest = commits(image, program)[-1]
-    with open(image, "rb") as file:
-        file.seek(32 * limits.BLOCK)
-        front = file.read(3 * limits.BLOCK)
-        written = os.fstat(file.fileno()).st_size // limits.BLOCK
-    capacity = struct.unpack_from("<I", front, 2 * limits.BLOCK + 192)[0] + PARTITION
-    space = space_of(image, program, None)
-    return Status(
-        shown(image), dstring(front[24:56]), moment_at(front[376:388]), front[73:89].decode("ascii", "replace"), newest.number,
-        capacity, written, capacity - written, written - newest.address - 1, newest.files + newest.directories, newest.files,
-        newest.directories, None, len(space.clients) if space else None,
-    )
-
-
-def moment_at(field: bytes) -> int:
-    """The microseconds from 1970 of a timestamp (ECMA-167 1/7.3) in coordinated universal time."""
-    from datetime import datetime, timedelta, timezone
-
-    year, month, day, hour, minute, second, hundredths, hundreds, units = struct.unpack_from("<h8B", field, 2)
-    micro = hundredths * 10_000 + hundreds * 100 + units
-    when = datetime(year, month, day, hour, minute, second, micro, timezone.utc)
-    return (when - datetime(1970, 1, 1, tzinfo=timezone.utc)) // timedelta(microseconds=1)
+    with Medium(image) as medium:
+        volume = Volume(medium)
+        try:
+            state = volume.state()
+        except NoVolume as error:
+            raise Damaged(f"{shown(image)}: holds no volume: no table's entry is found in it") from error
+        table = state.table
+        total = sum(node.size for node in state.walk() if node.kind is Kind.FILE)
+        left = max(volume.capacity - medium.blocks, 0) if volume.capacity is not None else None
+        return Status(
+            shown(image), volume.label, volume.moment, None if volume.moment is None else f"{volume.moment:016x}", table.commit,
+            volume.capacity, medium.blocks, left, medium.blocks - table.address - 1, table.files + table.directories, table.files,
+            table.directories, total, table.clients, [], [str(note) for note in volume.notes.all()],
+        )
 
 
 def of_socket(path: str, arguments: argparse.Namespace) -> Status:

@@ -155,9 +155,12 @@ def status(arguments: argparse.Namespace) -> int:
     from .status import of_image, of_socket
 
     image, path = where_of(arguments)
-    state = of_image(image, find_program(arguments.program)) if image else of_socket(path or "", arguments)
-    tell(state, progress_of(arguments))
-    return 0
+    progress = progress_of(arguments)
+    state = of_image(image) if image else of_socket(path or "", arguments)
+    tell(state, progress)
+    for note in state.notes:
+        progress.fail(f"{state.where}: {note}")
+    return 1 if state.notes else 0
 
 
 def tell(state: Status, progress: Progress) -> None:

@@ -6,9 +6,11 @@ import argparse
 import os
 from typing import TYPE_CHECKING, List, Tuple
 
+from . import notkept
 from .client import Client
 from .commands import progress_of, writer
 from .errors import UsageError
+from .escape import encode
 from .progress import plural, size
 from .protocol import NodeKind, Path, path_of, show
 from .tree import Importer, Options, Summary, remove_tree, walk
@@ -44,39 +46,50 @@ def add_put(subs: Subs) -> None:
     """The words of `put`."""
     words = command(
         subs, "put", put, "store files and folders",
-        "Looks first whether all of it fits, and says at once what does not. Interrupted, the same line with --skip-same finishes it.", ledger=True,
+        "Looks first whether all of it fits, and says at once what does not. Files whose bytes are there already are left alone, so the"
+        " same line finishes what was interrupted, and stores only what changed since.", ledger=True,
     )
     words.add_argument("local", nargs="+", metavar="LOCAL", help="a file, or with -r a folder")
     words.add_argument("path", metavar="PATH", help="what LOCAL becomes; with a slash at its end, or several LOCALs, the directory that they go into")
     words.add_argument("-r", "--recursive", action="store_true", help="store folders with all that is in them")
     words.add_argument("-p", "--parents", action="store_true", help="make missing directories above")
-    words.add_argument("--split", action="store_true", help="store files above a mebibyte as NAME.000, NAME.001 and on")
-    words.add_argument("--skip-same", action="store_true", help="leave files alone whose size and bytes are there already")
-    words.add_argument("--skip-odd", action="store_true", help="leave out symbolic links, pipes, sockets and devices")
+    words.add_argument("--split", action="store_true", help="store files above a mebibyte in parts: NAME.000, NAME.001 and on; above 400 MiB NAME.parts/00/000 and on")
+    words.add_argument("--rewrite", action="store_true", help="store files anew whose bytes are there already")
+    words.add_argument("--skip-same", action="store_true", help="leave files alone whose bytes are there already, which is the default")
+    words.add_argument("--skip-odd", action="store_true", help="leave out and name what cannot be stored: symbolic links, pipes, sockets, devices, and names that UDF cannot spell")
+    words.add_argument("--escape", action="store_true", help="store names that UDF cannot spell under another spelling, which 'get' undoes")
     words.add_argument("--delete-source", action="store_true", help="delete a local file once its reply is in the ledger and confirmed")
     words.add_argument("--verify", action="store_true", help="read the bytes of each file back, before it is deleted")
     words.add_argument("--moment", choices=("mtime", "now"), default="mtime", help="the moment that files get: when they were modified, or now")
 
 
-def targets(locals_: List[str], path: str) -> List[Tuple[str, Path]]:
+def targets(locals_: List[str], path: str, escape: bool) -> List[Tuple[str, Path]]:
     """The path that each local file or folder becomes."""
     names = path_of(path)
     becomes_root = not names and os.path.isdir(locals_[0])
     if len(locals_) == 1 and (becomes_root or not path.endswith("/")):
         return [(locals_[0], names)]
-    return [(local, names + path_of([os.path.basename(os.path.abspath(local))])) for local in locals_]
+    return [(local, names + (own_name(local, escape),)) for local in locals_]
+
+
+def own_name(local: str, escape: bool) -> str:
+    """The name of a local file as it is stored."""
+    name = os.path.basename(os.path.abspath(local))
+    return path_of([encode(name if escape else path_of([name])[0])])[0]
 
 
 def put(arguments: argparse.Namespace) -> int:
     """Stores files and folders."""
     if arguments.verify and arguments.dry_run:
         raise UsageError("--dry-run stores nothing that --verify could read back")
-    fields = ("recursive", "parents", "split", "skip_same", "skip_odd", "delete_source", "verify", "dry_run", "moment", "image")
+    if arguments.rewrite and arguments.skip_same:
+        raise UsageError("--rewrite stores anew what --skip-same leaves alone")
+    fields = ("recursive", "parents", "split", "rewrite", "skip_odd", "escape", "delete_source", "verify", "dry_run", "moment", "image")
     options = Options(**{name: getattr(arguments, name) for name in fields})
     progress = progress_of(arguments)
     with writer(arguments) as client:
         importer = Importer(client, options, progress.told)
-        planned = importer.plan(targets(arguments.local, arguments.path))
+        planned = importer.plan(targets(arguments.local, arguments.path, arguments.escape))
         sources = [source for source, _ in planned.files] + [job.source for job in importer.same]
         progress.begin(len(sources), sum(source.identity.size for source in sources))
         try:
@@ -88,6 +101,8 @@ def put(arguments: argparse.Namespace) -> int:
                 progress.left_out(line)
             for line in importer.summary.failures:
                 progress.fail(line)
+    if summary.not_kept:
+        progress.note(notkept.line(summary.not_kept), did="not kept", **summary.not_kept)
     progress.result(put_words(summary, options), **vars(summary))
     return 1 if summary.failures else 0
 
