@@ -3,7 +3,7 @@
 from __future__ import annotations
 
 import time
-from typing import Any, Dict, List, NamedTuple, Optional, Sequence, Tuple, Type
+from typing import Any, Dict, List, Mapping, NamedTuple, Optional, Sequence, Tuple, Type
 
 from .errors import TooLarge
 from .protocol import (
@@ -193,12 +193,12 @@ def do(deed: Deed, known: Dict[Path, Expected]) -> None:
         known[deed.path] = Expected(True, NodeKind.FILE, deed.size, deed.moment)
 
 
-def below(known: Dict[Path, Expected], path: Path) -> List[Path]:
+def below(known: Mapping[Path, object], path: Path) -> List[Path]:
     """A path and those below it, as far as they are known."""
     return [other for other in known if other[: len(path)] == path]
 
 
 __all__ = [
-    "Deed", "Expected", "Operation", "Outcome", "Whole", "after", "after_all", "clamped", "confirmed", "deed_of", "now", "paths_of", "refused",
+    "Deed", "Expected", "Operation", "Outcome", "Whole", "after", "after_all", "below", "clamped", "confirmed", "deed_of", "now", "paths_of", "refused",
     "surely",
 ]
