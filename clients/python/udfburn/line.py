@@ -51,13 +51,14 @@ class Patience:
 
 
 class Line:
-    """A conversation on a way. `greet` is called on each new one before anything else is said."""
+    """A conversation on a way. `greet` is called on each new one before anything else is said, `part` before it is ended."""
 
     def __init__(self, way: Way, patience: float = 10.0, timeout: float = 120.0):
         self.way = way
         self.patience = Patience(patience)
         self.timeout = timeout
         self.greet: Callable[[Connection], None] = lambda connection: None
+        self.part: Callable[[Connection], None] = lambda connection: None
         self._connection: Optional[Connection] = None
         self._opened = self._turn = 0.0
         self._claimed = False
@@ -91,7 +92,10 @@ class Line:
         # Whoever is interrupted while it ends has none any more: its descriptors may be those of other files by then.
         connection, self._connection = self._connection, None
         if connection is not None:
-            connection.close()
+            try:
+                self.part(connection)
+            finally:
+                connection.close()
 
     def lost(self, why: str) -> None:
         """Ends a conversation that was lost, and pauses."""

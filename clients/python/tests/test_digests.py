@@ -1,0 +1,128 @@
+"""The SHA-256 of what was sent: kept in the ledger, and found again by path and by commit."""
+
+from __future__ import annotations
+
+import hashlib
+import os
+import unittest
+from typing import Dict
+
+from udfburn import Client, errors as e
+from udfburn import protocol as p
+from udfburn.digests import Files, Known
+from udfburn.operations import Operation, Whole
+from udfburn.split import stored_paths
+
+from .server import honestly, request_of
+from .test_session import WithServer
+
+FULL = p.limits.FILE
+
+
+def sha256(data: bytes) -> bytes:
+    return hashlib.sha256(data).digest()
+
+
+class Digests(WithServer):
+    def files(self) -> Files:
+        with self.client() as client:
+            return client.known_files()
+
+    def shown(self) -> Dict[str, bytes]:
+        return {p.show(path): known.sha256 for path, known in self.files().now.items()}
+
+    def test_what_is_kept_of_a_file(self) -> None:
+        with self.client() as client:
+            client.mkdir("/d", 1)
+            client.create("/d/a", b"one", 2)
+            self.assertEqual(client.known_files().now, {("d", "a"): Known(("d", "a"), 3, 2, sha256(b"one"), 2, 2)})
+            self.assertEqual(client.digest_of("/d/a"), sha256(b"one"))
+            self.assertIsNone(client.digest_of("/d"))
+            self.assertIsNone(client.digest_of("/no"))
+
+    def test_replaced_moved_and_removed(self) -> None:
+        with self.client() as client:
+            client.makedirs("/d/e")
+            for name in ("a", "b", "c"):
+                client.create(f"/d/e/{name}", name.encode())
+            client.replace("/d/e/a", b"other")
+            client.rename("/d/e/b", "/moved")
+            client.remove("/d/e/c")
+            client.rename("/d", "/x")
+            client.create("/empty", b"")
+            self.assertEqual(client.digest_of("/x/e/a"), sha256(b"other"))
+            self.assertIsNone(client.digest_of("/d/e/a"))
+        self.assertEqual(self.shown(), {"/x/e/a": sha256(b"other"), "/moved": sha256(b"b"), "/empty": sha256(b"")})
+        found = {commit: known.sha256 for commit, known in self.files().by_commit.items()}
+        self.assertEqual(found, {3: sha256(b"a"), 4: sha256(b"b"), 5: sha256(b"c"), 6: sha256(b"other"), 10: sha256(b"")})
+
+    def test_a_refused_request_stores_nothing(self) -> None:
+        with self.client() as client:
+            client.create("/a", b"one")
+            with self.assertRaises(e.Exists):
+                client.create("/a", b"two")
+        self.assertEqual(self.shown(), {"/a": sha256(b"one")})
+
+    def test_what_another_client_changed(self) -> None:
+        """The ledger does not know of it; the volume's size and moment show it."""
+        with Client(f"unix:{self.server.path}", ledger=self.ledger, shared=True) as client:
+            client.create("/a", b"one", 5)
+            with self.client(os.path.join(self.room, "other.sqlite")) as other:
+                other.replace("/a", b"two", 6)
+            self.assertIsNone(client.digest_of("/a"))
+            self.assertEqual(client.known_files().now[("a",)].sha256, sha256(b"one"))
+
+    def test_behind_a_lost_conversation(self) -> None:
+        """The digest of what was pending is that of the bytes that were sent again."""
+        lost = []
+
+        def say(payload: bytes, answer: p.Answer) -> "bytes | None":
+            if request_of(payload) and not lost:
+                lost.append(True)
+                return None
+            return honestly(payload, answer)
+
+        self.server.say = say
+        with self.client() as client:
+            client.create("/a", b"one")
+        self.assertEqual(self.shown(), {"/a": sha256(b"one")})
+
+    def test_a_file_in_parts(self) -> None:
+        first, second = bytes(2 * FULL + 5), b"x" * (FULL + 1)
+        with self.client() as client:
+            self.store(client, first)
+            self.assertEqual(client.digest_of("/big"), sha256(first))
+            self.assertEqual(client.digest_of("/big.002"), sha256(bytes(5)))
+            # As after an interrupted import of other bytes: the first part is newer than the last one.
+            client.replace("/big.000", second[:FULL])
+            self.assertIsNone(client.digest_of("/big"))
+            self.store(client, second)
+            client.remove("/big.002")
+            self.assertEqual(client.digest_of("/big"), sha256(second))
+            client.mkdir("/d")
+            for index in range(2):
+                client.rename(f"/big.{index:03}", f"/d/big.{index:03}")
+            self.assertIsNone(client.digest_of("/big"), "its parts were moved one by one")
+            client.rename("/d", "/e")
+            self.assertEqual(client.digest_of("/e/big.001"), sha256(b"x"))
+
+    def test_a_directory_with_a_file_in_parts_moves(self) -> None:
+        data = bytes(FULL + 5)
+        with self.client() as client:
+            client.mkdir("/d")
+            self.store(client, data, ("d", "big"))
+            client.rename("/d", "/e")
+            self.assertEqual((client.digest_of("/e/big"), client.digest_of("/d/big")), (sha256(data), None))
+
+    def store(self, client: Client, data: bytes, path: p.Path = ("big",)) -> None:
+        paths = stored_paths(path, len(data), True)
+        operations = []
+        for index, part in enumerate(paths):
+            whole = Whole(path, len(data), sha256(data)) if index == len(paths) - 1 else None
+            kind = p.Replace if client.find(part) else p.Create
+            operations.append(Operation(kind, part, 7, data[index * FULL : (index + 1) * FULL], whole=whole))
+        self.assertEqual({outcome.code for outcome in client.run(operations)}, {p.Code.DONE})
+
+
+if __name__ == "__main__":
+    unittest.main()
