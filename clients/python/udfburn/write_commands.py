@@ -88,7 +88,7 @@ def put(arguments: argparse.Namespace) -> int:
     options = Options(**{name: getattr(arguments, name) for name in fields})
     progress = progress_of(arguments)
     with writer(arguments) as client:
-        importer = Importer(client, options, progress.told)
+        importer = Importer(client, options, progress.told, progress.stored)
         planned = importer.plan(targets(arguments.local, arguments.path, arguments.escape))
         sources = [source for source, _ in planned.files] + [job.source for job in importer.same]
         progress.begin(len(sources), sum(source.identity.size for source in sources))
