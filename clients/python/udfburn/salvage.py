@@ -3,10 +3,10 @@
 from __future__ import annotations
 
 import hashlib
-from typing import Callable, Dict, Iterator, List, NamedTuple, Optional, Set, Tuple
+from typing import Dict, Iterator, List, NamedTuple, Optional, Set, Tuple
 
 from .errors import UdfburnError
-from .reader import Kind, Medium, Note, NoVolume, Volume
+from .reader import Kind, Medium, Note, Volume
 from .reader.audit import audit
 from .reader.basics import BLOCK, PARTITION, blocks_of
 from .reader.chain import Chain, Link
@@ -15,16 +15,18 @@ from .reader.notes import Cause
 from .reader.survey import Survey
 from .reader.volume import Path
 from .salvage_digests import DECLARATION, Digests, Manifest, add_manifests, is_manifest
-from .salvage_tree import Item, Tree
+from .salvage_tree import LOST_AND_FOUND, Item, Tree
 from .salvage_write import Output, Written
 
-WHOLE, UNPROVED, EARLIER, DAMAGED, LOST = "whole", "unproved", "earlier", "damaged", "lost"
-STATES = (WHOLE, UNPROVED, EARLIER, DAMAGED, LOST)
+WHOLE, UNPROVED, EARLIER, NAMELESS, DAMAGED, LOST = "whole", "unproved", "earlier", "nameless", "damaged", "lost"
+UNFINISHED = "unfinished"
+STATES = (WHOLE, UNPROVED, EARLIER, NAMELESS, DAMAGED, LOST)
 """How a file was had.
 
 `whole`: its bytes have the digest that the volume or the ledger keeps of them. `unproved`: all its blocks could be read, and no digest
-covers it. `earlier`: its name or its bytes are those of an earlier commit. `damaged`: some of its bytes are wrong or missing. `lost`:
-there is nothing of it.
+covers it. `earlier`: its name or its bytes are those of an earlier commit. `nameless`: its bytes could be read, and no name leads to it.
+`damaged`: some of its bytes are wrong or missing. `lost`: there is nothing of it. Beside these, `unfinished` is a file after the last
+table's entry, which no state has.
 """
 
 DAMAGED_SUFFIX = ".damaged"
@@ -109,6 +111,8 @@ class Salvage:
     def bytes_of(self, entry: Entry) -> Bytes:
         """The bytes of a file."""
         doubt = "" if entry.proved else "its entry has a wrong byte, which may be one of its own"
+        if not entry.check and not entry.proved:
+            doubt = "its entry is lost, and how many bytes it has is not known"
         if entry.inside is not None:
             return Bytes(entry.inside, (), doubt)
         if entry.first is None:
@@ -130,21 +134,39 @@ class Salvage:
         if entry is None:
             return Outcome(item.path, item.kind, LOST, 0, None, (), item.why, None), b""
         read = self.bytes_of(entry)
-        digest = hashlib.sha256(read.data).hexdigest()
-        agrees = self.digests.agrees(item.path, digest)
-        state, why = WHOLE, item.why
-        if read.why and agrees is not True:
-            state, why = DAMAGED, read.why
-        elif item.commit is not None:
-            state, why = EARLIER, why or f"as of commit {item.commit}"
-        elif item.path[:1] != ("lost+found",) and agrees is False:
-            state, why = DAMAGED, "its bytes do not have the digest that is kept of them"
-        elif agrees is None:
-            state = UNPROVED
-            known = self.digests.path_of(digest) if item.why else None
-            why = f"{why}; it has the digest of /{'/'.join(known)}" if known is not None else why
+        data = read.data if entry.proved or entry.inside is not None else self._fitted(item.path, read.data)
+        digest = hashlib.sha256(data).hexdigest() if len(self.digests) else ""
+        state, why = self._state(item, read, self.digests.agrees(item.path, digest))
+        if state == NAMELESS:
+            known = self.digests.path_of(digest)
+            why += f"; it has the digest that is kept of /{'/'.join(known)}" if known is not None else ""
         ranges = read.ranges if state == DAMAGED else ()
-        return Outcome(item.path, item.kind, state, entry.size, item.commit, ranges, why, None), read.data
+        return Outcome(item.path, item.kind, state, len(data), item.commit, ranges, why, None), data
+
+    def _state(self, item: Item, read: Bytes, agrees: Optional[bool]) -> Tuple[str, str]:
+        """How a file was had, and why it is not whole."""
+        if read.why and not agrees:
+            return DAMAGED, read.why
+        if item.is_unfinished:
+            return UNFINISHED, item.why
+        if item.commit is not None:
+            return EARLIER, item.why or f"as of commit {item.commit}"
+        if item.why:
+            return NAMELESS, item.why
+        if agrees is False:
+            return DAMAGED, "its bytes do not have the digest that is kept of them"
+        return WHOLE if agrees else UNPROVED, item.why
+
+    def _fitted(self, path: Path, data: bytes) -> bytes:
+        """The bytes of a file whose size is not known: as many as have the digest that is kept of it, else all."""
+        begin = max(len(data) - BLOCK, 0)
+        known = hashlib.sha256(data[:begin])
+        for end in range(begin + 1, len(data) + 1) if self.digests.has(path) else ():
+            digest = known.copy()
+            digest.update(data[begin:end])
+            if self.digests.agrees(path, digest.hexdigest()):
+                return data[:end]
+        return data
 
     def outcomes(self, output: Optional[Output]) -> Iterator[Outcome]:
         """Each file, and each directory that is not whole. With an output each is written there."""
@@ -197,6 +219,4 @@ def joined(ranges: List[Tuple[int, int]]) -> Tuple[Tuple[int, int], ...]:
     return tuple(found)
 
 
-Told = Callable[[Outcome], None]
-
-__all__ = ["DAMAGED", "EARLIER", "LOST", "NoVolume", "NothingToSalvage", "Outcome", "STATES", "Salvage", "Told", "UNPROVED", "WHOLE"]
+__all__ = ["DAMAGED", "EARLIER", "LOST", "NAMELESS", "NothingToSalvage", "Outcome", "STATES", "Salvage", "UNFINISHED", "UNPROVED", "WHOLE"]

@@ -57,6 +57,10 @@ class Digests:
             return True
         return None if path in self._doubted else False
 
+    def has(self, path: Path) -> bool:
+        """Whether a digest of the file at a path is known."""
+        return path in self._known
+
     def path_of(self, digest: str) -> Optional[Path]:
         """The path of a file with this digest."""
         return self._paths.get(digest)

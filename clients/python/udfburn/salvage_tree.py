@@ -4,7 +4,7 @@ from __future__ import annotations
 
 from typing import Dict, Iterator, List, NamedTuple, Optional, Set, Tuple
 
-from .reader.basics import PARTITION, PATH_NAMES, UNUSED, blocks_of
+from .reader.basics import BLOCK, FILE_BYTES, PARTITION, PATH_NAMES, UNUSED, blocks_of
 from .reader.chain import Chain
 from .reader.directory import IS_PARENT, Directory, Identifier, Known, piece_at, read_directory, said_by
 from .reader.entry import Entry, Kind, read_entry
@@ -31,6 +31,7 @@ class Item(NamedTuple):
 
     `path` has the names on the volume; of a node without names it begins with `lost+found`. `target` are the names that it is written
     under. `commit` is that of an earlier state that its name or its entry is taken from. `version` is None where it is lost.
+    `is_unfinished` says that the commit that wrote it has no table's entry.
     """
 
     path: Path
@@ -40,6 +41,7 @@ class Item(NamedTuple):
     version: Optional[Version]
     commit: Optional[int]
     why: str
+    is_unfinished: bool = False
 
     @property
     def entry(self) -> Optional[Entry]:
@@ -71,13 +73,15 @@ class Tree:
         self._descend(item)
         self._finish()
         self._collect()
+        if self.index == 0:
+            self._add_unfinished()
 
     def _finish(self) -> None:
         """Takes what is less certain once all that is certain was taken: names that were not proved, then those of earlier listings."""
         while self._loose or self._hurt:
             while self._loose:
                 above, name = self._loose.pop(0)
-                self._take(above, self._renamed(above, name), None)
+                self._take(above, self._confirmed(above, name), None)
             if self._hurt:
                 self._recover(self._hurt.pop(0))
 
@@ -93,31 +97,31 @@ class Tree:
             return None
         address = number + PARTITION if number != UNUSED else None
         if address is not None:
-            entry = self._entry(address, virtual, unique, kind)
+            entry = self._entry(address, virtual, unique, kind, True)
             if entry is not None:
                 return Version(entry, address, None)
             if listed is not None and self._entry(address, virtual, None, None) is not None:
                 return None
         return (
             self._by_others(virtual, unique, kind, address) or self._rebuilt(virtual, unique, kind, address)
-            or self._earlier(virtual, unique, kind, address)
+            or self._earlier(virtual, unique, kind, address) or self._carved(virtual, unique, kind, address)
         )
 
-    def _entry(self, address: int, virtual: int, unique: Optional[int], kind: Optional[Kind]) -> Optional[Entry]:
-        """The entry at an address, where it is that of this node."""
+    def _entry(
+        self, address: int, virtual: int, unique: Optional[int], kind: Optional[Kind], is_told: bool = False,
+    ) -> Optional[Entry]:
+        """The entry at an address, where it is that of this node. What is wrong there is noted where a table leads to it."""
         block = self.medium.block(address)
-        if block is None:
+        entry = mend_entry(block, Hint(address - PARTITION, virtual, unique, kind)) if block is not None else None
+        if is_told and block is None:
             self.notes.add(address, Cause.MISSING, "an entry cannot be read")
-            return None
-        entry = mend_entry(block, Hint(address - PARTITION, virtual, unique, kind))
-        self.notes.extend(address, read_entry(block, virtual)[1])
+        elif is_told and block is not None:
+            self.notes.extend(address, read_entry(block, virtual)[1])
         if entry is None or entry.kind is Kind.TABLE or kind is not None and entry.kind is not kind:
             return None
-        here = entry.location == virtual
         if unique is not None and entry.unique != unique:
-            self.notes.add(address, Cause.IDENTITY, f"the entry has unique ID {entry.unique}, and not {unique}")
             return None
-        return entry if here or entry.proved and unique is not None else None
+        return entry if entry.location == virtual or entry.proved and unique is not None else None
 
     def _by_others(self, virtual: int, unique: Optional[int], kind: Optional[Kind], address: Optional[int]) -> Optional[Version]:
         """The entry that the table has to lead to by all else that is on the volume, where its own word is wrong."""
@@ -155,6 +159,16 @@ class Tree:
             if entry is not None and entry.proved:
                 return Version(entry, at, commit)
         return None
+
+    def _carved(self, virtual: int, unique: Optional[int], kind: Optional[Kind], address: Optional[int]) -> Optional[Version]:
+        """A file whose entry is lost, by the blocks before it: a commit begins with them. How many bytes it has is not known."""
+        if kind is not Kind.FILE or unique is None or address is None or not self.chain.is_confirmed(virtual, address, self.index):
+            return None
+        start = self.chain.begin_of(address)
+        if start is None or not 0 < address - start <= blocks_of(FILE_BYTES):
+            return None
+        size = (address - start) * BLOCK
+        return Version(Entry(Kind.FILE, None, 1, unique, size, start - PARTITION, None, virtual, 0, False), address, None)
 
     def versions(self, virtual: int, after: int) -> Iterator[Tuple[int, int]]:
         """The entries that were committed for a virtual address below an address, the newest first, and until which commit each stood."""
@@ -208,16 +222,13 @@ class Tree:
         self.notes.extend(entry.first + PARTITION, faults)
         return directory
 
-    def _renamed(self, above: Item, name: Identifier) -> Identifier:
+    def _confirmed(self, above: Item, name: Identifier) -> Identifier:
         """A name that was not proved, as an earlier listing of the directory has it, where it differs in some bytes alone."""
         after = above.version.address if above.version is not None else self.link.start
         for at, _ in self.versions(above.virtual, after):
-            block = self.medium.block(at)
-            entry = mend_entry(block, Hint(at - PARTITION, above.virtual)) if block is not None else None
-            directory = self._read(entry, above.path) if entry is not None else None
-            for old in directory.names if directory is not None else ():
+            for old in self._names_at(at):
                 if old.proved and (old.virtual, old.unique, len(old.name)) == (name.virtual, name.unique, len(name.name)):
-                    return name._replace(name=old.name)
+                    return old
             break
         return name
 
@@ -226,7 +237,7 @@ class Tree:
         path = above.path + (name.name,)
         kind = Kind.DIRECTORY if name.is_directory else Kind.FILE
         if name.virtual in self._reached:
-            if listed is None:
+            if listed is None and name.proved:
                 self.notes.add(above.version.address if above.version else self.link.start, Cause.REACHED_TWICE, f"{show(path)} leads to a node that has a name already")
             return
         version = self.resolve(name.virtual, name.unique, kind, listed)
@@ -239,7 +250,7 @@ class Tree:
         self._reached.add(name.virtual)
         commit = listed if listed is not None else version.commit if version is not None else None
         suffix = f".at-commit-{commit}" if commit is not None else ""
-        why = "" if version is not None else "no entry of it can be read"
+        why = "no entry of it can be read" if version is None else "" if name.proved else "a byte of its name is wrong, and it may be another"
         self._put(Item(path, above.target + (name.name + suffix,), kind, name.virtual, version, commit, why))
 
     def _put(self, item: Item) -> None:
@@ -295,6 +306,29 @@ class Tree:
         why = "no name leads to it"
         self._put(Item((LOST_AND_FOUND, name), (LOST_AND_FOUND, name + suffix), version.entry.kind, virtual, version, version.commit, why))
         self._finish()
+
+
+    def _add_unfinished(self) -> None:
+        """Takes the nodes of a commit that has no table's entry: it was cut, or its last block is lost."""
+        names = {name.virtual: name for at in self.survey.nodes_after(self.link.address) for name in self._names_at(at)}
+        for at in self.survey.nodes_after(self.link.address):
+            block = self.medium.block(at)
+            entry = mend_entry(block, Hint(at - PARTITION)) if block is not None else None
+            if entry is None or entry.kind is not Kind.FILE:
+                continue
+            name = names.get(entry.location)
+            called = f", and its name is {name.name}" if name is not None and name.unique == entry.unique else ""
+            path = (LOST_AND_FOUND, f"{entry.unique}.unfinished")
+            why = f"the commit that wrote it has no table's entry: it was cut, or its last block is lost{called}"
+            self.items.append(Item(path, path, Kind.FILE, entry.location, Version(entry, at, None), None, why, True))
+
+    def _names_at(self, at: int) -> Iterator[Identifier]:
+        """The names of the directory whose entry stands at an address."""
+        block = self.medium.block(at)
+        entry = mend_entry(block, Hint(at - PARTITION)) if block is not None else None
+        if entry is not None and entry.kind is Kind.DIRECTORY:
+            directory = self._read(entry, (LOST_AND_FOUND,))
+            yield from directory.names if directory is not None else ()
 
 
 def data_before(medium: Medium, number: int) -> Optional[Tuple[bytes, int, int]]:

@@ -3,7 +3,7 @@
 from __future__ import annotations
 
 from array import array
-from typing import Dict, Iterator, Tuple
+from typing import Dict, Iterator, List, Tuple
 
 from .basics import FIRST_UNIQUE, NODES, PARTITION, UNUSED, blocks_of, is_label, read_dstring
 from .chain import Chain, Link
@@ -12,7 +12,7 @@ from .entry import Kind, read_entry, read_file_set
 from .front import note_front, read_front
 from .notes import Cause, Fault
 from .table import (
-    HEAD, RECORD_SIZES, SESSIONS, Head, client_faults, lengths_agree, read_entries, read_head,
+    HEAD, RECORD_SIZES, SESSIONS, Head, client_faults, lengths_agree, read_clients, read_entries, read_head,
 )
 from .volume import State
 
@@ -28,7 +28,8 @@ def audit(chain: Chain, index: int) -> None:
     for place in range(len(chain.links) - 1, index - 1, -1):
         run.look(place)
     table = chain.links[index].table
-    if table is not None:
+    if table is not None and not len(volume.notes):
+        # Where a structure is wrong, what others say of it differs as a matter of course.
         State(volume, table).check()
 
 
@@ -41,6 +42,7 @@ class Audit:
         self._entries = array("I")
         self._used = 0
         self._records = b""
+        self._is_next = False
         self._last: Dict[int, int] = {}
         self._known = Known()
 
@@ -58,6 +60,7 @@ class Audit:
         head = read_head(data)
         if head is None:
             return
+        self._is_next = place + 1 < len(self.chain.links) and self.chain.links[place + 1].table is not None and self.chain.links[place + 1].adjacent
         self.notes.extend(link.start, list(self._head_faults(data, head, number)))
         if any(run.data[table.size :]):
             # `udfburn` does not look at these bytes; docs/FORMAT.md has zeros there.
@@ -98,21 +101,19 @@ class Audit:
         if head.identifier != SESSIONS or head.version not in RECORD_SIZES:
             yield Fault(Cause.SESSIONS, "the sessions' identifier or version is not as it must be")
         elif agrees:
-            # Records of other clients are those of the table before.
-            records = data[HEAD : head.length]
             size = RECORD_SIZES[head.version]
-            same = len(records) == len(self._records) and sum(records[at : at + size] != self._records[at : at + size] for at in range(0, len(records), size)) <= 1
-            faults = list(client_faults(data, head)) if not same or head.clients < 4 else list(client_faults(*self._changed(data, head, size)))
-            self._records = records if not faults else b""
-            yield from faults
-
-    def _changed(self, data: bytes, head: Head, size: int) -> Tuple[bytes, Head]:
-        """A table with the one record that changed."""
-        records = data[HEAD : head.length]
-        for at in range(0, len(records), size):
-            if records[at : at + size] != self._records[at : at + size]:
-                return data[:HEAD] + records[at : at + size], head._replace(clients=1)
-        return data[:HEAD], head._replace(clients=0)
+            records = data[HEAD : head.length]
+            old, new = (texts(found, size) for found in (self._records, records))
+            changed = [index for index in range(max(len(old), len(new))) if old[index : index + 1] != new[index : index + 1]]
+            if len(changed) == 1 and len(new) > 4:
+                # Records of other clients are those of the table before.
+                text = new[changed[0]] if changed[0] < len(new) else b""
+                yield from client_faults(data[:HEAD] + text, head._replace(clients=len(text) // size))
+            else:
+                yield from client_faults(data, head)
+            if self._is_next and head.version == 2 and not is_step(old, new, changed, head.commits):
+                yield Fault(Cause.SESSIONS, "the records of clients are not those of the table before and one more reply")
+            self._records = records
 
     def _changes(self, link: Link, entries: "array[int]", low: int, head: Head) -> None:
         """Compares the entries with those of the table before, and looks at what they lead to anew."""
@@ -165,6 +166,24 @@ class Audit:
             for gone in run.missing:
                 self.notes.add(gone, Cause.MISSING, "a block of a directory cannot be read")
             self.notes.extend(entry.first + PARTITION, read_directory(run.data, entry.size, entry.first, self._known)[1])
+
+
+def texts(records: bytes, size: int) -> List[bytes]:
+    """The records one by one."""
+    return [records[at : at + size] for at in range(0, len(records), size)]
+
+
+def is_step(old: List[bytes], new: List[bytes], changed: List[int], commit: int) -> bool:
+    """Whether one client more had a reply: its number is the next, and its newest reply is that of this commit."""
+    if len(changed) != 1 or len(new) < len(old):
+        return False
+    client = read_clients(bytes(HEAD) + new[changed[0]], 2, 1)[0]
+    if not client.replies or client.replies[0].commit != commit:
+        return False
+    if changed[0] >= len(old):
+        return len(client.replies) == 1
+    before = read_clients(bytes(HEAD) + old[changed[0]], 2, 1)[0]
+    return before.client == client.client and before.latest + 1 == client.latest and client.replies[1:] == before.replies[:3]
 
 
 def differences(old: "array[int]", new: "array[int]") -> "Iterator[Tuple[int, int, int]]":

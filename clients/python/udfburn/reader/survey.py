@@ -62,6 +62,10 @@ class Survey:
         for index in range(bisect_left(known, below) - 1, -1, -1):
             yield known[index]
 
+    def nodes_after(self, address: int) -> List[int]:
+        """The addresses of nodes' entries after an address."""
+        return sorted(at for known in self._nodes.values() for at in known[bisect_left(known, address) :])
+
     def last_node(self, location: int, low: int, high: int) -> Optional[int]:
         """The last entry for a virtual address from one address on and below another."""
         at = next(self.nodes(location, high), None)
