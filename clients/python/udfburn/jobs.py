@@ -15,6 +15,7 @@ class Options(NamedTuple):
     """How folders and files are stored.
 
     A file whose bytes are there already is left alone, unless `rewrite`. `skip_same` is that default's own name, and changes nothing.
+    With `delete_last` nothing is deleted before `Importer.delete_kept` is called.
     """
 
     recursive: bool = False
@@ -25,6 +26,7 @@ class Options(NamedTuple):
     skip_odd: bool = False
     escape: bool = False
     delete_source: bool = False
+    delete_last: bool = False
     verify: bool = False
     dry_run: bool = False
     moment: str = "mtime"

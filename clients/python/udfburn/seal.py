@@ -62,6 +62,8 @@ def require_directory(client: Client, path: Path, top: Path) -> None:
     """Raises where the directory or its payload is not there."""
     if client.stat(path).kind is not NodeKind.DIRECTORY:
         raise NotDirectory(show(path))
+    if top == path and client.find(path + (m.BAG_DECLARATION,)) is not None:
+        raise UsageError(f"{show(path)}: is a bag, whose manifest is another one: seal it without --manifest-only")
     node = client.find(top)
     if node is None or node.kind is not NodeKind.DIRECTORY:
         raise UsageError(
@@ -217,11 +219,6 @@ def store(client: Client, operation: Operation, told: Told) -> None:
     told("stored", operation.path, len(operation.data), outcome.commit)
 
 
-def payload_target(path: Path, manifest_only: bool) -> Path:
-    """The directory of the payload of what is sealed at a path."""
-    return path if manifest_only else path + (m.PAYLOAD,)
-
-
 def seal_words(sealed: Sealed, path: Optional[Path] = None) -> str:
     """What was sealed, in a line."""
     from .progress import plural, size
@@ -233,4 +230,4 @@ def seal_words(sealed: Sealed, path: Optional[Path] = None) -> str:
     return words + (f"; wrote {plural(len(sealed.written), 'file', 'files')}" if sealed.written else "; all was there")
 
 
-__all__ = ["Sealed", "payload_target", "seal", "seal_words"]
+__all__ = ["Sealed", "seal", "seal_words"]

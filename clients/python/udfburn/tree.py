@@ -42,6 +42,7 @@ class Importer:
         self.summary = Summary()
         self.present = Present()
         self.same: List[Job] = []
+        self._kept: List[Job] = []
 
     def plan(self, jobs: Iterable[Tuple[str, Path]]) -> Plan:
         """Looks at what is to be stored and at what is there, and raises `DoesNotFit` with all that stands against it."""
@@ -270,7 +271,19 @@ class Importer:
                     self.summary.failures.append(f"{show(job.source.path)}: the volume has other bytes than were stored")
         return verified
 
+    def delete_kept(self) -> None:
+        """Deletes the local files whose deletion was put off."""
+        kept, self._kept = self._kept, []
+        self._delete_now(kept)
+
     def _delete(self, jobs: List[Job]) -> None:
+        """Deletes local files, or puts that off."""
+        if self.options.delete_last:
+            self._kept += jobs
+        else:
+            self._delete_now(jobs)
+
+    def _delete_now(self, jobs: List[Job]) -> None:
         """Deletes local files, each as it was read, but not what this command keeps its numbers and replies in."""
         kept = self.client.session().ledger.files()
         for job in jobs:
