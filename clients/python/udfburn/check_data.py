@@ -3,7 +3,7 @@
 from __future__ import annotations
 
 from hashlib import sha256
-from typing import Callable, Iterator, List, Optional
+from typing import Callable, Dict, Iterator, List, Optional
 
 from .coverage import Coverage
 from .errors import NotFound
@@ -77,14 +77,18 @@ def faults_of(coverage: Coverage, node: Node, result: Result) -> List[str]:
     faults = []
     if sent is not None and (sent.size, sent.moment) != (node.size, node.moment):
         faults.append(f"its entry says {node.size} bytes, moment {node.moment}, and {sent.size} bytes, moment {sent.moment} were sent")
-    wrong = [one for one in wanted if one.sha256 != digest]
-    # Where the ledger has the digest of a newer file, the manifest is the older one of the two.
-    proved = any(one.commit is None and one.sha256 == digest for one in wanted)
-    for one in wrong:
+    differing: Dict[bytes, List[str]] = {}
+    for one in wanted:
+        if one.sha256 == digest:
+            continue
         if one.commit is not None and commit is not None and commit > one.commit:
-            faults.append(f"was stored again after {one.source} was written (commit {one.commit}): seal the directory again" + ("" if proved else ", once it is compared"))
+            faults.append(f"was stored again after {one.source} was written (commit {one.commit}): seal the directory again")
         else:
-            faults.append(f"has other bytes than {one.source} says: SHA-256 {digest.hex()} is there, and not {one.sha256.hex()}")
+            differing.setdefault(one.sha256, []).append(one.source)
+    faults += [
+        f"has other bytes than were stored: SHA-256 {digest.hex()} is there, and {wrong.hex()} is in {' and in '.join(sources)}"
+        for wrong, sources in differing.items()
+    ]
     return faults
 
 

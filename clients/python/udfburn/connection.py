@@ -271,8 +271,7 @@ class Way:
 
     def key(self) -> Union[str, bytes]:
         """The way's name in a ledger, by the file behind links; as bytes where these are not UTF-8."""
-        key = f"{self.kind}:{os.path.realpath(self.path)}"
-        return os.fsencode(key) if is_bytes(key) else key
+        return key_of(self.kind, self.path)
 
     def open(self, timeout: float = 120.0) -> Connection:
         """A new conversation, or `Lost`. `timeout` is the longest wait in it, in seconds."""
@@ -282,6 +281,17 @@ class Way:
         if not os.path.isfile(self.path):
             raise ProgramFailed(f"{self.path}: {os.strerror(errno.ENOENT)}, or no regular file")
         return ImageConnection(self.path, self.program, timeout)
+
+
+def key_of(kind: str, path: str) -> Union[str, bytes]:
+    """The name of a way in a ledger."""
+    key = f"{kind}:{os.path.realpath(path)}"
+    return os.fsencode(key) if is_bytes(key) else key
+
+
+def image_key(path: str) -> Union[str, bytes]:
+    """The name of an image in a ledger."""
+    return key_of("image", path)
 
 
 def find_program(program: Optional[str] = None) -> str:
@@ -316,4 +326,4 @@ def run_program(program: str, words: List[str]) -> bytes:
     return done.stdout
 
 
-__all__ = ["Connection", "ImageConnection", "Lost", "UnixConnection", "Way", "check_word", "find_program", "run_program"]
+__all__ = ["Connection", "ImageConnection", "Lost", "UnixConnection", "Way", "check_word", "find_program", "image_key", "run_program"]

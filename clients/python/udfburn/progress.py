@@ -186,7 +186,9 @@ class Progress:
             self._print_error(line)
         if self.as_json and not isinstance(error, OutputFailed):
             kind = type(error).__name__ if isinstance(error, BaseException) else None
-            self._print_json({"did": "failed", "error": kind, "path": getattr(error, "path", None), "message": text})
+            failed = {"did": "failed", "error": kind, "path": getattr(error, "path", None), "message": text}
+            commit = getattr(error, "commit", None)
+            self._print_json({**failed, "commit": commit} if commit else failed)
         return status
 
     def result(self, line: str, **fields: object) -> None:
