@@ -53,7 +53,8 @@ class Checked(WithPrograms):
 
     def changed(self, data: bytes, place: int, count: int = 1) -> str:
         """A copy of the image in which a byte of each of some files with these bytes is another, the first ones first."""
-        image = shutil.copy(self.image, os.path.join(self.room, f"changed{len(os.listdir(self.room))}.img"))
+        image = os.path.join(self.room, f"changed{len(os.listdir(self.room))}.img")
+        shutil.copy(self.image, image)
         with open(image, "r+b") as file:
             all_of_it, at = file.read(), -1
             for _ in range(count):

@@ -9,7 +9,7 @@ import os
 import random
 import unittest
 from contextlib import redirect_stdout
-from typing import Dict
+from typing import Dict, List, Optional, Type
 from unittest import mock
 
 from udfburn import Client, cli, errors as e
@@ -79,9 +79,9 @@ class Digests(WithServer):
 
     def test_behind_a_lost_conversation(self) -> None:
         """The digest of what was pending is that of the bytes that were sent again."""
-        lost = []
+        lost: List[bool] = []
 
-        def say(payload: bytes, answer: p.Answer) -> "bytes | None":
+        def say(payload: bytes, answer: p.Answer) -> Optional[bytes]:
             if request_of(payload) and not lost:
                 lost.append(True)
                 return None
@@ -124,7 +124,7 @@ class Digests(WithServer):
         operations = []
         for index, part in enumerate(paths):
             whole = Whole(path, len(data), sha256(data)) if index == len(paths) - 1 else None
-            kind = p.Replace if client.find(part) else p.Create
+            kind: Type[p.AnyRequest] = p.Replace if client.find(part) else p.Create
             operations.append(Operation(kind, part, 7, data[index * FULL : (index + 1) * FULL], whole=whole))
         self.assertEqual({outcome.code for outcome in client.run(operations)}, {p.Code.DONE})
 

@@ -48,6 +48,10 @@ class Lines(unittest.TestCase):
         for data in (f"{digits}\td/f\n", f"{digits}   d/f\n", f"{digits} *d/f\r\n"):
             self.assertEqual(read_manifest(data.encode(), True), ([Line(digest, ("d", "f"))], []))
         self.assertEqual(read_manifest(f"{digits}  d/%0a%0A%25%41\n".encode(), True)[0], [Line(digest, ("d", "\n\n%%41"))])
+        # Only these end a line.
+        for end in ("\r\n", "\r", "\n"):
+            self.assertEqual(read_manifest(f"{digits}  a\x0b\u2028\x85b{end}{digits}  c{end}".encode(), True)[0], [Line(digest, ("a\x0b\u2028\x85b",)), Line(digest, ("c",))])
+        self.assertEqual(read_manifest(f"{digits}  a\x0b\u2028b\n".encode(), False)[0], [Line(digest, ("a\x0b\u2028b",))])
 
     def test_what_is_no_line(self) -> None:
         digits = "ab" * 32

@@ -50,7 +50,10 @@ def plain_line(line: Line) -> str:
 
 # ---- read
 
-BAG_LINE = re.compile(r"([0-9A-Fa-f]{64})[ \t]+\*?(.+)")
+BAG_END, PLAIN_END = re.compile("\r\n|\r|\n"), re.compile("\r?\n")
+"""How a line ends (RFC 8493, 2.1.3, has all three); in names both forms write such characters otherwise."""
+
+BAG_LINE = re.compile(r"([0-9A-Fa-f]{64})[ \t]+\*?(.+)", re.DOTALL)
 PLAIN_LINE = re.compile(r"(\\?)([0-9A-Fa-f]{64}) [ *](.+)", re.DOTALL)
 ENCODED = re.compile(r"%(0[AaDd]|25)")
 ESCAPED = re.compile(r"\\(.?)", re.DOTALL)
@@ -65,9 +68,7 @@ def read_manifest(data: bytes, bag: bool) -> Tuple[List[Line], List[str]]:
         text = data.decode()
     except UnicodeDecodeError:
         return [], ["it is not UTF-8"]
-    for number, row in enumerate(text.split("\n"), 1):
-        # A bag may be made where lines end otherwise (RFC 8493, 2.1.3); a carriage return in a name is written otherwise in both.
-        row = row[:-1] if row.endswith("\r") else row
+    for number, row in enumerate(BAG_END.split(text) if bag else PLAIN_END.split(text), 1):
         if not row:
             continue
         found = bag_row(row) if bag else plain_row(row)
@@ -108,6 +109,6 @@ def line_of(digits: str, name: str) -> "Line | None":
 
 
 __all__ = [
-    "BAG_DECLARATION", "BAG_INFO", "DECLARATION", "Line", "MANIFEST", "PAYLOAD", "TAG_MANIFEST", "bag_manifest", "plain_manifest",
+    "BAG_DECLARATION", "BAG_END", "BAG_INFO", "DECLARATION", "Line", "MANIFEST", "PAYLOAD", "TAG_MANIFEST", "bag_manifest", "plain_manifest",
     "read_manifest",
 ]

@@ -181,7 +181,7 @@ def bag_info(old: bytes, payload: List[Payload], same: bool) -> bytes:
 def elements(text: str) -> List[str]:
     """The elements of a bag's metadata, each with the lines that go on with it."""
     found: List[str] = []
-    for line in text.splitlines():
+    for line in m.BAG_END.split(text):
         if line[:1] in (" ", "\t") and found:
             found[-1] += "\n" + line
         elif line:
