@@ -3,11 +3,16 @@
 from __future__ import annotations
 
 import hashlib
+import io
+import json
 import os
+import random
 import unittest
-from typing import Dict
+from contextlib import redirect_stdout
+from typing import Dict, List, Optional, Type
+from unittest import mock
 
-from udfburn import Client, errors as e
+from udfburn import Client, cli, errors as e
 from udfburn import protocol as p
 from udfburn.digests import Files, Known
 from udfburn.operations import Operation, Whole
@@ -74,9 +79,9 @@ class Digests(WithServer):
 
     def test_behind_a_lost_conversation(self) -> None:
         """The digest of what was pending is that of the bytes that were sent again."""
-        lost = []
+        lost: List[bool] = []
 
-        def say(payload: bytes, answer: p.Answer) -> "bytes | None":
+        def say(payload: bytes, answer: p.Answer) -> Optional[bytes]:
             if request_of(payload) and not lost:
                 lost.append(True)
                 return None
@@ -119,9 +124,65 @@ class Digests(WithServer):
         operations = []
         for index, part in enumerate(paths):
             whole = Whole(path, len(data), sha256(data)) if index == len(paths) - 1 else None
-            kind = p.Replace if client.find(part) else p.Create
+            kind: Type[p.AnyRequest] = p.Replace if client.find(part) else p.Create
             operations.append(Operation(kind, part, 7, data[index * FULL : (index + 1) * FULL], whole=whole))
         self.assertEqual({outcome.code for outcome in client.run(operations)}, {p.Code.DONE})
+
+    def put(self) -> "list[dict[str, object]]":
+        """Stores the folder `source` by the command, and gives what it prints for programs."""
+        output = io.StringIO()
+        words = ["put", "-r", "--json", "--split", os.path.join(self.room, "source"), "/x", "--socket", self.server.path, "--ledger", self.ledger]
+        with redirect_stdout(output):
+            self.assertEqual(cli.main(words), 0)
+        return [json.loads(line) for line in output.getvalue().split("\n") if line]
+
+    def write(self, name: str, data: bytes) -> None:
+        local = os.path.join(self.room, "source", name)
+        os.makedirs(os.path.dirname(local), exist_ok=True)
+        with open(local, "wb") as file:
+            file.write(data)
+
+    def test_put_prints_them(self) -> None:
+        big = random.Random(1).randbytes(2 * FULL + 7)
+        self.write("small", b"small")
+        self.write("d/big", big)
+        stored = {step["path"]: step for step in self.put() if step["did"] == "stored"}
+        self.assertEqual(stored["/x/small"]["sha256"], sha256(b"small").hex())
+        self.assertNotIn("whole", stored["/x/small"])
+        for index in range(3):
+            self.assertEqual(stored[f"/x/d/big.{index:03}"]["sha256"], sha256(big[index * FULL : (index + 1) * FULL]).hex())
+        self.assertNotIn("whole", stored["/x/d/big.001"])
+        self.assertEqual(stored["/x/d/big.002"]["whole"], {"path": "/x/d/big", "bytes": len(big), "sha256": sha256(big).hex()})
+        with self.client() as client:
+            self.assertEqual((client.digest_of("/x/d/big"), client.digest_of("/x/small")), (sha256(big), sha256(b"small")))
+
+    def test_it_is_of_what_was_sent(self) -> None:
+        """And not of a second read: the file is read once."""
+        self.write("a", b"once")
+        reads, real = [], os.read
+
+        def read(descriptor: int, count: int) -> bytes:
+            data = real(descriptor, count)
+            reads.append(data)
+            return data
+
+        with mock.patch("udfburn.sources.os.read", read):
+            self.put()
+        self.assertEqual(reads.count(b"once"), 1)
+        self.assertEqual(self.shown(), {"/x/a": sha256(b"once")})
+
+    def test_where_another_client_made_the_path_meanwhile(self) -> None:
+        """The request is made again as the other kind, with the same digest."""
+        self.write("a", b"mine")
+
+        def before(payload: bytes) -> None:
+            request = request_of(payload)
+            if isinstance(request, p.Create) and request.client != 5:
+                self.volume.answer(p.Create(5, 1, 0, request.path, b"theirs"))
+
+        self.server.before = before
+        self.assertEqual([step["sha256"] for step in self.put() if step["did"] == "stored"], [sha256(b"mine").hex()])
+        self.assertEqual(self.shown(), {"/x/a": sha256(b"mine")})
 
 
 if __name__ == "__main__":

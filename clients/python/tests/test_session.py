@@ -61,7 +61,7 @@ class WithServer(unittest.TestCase):
 
     def direct(self, client: Client, most: int = PIECE) -> Any:
         """A client's conversations are held with the volume itself meanwhile, whose answers come in pieces of at most so many bytes."""
-        return mock.patch.object(client.way, "open", lambda: Direct(self.volume, most))
+        return mock.patch.object(client.way, "open", lambda *_: Direct(self.volume, most))
 
     @property
     def volume(self) -> Volume:

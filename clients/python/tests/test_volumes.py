@@ -7,14 +7,19 @@ import os
 import shutil
 import subprocess
 import unittest
-from typing import List, Optional, Type
+from hashlib import sha256
+from typing import Callable, List, Optional, Type
 from unittest import mock
 
 from udfburn import Client, errors as e
 from udfburn.connection import ImageConnection, Lost
 from udfburn.identity import opened_path
+from udfburn.operations import Operation
+from udfburn.protocol import Create
+from udfburn.recognition import see
+from udfburn.session import Flight, Session
 
-from .programs import UDFBURN, UDFBURND, WithPrograms
+from .programs import UDFBURN, Daemon, WithPrograms
 
 
 class Which(WithPrograms):
@@ -41,7 +46,7 @@ class Which(WithPrograms):
 
     def copied(self, name: str) -> str:
         """A copy of the image that is at the way."""
-        return shutil.copy(self.there, self.named(name))
+        return str(shutil.copy(self.there, self.named(name)))
 
     def place(self, image: str) -> None:
         """Puts an image at the way, in place of the one that is there, which gets the name `away`."""
@@ -65,7 +70,8 @@ class Which(WithPrograms):
         """Whatever is asked is refused by this error alone, and what is there stays as it is."""
         with open(self.there, "rb") as file:
             before = file.read()
-        for call in (lambda client: client.create("/new", b""), lambda client: client.resume()):
+        calls: List[Callable[[Client], object]] = [lambda client: client.create("/new", b""), lambda client: client.resume()]
+        for call in calls:
             with self.at_way() as client, self.assertRaisesRegex(error, words) as raised:
                 call(client)
             self.assertIs(type(raised.exception), error)
@@ -219,14 +225,12 @@ class Which(WithPrograms):
             self.assertEqual([name.name for name in client.list("/")], ["a", "f0", "f1", "f2", "z"])
 
     def crash_with_replies(self) -> object:
-        from udfburn.session import Session
-
         real = Session._keep
 
-        def keep(session: Session, finished: List[object], fresh: List[object]) -> None:
+        def keep(session: Session, finished: List[Flight], fresh: List[Flight]) -> None:
             if finished:
                 raise Crash
-            real(session, finished, fresh)  # type: ignore[arg-type]
+            real(session, finished, fresh)
 
         return keep
 
@@ -243,9 +247,7 @@ class Which(WithPrograms):
                 self.assertEqual([volume.latest for volume in ledger.volumes()], [2 * index + 2])
             daemon.kill()
 
-    def serve_image(self, image: str) -> "object":
-        from .programs import Daemon
-
+    def serve_image(self, image: str) -> Daemon:
         daemon = Daemon(image, self.path)
         self.addCleanup(daemon.kill)
         daemon.await_socket()
@@ -266,10 +268,7 @@ class Crash(Exception):
     """The client ends here."""
 
 
-def operations(count: int) -> "list[object]":
-    from udfburn.operations import Operation
-    from udfburn.protocol import Create
-
+def operations(count: int) -> List[Operation]:
     return [Operation(Create, (f"f{index}",), 5, b"x") for index in range(count)]
 
 
@@ -288,8 +287,6 @@ class Images(WithPrograms):
 
     def test_the_mark_is_that_of_the_last_commit(self) -> None:
         """By its address and the blocks that it wrote, reckoned here from the lines of `udfburn log`."""
-        from hashlib import sha256
-
         with self.on_image() as client:
             client.create("/a", b"x" * 5000)
             client.create("/b", b"")
@@ -306,22 +303,14 @@ class Images(WithPrograms):
         """What is looked at is the file that the program has open."""
         connection = ImageConnection(self.image, UDFBURN)
         try:
-            with self.on_image_file(connection) as path:
-                self.assertTrue(os.path.samefile(path, self.image))
+            see(connection, 7)
+            self.assertTrue(os.path.samefile(opened_path(connection, self.image), self.image))
             os.rename(self.image, self.image + ".old")
             self.format(self.capacity)
             with self.assertRaises(Lost):
                 opened_path(connection, self.image)
         finally:
             connection.close()
-
-    def on_image_file(self, connection: ImageConnection) -> "object":
-        from contextlib import nullcontext
-
-        from udfburn.recognition import see
-
-        see(connection, 7)
-        return nullcontext(opened_path(connection, self.image))
 
     def test_an_older_copy_at_a_way_that_is_not_known(self) -> None:
         with self.on_image() as client:
@@ -376,5 +365,4 @@ class Sockets(Which):
 
 
 if __name__ == "__main__":
-    assert UDFBURND
     unittest.main()

@@ -5,16 +5,18 @@ from __future__ import annotations
 import argparse
 import os
 import re
-from typing import TYPE_CHECKING
+from typing import TYPE_CHECKING, Optional
 
+from .check_ledger import data_words, look
 from .commands import progress_of
 from .connection import find_program, run_program
-from .errors import Damaged, ProgramFailed
+from .errors import Damaged, ProgramFailed, UsageError
 from .progress import plural
 from .protocol import shown
 from .words import command, commit_number
 
 if TYPE_CHECKING:
+    from .check_data import Result
     from .words import Subs
 
 CAUSES = {
@@ -47,9 +49,13 @@ def add(subs: Subs) -> None:
     """The words of this command."""
     words = command(
         subs, "check", check, "check an image",
-        "Has the program udfburn look at every node after each commit, and says what it found. The image is only read.", volume=False,
+        "Has the program udfburn look at every node after each commit, and says what it found; with --data also whether each file has"
+        " the bytes that were stored. The image is only read.", volume=False,
     )
     words.add_argument("image_path", metavar="IMAGE", help="the image that is checked")
+    words.add_argument("path", nargs="?", metavar="PATH", help="with --data: the file or directory that is read (/)")
+    words.add_argument("--data", action="store_true", help="read every byte of each file, and compare it with the manifests on the volume and the ledger")
+    words.add_argument("--ledger", metavar="LEDGER", help="a ledger that sent to the volume: its last commit is expected, and its digests compared (with --data the user's own, where it is there)")
     words.add_argument("--expect", metavar="COMMIT", type=commit_number, help="the volume has this commit at least; else that is reported")
 
 
@@ -58,12 +64,29 @@ def check(arguments: argparse.Namespace) -> int:
     progress = progress_of(arguments)
     image = arguments.image_path
     os.stat(image)
-    count = check_structure(image, find_program(arguments.program))
-    status = 0
+    if arguments.path is not None and not arguments.data:
+        raise UsageError("PATH goes with --data: every structure is looked at in any case")
+    status, count, words = 0, None, []
+    try:
+        count = check_structure(image, find_program(arguments.program))
+        words.append(f"every structure of {plural(count, 'commit', 'commits')} is as it must be")
+    except (Damaged, UsageError) as error:
+        # What can be read of the files is compared all the same, by a reader that needs no program.
+        if not arguments.data:
+            raise
+        status = progress.fail(error)
+    result: Optional[Result] = None
+    if arguments.data or arguments.ledger:
+        checked = look(arguments, progress)
+        result, count = checked.result, checked.commit if count is None else count
+        if checked.acknowledged is not None and count < checked.acknowledged:
+            status = progress.fail(missing_commits(image, count, checked.acknowledged, "was acknowledged to the ledger"))
+    assert count is not None
     if arguments.expect is not None and count < arguments.expect:
         status = progress.fail(missing_commits(image, count, arguments.expect, "was expected"))
-    progress.result(f"{shown(image)}: every structure of {plural(count, 'commit', 'commits')} is as it must be", path=shown(image), commits=count)
-    return status
+    words += [data_words(result)] if result is not None else []
+    progress.result(f"{shown(image)}: {'; '.join(words)}", path=shown(image), commits=count, data=vars(result) if result is not None else None)
+    return 1 if result is not None and result.damaged else status
 
 
 def check_structure(image: str, program: str) -> int:

@@ -35,7 +35,9 @@ def progress_of(arguments: argparse.Namespace) -> Progress:
 
 def writer(arguments: argparse.Namespace) -> Client:
     """A client with its ledger."""
-    return Client(way_of(arguments), arguments.client, arguments.ledger, arguments.program, shared=arguments.shared, **patience_of(arguments))
+    client = Client(way_of(arguments), arguments.client, arguments.ledger, arguments.program, shared=arguments.shared, **patience_of(arguments))
+    client.line.image = arguments.image or client.line.image
+    return client
 
 
 @contextmanager

@@ -15,6 +15,15 @@ def is_full(error: BaseException) -> bool:
     return isinstance(error, OSError) and error.errno in FULL
 
 
+def room_left(path: str) -> Optional[int]:
+    """The bytes that this user may still write on the file system of a file or a folder; None where that cannot be told."""
+    try:
+        found = os.statvfs(path)
+    except OSError:
+        return None
+    return found.f_bavail * found.f_frsize
+
+
 def sync_names(folder: str) -> None:
     """Makes the names in a folder durable, where its file system can do that and this user may."""
     try:
@@ -66,4 +75,4 @@ def find_call() -> Optional[Any]:
     return getattr(ctypes.CDLL(None, use_errno=True), "syncfs", None)
 
 
-__all__ = ["is_full", "sync_all", "sync_names"]
+__all__ = ["is_full", "room_left", "sync_all", "sync_names"]

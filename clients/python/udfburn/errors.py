@@ -2,7 +2,7 @@
 
 from __future__ import annotations
 
-from typing import Dict, Type
+from typing import Dict, Optional, Type
 
 from .protocol import AnswerCode, BadAnswer, Code, InvalidName, InvalidPath
 
@@ -196,13 +196,22 @@ class OutputFailed(UdfburnError):
     """The standard output is closed, or takes no more."""
 
 
+class FileDiffers(Differs):
+    """A file of a volume is not what it should be. `commit` is the one that wrote it, where that is known."""
+
+    def __init__(self, text: str, path: str, commit: Optional[int]):
+        super().__init__(text)
+        self.path = path
+        self.commit = commit
+
+
 class UsageError(UdfburnError):
     """Words that are no command."""
 
 
 __all__ = [
     "AnswerCode", "BadAnswer", "ClientsFull", "Code", "ConnectionFailed", "CopyWentOn", "Damaged", "Differs", "DirectoryFull",
-    "DiskFull", "DoesNotFit", "DriveFailed", "EmptyVolume", "Exists", "ForeignReply", "Full", "IntoItself", "InvalidName",
+    "DiskFull", "DoesNotFit", "DriveFailed", "EmptyVolume", "Exists", "FileDiffers", "ForeignReply", "Full", "IntoItself", "InvalidName",
     "InvalidPath", "IsDirectory", "IsRoot", "LedgerBusy", "LedgerError", "MISSES", "NoParent", "NotCommitted", "NotDirectory",
     "NotEmpty", "NotFound", "NumberUsedElsewhere", "OtherVolume", "OutOfMemory", "OutputFailed", "ProgramFailed", "REFUSALS",
     "Refused", "Rejected", "SourceChanged", "SourceError", "TooDeep", "TooLarge", "TooMany", "UdfburnError",

@@ -10,7 +10,7 @@ from typing import Dict, Iterator, List, NamedTuple, Sequence, Tuple
 from .client import Client, met
 from .compare import Comparison, verify_tree
 from .disk import sync_names
-from .errors import SourceError
+from .errors import DiskFull, SourceError
 from .escape import decode
 from .protocol import Data, Get, Path, shown
 from .saving import PREFIX, Saver, remove_leftovers, save
@@ -84,6 +84,10 @@ class Fetcher:
                 self._make_folders(folders, targets, saver)
                 self._files(targets, saver)
                 saver.finish()
+            except DiskFull:
+                # What was written whole has its place already.
+                saver.finish()
+                raise
             finally:
                 self.summary.failures += saver.failures
 

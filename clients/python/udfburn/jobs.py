@@ -2,9 +2,11 @@
 
 from __future__ import annotations
 
+from hashlib import sha256
 from typing import Dict, Iterator, List, NamedTuple, Optional
 
 from .errors import SourceError
+from .operations import Whole
 from .protocol import Data, Path
 from .sources import Source, read_parts
 
@@ -13,6 +15,7 @@ class Options(NamedTuple):
     """How folders and files are stored.
 
     A file whose bytes are there already is left alone, unless `rewrite`. `skip_same` is that default's own name, and changes nothing.
+    With `delete_last` nothing is deleted before `Importer.delete_kept` is called.
     """
 
     recursive: bool = False
@@ -23,6 +26,7 @@ class Options(NamedTuple):
     skip_odd: bool = False
     escape: bool = False
     delete_source: bool = False
+    delete_last: bool = False
     verify: bool = False
     dry_run: bool = False
     moment: str = "mtime"
@@ -42,16 +46,26 @@ class Summary:
 
 
 class Job:
-    """A file on its way: the paths of its parts, digests of what was read of it, what became of it, and the moment that the volume has
-    of an earlier one."""
+    """A file on its way: the paths of its parts, the SHA-256 of each that was read and of all so far, what became of it, and the
+    moment that the volume has of an earlier one."""
 
     def __init__(self, source: Source, paths: List[Path]):
         self.source = source
         self.paths = paths
         self.digests: List[bytes] = []
+        self.whole = sha256()
         self.done = 0
         self.moment: Optional[int] = None
         self.failure: Optional[str] = None
+
+    def take(self, part: bytes) -> Optional[Whole]:
+        """Takes a part that was read and is to be sent. With the last of several parts: the whole file."""
+        self.digests.append(digest(part))
+        if len(self.paths) == 1:
+            return None
+        self.whole.update(part)
+        last = len(self.digests) == len(self.paths)
+        return Whole(self.source.path, self.source.identity.size, self.whole.digest()) if last else None
 
     def fail(self, why: str) -> None:
         """Keeps the first reason why it was not stored."""
@@ -64,8 +78,6 @@ class Job:
 
 def digest(data: bytes) -> bytes:
     """By which bytes that were sent are known again."""
-    from hashlib import sha256
-
     return sha256(data).digest()
 
 

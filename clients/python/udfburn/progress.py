@@ -4,10 +4,13 @@ from __future__ import annotations
 
 import sys
 import time
-from typing import Any, Dict, List, Optional, TextIO
+from typing import TYPE_CHECKING, Any, Dict, List, Optional, TextIO
 
 from .errors import OutputFailed, UsageError
 from .protocol import Path, show
+
+if TYPE_CHECKING:
+    from .operations import Outcome
 
 BAR = 24
 """Columns of the bar."""
@@ -103,6 +106,21 @@ class Progress:
             words = [what, show(path)] + ([f"({count} bytes)"] if what in ("stored", "got", "would store", "would replace") else [])
             self._print(printable(" ".join(words)))
 
+    def stored(self, outcome: Outcome) -> None:
+        """A file or a part was stored; programs get its SHA-256, and with a last part that of the whole file."""
+        operation = outcome.operation
+        if not self.as_json or self.quiet:
+            self.told("stored", operation.path, len(operation.data), outcome.commit)
+            return
+        self.done_files += 1
+        self.done_bytes += len(operation.data)
+        step: Dict[str, object] = {"did": "stored", "path": show(operation.path), "bytes": len(operation.data), "commit": outcome.commit}
+        if operation.sha256 is not None:
+            step["sha256"] = operation.sha256.hex()
+        if operation.whole is not None:
+            step["whole"] = {"path": show(operation.whole.path), "bytes": operation.whole.size, "sha256": operation.whole.sha256.hex()}
+        self._print_json(step)
+
     def _draw(self, count: int) -> None:
         if self.tqdm is not None:
             self.tqdm.update(count)
@@ -168,7 +186,9 @@ class Progress:
             self._print_error(line)
         if self.as_json and not isinstance(error, OutputFailed):
             kind = type(error).__name__ if isinstance(error, BaseException) else None
-            self._print_json({"did": "failed", "error": kind, "path": getattr(error, "path", None), "message": text})
+            failed = {"did": "failed", "error": kind, "path": getattr(error, "path", None), "message": text}
+            commit = getattr(error, "commit", None)
+            self._print_json({**failed, "commit": commit} if commit else failed)
         return status
 
     def result(self, line: str, **fields: object) -> None:

@@ -93,7 +93,8 @@ def get(arguments: argparse.Namespace) -> int:
             progress.end()
             for failure in fetcher.summary.failures:
                 progress.fail(failure)
-    return got(fetcher.summary, arguments.recursive, progress)
+            got(fetcher.summary, arguments.recursive, progress)
+    return 1 if fetcher.summary.failures else 0
 
 
 def place_of(local: str, path: Path) -> str:
@@ -101,16 +102,15 @@ def place_of(local: str, path: Path) -> str:
     return os.path.join(local, decode(path[-1])) if os.path.isdir(local) and path else local
 
 
-def got(summary: Fetched, recursive: bool, progress: Progress) -> int:
-    """Says what was copied, and gives the status."""
+def got(summary: Fetched, recursive: bool, progress: Progress) -> None:
+    """Says what was copied, also where that ended early."""
     words = f"got {plural(summary.files, 'file', 'files')}, {size(summary.bytes)}"
     words += f", {summary.same:,} were there" if summary.same else ""
-    fields = {"files": summary.files, "bytes": summary.bytes, "same": summary.same}
+    fields: Dict[str, object] = {"files": summary.files, "bytes": summary.bytes, "same": summary.same}
     if recursive:
         progress.result(words, **fields)
     else:
-        progress.outcome = dict(fields)
-    return 1 if summary.failures else 0
+        progress.outcome = fields
 
 
 def ls(arguments: argparse.Namespace) -> int:

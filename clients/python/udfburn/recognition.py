@@ -276,8 +276,8 @@ class Meeting:
             return fault
         return NumberUsedElsewhere(
             f"the volume has requests up to {self.seen.latest} of this client, and this ledger did not send them to it, nor to any volume"
-            f" that has just these ({self.by.where}): it is an older copy of one, or another ledger with the same client was used."
-            f" Nothing was sent to it. {FORGET}"
+            f" that has just these ({self.by.where}): it is an older copy of one, or another ledger with the same client was used, or other"
+            f" clients have changed what this one stored (then say --shared). Nothing was sent to it. {FORGET}"
         )
 
     def _settled(self, known: Volume, fault: LedgerError) -> Volume:

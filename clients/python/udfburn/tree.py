@@ -4,12 +4,12 @@ from __future__ import annotations
 
 from collections import deque
 from contextlib import closing
-from typing import TYPE_CHECKING, Deque, Iterable, Iterator, List, Optional, Tuple, Type
+from typing import TYPE_CHECKING, Callable, Deque, Iterable, Iterator, List, Optional, Tuple, Type
 
 from .client import Client, refusal
 from .connection import find_program
 from .errors import Differs, DoesNotFit, SourceError, TooLarge, UsageError
-from .jobs import Job, Options, Summary, digest, reads_back, same_bytes
+from .jobs import Job, Options, Summary, reads_back, same_bytes
 from .operations import Operation, Outcome, now
 from .preflight import Plan, Present, plan, refuse_sizes
 from .protocol import AnyRequest, Code, Create, Get, MakeDir, Node, NodeKind, Path, Remove, Replace, Stat, limits, show
@@ -32,15 +32,17 @@ where other clients make the same paths."""
 class Importer:
     """Stores local files and folders."""
 
-    def __init__(self, client: Client, options: Options, told: Told = quiet):
+    def __init__(self, client: Client, options: Options, told: Told = quiet, stored: Optional[Callable[[Outcome], None]] = None):
+        """`told` is told of each step; `stored`, where it is given, of each file or part in place of that, with its digests."""
         if options.verify and options.dry_run:
             raise UsageError("nothing is read back of a dry run")
         self.client = client
         self.options = options
-        self.told = told
+        self.told, self.stored = told, stored
         self.summary = Summary()
         self.present = Present()
         self.same: List[Job] = []
+        self._kept: List[Job] = []
 
     def plan(self, jobs: Iterable[Tuple[str, Path]]) -> Plan:
         """Looks at what is to be stored and at what is there, and raises `DoesNotFit` with all that stands against it."""
@@ -176,10 +178,9 @@ class Importer:
         for job in jobs:
             try:
                 for index, (path, part) in enumerate(zip(job.paths, read_parts(job.source))):
-                    if self.options.verify:
-                        job.digests.append(digest(part))
+                    whole = job.take(part)
                     kind: Type[AnyRequest] = Replace if path in self.present.kinds else Create
-                    yield Operation(kind, path, self._moment(job.source.moment()), part, tag=(job, index))
+                    yield Operation(kind, path, self._moment(job.source.moment()), part, tag=(job, index), sha256=job.digests[-1], whole=whole)
             except (SourceError, TooLarge) as error:
                 job.fail(str(error))
 
@@ -202,10 +203,13 @@ class Importer:
         if outcome.code is Code.DONE:
             job.done += 1
             self.present.add(operation.path, NodeKind.FILE)
-            self.told("stored", operation.path, len(operation.data), outcome.commit)
+            if self.stored is not None:
+                self.stored(outcome)
+            else:
+                self.told("stored", operation.path, len(operation.data), outcome.commit)
         elif (operation.kind, outcome.code) in ((Create, Code.EXISTS), (Replace, Code.NOT_FOUND)):
             other: Type[AnyRequest] = Replace if operation.kind is Create else Create
-            again.append(Operation(other, operation.path, operation.moment, operation.data, tag=operation.tag))
+            again.append(operation._replace(kind=other))
         else:
             job.fail(str(refusal(outcome)))
 
@@ -267,7 +271,19 @@ class Importer:
                     self.summary.failures.append(f"{show(job.source.path)}: the volume has other bytes than were stored")
         return verified
 
+    def delete_kept(self) -> None:
+        """Deletes the local files whose deletion was put off."""
+        kept, self._kept = self._kept, []
+        self._delete_now(kept)
+
     def _delete(self, jobs: List[Job]) -> None:
+        """Deletes local files, or puts that off."""
+        if self.options.delete_last:
+            self._kept += jobs
+        else:
+            self._delete_now(jobs)
+
+    def _delete_now(self, jobs: List[Job]) -> None:
         """Deletes local files, each as it was read, but not what this command keeps its numbers and replies in."""
         kept = self.client.session().ledger.files()
         for job in jobs:

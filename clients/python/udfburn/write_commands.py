@@ -11,8 +11,10 @@ from .client import Client
 from .commands import progress_of, writer
 from .errors import UsageError
 from .escape import encode
+from .manifest import PAYLOAD
 from .progress import plural, size
 from .protocol import NodeKind, Path, path_of, show
+from .seal_command import add_manifest_only
 from .tree import Importer, Options, Summary, remove_tree, walk
 from .words import command
 
@@ -60,6 +62,8 @@ def add_put(subs: Subs) -> None:
     words.add_argument("--escape", action="store_true", help="store names that UDF cannot spell under another spelling, which 'get' undoes")
     words.add_argument("--delete-source", action="store_true", help="delete a local file once its reply is in the ledger and confirmed")
     words.add_argument("--verify", action="store_true", help="read the bytes of each file back, before it is deleted")
+    words.add_argument("--seal", action="store_true", help="seal PATH afterwards, as 'seal' does: LOCAL is stored as PATH/data, and sources are deleted last")
+    add_manifest_only(words)
     words.add_argument("--moment", choices=("mtime", "now"), default="mtime", help="the moment that files get: when they were modified, or now")
 
 
@@ -82,18 +86,22 @@ def put(arguments: argparse.Namespace) -> int:
     """Stores files and folders."""
     if arguments.verify and arguments.dry_run:
         raise UsageError("--dry-run stores nothing that --verify could read back")
+    if arguments.manifest_only and not arguments.seal:
+        raise UsageError("--manifest-only goes with --seal")
     if arguments.rewrite and arguments.skip_same:
         raise UsageError("--rewrite stores anew what --skip-same leaves alone")
     fields = ("recursive", "parents", "split", "rewrite", "skip_odd", "escape", "delete_source", "verify", "dry_run", "moment", "image")
-    options = Options(**{name: getattr(arguments, name) for name in fields})
+    options = Options(**{name: getattr(arguments, name) for name in fields}, delete_last=arguments.seal)
+    options = options._replace(parents=options.parents or arguments.seal)
     progress = progress_of(arguments)
     with writer(arguments) as client:
-        importer = Importer(client, options, progress.told)
-        planned = importer.plan(targets(arguments.local, arguments.path, arguments.escape))
+        importer = Importer(client, options, progress.told, progress.stored)
+        planned = importer.plan(targets(arguments.local, payload_of(arguments), arguments.escape))
         sources = [source for source, _ in planned.files] + [job.source for job in importer.same]
         progress.begin(len(sources), sum(source.identity.size for source in sources))
         try:
             summary = importer.run(planned)
+            sealed = seal_stored(client, importer, arguments) if arguments.seal else ""
         finally:
             progress.end()
             # Also where it ends early: what was not stored or not deleted by then is named.
@@ -103,8 +111,35 @@ def put(arguments: argparse.Namespace) -> int:
                 progress.fail(line)
     if summary.not_kept:
         progress.note(notkept.line(summary.not_kept), did="not kept", **summary.not_kept)
-    progress.result(put_words(summary, options), **vars(summary))
+    progress.result(put_words(summary, options) + sealed, **vars(summary), sealed=bool(sealed))
     return 1 if summary.failures else 0
+
+
+def payload_of(arguments: argparse.Namespace) -> str:
+    """The path that LOCALs become or go into. Where PATH is sealed it is a directory: one folder becomes its payload, all else goes
+    into that."""
+    path: str = arguments.path
+    if not arguments.seal:
+        return path
+    payload = show(path_of(path) if arguments.manifest_only else path_of(path) + (PAYLOAD,))
+    folder = len(arguments.local) == 1 and os.path.isdir(arguments.local[0])
+    return payload if folder else payload.rstrip("/") + "/"
+
+
+def seal_stored(client: Client, importer: Importer, arguments: argparse.Namespace) -> str:
+    """Seals what was stored, and then deletes the sources where that is asked for. What was done, in words."""
+    from .seal import seal, seal_words
+
+    path, progress = path_of(arguments.path), progress_of(arguments)
+    if arguments.dry_run:
+        progress.told("would seal", path, 0, 0)
+        return ""
+    if importer.summary.failures:
+        importer.summary.failures.append(f"{show(path)}: is not sealed, since not all was stored, and no source was deleted")
+        return ""
+    words = seal_words(seal(client, path, arguments.manifest_only, told=progress.told))
+    importer.delete_kept()
+    return f"; {words}"
 
 
 def put_words(summary: Summary, options: Options) -> str:

@@ -3,21 +3,24 @@
 from __future__ import annotations
 
 import struct
-from typing import Iterator, List, NamedTuple, Optional, Tuple
+from typing import Dict, Iterator, List, NamedTuple, Optional, Tuple
 
-from .basics import BLOCK, DEVELOPER, DIRECTORY_NAMES, expand, is_name, read_tag, spell, tag_faults, write_tag
+from .basics import BLOCK, DEVELOPER, DIRECTORY_NAMES, crc, expand, is_name, read_tag, spell, tag_faults, write_tag
+from .mend import mend_identifier
 from .notes import Cause, Fault, Faults
 
 FILE_IDENTIFIER = 257
 HEAD = 38
 IS_DIRECTORY, IS_PARENT = 0x02, 0x0A
 FIELDS = struct.Struct("<HBBIIHHIH")
+KEPT = 20_000
+"""The identifiers that are kept as known, at most."""
 
 
 class Identifier(NamedTuple):
     """What a file identifier says: a name, what it is of, the virtual address and the unique ID of its entry.
 
-    `proved` says that its CRC agrees with its fields.
+    `proved` says that its CRC agrees with its fields, and its tag with its place.
     """
 
     name: str
@@ -28,10 +31,14 @@ class Identifier(NamedTuple):
 
 
 class Directory(NamedTuple):
-    """A directory's data: the virtual address of the directory above, and the names in stored order."""
+    """A directory's data: the virtual address of the directory above, and the names in stored order.
+
+    `complete` says that each identifier could be read, or was mended.
+    """
 
     parent: Optional[int]
     names: List[Identifier]
+    complete: bool
 
 
 class Piece(NamedTuple):
@@ -80,45 +87,121 @@ def piece_at(data: bytes, at: int, size: int) -> Optional[Piece]:
     )
 
 
-def read_directory(data: bytes, size: int, first: int) -> Tuple[Directory, Faults]:
+def read_directory(data: bytes, size: int, first: int, known: Optional[Known] = None) -> Tuple[Directory, Faults]:
     """The directory whose data begins at block number `first`, and all that is not as it must be.
 
-    `data` has whole blocks. What makes no sense is left out, and reading goes on at the next identifier whose CRC agrees.
+    `data` has whole blocks. Identifiers with wrong bytes are mended where their CRC leaves one reading; what makes no sense is left
+    out, and reading goes on at the next identifier whose CRC agrees.
     """
-    faults: Faults = []
-    parent: Optional[int] = None
-    names: List[Identifier] = []
-    known = set()
+    reading = Reading(data, size, first, known if known is not None else Known())
     at = 0
     while at < size:
-        piece = piece_at(data, at, size)
-        met = list(piece_faults(data, size, piece, at, first))
-        faults += met
-        found = said_by(piece, first) if piece is not None else None
-        if piece is None or found is None:
-            at = next_proved(data, at + 4, size, first)
-            continue
-        at += len(piece.data)
+        at = reading.step(at)
+    return reading.finish()
+
+
+class Known:
+    """Bodies of identifiers that were read and were as they must be, so that one that is copied is not read again."""
+
+    def __init__(self) -> None:
+        self.bodies: Dict[bytes, Tuple[Identifier, bytes, int]] = {}
+
+    def find(self, data: bytes, at: int, location: bytes) -> Optional[Tuple[Identifier, int]]:
+        """What the identifier at a place says and where it ends, where its body is known and its tag is as it must be."""
+        end = at + (41 + data[at + 19]) // 4 * 4
+        found = self.bodies.get(data[at + 16 : end])
+        if found is None or data[at : at + 4] != b"\x01\x01\x03\0" or data[at + 12 : at + 16] != location:
+            return None
+        name, middle, total = found
+        if data[at + 5 : at + 12] != middle or data[at + 4] != (total + sum(location)) % 256:
+            return None
+        return name, end
+
+    def keep(self, piece: Piece, name: Identifier) -> None:
+        """Keeps an identifier that is as it must be and is not lengthened."""
+        if len(self.bodies) >= KEPT:
+            self.bodies.clear()
+        tag = piece.data[:16]
+        self.bodies[piece.data[16:]] = (name, tag[5:12], sum(tag[:4]) + sum(tag[5:12]))
+
+
+class Reading:
+    """A directory as it is read, identifier by identifier."""
+
+    def __init__(self, data: bytes, size: int, first: int, known: Known):
+        self.data, self.size, self.first, self.known = data, size, first, known
+        self.faults: Faults = []
+        self.parent: Optional[int] = None
+        self.names: Dict[str, Identifier] = {}
+        self.complete = True
+
+    def step(self, at: int) -> int:
+        """Reads what stands at a place, and gives the next one."""
+        if self.size - at >= HEAD and at:
+            found = self.known.find(self.data, at, struct.pack("<I", self.first + at // BLOCK))
+            if found is not None and found[1] <= self.size and 0 < found[1] % BLOCK <= BLOCK - 32 and found[1] // BLOCK == at // BLOCK:
+                self._add(found[0])
+                return found[1]
+        piece = piece_at(self.data, at, self.size)
+        met = list(piece_faults(self.data, self.size, piece, at, self.first))
+        if piece is None or met:
+            self.faults += met
+            return self._mend(at, piece)
+        name = said_by(piece, self.first)
+        assert name is not None
+        if not piece.use and piece.name:
+            self.known.keep(piece, name)
+        return self._take(piece, name)
+
+    def _take(self, piece: Piece, name: Identifier) -> int:
         if piece.characteristics == IS_PARENT:
-            parent = piece.virtual if parent is None else parent
-            continue
-        if found.name in known:
-            faults.append(Fault(Cause.TWICE, f"the name {found.name!r} stands twice"))
-            continue
-        known.add(found.name)
-        names.append(found)
-    if len(names) > DIRECTORY_NAMES:
-        faults.append(Fault(Cause.END, f"there are {len(names)} names"))
-    if any(data[size:]):
-        faults.append(Fault(Cause.END, "a byte after the last identifier is not zero"))
-    return Directory(parent, names), faults
+            self.parent = piece.virtual if self.parent is None else self.parent
+        else:
+            self._add(name)
+        return piece.at + len(piece.data)
+
+    def _add(self, name: Identifier) -> None:
+        if name.name in self.names:
+            self.faults.append(Fault(Cause.TWICE, f"the name {name.name!r} stands twice"))
+        else:
+            self.names[name.name] = name
+
+    def _mend(self, at: int, piece: Optional[Piece]) -> int:
+        """Goes on where an identifier is not as it must be."""
+        name = said_by(piece, self.first) if piece is not None else None
+        if piece is not None and name is not None and crc(piece.data[16:]) == read_tag(piece.data).crc:
+            # A tag that agrees with itself for another block was written for that one.
+            self.complete &= name.proved or not read_tag(piece.data).agrees
+            return self._take(piece, name)
+        end = next_proved(self.data, at + 4, self.size, self.first)
+        whole = mend_identifier(self.data[at:end], self.first + at // BLOCK, at == 0) if end - at <= BLOCK else None
+        mended = piece_at(whole, 0, len(whole)) if whole is not None else None
+        if whole is not None and mended is not None:
+            name = said_by(mended, self.first + at // BLOCK)
+            if name is not None:
+                self._take(mended, name)
+                return end
+        if piece is not None and name is not None and at + len(piece.data) == end:
+            return self._take(piece, name)
+        self.complete = False
+        return end
+
+    def finish(self) -> Tuple[Directory, Faults]:
+        """The directory."""
+        names = list(self.names.values())
+        if len(names) > DIRECTORY_NAMES:
+            self.faults.append(Fault(Cause.END, f"there are {len(names)} names"))
+        if any(self.data[self.size :]):
+            self.faults.append(Fault(Cause.END, "a byte after the last identifier is not zero"))
+        return Directory(self.parent, names, self.complete), self.faults
 
 
 def said_by(piece: Piece, first: int) -> Optional[Identifier]:
     """What the identifier says, where it makes sense."""
     tag = read_tag(piece.data)
-    proved = not tag_faults(piece.data, FILE_IDENTIFIER, first + piece.at // BLOCK)
-    if tag.identifier != FILE_IDENTIFIER and not proved or piece.characteristics not in (0, IS_DIRECTORY, IS_PARENT):
+    whole, here = tag.crc == crc(piece.data[16:]), tag.location == first + piece.at // BLOCK
+    proved = whole and here
+    if not whole and (not here or tag.identifier != FILE_IDENTIFIER) or piece.characteristics not in (0, IS_DIRECTORY, IS_PARENT):
         return None
     if piece.characteristics == IS_PARENT:
         return Identifier("", True, piece.virtual, piece.unique, proved) if not piece.name else None

@@ -104,11 +104,17 @@ def read_entry(block: bytes, location: int) -> Tuple[Optional[Entry], Faults]:
     No entry where its fields make no sense together: its kind, its size, or the place of its bytes.
     """
     fields = Fields(*LAYOUT.unpack_from(block, 16))
-    faults = list(entry_faults(block, fields, location))
-    if fields.type not in KINDS:
-        return None, faults
-    entry = sensible(block, fields)
-    return entry, faults
+    entry = sensible(block, fields) if fields.type in KINDS else None
+    if entry is not None and is_exact(entry, block, location):
+        return entry, []
+    return entry, list(entry_faults(block, fields, location))
+
+
+def is_exact(entry: Entry, block: bytes, location: int) -> bool:
+    """Whether the block is that of the entry at a location, to the last byte."""
+    if entry.moment is None or entry.location != location or entry.kind is Kind.TABLE and (entry.links or entry.unique):
+        return False
+    return write_entry(entry) == block
 
 
 def sensible(block: bytes, fields: Fields) -> Optional[Entry]:

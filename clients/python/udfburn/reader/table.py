@@ -7,7 +7,7 @@ import sys
 from array import array
 from typing import Iterator, List, NamedTuple, Optional, Tuple
 
-from .basics import CLIENTS, FIRST_UNIQUE, NODES, PARTITION, UNUSED, entity, is_label, read_dstring
+from .basics import BLOCK, CLIENTS, FIRST_UNIQUE, NODES, PARTITION, UNUSED, entity, is_label, read_dstring
 from .notes import Cause, Fault, Faults
 
 SESSIONS = entity(b"*udfburn sessions")
@@ -202,3 +202,18 @@ def entries_faults(entries: "array[int]", head: Head, number: int) -> Iterator[F
 def previous_of(head: Head, number: int) -> Optional[int]:
     """The address of the entry of the table before; None in the first, and where it makes no sense."""
     return head.previous + PARTITION if head.previous < number else None
+
+
+def used_size(data: bytes, head: Head) -> Optional[int]:
+    """The bytes of a table by its data alone: no virtual address but the file set's can have block number 0, and the last is 4 bytes."""
+    at = entries_at(head, len(data))
+    if at is None:
+        return None
+    wanted = 1 + head.files + head.directories
+    entries = read_entries(data, at)
+    used = 0
+    for index, entry in enumerate(entries[: NODES + 1]):
+        if index > 0 and (entry == 0 or used == wanted and (at + 4 * index) % BLOCK == 0):
+            return at + 4 * index if used == wanted else None
+        used += entry != UNUSED
+    return at + 4 * min(len(entries), NODES + 1) if used == wanted else None

@@ -106,9 +106,10 @@ class Volume:
         if entry.first + blocks_of(entry.size) > number:
             self.notes.add(address, Cause.RANGE, "the table's data does not lie below its entry")
             return None
-        return self._table_of(address, entry)
+        return self.table_of(address, entry)
 
-    def _table_of(self, address: int, entry: Entry) -> Optional[Table]:
+    def table_of(self, address: int, entry: Entry) -> Optional[Table]:
+        """The table of an entry; None where its head cannot be used, which is noted."""
         assert entry.first is not None
         start, number = entry.first + PARTITION, address - PARTITION
         run = self.medium.run(start, 1)
