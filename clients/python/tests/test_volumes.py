@@ -170,6 +170,15 @@ class Which(WithPrograms):
         self.refused(e.EmptyVolume, "an empty volume.* Expected: .*1.* Found: ")
         self.assertIn("empty volume", self.run_command("mkdir", "/d", where=self.where(), status=1))
 
+    def test_where_nothing_was_acknowledged(self) -> None:
+        """A volume that was met and got no request may be replaced by any other."""
+        with self.at_way() as client:
+            self.assertEqual(client.resume(), [])
+        self.place(self.format_as(self.named("larger")))
+        self.assertEqual(self.store("/a"), 1)
+        self.place(self.named("away"))
+        self.assertRaises(e.WrongVolume, self.store, "/b")
+
     # ---- a copy that went on by itself
 
     def test_a_copy_that_went_on(self) -> None:

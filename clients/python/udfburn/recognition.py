@@ -225,6 +225,9 @@ class Meeting:
         fault = self.by.fault(known)
         if fault is None:
             return self._identified(known)
+        if not known.latest and not self.ledger.pending(known):
+            # Nothing was acknowledged here, nor sent: whatever is here now takes nothing's place.
+            return self._identified(self._by_another_way())
         if known.unsettled and isinstance(fault, NumberUsedElsewhere):
             return self._identified(self._settled(known, fault))
         raise fault
