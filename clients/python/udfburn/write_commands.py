@@ -12,7 +12,7 @@ from .commands import progress_of, writer
 from .errors import UsageError
 from .escape import encode
 from .manifest import PAYLOAD
-from .progress import plural, size
+from .progress import Progress, plural, size
 from .protocol import NodeKind, Path, path_of, show
 from .seal_command import add_manifest_only
 from .tree import Importer, Options, Summary, remove_tree, walk
@@ -220,8 +220,7 @@ def resume(arguments: argparse.Namespace) -> int:
                 progress.say(f"would send number {waiting.number} again: {waiting.path}", did="would send", number=waiting.number, path=waiting.path)
             return 0
         if arguments.forget:
-            for gone in client.forget():
-                progress.say(f"dropped {gone}", did="dropped", path=gone)
+            forget(client, progress)
             return 0
         done = client.resume()
         for number, path, code, commit in done:
@@ -229,6 +228,18 @@ def resume(arguments: argparse.Namespace) -> int:
             progress.say(f"number {number}, {path}: {how}, commit {commit}", did="resumed", number=number, path=path, code=int(code), commit=commit)
         progress.result(f"pending were {plural(len(done), 'request', 'requests')}", count=len(done))
     return 0
+
+
+def forget(client: Client, progress: Progress) -> None:
+    """Drops what is pending, and says which volume the next request goes to."""
+    ledger = client.session().ledger
+    before = {volume.id for volume in ledger.volumes()}
+    for gone in client.forget():
+        progress.say(f"dropped {gone}", did="dropped", path=gone)
+    volume = client.session().volume()
+    known = volume.id in before
+    line = f"goes on at number {volume.latest + 1}, with {'a volume that the ledger knows' if known else 'a volume that is new to the ledger'}"
+    progress.note(line, did="goes on", number=volume.latest + 1, known=known)
 
 
 __all__ = ["add", "mkdir", "mv", "put", "resume", "rm"]
