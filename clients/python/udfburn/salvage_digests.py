@@ -3,7 +3,7 @@
 from __future__ import annotations
 
 import re
-from typing import Dict, Iterator, List, NamedTuple, Optional, Set, Tuple
+from typing import Dict, FrozenSet, Iterator, List, NamedTuple, Optional, Set, Tuple
 
 from .reader.volume import Path
 
@@ -65,6 +65,18 @@ class Digests:
         """The path of a file with this digest."""
         return self._paths.get(digest)
 
+    def is_known(self, path: Path, digest: str) -> bool:
+        """Whether a digest is one that is kept of the file at a path."""
+        return digest in self._known.get(path, ())
+
+    def paths(self) -> List[Path]:
+        """All paths with a digest."""
+        return sorted(self._known)
+
+    def digests_of(self, path: Path) -> Set[str]:
+        """The digests that are kept of the file at a path."""
+        return self._known.get(path, set())
+
     def __len__(self) -> int:
         return len(self._known)
 
@@ -78,22 +90,25 @@ class Manifest(NamedTuple):
     hurt: bool
 
 
-def add_manifests(digests: Digests, found: List[Manifest], bags: Set[Path]) -> None:
-    """Adds the lines of manifests. `bags` are the folders with a `bagit.txt`. One that is not as its own digest has it is doubted."""
-    ordered = sorted(found, key=lambda manifest: manifest.path[-1] != TAG_MANIFEST)
-    lines: List[Tuple[Manifest, List[Listed]]] = []
-    for manifest in ordered:
-        folder = manifest.path[:-1]
-        lines.append((manifest, list(lines_of(folder, manifest.data, folder in bags))))
+def add_manifests(digests: Digests, found: List[Manifest], bags: Set[Path]) -> Dict[Path, FrozenSet[Optional[Path]]]:
+    """Adds the lines of manifests, and gives the paths that each lists, with None among them where it has a line that is none.
+
+    `bags` are the folders with a `bagit.txt`. A manifest that is not as another has it is doubted.
+    """
+    lines = [(manifest, list(lines_of(manifest.path[:-1], manifest.data, manifest.path[:-1] in bags))) for manifest in found]
     own: Dict[Path, Set[str]] = {}
     for _, listed in lines:
         for path, digest in listed:
             own.setdefault(path, set()).add(digest)
+    paths: Dict[Path, FrozenSet[Optional[Path]]] = {}
     for manifest, listed in lines:
         known = own.get(manifest.path)
         doubted = manifest.hurt or known is not None and manifest.digest not in known
         for path, digest in listed:
             digests.add(path, digest, doubted)
+        is_read = len(listed) == len(manifest.data.splitlines()) and not manifest.hurt
+        paths[manifest.path] = frozenset([path for path, _ in listed] + ([] if is_read and listed else [None]))
+    return paths
 
 
 def is_manifest(name: str) -> bool:

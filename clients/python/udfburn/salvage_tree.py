@@ -164,11 +164,16 @@ class Tree:
         """A file whose entry is lost, by the blocks before it: a commit begins with them. How many bytes it has is not known."""
         if kind is not Kind.FILE or unique is None or address is None or not self.chain.is_confirmed(virtual, address, self.index):
             return None
-        start = self.chain.begin_of(address)
-        if start is None or not 0 < address - start <= blocks_of(FILE_BYTES):
+        start = self.chain.floor(address)
+        if not 0 < address - start <= blocks_of(FILE_BYTES):
             return None
         size = (address - start) * BLOCK
         return Version(Entry(Kind.FILE, None, 1, unique, size, start - PARTITION, None, virtual, 0, False), address, None)
+
+    def address(self, item: Item) -> Optional[int]:
+        """The address of the entry to which the table leads for a node."""
+        number = self.entries[item.virtual] if item.virtual < len(self.entries) else UNUSED
+        return number + PARTITION if number != UNUSED else None
 
     def versions(self, virtual: int, after: int) -> Iterator[Tuple[int, int]]:
         """The entries that were committed for a virtual address below an address, the newest first, and until which commit each stood."""

@@ -198,15 +198,12 @@ class Chain:
         place = bisect_left(self._addresses, address)
         return self.links[len(self.links) - 1 - place].commit if place < len(self._addresses) else None
 
-    def begin_of(self, address: int) -> Optional[int]:
-        """The address at which the commit that wrote an entry began to write, where nothing of an entry lies between."""
+    def floor(self, address: int) -> int:
+        """The address after the last structure below an address: data of a file that ends there begins no earlier."""
         commit = self.commit_of(address)
         place = self.index_of(commit) if commit is not None else None
-        if place is None or place + 1 >= len(self.links) or not self.links[place].adjacent:
-            return None
-        begin = self.links[place + 1].address + 1
-        between = any(at < address for at in self.survey.nodes_after(begin)[:1])
-        return None if between else begin
+        older = self.links[place + 1].address if place is not None and place + 1 < len(self.links) else PARTITION - 1
+        return max(older, self.survey.entry_below(address) or 0) + 1
 
     def entries(self, index: int) -> "Tuple[array[int], Set[int]]":
         """The block numbers of virtual addresses behind a commit, and those that were not read but follow from other tables."""
