@@ -94,18 +94,24 @@ def compare(sound: Sound, damage: Damage, found: Salvaged) -> None:
     reports = {str(line["path"]): line for line in found.lines if line["did"] == "file"}
     states = {path: str(line["state"]) for path, line in reports.items()}
     whole, there = standing(sound, damage), set(found.files.values())
-    is_cut = damage.commit < len(sound.files) - 1
+    is_cut, nameless = damage.commit < len(sound.files) - 1, 0
     for path, data in wanted.items():
         name = "/".join(path)
         state = states.get("/" + name, "")
         if is_cut or path in whole:
-            assert data in there, f"{name} stands, and did not come out: {reports.get('/' + name)}"
-        else:
-            assert state in BAD or found.files.get(name) == data, f"{name} is damaged, and was not named: {reports.get('/' + name)}"
+            # The manifest came last: where its commit is lost, the state is the one before.
+            is_last = path == ("manifest-sha256.txt",) and end["commit"] == damage.commit - 1
+            assert data in there or is_last, f"{name} stands, and did not come out: {reports.get('/' + name)}"
+        elif found.files.get(name) != data:
+            assert state in ("", *BAD), f"{name} is damaged, and was not named: {reports.get('/' + name)}"
+            nameless += state == ""
+    # Where the listing is lost too, and the manifest that has the name, it is named by its block.
+    lost = sum(path.startswith("/lost+found/") and state in BAD for path, state in states.items())
+    assert nameless <= lost, f"{nameless} are damaged and have no name, and {lost} were named as such"
     for name, data in found.files.items():
         path = tuple(name.split("/"))
         if path in wanted and data != wanted[path]:
-            raise AssertionError(f"{name} has wrong bytes under its own name")
+            raise AssertionError(f"{name} has wrong bytes under its own name: {reports['/' + name]}")
     counts = {state: int(str(end[state])) for state in ("whole", "unproved", *BAD)}
     assert sum(counts.values()) == end["files"], counts
     assert found.status == 0 or end["structures"] or sum(counts.values()) > counts["whole"], end

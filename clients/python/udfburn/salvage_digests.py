@@ -8,7 +8,7 @@ from typing import Dict, FrozenSet, Iterator, List, NamedTuple, Optional, Set, T
 from .reader.volume import Path
 
 MANIFEST, TAG_MANIFEST, DECLARATION = "manifest-sha256.txt", "tagmanifest-sha256.txt", "bagit.txt"
-LINE = re.compile(r"(\\?)([0-9A-Fa-f]{64})[ \t]+\*?(.+)")
+LINE = re.compile(r"(\\?)([0-9A-Fa-f]{64})[ \t]+\*?(.+)", re.DOTALL)
 ESCAPES = {"n": "\n", "r": "\r", "\\": "\\"}
 
 
@@ -21,7 +21,7 @@ class Listed(NamedTuple):
 
 def lines_of(folder: Path, data: bytes, is_bag: bool) -> Iterator[Listed]:
     """The lines of a manifest in a folder, as far as they are lines of one."""
-    for line in data.decode("utf-8", "replace").splitlines():
+    for line in split_lines(data, is_bag):
         found = LINE.fullmatch(line)
         if found is None:
             continue
@@ -31,6 +31,11 @@ def lines_of(folder: Path, data: bytes, is_bag: bool) -> Iterator[Listed]:
         elif found[1]:
             name = re.sub(r"\\([nr\\])", lambda code: ESCAPES[code[1]], name)
         yield Listed(folder + tuple(part for part in name.split("/") if part not in ("", ".")), found[2].lower())
+
+
+def split_lines(data: bytes, is_bag: bool) -> List[str]:
+    """The lines of a manifest that are not empty. In names both forms write what ends a line otherwise."""
+    return [line for line in re.split("\r\n|\r|\n" if is_bag else "\r?\n", data.decode("utf-8", "replace")) if line]
 
 
 class Digests:
@@ -106,7 +111,8 @@ def add_manifests(digests: Digests, found: List[Manifest], bags: Set[Path]) -> D
         doubted = manifest.hurt or known is not None and manifest.digest not in known
         for path, digest in listed:
             digests.add(path, digest, doubted)
-        is_read = len(listed) == len(manifest.data.splitlines()) and not manifest.hurt
+        count = len(split_lines(manifest.data, manifest.path[:-1] in bags))
+        is_read = len(listed) == count and not manifest.hurt
         paths[manifest.path] = frozenset([path for path, _ in listed] + ([] if is_read and listed else [None]))
     return paths
 

@@ -146,7 +146,7 @@ class Tree:
             return None
         data, size, first = found
         links = 1 + sum(name.is_directory for name in read_directory(data, size, first)[0].names)
-        place = self.chain.index_of(self.chain.commit_of(address) or 0)
+        place = self.chain.place_of(address)
         table = self.chain.links[place].table if place is not None else None
         moment = table.moment if table is not None else None
         return Version(Entry(Kind.DIRECTORY, moment, links, unique, size, first, None, virtual, 0, True), address, None)
@@ -178,15 +178,19 @@ class Tree:
     def versions(self, virtual: int, after: int) -> Iterator[Tuple[int, int]]:
         """The entries that were committed for a virtual address below an address, the newest first, and until which commit each stood."""
         for at in self.survey.nodes(virtual, min(after, self.link.start)):
-            written = self.chain.commit_of(at)
-            replaced = self.chain.commit_of(after)
-            if written is None or replaced is None or written > self.link.commit:
+            place, replaced = self.chain.place_of(at), self.chain.place_of(after)
+            if place is None or replaced is None or place < self.index:
                 continue
-            place = self.chain.index_of(written)
-            words = self.chain.entries(place)[0] if place is not None else ()
-            if virtual < len(words) and words[virtual] + PARTITION == at:
-                yield at, max(replaced - 1, written) if replaced > written else written
-                after = at
+            entries = self.chain.entries(place)[0]
+            is_there = virtual < len(entries) and entries[virtual] + PARTITION == at
+            if is_there and place > replaced:
+                yield at, self.chain.links[replaced + 1].commit
+            elif is_there or not self.chain.links[place].adjacent:
+                # It stood for a while, and no table of that while is left.
+                yield at, max(self.chain.links[place].commit - 1, 0)
+            else:
+                continue
+            after = at
 
     # ---- directories
 
@@ -255,7 +259,7 @@ class Tree:
         self._reached.add(name.virtual)
         commit = listed if listed is not None else version.commit if version is not None else None
         suffix = f".at-commit-{commit}" if commit is not None else ""
-        why = "no entry of it can be read" if version is None else "" if name.proved else "a byte of its name is wrong, and it may be another"
+        why = "no entry of it can be read" if version is None else "" if name.proved else "its name is not certain: what says it has a wrong byte, or is older"
         self._put(Item(path, above.target + (name.name + suffix,), kind, name.virtual, version, commit, why))
 
     def _put(self, item: Item) -> None:

@@ -193,15 +193,22 @@ class Chain:
         """The place of a commit's link; None where it is not there."""
         return self._places.get(commit)
 
+    def place_of(self, address: int) -> Optional[int]:
+        """The place of the first table from a block on; None after the last table."""
+        found = bisect_left(self._addresses, address)
+        return len(self.links) - 1 - found if found < len(self._addresses) else None
+
     def commit_of(self, address: int) -> Optional[int]:
-        """The commit that wrote a block: that of the first table from it on. None after the last table."""
-        place = bisect_left(self._addresses, address)
-        return self.links[len(self.links) - 1 - place].commit if place < len(self._addresses) else None
+        """The commit that wrote a block; None after the last table, and where tables are lost, so that it may be of one of these."""
+        place = self.place_of(address)
+        if place is None:
+            return None
+        link = self.links[place]
+        return link.commit if link.adjacent or link.commit == 0 else None
 
     def floor(self, address: int) -> int:
         """The address after the last structure below an address: data of a file that ends there begins no earlier."""
-        commit = self.commit_of(address)
-        place = self.index_of(commit) if commit is not None else None
+        place = self.place_of(address)
         older = self.links[place + 1].address if place is not None and place + 1 < len(self.links) else PARTITION - 1
         return max(older, self.survey.entry_below(address) or 0) + 1
 
