@@ -6,11 +6,12 @@ import os
 import random
 import subprocess
 import unittest
-from contextlib import ExitStack
+from contextlib import ExitStack, redirect_stderr, redirect_stdout
+from io import StringIO
 from typing import Dict, List
 from unittest import mock
 
-from udfburn import Client, fetch, split, tree, walk
+from udfburn import Client, cli, fetch, split, tree, walk
 from udfburn import protocol as p
 
 from .model import Volume
@@ -164,6 +165,19 @@ class Folders(Local):
             self.assertEqual(fetch.get_tree(client, ("x",), back, True), 5)
         self.assertEqual(os.listdir(back), ["big.parts"])
 
+    def test_removed_by_its_own_name(self) -> None:
+        """Wherever its parts are; and nothing else goes."""
+        self.write("other", b"other")
+        for count in (0, 1, 5):
+            self.write("big", self.data(count))
+            self.put(split=True)
+            words = ["--socket", self.server.path, "--ledger", self.ledger]
+            with redirect_stdout(StringIO()):
+                self.assertEqual(cli.main(["rm", *words, "--split", "/x/big"]), 0)
+            self.assertEqual(self.files(), ["other"])
+            with redirect_stderr(StringIO()):
+                self.assertEqual(cli.main(["rm", *words, "--split", "/x/big"]), 1)
+
     def test_a_dry_run(self) -> None:
         self.write("big", self.data(3))
         steps: List[str] = []
@@ -205,10 +219,18 @@ class Long(WithPrograms):
         self.run_command("get", "-r", "--split", "--quiet", "/x", back)
         self.assertEqual(subprocess.run(["cmp", local, os.path.join(back, "big")], check=False).returncode, 0)
         os.unlink(os.path.join(back, "big"))
-        # One byte less, and they stand beside others.
+        one = os.path.join(self.room, "one")
+        self.run_command("get", "--split", "--quiet", "/x/big", one)
+        self.assertEqual(subprocess.run(["cmp", local, one], check=False).returncode, 0)
+        self.assertIn("all are there", self.run_command("verify", "--split", local, "/x/big"))
+        os.unlink(one)
+        # One part less, and they stand beside others.
         os.truncate(local, 400 * MEBIBYTE)
         self.run_command("put", "-r", "--split", "--quiet", folder, "/x", status=0)
         self.assertEqual([name.name for name in self.client().list("/x")], [f"big.{index:03}" for index in range(400)])
+        self.run_command("rm", "/x/big", status=1)
+        self.run_command("rm", "--split", "--quiet", "/x/big")
+        self.assertEqual(self.client().list("/x"), ())
 
 
 if __name__ == "__main__":

@@ -15,7 +15,9 @@ from .manifest import PAYLOAD
 from .progress import Progress, plural, size
 from .protocol import NodeKind, Path, path_of, show
 from .seal_command import add_manifest_only
-from .tree import Importer, Options, Summary, remove_tree, walk
+from .stored import find_file
+from .tree import Importer, Options, Summary
+from .walk import remove_paths, walk
 from .words import command
 
 if TYPE_CHECKING:
@@ -37,6 +39,7 @@ def add(subs: Subs) -> None:
     )
     remove.add_argument("path", nargs="+", metavar="PATH", help="a file, an empty directory, or with -r any directory")
     remove.add_argument("-r", "--recursive", action="store_true", help="remove directories with all below them")
+    remove.add_argument("--split", action="store_true", help="remove a file in parts by its own name")
     again = command(
         subs, "resume", resume, "finish what an earlier command began",
         "Sends again, under its number, what the ledger has without a reply; each command that changes the tree does so first.", ledger=True,
@@ -196,18 +199,26 @@ def rm(arguments: argparse.Namespace) -> int:
     with writer(arguments) as client, client.held():
         finish_first(client, arguments)
         for path in map(path_of, arguments.path):
-            node = client.stat(path)
-            whole = arguments.recursive and node.kind is NodeKind.DIRECTORY
+            paths = paths_below(client, path, arguments)
             if arguments.dry_run:
-                for at, names in walk(client, path) if whole else ():
-                    for name in names:
-                        progress.told("would remove", at + (name.name,), 0, 0)
-                progress.told("would remove", path, 0, 0)
-            elif whole:
-                remove_tree(client, path, progress.told)
+                for gone in paths:
+                    progress.told("would remove", gone, 0, 0)
+            elif paths != [path]:
+                remove_paths(client, paths, progress.told)
             else:
                 progress.told("removed", path, 0, client.remove(path))
     return 0
+
+
+def paths_below(client: Client, path: Path, arguments: argparse.Namespace) -> List[Path]:
+    """What goes with a path, in the order in which it goes: the leaves first, and the last part of a file before the others."""
+    if arguments.split and client.find(path) is None:
+        file = find_file(client, path, True)
+        return sorted(file.parts + file.folders, reverse=True)
+    if client.stat(path).kind is NodeKind.FILE or not arguments.recursive:
+        return [path]
+    found = [at + (name.name,) for at, names in walk(client, path) for name in names]
+    return sorted(found, key=lambda below: -len(below)) + ([path] if path else [])
 
 
 def resume(arguments: argparse.Namespace) -> int:
