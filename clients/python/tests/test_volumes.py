@@ -126,7 +126,7 @@ class Which(WithPrograms):
         self.assertEqual(self.store("/c"), 2)
 
     def other_words(self) -> str:
-        return "another volume.* Expected: 'DISC', formatted at moment .* Found: 'DISC', formatted at moment"
+        return "another volume.* Expected: 'DISC', formatted at 1970.* Found: 'DISC', formatted at 1970"
 
     def forget(self) -> None:
         with self.at_way() as client:
