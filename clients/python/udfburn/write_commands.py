@@ -11,10 +11,11 @@ from .client import Client
 from .commands import progress_of, writer
 from .errors import UsageError
 from .escape import encode
-from .manifest import PAYLOAD
+from .manifest import MANIFEST, PAYLOAD
 from .progress import Progress, plural, size
-from .protocol import NodeKind, Path, path_of, show
+from .protocol import NodeKind, Path, path_of, show, shown
 from .seal_command import add_manifest_only
+from .sources import Source
 from .stored import find_file
 from .tree import Importer, Options, Summary
 from .walk import remove_paths, walk
@@ -101,6 +102,8 @@ def put(arguments: argparse.Namespace) -> int:
         importer = Importer(client, options, progress.told, progress.stored)
         planned = importer.plan(targets(arguments.local, payload_of(arguments), arguments.escape))
         sources = [source for source, _ in planned.files] + [job.source for job in importer.same]
+        if arguments.seal and arguments.manifest_only:
+            refuse_manifests(sources)
         progress.begin(len(sources), sum(source.identity.size for source in sources))
         try:
             summary = importer.run(planned)
@@ -127,6 +130,13 @@ def payload_of(arguments: argparse.Namespace) -> str:
     payload = show(path_of(path) if arguments.manifest_only else path_of(path) + (PAYLOAD,))
     folder = len(arguments.local) == 1 and os.path.isdir(arguments.local[0])
     return payload if folder else payload.rstrip("/") + "/"
+
+
+def refuse_manifests(sources: List[Source]) -> None:
+    """Raises where a local file would have the path of a manifest: sealing would replace it, and its source may be gone by then."""
+    for source in sources:
+        if source.path[-1:] == (MANIFEST,):
+            raise UsageError(f"{shown(source.local)}: has the name of a manifest, which sealing writes: leave --seal out, or store LOCAL as a bag")
 
 
 def seal_stored(client: Client, importer: Importer, arguments: argparse.Namespace) -> str:
