@@ -10,6 +10,7 @@ import random
 import shutil
 import sqlite3
 import subprocess
+import tempfile
 import unittest
 from contextlib import closing
 from typing import Any, Dict, List
@@ -25,14 +26,30 @@ class Checked(WithPrograms):
     """An image with a bag, a directory with a manifest, and files that no manifest covers."""
 
     capacity = 20000
+    data = {f"f{index:02}": random.Random(index).randbytes(index * 500) for index in range(12)}
+    made: "tempfile.TemporaryDirectory[str] | None" = None
+    """Where the image and the ledger are that all tests begin with."""
+
+    @classmethod
+    def tearDownClass(cls) -> None:
+        if cls.made is not None:
+            cls.made.cleanup()
 
     def setUp(self) -> None:
         super().setUp()
-        chance = random.Random(7)
-        self.data = {f"f{index:02}": chance.randbytes(index * 500) for index in range(12)}
+        self.where = ["--image", self.image]
+        if Checked.made is None:
+            self.store_all()
+            Checked.made = tempfile.TemporaryDirectory()
+            for path in (self.image, self.ledger):
+                shutil.copy(path, Checked.made.name)
+        for path in (self.image, self.ledger):
+            shutil.copy(os.path.join(Checked.made.name, os.path.basename(path)), path)
+
+    def store_all(self) -> None:
+        """The three directories, and no source any more."""
         for name, data in self.data.items():
             self.write(f"source/{name}", data)
-        self.where = ["--image", self.image]
         source = os.path.join(self.room, "source")
         self.run_command("put", "-r", "--seal", source, "/bag", where=self.where)
         self.run_command("put", "-r", "--seal", "--manifest-only", source, "/plain", where=self.where)

@@ -45,8 +45,9 @@ class Lines(unittest.TestCase):
         digest = bytes.fromhex(digits)
         for data in (f"{digits} *./d/f\n", f"{digits.upper()}  d/f\r\n", f"\n{digits}  ./d/./f"):
             self.assertEqual(read_manifest(data.encode(), False), ([Line(digest, ("d", "f"))], []))
-        for data in (f"{digits}\td/f\n", f"{digits}   d/f\n", f"{digits} *d/f\r\n"):
-            self.assertEqual(read_manifest(data.encode(), True), ([Line(digest, ("d", "f"))], []))
+        for data in (f"{digits}\tdata/f\n", f"{digits}   data/f\n", f"{digits} *data/f\r\n"):
+            self.assertEqual(read_manifest(data.encode(), True), ([Line(digest, ("data", "f"))], []))
+        self.assertEqual(read_manifest(f"{digits}  *star\n".encode(), True), ([Line(digest, ("*star",))], []))
         self.assertEqual(read_manifest(f"{digits}  d/%0a%0A%25%41\n".encode(), True)[0], [Line(digest, ("d", "\n\n%%41"))])
         # Only these end a line.
         for end in ("\r\n", "\r", "\n"):
