@@ -7,11 +7,15 @@ import random
 import subprocess
 from typing import Dict, Iterator, List, NamedTuple, Set, Tuple
 
-from tests.model import Directory, File, Volume
+from tests.model import Volume
 from udfburn.protocol import Create, MakeDir, Message, Path, Remove, Rename, Replace, encode_message, frame
 from udfburn.reader import Kind, Medium, Volume as Reader
 
 BLOCK = 2048
+INSIDE = 1872
+"""Bytes of a file that its entry holds, at most."""
+
+MANIFEST = ("manifest-sha256.txt",)
 SIZES = (40, 60, 700, 1872, 1873, 2048, 5000, 9000, 30_000)
 DIRECTORIES = ("letters", "photos", "letters/old", "a directory with a long name, so that its identifiers take more room", "日本")
 
@@ -145,15 +149,31 @@ def cut(sound: Sound, chance: random.Random) -> Damage:
     return Damage(f"a copy of {size} bytes", sound.image[:size], (), commit)
 
 
+def has(sound: Sound, damage: Damage, address: int) -> bool:
+    """Whether a block is as it was, and can be read."""
+    begin = address * BLOCK
+    return address not in damage.unread and damage.image[begin : begin + BLOCK] == sound.image[begin : begin + BLOCK]
+
+
 def standing(sound: Sound, damage: Damage) -> Set[Path]:
     """The files of the newest state all of whose bytes are there."""
     found = set()
     for path, begin in sound.places.items():
         data = sound.files[-1][path]
-        blocks = range(begin // BLOCK, (begin + max(len(data), 1) - 1) // BLOCK + 1)
+        blocks = range(begin // BLOCK, (begin + len(data) - 1) // BLOCK + 1)
         if damage.image[begin : begin + len(data)] == data and not set(blocks) & set(damage.unread):
             found.add(path)
     return found
 
 
-__all__ = ["Damage", "Directory", "File", "Sound", "damages", "make", "standing"]
+def with_entries(sound: Sound, damage: Damage) -> Set[Path]:
+    """The files whose entries are as they were: in the block after the last one of the bytes, or around them (docs/FORMAT.md)."""
+    found = set()
+    for path, begin in sound.places.items():
+        size = len(sound.files[-1][path])
+        if has(sound, damage, begin // BLOCK + (-(-size // BLOCK) if size > INSIDE else 0)):
+            found.add(path)
+    return found
+
+
+__all__ = ["Damage", "Sound", "damages", "make", "standing", "with_entries"]

@@ -63,7 +63,7 @@ class Salvaging(unittest.TestCase):
         self.send(Rename, ("d", "small"), ("d", "renamed"))
         self.send(Create, ("last",), chance.randbytes(4000))
 
-    def bytes(self) -> bytearray:
+    def blocks(self) -> bytearray:
         with open(self.image, "rb") as file:
             return bytearray(file.read())
 
@@ -73,13 +73,13 @@ class Salvaging(unittest.TestCase):
 
     def damage(self, address: int, at: int, data: bytes) -> None:
         """Writes over bytes of a block."""
-        image = self.bytes()
+        image = self.blocks()
         begin = address * BLOCK + at
         image[begin : begin + len(data)] = data
         self.put(image)
 
     def flip(self, address: int, at: int, bit: int = 0) -> None:
-        self.damage(address, at, bytes([self.bytes()[address * BLOCK + at] ^ 1 << bit]))
+        self.damage(address, at, bytes([self.blocks()[address * BLOCK + at] ^ 1 << bit]))
 
     def node(self, *path: str) -> Tuple[int, Optional[int], int]:
         """The address of a node's entry, that of its data, and the blocks of that."""
@@ -118,7 +118,7 @@ class Salvaging(unittest.TestCase):
     def test_a_bit_after_a_descriptor(self) -> None:
         """The zeros after each descriptor mean nothing: each file comes out, and the block is named with cause 27."""
         self.fill()
-        sound = self.bytes()
+        sound = self.blocks()
         for path in ((), ("d",), ("d", "e"), ("d", "large"), ("d", "renamed"), ("top",)):
             self.put(sound)
             address = self.node(*path)[0]
@@ -128,7 +128,7 @@ class Salvaging(unittest.TestCase):
     def test_each_field_of_an_entry(self) -> None:
         """Whatever byte of an entry is wrong, all files come out, and the entry is named."""
         self.fill()
-        sound = self.bytes()
+        sound = self.blocks()
         for path in ((), ("d", "e"), ("d", "large"), ("d", "renamed")):
             address, data, _ = self.node(*path)
             for at in list(range(176)) + (list(range(176, 192)) if data is not None else []):
@@ -139,7 +139,7 @@ class Salvaging(unittest.TestCase):
     def test_each_byte_of_the_last_entry(self) -> None:
         """The newest state is found, though the program goes back to the one before."""
         self.fill()
-        sound = self.bytes()
+        sound = self.blocks()
         last = len(sound) // BLOCK - 1
         for at in [*range(192), 500, 2047]:
             self.put(sound)
@@ -151,7 +151,7 @@ class Salvaging(unittest.TestCase):
         self.fill()
         with Medium(self.image) as medium:
             table = Volume(medium).state().table
-        sound = self.bytes()
+        sound = self.blocks()
         for at in range(table.size + 4):
             self.put(sound)
             self.damage(table.first + 257, at, bytes([sound[(table.first + 257) * BLOCK + at] ^ 0x81]))
@@ -160,7 +160,7 @@ class Salvaging(unittest.TestCase):
     def test_each_byte_of_a_listing(self) -> None:
         """One wrong bit leaves one reading of an identifier."""
         self.fill()
-        sound = self.bytes()
+        sound = self.blocks()
         _, data, _ = self.node("d")
         assert data is not None
         with Medium(self.image) as medium:
@@ -194,7 +194,7 @@ class Salvaging(unittest.TestCase):
     def test_a_lost_entry(self) -> None:
         """A replaced file is had as it was before, a new one as its blocks, one inside its entry is lost."""
         self.fill()
-        sound = self.bytes()
+        sound = self.blocks()
         for path, state in ((("d", "large"), EARLIER), (("top",), DAMAGED), (("d", "renamed"), LOST)):
             self.put(sound)
             self.damage(self.node(*path)[0], 0, bytes(BLOCK))
@@ -231,9 +231,9 @@ class Salvaging(unittest.TestCase):
         _, data, blocks = self.node("d", "large")
         assert data is not None
         read = Medium._read
+        gone = {data + 1, data + blocks - 1}
 
         def unread(medium: Medium, address: int, count: int) -> Optional[bytes]:
-            gone = {data + 1, data + blocks - 1}
             return None if gone & set(range(address, address + count)) else read(medium, address, count)
 
         with mock.patch.object(Medium, "_read", unread):
@@ -263,7 +263,7 @@ class Salvaging(unittest.TestCase):
         for _ in range(25):
             apply_messages(self.image, [writer.request()])
             states.append((os.path.getsize(self.image), writer.model.files()))
-        sound = self.bytes()
+        sound = self.blocks()
         for size in range(states[0][0], len(sound), 3 * BLOCK + 700):
             self.put(sound[:size])
             wanted = [files for end, files in states if end <= size][-1]
@@ -285,7 +285,7 @@ class Salvaging(unittest.TestCase):
         self.fill()
         with Medium(self.image) as medium:
             chain = Volume(medium).chain()
-        sound = self.bytes()
+        sound = self.blocks()
         for older in chain[1:]:
             self.put(sound)
             self.damage(chain[0].address, 0, bytes(sound[older.address * BLOCK : (older.address + 1) * BLOCK]))
@@ -294,12 +294,12 @@ class Salvaging(unittest.TestCase):
     def test_a_file_that_has_entries_in_it(self) -> None:
         """A volume inside of a file is a file, whatever is damaged around it."""
         self.fill()
-        inner = bytes(self.bytes()[257 * BLOCK : 300 * BLOCK])
+        inner = bytes(self.blocks()[257 * BLOCK : 300 * BLOCK])
         self.send(Create, ("inner.img",), inner)
         self.expect_all()
         address, data, _ = self.node("inner.img")
         assert data is not None
-        sound = self.bytes()
+        sound = self.blocks()
         for at in (address, len(sound) // BLOCK - 1, len(sound) // BLOCK - 2):
             self.put(sound)
             self.damage(at, 60, b"\xff" * 4)
@@ -337,7 +337,7 @@ class Salvaging(unittest.TestCase):
 
     def test_command(self) -> None:
         self.fill()
-        before = self.bytes()
+        before = self.blocks()
         out = os.path.join(self.room, "out")
         listed = self.command("salvage", self.image, "--list")
         self.assertFalse(os.path.exists(out))
@@ -351,7 +351,7 @@ class Salvaging(unittest.TestCase):
                 self.assertEqual(file.read(), data)
         self.assertEqual(os.stat(os.path.join(out, "top")).st_mtime, 4.0)
         self.assertEqual(os.stat(os.path.join(out, "d", "e")).st_mtime, 6.0)
-        self.assertEqual(self.bytes(), before)
+        self.assertEqual(self.blocks(), before)
         self.assertEqual([name for _, _, names in os.walk(out) for name in names if name.startswith(".")], [])
 
     def test_nothing_is_replaced(self) -> None:
@@ -464,15 +464,17 @@ class Manifests(unittest.TestCase):
 
     def test_a_manifest_that_is_doubted(self) -> None:
         """Where a manifest is not as another has it, that a file differs from it says nothing."""
-        digests, other = Digests(), "cd" * 32
-        line = f"{'ab' * 32}  file\n".encode()
+        digests, mine, other = Digests(), "ab" * 32, "cd" * 32
+        line = f"{mine}  file\n".encode()
         found = [
-            Manifest(("manifest-sha256.txt",), line, "ef" * 32, False),
-            Manifest(("tagmanifest-sha256.txt",), f"{'00' * 32}  manifest-sha256.txt\n".encode(), "11" * 32, False),
+            Manifest(("manifest-sha256.txt",), line, "ef" * 32, False, 500),
+            Manifest(("tagmanifest-sha256.txt",), f"{'00' * 32}  manifest-sha256.txt\n".encode(), "11" * 32, False, 502),
         ]
         add_manifests(digests, found, set())
-        self.assertEqual([digests.agrees(("file",), digest) for digest in ("ab" * 32, other)], [True, None])
+        self.assertEqual([digests.agrees(("file",), digest, 400) for digest in (mine, other)], [True, None])
         digests = Digests()
         add_manifests(digests, found[:1], set())
-        self.assertEqual([digests.agrees(("file",), digest) for digest in ("ab" * 32, other)], [True, False])
-        self.assertIsNone(digests.agrees(("x",), other))
+        self.assertEqual([digests.agrees(("file",), digest, 400) for digest in (mine, other)], [True, False])
+        # A file that was written after its manifest may be another.
+        self.assertEqual([digests.agrees(("file",), digest, 600) for digest in (mine, other)], [True, None])
+        self.assertIsNone(digests.agrees(("x",), other, 400))

@@ -107,13 +107,13 @@ class Salvage:
         found: List[Manifest] = []
         bags: Set[Path] = set()
         for item in self.tree.items:
-            if item.kind is not Kind.FILE or item.entry is None:
+            if item.kind is not Kind.FILE or item.version is None:
                 continue
             if item.path[-1] == DECLARATION:
                 bags.add(item.path[:-1])
             elif is_manifest(item.path[-1]):
-                read = self.bytes_of(item.entry)
-                found.append(Manifest(item.path, read.data, hashlib.sha256(read.data).hexdigest(), bool(read.why)))
+                read, digest = self.bytes_of(item.version.entry), hashlib.sha256
+                found.append(Manifest(item.path, read.data, digest(read.data).hexdigest(), bool(read.why), item.version.address))
         self._manifests = add_manifests(self.digests, found, bags)
 
     def _seen(self) -> Iterator[Tuple[int, int, Optional[int]]]:
@@ -138,7 +138,8 @@ class Salvage:
             return None, ""
         digest = hashlib.sha256(data).hexdigest()
         kept = self._kept(item)
-        return (digest == kept if kept is not None else self.digests.agrees(item.path, digest)), digest
+        address = item.version.address if item.version is not None else 0
+        return (digest == kept if kept is not None else self.digests.agrees(item.path, digest, address)), digest
 
     def _carved(self, item: Item) -> Optional[bytes]:
         """The newest bytes of a file whose newest entry is lost, where a digest of them is kept."""

@@ -38,29 +38,36 @@ def split_lines(data: bytes, is_bag: bool) -> List[str]:
     return [line for line in re.split("\r\n|\r|\n" if is_bag else "\r?\n", data.decode("utf-8", "replace")) if line]
 
 
+class Kept(NamedTuple):
+    """A digest of a file, and the address of the entry of the manifest that has it. Where it is doubted, that a file has another says
+    nothing."""
+
+    digest: str
+    address: int
+    doubted: bool
+
+
 class Digests:
-    """What is known of files' digests: by the manifests on the volume, and by what else is added."""
+    """What the manifests on a volume say of files' digests."""
 
     def __init__(self) -> None:
-        self._known: Dict[Path, Set[str]] = {}
-        self._doubted: Set[Path] = set()
+        self._known: Dict[Path, List[Kept]] = {}
         self._paths: Dict[str, Path] = {}
 
-    def add(self, path: Path, digest: str, doubted: bool = False) -> None:
-        """Adds a file's digest. Where it is doubted, that a file has another says nothing."""
-        self._known.setdefault(path, set()).add(digest)
-        self._paths.setdefault(digest, path)
-        if doubted:
-            self._doubted.add(path)
+    def add(self, path: Path, kept: Kept) -> None:
+        """Adds a file's digest."""
+        self._known.setdefault(path, []).append(kept)
+        self._paths.setdefault(kept.digest, path)
 
-    def agrees(self, path: Path, digest: str) -> Optional[bool]:
-        """Whether a digest is that of the file at a path; None where none is known for certain."""
-        known = self._known.get(path)
-        if known is None:
-            return None
-        if digest in known:
+    def agrees(self, path: Path, digest: str, address: int) -> Optional[bool]:
+        """Whether a digest is that of the file at a path, whose entry has this address; None where that is not known.
+
+        A file that was written after a manifest may be another than the manifest has.
+        """
+        known = self._known.get(path, [])
+        if any(kept.digest == digest for kept in known):
             return True
-        return None if path in self._doubted else False
+        return False if any(not kept.doubted and kept.address > address for kept in known) else None
 
     def has(self, path: Path) -> bool:
         """Whether a digest of the file at a path is known."""
@@ -72,7 +79,7 @@ class Digests:
 
     def is_known(self, path: Path, digest: str) -> bool:
         """Whether a digest is one that is kept of the file at a path."""
-        return digest in self._known.get(path, ())
+        return digest in self.digests_of(path)
 
     def paths(self) -> List[Path]:
         """All paths with a digest."""
@@ -80,19 +87,21 @@ class Digests:
 
     def digests_of(self, path: Path) -> Set[str]:
         """The digests that are kept of the file at a path."""
-        return self._known.get(path, set())
+        return {kept.digest for kept in self._known.get(path, [])}
 
     def __len__(self) -> int:
         return len(self._known)
 
 
 class Manifest(NamedTuple):
-    """A manifest that is on the volume: where, its bytes, its own digest, and whether some of its bytes are missing."""
+    """A manifest that is on the volume: where, its bytes, its own digest, whether some of its bytes are missing, and the address of its
+    entry."""
 
     path: Path
     data: bytes
     digest: str
     hurt: bool
+    address: int
 
 
 def add_manifests(digests: Digests, found: List[Manifest], bags: Set[Path]) -> Dict[Path, FrozenSet[Optional[Path]]]:
@@ -110,7 +119,7 @@ def add_manifests(digests: Digests, found: List[Manifest], bags: Set[Path]) -> D
         known = own.get(manifest.path)
         doubted = manifest.hurt or known is not None and manifest.digest not in known
         for path, digest in listed:
-            digests.add(path, digest, doubted)
+            digests.add(path, Kept(digest, manifest.address, doubted))
         count = len(split_lines(manifest.data, manifest.path[:-1] in bags))
         is_read = len(listed) == count and not manifest.hurt
         paths[manifest.path] = frozenset([path for path, _ in listed] + ([] if is_read and listed else [None]))
