@@ -246,7 +246,8 @@ class Reckoned(WithPrograms):
         """They are reckoned exactly, and an image that has no room for more takes them."""
         data = bytearray(random.Random(7).randbytes(3 * MEBIBYTE + 5))
         local, image = self.write("source/big", bytes(data)), os.path.join(self.room, "tight.img")
-        self.format(262 + 4 * 540, image)
+        # A program asks for twice the blocks of a part before it writes one.
+        self.format(262 + 1570 + 1200, image)
         client = self.on_image(image=image)
         for changed in (0, MEBIBYTE + 1):
             data[changed] ^= 1
