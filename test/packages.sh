@@ -30,7 +30,7 @@ case $1 in
     --suites)
         shift
         for tool in gcc:gcc python3:python3 rsync:rsync mandoc:mandoc strace:strace lintian:lintian strip:binutils mypy:mypy pyflakes3:pyflakes3 shellcheck:shellcheck systemd-analyze:systemd udfclient:udfclient \
-            udfinfo:udftools blkid:util-linux mkfs.ext4:e2fsprogs mount:mount; do
+            udfinfo:udftools ddrescue:gddrescue par2:par2 dvdisaster:dvdisaster blkid:util-linux mkfs.ext4:e2fsprogs mount:mount; do
             command -v "${tool%:*}" > /dev/null || set -- "$@" "${tool#*:}"
         done
         [ -e /usr/include/stdio.h ] || set -- "$@" libc6-dev

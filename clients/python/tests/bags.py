@@ -9,9 +9,12 @@ import re
 import shutil
 import subprocess
 import sys
-from typing import Dict, List, Optional
+from typing import Dict, List, Optional, Set
 
 from udfburn.reader import Kind, Medium, Volume
+
+
+MISSING: Set[str] = set()
 
 
 def copy_by_reader(image: str, folder: str) -> None:
@@ -27,10 +30,18 @@ def copy_by_reader(image: str, folder: str) -> None:
                     file.write(volume.read(node).data)
 
 
+def not_tried(tool: str) -> bool:
+    """Says once that a tool is not installed."""
+    if tool not in MISSING:
+        MISSING.add(tool)
+        print(f"bags: not tried: {tool}, which is not installed", file=sys.stderr)
+    return False
+
+
 def copy_by_udfclient(image: str, folder: str, label: str, moment: int) -> bool:
     """Copies all of an image into a new folder, by udfclient, where that is installed. It has names of printable ASCII alone."""
     if shutil.which("udfclient") is None:
-        return False
+        return not_tried("udfclient")
     os.mkdir(folder)
     where = ":".join(["%016x%s" % (moment, label), label, label, label])
     words = ["udfclient", "-b", "2048", image]
@@ -95,5 +106,6 @@ def bagit(folder: str) -> Optional[bool]:
         return subprocess.run([tool, "--validate", folder], capture_output=True, check=False).returncode == 0
     has_module = subprocess.run([sys.executable, "-c", "import bagit"], capture_output=True, check=False).returncode == 0
     if not has_module:
+        not_tried("bagit's own tool")
         return None
     return subprocess.run([sys.executable, "-m", "bagit", "--validate", folder], capture_output=True, check=False).returncode == 0

@@ -10,6 +10,7 @@ import random
 import shutil
 import sqlite3
 import subprocess
+import tempfile
 import unittest
 from contextlib import closing
 from typing import Any, Dict, List
@@ -25,14 +26,30 @@ class Checked(WithPrograms):
     """An image with a bag, a directory with a manifest, and files that no manifest covers."""
 
     capacity = 20000
+    data = {f"f{index:02}": random.Random(index).randbytes(index * 500) for index in range(12)}
+    made: "tempfile.TemporaryDirectory[str] | None" = None
+    """Where the image and the ledger are that all tests begin with."""
+
+    @classmethod
+    def tearDownClass(cls) -> None:
+        if cls.made is not None:
+            cls.made.cleanup()
 
     def setUp(self) -> None:
         super().setUp()
-        chance = random.Random(7)
-        self.data = {f"f{index:02}": chance.randbytes(index * 500) for index in range(12)}
+        self.where = ["--image", self.image]
+        if Checked.made is None:
+            self.store_all()
+            Checked.made = tempfile.TemporaryDirectory()
+            for path in (self.image, self.ledger):
+                shutil.copy(path, Checked.made.name)
+        for path in (self.image, self.ledger):
+            shutil.copy(os.path.join(Checked.made.name, os.path.basename(path)), path)
+
+    def store_all(self) -> None:
+        """The three directories, and no source any more."""
         for name, data in self.data.items():
             self.write(f"source/{name}", data)
-        self.where = ["--image", self.image]
         source = os.path.join(self.room, "source")
         self.run_command("put", "-r", "--seal", source, "/bag", where=self.where)
         self.run_command("put", "-r", "--seal", "--manifest-only", source, "/plain", where=self.where)
@@ -51,7 +68,7 @@ class Checked(WithPrograms):
         found: Dict[str, Any] = self.check(*words, status=status, ledger=ledger, image=image)[-1]["data"]
         return found
 
-    def changed(self, data: bytes, place: int, count: int = 1) -> str:
+    def changed(self, data: bytes, place: int, count: int = 1, mask: int = 0x40) -> str:
         """A copy of the image in which a byte of each of some files with these bytes is another, the first ones first."""
         image = os.path.join(self.room, f"changed{len(os.listdir(self.room))}.img")
         shutil.copy(self.image, image)
@@ -60,7 +77,7 @@ class Checked(WithPrograms):
             for _ in range(count):
                 at = all_of_it.index(data, at + 1)
                 file.seek(at + place)
-                file.write(bytes([all_of_it[at + place] ^ 0x40]))
+                file.write(bytes([all_of_it[at + place] ^ mask]))
         return image
 
     def test_all_is_as_it_was_stored(self) -> None:
@@ -117,6 +134,18 @@ class Checked(WithPrograms):
         *failures, last = self.check(status=1, ledger=False, image=image)
         self.assertEqual([failure["error"] for failure in failures], ["Damaged", "FileDiffers"])
         self.assertEqual((failures[1]["path"], last["data"]["files"]), ("/bag/data/f02", 41))
+
+    def test_a_changed_manifest(self) -> None:
+        """A digit of it changed: it is named, and what it says of a file is called doubtful."""
+        digits = hashlib.sha256(self.data["f09"]).hexdigest().encode()
+        place = next(index for index, digit in enumerate(digits) if chr(digit).isdecimal())
+        image = self.changed(digits, place, mask=1)
+        failures = {failure["path"]: failure["message"] for failure in self.check(status=1, image=image)[:-1] if failure["error"] == "FileDiffers"}
+        self.assertEqual(sorted(failures), ["/bag/data/f09", "/bag/manifest-sha256.txt"])
+        self.assertIn("is as the ledger sent it, and a manifest says other bytes", failures["/bag/data/f09"])
+        failures = {failure["path"]: failure["message"] for failure in self.check(status=1, image=image, ledger=False)[:-1] if failure["error"] == "FileDiffers"}
+        self.assertEqual(sorted(failures), ["/bag/data/f09", "/bag/manifest-sha256.txt"])
+        self.assertIn("/bag/manifest-sha256.txt (which is itself not as it was stored)", failures["/bag/data/f09"])
 
     def test_moved_files(self) -> None:
         """The ledger's digests are found by the commit that wrote a file, whatever path it has now, whoever moved it."""

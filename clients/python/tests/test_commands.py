@@ -151,7 +151,8 @@ class Commands(Local):
         self.server.before = lambda payload: p.FAULT if request_of(payload) else None
         self.words("put", self.write("a"), "/a", "--wait", "0.1", status=1)
         self.server.before = lambda payload: None
-        self.assertEqual(self.words("resume", "--forget"), ["dropped /a"])
+        goes_on = "udfburn-client: goes on at number 1, with a volume that the ledger knows"
+        self.assertEqual(self.words("resume", "--forget"), ["dropped /a", goes_on])
         self.assertEqual(self.words("resume"), ["pending were 0 requests"])
         self.assertEqual(self.volume.commits, 0)
 

@@ -19,14 +19,21 @@ from unittest import mock
 from udfburn import Client, errors as e
 from udfburn import protocol as p
 from udfburn.ledger import LOG_BYTES, Ledger, Lock, Pending, Reply, Volume as Known
+from udfburn.ledger_records import facts_of
 from udfburn.operations import Operation
 from udfburn.tree import Options, put_all
 
 from .model import File, Volume
 from .programs import PATIENCE
-from .server import request_of
+from .server import Server, request_of
 from .test_kills import killer
 from .test_session import PACKAGE, WithServer, creates
+
+
+def client_of(path: str) -> int:
+    """The client that a ledger is of."""
+    with closing(sqlite3.connect(path)) as base:
+        return int(base.execute("SELECT client FROM ledger").fetchone()[0])
 
 
 class Ledgers(WithServer):
@@ -367,6 +374,58 @@ class Ledgers(WithServer):
         self.assertEqual(client.forget(), ["/a"])
         self.assertEqual(client.resume(), [])
         self.assertEqual(client.create("/b", b""), 1)
+
+    def by(self, path: str, shared: bool = False) -> Client:
+        made = Client(f"unix:{path}", ledger=self.ledger, shared=shared)
+        self.addCleanup(made.close)
+        return made
+
+    def test_a_way_that_leads_to_one_of_two(self) -> None:
+        """The same was stored on both, so nothing tells which one is at a path that is not known."""
+        os.mkdir(os.path.join(self.room, "two"))
+        other = Server(os.path.join(self.room, "two"))
+        self.addCleanup(other.close)
+        for path in (self.server.path, other.path):
+            with self.by(path) as client:
+                client.create("/a", b"same", 5)
+        link = os.path.join(self.room, "link")
+        os.link(other.path, link)
+        with self.by(link) as client, self.assertRaisesRegex(e.OtherVolume, f"may be the volume at unix:{self.server.path}, or unix:{other.path}"):
+            client.create("/b", b"")
+        # Once they differ, it is known.
+        with self.by(other.path) as client:
+            client.create("/b", b"", 6)
+        with self.by(link) as client:
+            self.assertEqual(client.create("/c", b""), 3)
+        with self.by(other.path) as client:
+            self.assertEqual(client.create("/d", b""), 4)
+
+    def test_an_older_copy_by_a_way_that_is_not_known(self) -> None:
+        """It has requests of this client, and they are not those of any volume that the ledger has."""
+        with self.by(self.server.path) as client:
+            for name in "abc":
+                client.create("/" + name, b"", 5)
+        latest, kept = self.volume.clients[client_of(self.ledger)]
+        self.volume.clients[client_of(self.ledger)] = (latest - 1, kept[1:])
+        link = os.path.join(self.room, "link")
+        os.link(self.server.path, link)
+        with self.by(link) as client:
+            with self.assertRaisesRegex(e.NumberUsedElsewhere, "did not send .*older copy"):
+                client.create("/d", b"")
+            self.assertEqual(client.forget(), [])
+            client.create("/d", b"")
+        self.assertEqual(self.volume.clients[client_of(self.ledger)][0], 3)
+
+    def test_a_reply_that_nobody_confirmed(self) -> None:
+        """It is compared as a reply, and what it made is not: it was never acknowledged."""
+        with self.by(self.server.path) as client:
+            client.create("/a", b"", 5)
+            ledger, volume = client.session().ledger, client.session().volume()
+            ledger.record(volume, [], [Pending(2, b"", "/b", facts_of(p.Create(ledger.client, 2, 6, ("b",), b"bytes")))])
+            ledger.record(volume, [Reply(2, int(p.Code.DONE), 2, False)], [])
+            self.volume.answer(p.Create(ledger.client, 2, 6, ("other",), b""))
+        with self.by(self.server.path) as client:
+            self.assertEqual(client.create("/c", b""), 3)
 
     def test_two_ways_to_a_volume(self) -> None:
         link = os.path.join(self.room, "link")

@@ -22,7 +22,7 @@ from .test_session import WithServer
 
 
 class Local(WithServer):
-    def write(self, name: str, data: bytes = b"data") -> str:
+    def write(self, name: str, data: "bytes | bytearray" = b"data") -> str:
         local = os.path.join(self.room, "source", name)
         os.makedirs(os.path.dirname(local), exist_ok=True)
         with open(local, "wb") as file:

@@ -45,6 +45,17 @@ class Drawn(unittest.TestCase):
                 x, y = float(box.get("x", 0)), float(box.get("y", 0))
                 self.assertTrue(0 <= x and x + float(box.get("width", 0)) <= width + 1 and 0 <= y and y + float(box.get("height", 0)) <= height + 1)
 
+    def test_no_label_is_cut(self) -> None:
+        """By the widths of DejaVu Sans, which are larger than those of most: 0.636 of the points for a digit, 0.318 for a comma."""
+        for commits, capacity in ((0, 512), (300, 3000), (30000, 450_000), (89_000, 450_000)):
+            tree = ElementTree.fromstring(picture.draw(self.medium(commits, capacity)))
+            for element in tree.iter(f"{SVG}text"):
+                words, x, points = element.text or "", float(element.get("x", 0)), float(element.get("font-size", 0))
+                if words.replace(",", "").isdecimal():
+                    width = points * sum(0.318 if letter == "," else 0.636 for letter in words)
+                    left = {"end": x - width, "middle": x - width / 2}.get(element.get("text-anchor", ""), x)
+                    self.assertTrue(left >= 4 and left + width <= picture.WIDTH - 4, words)
+
     def test_a_commit_that_was_cut(self) -> None:
         medium = self.medium(3, 512)
         cut = picture.Medium(medium.name, medium.label, medium.capacity, medium.written + 4, medium.commits)

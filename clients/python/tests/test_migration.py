@@ -122,6 +122,22 @@ class Migration(WithServer):
             ledger = client.session().ledger
             self.assertEqual(sorted(ledger.ways(client.session().volume())), [f"unix:{self.link}", f"unix:{self.one.path}"])
 
+    def test_another_volume_that_the_ledger_knows(self) -> None:
+        """At the way of a volume with one request: it has later numbers alone, and it did not begin where that one ended."""
+        two = Server(os.path.join(self.room, "two"), self.one.volume)
+        self.addCleanup(two.close)
+        with self.by(two.path) as client, self.assertRaises(e.NumberUsedElsewhere):
+            client.create("/z", b"")
+        self.assertEqual(self.one.volume.commits, 9)
+
+    def test_where_two_volumes_ended_alike(self) -> None:
+        """It is not known which one went on, so neither is taken for it."""
+        with closing(sqlite3.connect(self.ledger)) as base, base:
+            base.execute("INSERT INTO request SELECT 2, number + 1, path, code, commit_number + 1, 1 FROM request WHERE volume = 1 AND number < 6")
+            base.execute("INSERT INTO request SELECT 2, number, path, code, commit_number, 1 FROM request WHERE volume = 3")
+        with self.by(self.link) as client, self.assertRaises(e.NumberUsedElsewhere):
+            client.resume()
+
     def test_another_volume_by_the_way_that_was_behind(self) -> None:
         """With more requests than the ledger has by either way: it is none of them."""
         self.one.volume.answer(p.Create(CLIENT, 10, 0, ("x",), b""))

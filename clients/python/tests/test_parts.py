@@ -6,11 +6,12 @@ import os
 import random
 import subprocess
 import unittest
-from contextlib import ExitStack
-from typing import Dict, List
+from contextlib import ExitStack, redirect_stderr, redirect_stdout
+from io import StringIO
+from typing import Any, Dict, List
 from unittest import mock
 
-from udfburn import Client, fetch, split, tree, walk
+from udfburn import Client, cli, fetch, split, tree, walk
 from udfburn import protocol as p
 
 from .model import Volume
@@ -47,6 +48,9 @@ class Paths(unittest.TestCase):
         self.assertEqual(len(split.joined_folder(("b.parts",), names, sizes)), 401)
         self.assertEqual(split.joined_folder(("b.parts",), names, {**sizes, parts[200]: 5}), [])
         self.assertEqual(split.joined_folder(("b.parts",), names, dict.fromkeys(parts[:400], MEBIBYTE)), [])
+        # One with fewer parts is not all there: it would stand beside others.
+        fewer = {("b.parts",): ["00"], ("b.parts", "00"): names[("b.parts", "00")]}
+        self.assertEqual(split.joined_folder(("b.parts",), fewer, dict.fromkeys(parts[:400], MEBIBYTE)), [])
         for path, more in ((("b.parts",), ["00", "01", "note"]), (("b.parts", "01"), ["000", "002"])):
             self.assertEqual(split.joined_folder(("b.parts",), {**names, path: more}, sizes), [])
 
@@ -106,6 +110,49 @@ class Folders(Local):
         self.write("big", self.data(5, 1))
         self.assertEqual(self.put(split=True, delete_source=True).deleted, 1)
 
+    def test_only_the_parts_that_changed_are_stored(self) -> None:
+        """And the last one, which has the file's moment."""
+        for count in (1, 5):
+            self.server.volume = Volume()
+            self.ledger = os.path.join(self.room, f"changed{count}.sqlite")
+            data = bytearray(self.data(count))
+            os.utime(self.write("big", data), (1_000_000_000, 1_000_000_000))
+            self.put(split=True)
+            paths = split.stored_paths(("x", "big"), len(data), True)
+            before = {path: self.client().stat(path).moment for path in paths}
+            commits = self.volume.commits
+            data[5] ^= 1
+            os.utime(self.write("big", data), (1_100_000_000, 1_100_000_000))
+            self.assertEqual(self.put(split=True, verify=True).verified, 1)
+            self.assertEqual(self.volume.commits, commits + 2)
+            after = {path: self.client().stat(path).moment for path in paths}
+            self.assertEqual([path for path in paths if before[path] != after[path]], [paths[0], paths[-1]])
+            back = os.path.join(self.room, f"changed{count}")
+            fetch.get_tree(self.client(), ("x",), back, True)
+            with open(os.path.join(back, "big"), "rb") as file:
+                self.assertEqual(file.read(), bytes(data))
+            self.assertEqual(os.stat(os.path.join(back, "big")).st_mtime, 1_100_000_000)
+
+    def test_a_file_that_was_stored_in_part(self) -> None:
+        """What is there of it is not stored again: a medium has each block once."""
+        self.write("big", self.data(5))
+        real, stored = tree.Importer._take, [0]
+
+        def some(importer: tree.Importer, *rest: Any) -> None:
+            real(importer, *rest)
+            stored[0] += 1
+            if stored[0] == 4:
+                raise KeyboardInterrupt
+
+        with mock.patch.object(tree.Importer, "_take", some), self.assertRaises(KeyboardInterrupt):
+            self.put(split=True)
+        self.assertEqual(self.put(split=True, delete_source=True).deleted, 1)
+        self.assertEqual(self.files(), self.of(5))
+        data = b"".join(self.volume.files()[path] for path in split.stored_paths(("x", "big"), 5 * MEBIBYTE + 1, True))
+        self.assertEqual(data, self.data(5))
+        # The directories, and each part once; but those that were under way when it was interrupted.
+        self.assertLessEqual(self.volume.commits, 5 + 6 + 4)
+
     def test_a_removal_that_was_cut_short(self) -> None:
         """The next one finishes it, wherever it was."""
         for left in range(1, 8):
@@ -164,6 +211,19 @@ class Folders(Local):
             self.assertEqual(fetch.get_tree(client, ("x",), back, True), 5)
         self.assertEqual(os.listdir(back), ["big.parts"])
 
+    def test_removed_by_its_own_name(self) -> None:
+        """Wherever its parts are; and nothing else goes."""
+        self.write("other", b"other")
+        for count in (0, 1, 5):
+            self.write("big", self.data(count))
+            self.put(split=True)
+            words = ["--socket", self.server.path, "--ledger", self.ledger]
+            with redirect_stdout(StringIO()):
+                self.assertEqual(cli.main(["rm", *words, "--split", "/x/big"]), 0)
+            self.assertEqual(self.files(), ["other"])
+            with redirect_stderr(StringIO()):
+                self.assertEqual(cli.main(["rm", *words, "--split", "/x/big"]), 1)
+
     def test_a_dry_run(self) -> None:
         self.write("big", self.data(3))
         steps: List[str] = []
@@ -179,6 +239,23 @@ class Folders(Local):
         os.unlink(os.path.join(self.folder, "x" * 249))
         self.write("/".join("d" * 13) + "/big", self.data(3))
         self.assertIn("has 17 names", self.refused(split=True))
+
+
+class Reckoned(WithPrograms):
+    def test_the_blocks_of_the_parts_that_changed(self) -> None:
+        """They are reckoned exactly, and an image that has no room for more takes them."""
+        data = bytearray(random.Random(7).randbytes(3 * MEBIBYTE + 5))
+        local, image = self.write("source/big", bytes(data)), os.path.join(self.room, "tight.img")
+        # A program asks for twice the blocks of a part before it writes one.
+        self.format(262 + 1570 + 1200, image)
+        client = self.on_image(image=image)
+        for changed in (0, MEBIBYTE + 1):
+            data[changed] ^= 1
+            self.write("source/big", bytes(data))
+            before = os.path.getsize(image) // 2048
+            summary = tree.put_all(client, [(local, ("big",))], tree.Options(split=True))
+            self.assertEqual(os.path.getsize(image) // 2048 - before, summary.blocks)
+        self.assertEqual(b"".join(client.get(f"/big.00{index}") for index in range(4)), bytes(data))
 
 
 class Long(WithPrograms):
@@ -205,10 +282,18 @@ class Long(WithPrograms):
         self.run_command("get", "-r", "--split", "--quiet", "/x", back)
         self.assertEqual(subprocess.run(["cmp", local, os.path.join(back, "big")], check=False).returncode, 0)
         os.unlink(os.path.join(back, "big"))
-        # One byte less, and they stand beside others.
+        one = os.path.join(self.room, "one")
+        self.run_command("get", "--split", "--quiet", "/x/big", one)
+        self.assertEqual(subprocess.run(["cmp", local, one], check=False).returncode, 0)
+        self.assertIn("all are there", self.run_command("verify", "--split", local, "/x/big"))
+        os.unlink(one)
+        # One part less, and they stand beside others.
         os.truncate(local, 400 * MEBIBYTE)
         self.run_command("put", "-r", "--split", "--quiet", folder, "/x", status=0)
         self.assertEqual([name.name for name in self.client().list("/x")], [f"big.{index:03}" for index in range(400)])
+        self.run_command("rm", "/x/big", status=1)
+        self.run_command("rm", "--split", "--quiet", "/x/big")
+        self.assertEqual(self.client().list("/x"), ())
 
 
 if __name__ == "__main__":

@@ -6,6 +6,7 @@ import fcntl
 import os
 import re
 import shlex
+import shutil
 import signal
 import subprocess
 import sys
@@ -15,6 +16,7 @@ from typing import Dict, List
 
 from udfburn import protocol as p
 
+from . import bags
 from .programs import PACKAGE, PATIENCE, WithPrograms
 
 README = os.path.join(PACKAGE, "README.md")
@@ -50,8 +52,20 @@ class Recipes(WithPrograms):
         self.assertEqual(words[0], "udfburn-client")
         return self.run_command(*words[1:], where=[])
 
-    def test_there_are_three(self) -> None:
-        self.assertEqual(list(recipes()), ["Archive a folder", "A recorder that appends", "A nightly job"])
+    def test_there_are_four(self) -> None:
+        self.assertEqual(list(recipes()), ["Archive a folder", "A recorder that appends", "A bag", "A nightly job"])
+
+    def test_a_bag(self) -> None:
+        for name, data in {"a": b"one", "below/b": b"two", "big": bytes(p.limits.FILE + 1)}.items():
+            self.write(f"photos/{name}", data)
+        put, check = self.here(recipes()["A bag"], **{"~/photos/2026": os.path.join(self.room, "photos"), "disc.img": self.image}).splitlines()
+        self.assertIn("sealed 4 files", self.command(put))
+        shutil.rmtree(os.path.join(self.room, "photos"))
+        os.unlink(self.ledger)
+        self.assertIn("8 files", self.command(check))
+        copy = os.path.join(self.room, "copy")
+        bags.copy_by_reader(self.image, copy)
+        self.assertEqual(bags.faults(os.path.join(copy, "photos", "2026")), [])
 
     def test_archive_a_folder(self) -> None:
         files = {"a": b"one", "below/b": b"two", "big": bytes(p.limits.FILE + 1)}

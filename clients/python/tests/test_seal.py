@@ -45,8 +45,9 @@ class Lines(unittest.TestCase):
         digest = bytes.fromhex(digits)
         for data in (f"{digits} *./d/f\n", f"{digits.upper()}  d/f\r\n", f"\n{digits}  ./d/./f"):
             self.assertEqual(read_manifest(data.encode(), False), ([Line(digest, ("d", "f"))], []))
-        for data in (f"{digits}\td/f\n", f"{digits}   d/f\n", f"{digits} *d/f\r\n"):
-            self.assertEqual(read_manifest(data.encode(), True), ([Line(digest, ("d", "f"))], []))
+        for data in (f"{digits}\tdata/f\n", f"{digits}   data/f\n", f"{digits} *data/f\r\n"):
+            self.assertEqual(read_manifest(data.encode(), True), ([Line(digest, ("data", "f"))], []))
+        self.assertEqual(read_manifest(f"{digits}  *star\n".encode(), True), ([Line(digest, ("*star",))], []))
         self.assertEqual(read_manifest(f"{digits}  d/%0a%0A%25%41\n".encode(), True)[0], [Line(digest, ("d", "\n\n%%41"))])
         # Only these end a line.
         for end in ("\r\n", "\r", "\n"):
@@ -197,6 +198,42 @@ class Sealed(WithServer):
         self.assertEqual(cli.main(words), 1)
         self.assertTrue(os.path.exists(source))
         self.assertIn("/bag/data/file", self.files())
+
+    def test_a_manifest_that_says_other_bytes(self) -> None:
+        """Years later and with another ledger: a new manifest would hide what happened to a file."""
+        seal(self.one, ("bag",))
+        self.one.close()
+        with Client(f"unix:{self.server.path}", ledger=os.path.join(self.room, "other.sqlite")) as other:
+            other.create("/bag/data/new", b"new")
+            self.assertEqual(seal(other, ("bag",)).known, 1)
+            for path, manifest in ((("bag", "data", "a"), "manifest"), (("bag", "bagit.txt"), "tagmanifest")):
+                node = self.volume.nodes[path]
+                assert isinstance(node, File)
+                node.data, before, commits = b"X" + node.data[1:], node.data, self.volume.commits
+                with self.assertRaisesRegex(e.Differs, f"{p.show(path)}: has other bytes than /bag/{manifest}-sha256.txt says"):
+                    seal(other, ("bag",))
+                self.assertEqual(self.volume.commits, commits)
+                node.data = before
+            self.assertEqual(seal(other, ("bag",)).written, [])
+            # What this ledger itself stored anew is no fault.
+            other.replace("/bag/data/a", b"of this ledger")
+            self.assertEqual(len(seal(other, ("bag",)).written), 3)
+
+    def test_a_manifest_among_the_sources(self) -> None:
+        """Sealing would replace it, and then its source is deleted."""
+        from udfburn import cli
+
+        source = os.path.join(self.room, "source")
+        os.makedirs(os.path.join(source, "d"))
+        with open(os.path.join(source, "d", "manifest-sha256.txt"), "wb") as file:
+            file.write(b"of the user")
+        self.one.close()
+        words = ["put", "-r", "--seal", "--delete-source", source, "/x", "--socket", self.server.path, "--ledger", self.ledger, "--quiet"]
+        self.assertEqual(cli.main(words + ["--manifest-only"]), 2)
+        self.assertEqual(bags.files_below(source), ["d/manifest-sha256.txt"])
+        self.assertNotIn(("x",), self.volume.nodes)
+        self.assertEqual(cli.main(words), 0)
+        self.assertEqual(self.files()["/x/data/d/manifest-sha256.txt"], b"of the user")
 
     def test_what_another_client_stored(self) -> None:
         """It is sealed as it is read; the count says that it was compared with nothing."""

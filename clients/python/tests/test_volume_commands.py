@@ -141,6 +141,26 @@ class Check(Volumes):
         self.assertIn(f"block {at}: a file entry or the file set descriptor is damaged, cause 21", told)
         self.assertIn("holds no volume", self.command("check", self.write("empty.img", bytes(4096)), status=1))
 
+    def test_a_second_opinion(self) -> None:
+        """The client's own reader names each place that is damaged, where the program stops at the first."""
+        client = self.on_image()
+        for name in "abc":
+            client.put(f"/{name}", name.encode() * 5)
+        client.close()
+        places = [self.read(self.image).index(data) // 2048 for data in (b"aaaaa", b"ccccc")]
+        with open(self.image, "r+b") as image:
+            for at in places:
+                image.seek(at * 2048 + 60)
+                image.write(b"\xff")
+        lines = self.command("check", self.image, status=1).splitlines()
+        for at in places:
+            self.assertEqual(len([line for line in lines if f"block {at}" in line and "cause 21" in line]), 1, lines)
+
+    def test_blocks_of_no_commit(self) -> None:
+        with open(self.image, "ab") as image:
+            image.write(bytes(2 * 2048))
+        self.assertIn("2 blocks after commit 0 belong to no commit", self.command("check", self.image))
+
     def test_with_an_expectation(self) -> None:
         """A last table's entry that was damaged looks like a commit that was cut."""
         client = self.on_image()

@@ -126,7 +126,7 @@ class Which(WithPrograms):
         self.assertEqual(self.store("/c"), 2)
 
     def other_words(self) -> str:
-        return "another volume.* Expected: 'DISC', formatted at moment .* Found: 'DISC', formatted at moment"
+        return "another volume.* Expected: 'DISC', formatted at 1970.* Found: 'DISC', formatted at 1970"
 
     def forget(self) -> None:
         with self.at_way() as client:
@@ -169,6 +169,15 @@ class Which(WithPrograms):
         self.place(empty)
         self.refused(e.EmptyVolume, "an empty volume.* Expected: .*1.* Found: ")
         self.assertIn("empty volume", self.run_command("mkdir", "/d", where=self.where(), status=1))
+
+    def test_where_nothing_was_acknowledged(self) -> None:
+        """A volume that was met and got no request may be replaced by any other."""
+        with self.at_way() as client:
+            self.assertEqual(client.resume(), [])
+        self.place(self.format_as(self.named("larger")))
+        self.assertEqual(self.store("/a"), 1)
+        self.place(self.named("away"))
+        self.assertRaises(e.WrongVolume, self.store, "/b")
 
     # ---- a copy that went on by itself
 

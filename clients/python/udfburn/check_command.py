@@ -5,14 +5,15 @@ from __future__ import annotations
 import argparse
 import os
 import re
-from typing import TYPE_CHECKING, Optional
+from typing import TYPE_CHECKING, List, Optional, Tuple
 
 from .check_ledger import data_words, look
 from .commands import progress_of
 from .connection import find_program, run_program
 from .errors import Damaged, ProgramFailed, UsageError
-from .progress import plural
+from .progress import Progress, plural
 from .protocol import shown
+from .second_opinion import opinion_of, tell
 from .words import command, commit_number
 
 if TYPE_CHECKING:
@@ -49,8 +50,8 @@ def add(subs: Subs) -> None:
     """The words of this command."""
     words = command(
         subs, "check", check, "check an image",
-        "Has the program udfburn look at every node after each commit, and says what it found; with --data also whether each file has"
-        " the bytes that were stored. The image is only read.", volume=False,
+        "Has the program udfburn look at every node after each commit, and its own reader at the newest state, and says what they found;"
+        " with --data also whether each file has the bytes that were stored. The image is only read.", volume=False,
     )
     words.add_argument("image_path", metavar="IMAGE", help="the image that is checked")
     words.add_argument("path", nargs="?", metavar="PATH", help="with --data: the file or directory that is read (/)")
@@ -66,27 +67,33 @@ def check(arguments: argparse.Namespace) -> int:
     os.stat(image)
     if arguments.path is not None and not arguments.data:
         raise UsageError("PATH goes with --data: every structure is looked at in any case")
-    status, count, words = 0, None, []
+    status, count, words = check_twice(image, arguments, progress)
+    result: Optional[Result] = None
+    if arguments.data or arguments.ledger:
+        checked = look(arguments, progress)
+        result = checked.result
+        if checked.acknowledged is not None and count < checked.acknowledged:
+            status = progress.fail(missing_commits(image, count, checked.acknowledged, "was acknowledged to the ledger"))
+    if arguments.expect is not None and count < arguments.expect:
+        status = progress.fail(missing_commits(image, count, arguments.expect, "was expected"))
+    words += [data_words(result)] if result is not None else []
+    progress.result(f"{shown(image)}: {'; '.join(words) or 'is damaged'}", path=shown(image), commits=count, data=vars(result) if result is not None else None)
+    return 1 if result is not None and result.damaged else status
+
+
+def check_twice(image: str, arguments: argparse.Namespace, progress: Progress) -> Tuple[int, int, List[str]]:
+    """Checks every structure by the program, and the newest state by the client's own reader too: the status, the commits that the
+    program found, and what is said."""
+    status, count, words, known = 0, None, [], ""
     try:
         count = check_structure(image, find_program(arguments.program))
         words.append(f"every structure of {plural(count, 'commit', 'commits')} is as it must be")
     except (Damaged, UsageError) as error:
-        # What can be read of the files is compared all the same, by a reader that needs no program.
-        if not arguments.data:
-            raise
-        status = progress.fail(error)
-    result: Optional[Result] = None
-    if arguments.data or arguments.ledger:
-        checked = look(arguments, progress)
-        result, count = checked.result, checked.commit if count is None else count
-        if checked.acknowledged is not None and count < checked.acknowledged:
-            status = progress.fail(missing_commits(image, count, checked.acknowledged, "was acknowledged to the ledger"))
-    assert count is not None
-    if arguments.expect is not None and count < arguments.expect:
-        status = progress.fail(missing_commits(image, count, arguments.expect, "was expected"))
-    words += [data_words(result)] if result is not None else []
-    progress.result(f"{shown(image)}: {'; '.join(words)}", path=shown(image), commits=count, data=vars(result) if result is not None else None)
-    return 1 if result is not None and result.damaged else status
+        # What can be read is looked at all the same, by a reader that needs no program.
+        status, known = progress.fail(error), str(error)
+    opinion = opinion_of(image)
+    status = tell(image, opinion, known, progress) or status
+    return status, opinion.commit if count is None else count, words
 
 
 def check_structure(image: str, program: str) -> int:

@@ -27,6 +27,7 @@ def check_data(coverage: Coverage, path: Path, found: Found) -> Result:
     result = Result()
     if path not in coverage.nodes:
         raise NotFound(show(path))
+    coverage.look_at_manifests()
     for broken in coverage.broken:
         if is_below(broken, path):
             tell(result, found, broken, "its entry cannot be read", None)
@@ -84,10 +85,12 @@ def faults_of(coverage: Coverage, node: Node, result: Result) -> List[str]:
         if one.commit is not None and commit is not None and commit > one.commit:
             faults.append(f"was stored again after {one.source} was written (commit {one.commit}): seal the directory again")
         else:
-            differing.setdefault(one.sha256, []).append(one.source)
+            hurt = " (which is itself not as it was stored)" if one.source in coverage.hurt else ""
+            differing.setdefault(one.sha256, []).append(one.source + hurt)
+    proved = any(one.commit is None and one.sha256 == digest for one in wanted)
+    what = "is as the ledger sent it, and a manifest says other bytes" if proved else "has other bytes than were stored"
     faults += [
-        f"has other bytes than were stored: SHA-256 {digest.hex()} is there, and {wrong.hex()} is in {' and in '.join(sources)}"
-        for wrong, sources in differing.items()
+        f"{what}: SHA-256 {digest.hex()} is there, and {wrong.hex()} is in {' and in '.join(sources)}" for wrong, sources in differing.items()
     ]
     return faults
 

@@ -15,7 +15,8 @@ a ledger's digest is found by the commit, whatever path the file has now.
 from __future__ import annotations
 
 from bisect import bisect_left
-from typing import Dict, List, NamedTuple, Optional, Tuple, Union
+from hashlib import sha256
+from typing import Dict, List, NamedTuple, Optional, Set, Tuple, Union
 
 from . import manifest as m
 from .digests import Files, Known
@@ -43,6 +44,8 @@ class Coverage:
         self.faults: List[Tuple[Path, str]] = []
         """What is wrong with manifests themselves, by their paths."""
         self.manifests: List[Path] = []
+        self.hurt: Set[str] = set()
+        """Manifests that have other bytes than were stored, by their paths as they are shown; known after `look_at_manifests`."""
         self.missing: List[Tuple[Path, str]] = []
         """What manifests list and the state does not have."""
         self._wanted: Dict[Path, List[Wanted]] = {}
@@ -90,6 +93,13 @@ class Coverage:
             if listed not in self.nodes or self.nodes[listed].kind is not Kind.FILE:
                 self.missing.append((listed, show(path)))
             self._wanted.setdefault(listed, []).append(Wanted(line.sha256, show(path), commit))
+
+    def look_at_manifests(self) -> None:
+        """Finds the manifests that are not as other manifests or the ledger have them: what they say of files is doubtful."""
+        for path in self.manifests:
+            digest = sha256(self.volume.read(self.nodes[path]).data).digest()
+            if any(wanted.sha256 != digest for wanted in self.of(self.nodes[path])):
+                self.hurt.add(show(path))
 
     # ---- a ledger
 

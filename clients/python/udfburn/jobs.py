@@ -3,11 +3,11 @@
 from __future__ import annotations
 
 from hashlib import sha256
-from typing import Dict, Iterator, List, NamedTuple, Optional
+from typing import Dict, Iterator, List, NamedTuple, Optional, Sequence
 
 from .errors import SourceError
 from .operations import Whole
-from .protocol import Data, Path
+from .protocol import Data, Path, limits
 from .sources import Source, read_parts
 
 
@@ -46,17 +46,23 @@ class Summary:
 
 
 class Job:
-    """A file on its way: the paths of its parts, the SHA-256 of each that was read and of all so far, what became of it, and the
-    moment that the volume has of an earlier one."""
+    """A file on its way: the paths of its parts, the SHA-256 of those that the volume has already, by their numbers, the SHA-256 of each that was read
+    and of all so far, what became of it, and the moment that the volume has of an earlier one."""
 
-    def __init__(self, source: Source, paths: List[Path]):
+    def __init__(self, source: Source, paths: List[Path], same: Optional[Dict[int, bytes]] = None):
         self.source = source
         self.paths = paths
+        self.same: Dict[int, bytes] = same or {}
         self.digests: List[bytes] = []
         self.whole = sha256()
         self.done = 0
         self.moment: Optional[int] = None
         self.failure: Optional[str] = None
+
+    def size_of(self, index: int) -> int:
+        """The bytes of a part."""
+        size: int = self.source.identity.size
+        return min(limits.FILE, size - index * limits.FILE) if len(self.paths) > 1 else size
 
     def take(self, part: bytes) -> Optional[Whole]:
         """Takes a part that was read and is to be sent. With the last of several parts: the whole file."""
@@ -81,21 +87,29 @@ def digest(data: bytes) -> bytes:
     return sha256(data).digest()
 
 
-def same_bytes(source: Source, count: int, answers: Iterator[object]) -> bool:
-    """Whether answers have the bytes of a file, part by part. As many are taken as it has parts. Raises where the file cannot be
-    read, or changed meanwhile."""
+def same_parts(source: Source, count: int, indexes: Sequence[int], answers: Iterator[object]) -> Dict[int, bytes]:
+    """The parts of a file whose bytes answers have, by their numbers, and the SHA-256 of each. There is an answer for each of these
+    numbers, and all are taken. Raises where the file cannot be read, or changed meanwhile."""
     parts = read_parts(source)
-    same, error = True, None
-    for _ in range(count):
-        answer = next(answers)
+    asked = set(indexes)
+    same: Dict[int, bytes] = {}
+    error: Optional[SourceError] = None
+    for index in range(count):
+        answer = next(answers) if index in asked else None
         try:
-            part = next(parts, None) if same else None
+            part = None if error else next(parts, None)
         except SourceError as failed:
-            same, error = False, error or failed
-        same = same and isinstance(answer, Data) and answer.data == part
+            error = failed
+        if error is None and isinstance(answer, Data) and answer.data == part:
+            same[index] = digest(answer.data)
     if error is not None:
         raise error
     return same
+
+
+def same_bytes(source: Source, count: int, answers: Iterator[object]) -> bool:
+    """Whether answers have the bytes of a file, part by part. As many are taken as it has parts. Raises as `same_parts` does."""
+    return len(same_parts(source, count, range(count), answers)) == count
 
 
 def reads_back(job: Job, answers: Iterator[object]) -> bool:
@@ -107,4 +121,4 @@ def reads_back(job: Job, answers: Iterator[object]) -> bool:
     return same
 
 
-__all__ = ["Job", "Options", "Summary", "digest", "reads_back", "same_bytes"]
+__all__ = ["Job", "Options", "Summary", "digest", "reads_back", "same_bytes", "same_parts"]

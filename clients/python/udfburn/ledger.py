@@ -243,6 +243,11 @@ class Ledger:
             self._base.execute(IDENTIFIED, (*identity, *mark, volume.id))
         return self._volumes("WHERE id = ?", volume.id)[0]
 
+    def begun(self, volume: Volume) -> int:
+        """The number that the volume knew of this client when it was first met."""
+        self.set_back()
+        return int(self._base.execute("SELECT latest FROM volume WHERE id = ?", (volume.id,)).fetchone()[0])
+
     def found(self, volume: Volume) -> Dict[int, Tuple[int, int]]:
         """Code and commit of each reply that the volume kept when it was first met, by number."""
         self.set_back()

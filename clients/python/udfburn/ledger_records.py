@@ -17,7 +17,9 @@ class Identity(NamedTuple):
     capacity: int
 
     def __str__(self) -> str:
-        return f"{self.label!r}, formatted at moment {self.moment}, {self.capacity} blocks"
+        from .progress import moment
+
+        return f"{self.label!r}, formatted at {moment(self.moment)} (moment {self.moment}), {self.capacity} blocks"
 
 
 class Mark(NamedTuple):

@@ -51,9 +51,10 @@ def plain_line(line: Line) -> str:
 # ---- read
 
 BAG_END, PLAIN_END = re.compile("\r\n|\r|\n"), re.compile("\r?\n")
-"""How a line ends (RFC 8493, 2.1.3, has all three); in names both forms write such characters otherwise."""
+"""How a line ends: in a bag by any of three; in names both forms write such characters otherwise."""
 
-BAG_LINE = re.compile(r"([0-9A-Fa-f]{64})[ \t]+\*?(.+)", re.DOTALL)
+BAG_LINE = re.compile(r"([0-9A-Fa-f]{64})[ \t]+(?:\*(?=data/))?(.+)", re.DOTALL)
+"""An asterisk before a path of the payload is the mark of older tools for binary files, and is none of the path."""
 PLAIN_LINE = re.compile(r"(\\?)([0-9A-Fa-f]{64}) [ *](.+)", re.DOTALL)
 ENCODED = re.compile(r"%(0[AaDd]|25)")
 ESCAPED = re.compile(r"\\(.?)", re.DOTALL)

@@ -13,7 +13,7 @@ from .past import Commit, commits
 from .progress import plural, size
 from .protocol import limits
 
-WIDTH, LEFT, RIGHT = 1200, 56, 28
+WIDTH, LEFT, RIGHT = 1200, 80, 28
 INNER = WIDTH - LEFT - RIGHT
 CHART_TOP, CHART = 122, 120
 STRIP_TOP, STRIP = 262, 34
@@ -80,7 +80,7 @@ def runs_of(medium: Medium) -> List[Run]:
     for index, (before, commit) in enumerate(zip(medium.commits, medium.commits[1:])):
         begin, end = before.address + 1, commit.address + 1
         text = (
-            f"commit {commit.number}: blocks {begin} to {commit.address}, {end - begin} blocks; behind it "
+            f"commit {commit.number}: blocks {begin} to {commit.address}, {end - begin} blocks; after it "
             f"{plural(commit.files, 'file', 'files')}, {plural(commit.directories, 'directory', 'directories')}"
         )
         runs.append(Run(begin, end, colour(index, count), text))
@@ -111,7 +111,9 @@ def box(x: float, y: float, width: float, height: float, fill: str, title: str =
 def head(medium: Medium) -> Iterator[str]:
     """The name of the volume and its counts."""
     last = medium.commits[-1]
-    yield text(LEFT, 50, medium.label or medium.name, 28, INK, weight=650)
+    name = medium.label or medium.name
+    # A long one stays clear of the words at the right, also where all its letters are wide.
+    yield text(LEFT, 50, name, 28 if len(name) <= 24 else 22, INK, weight=650)
     parts = [
         plural(last.number, "commit", "commits"), plural(last.files, "file", "files"),
         plural(last.directories, "directory", "directories"),
@@ -132,7 +134,7 @@ def at(medium: Medium, address: float) -> float:
 
 
 def chart(medium: Medium) -> Iterator[str]:
-    """Files and directories behind each commit, over the addresses of the strip."""
+    """Files and directories after each commit, over the addresses of the strip."""
     most = max(max(commit.files, commit.directories) for commit in medium.commits) or 1
     step = nice(most / 3)
     top = step * -(-most // step)
@@ -200,7 +202,7 @@ def strip(medium: Medium, runs: Sequence[Run]) -> Iterator[str]:
 
 
 def merged(runs: Sequence[Run], least: float) -> List[Run]:
-    """Runs, of which those that are too narrow to be seen are drawn with the one behind them."""
+    """Runs, of which those that are too narrow to be seen are drawn with the next one."""
     kept: List[Run] = []
     for run in runs:
         if kept and kept[-1].end - kept[-1].begin < least and run.colour != FREE:
@@ -259,7 +261,7 @@ def legend(medium: Medium, y: float) -> Iterator[str]:
     x = float(LEFT)
     entries = [((FRONT,), "format"), (tuple(colour(index, 24) for index in range(24)), "commits, the first to the last"), ((FREE,), "left")]
     if medium.capacity <= CELLS:
-        entries.insert(2, (("dot",), "the last block of a commit: with it alone the commit stands"))
+        entries.insert(2, (("dot",), "the last block of a commit, which makes it valid"))
     for fills, words in entries:
         width = 72 if len(fills) > 1 else 14
         if fills == ("dot",):
@@ -282,7 +284,7 @@ def draw(medium: Medium) -> str:
         f"<title>{escape(medium.label or medium.name)}: the medium, block by block</title>",
         f'<rect width="{WIDTH}" height="{height}" rx="12" fill="{PAPER}"/>',
         *head(medium),
-        text(LEFT, CHART_TOP - 16, "Files and directories behind each commit, over the blocks of the medium", 13),
+        text(LEFT, CHART_TOP - 16, "Files and directories after each commit, over the blocks of the medium", 13),
         *chart(medium), *strip(medium, runs), *grid(medium, runs), *legend(medium, bottom + 30), "</svg>",
     ]
     return "\n".join(shapes) + "\n"

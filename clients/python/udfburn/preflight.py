@@ -26,13 +26,14 @@ class Present:
 
 
 class Plan:
-    """What an import does: directories that are made, those for parts among them, files with the paths of their parts, and what
-    goes."""
+    """What an import does: directories that are made, those for parts among them, files with the paths of their parts, the
+    parts that stay as they are, and what goes."""
 
     def __init__(self, faults: List[str]):
         self.folders: List[Folder] = []
         self.part_folders: List[Folder] = []
         self.files: List[Tuple[Source, List[Path]]] = []
+        self.kept: Dict[Path, Dict[int, bytes]] = {}
         self.stale: Dict[Path, List[Path]] = {}
         self.faults = faults
         self.blocks: Optional[int] = None
@@ -42,6 +43,7 @@ class Plan:
 def plan(scan: Scan, present: Present, split: bool, space: Optional[Space]) -> Plan:
     """Plans an import, with all that stands against it."""
     planned = Plan(list(scan.faults))
+    planned.kept = scan.kept
     for folder in scan.folders:
         if present.kinds.get(folder.path) is NodeKind.FILE:
             planned.faults.append(f"{show(folder.path)}: is a file, and is to be a directory")
@@ -151,10 +153,12 @@ def reckon(planned: Plan, present: Present, space: Optional[Space]) -> None:
         reckoner.directory(path, names)
     fits = [reckoner.make(folder.path) for folder in planned.folders + planned.part_folders]
     for source, paths in planned.files:
-        left = source.identity.size
-        for path in paths:
+        left, kept = source.identity.size, planned.kept.get(source.path, ())
+        for index, path in enumerate(paths):
             size = min(left, limits.FILE)
             left -= size
+            if index in kept:
+                continue
             fits.append(reckoner.replace(size) if path in present.kinds else reckoner.create(path, size))
     planned.blocks = space.next - begin
     if not all(fits):

@@ -156,13 +156,18 @@ class Recognizer:
         return [sent for sent in self.ledger.sent(volume, self.seen.latest - limits.REPLIES) if sent.number <= self.seen.latest]
 
     def continues(self, front: Volume, volume: Volume) -> bool:
-        """Whether one volume of the ledger may be the other, as it went on: its requests have later numbers and commits, since a
-        volume takes each number once."""
-        sent = [sent for sent in self.ledger.sent(volume) if sent.commit is not None]
-        return (
-            bool(sent) and sent[0].number > front.latest and (sent[0].commit or 0) > self.ledger.last_commit(front)
-            and self._replies(front) is None
-        )
+        """Whether a ledger of version 1 went on with one volume as the other: it began each where another one ended. Where it may have
+        begun at two, that is not known."""
+        others = {other.id: other for other in self.ledger.volumes() if other.unsettled and other.id != volume.id}
+        at = volume
+        while self.ledger.begun(at):
+            before = [other for other in others.values() if other.latest == self.ledger.begun(at)]
+            if len(before) != 1:
+                return False
+            at = others.pop(before[0].id)
+            if at.id == front.id:
+                return self._replies(front) is None
+        return False
 
     # ---- nodes
 
@@ -225,6 +230,9 @@ class Meeting:
         fault = self.by.fault(known)
         if fault is None:
             return self._identified(known)
+        if not known.latest and not self.ledger.pending(known):
+            # Nothing was acknowledged here, nor sent: whatever is here now takes nothing's place.
+            return self._identified(self._by_another_way())
         if known.unsettled and isinstance(fault, NumberUsedElsewhere):
             return self._identified(self._settled(known, fault))
         raise fault

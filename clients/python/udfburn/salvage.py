@@ -3,18 +3,20 @@
 from __future__ import annotations
 
 import hashlib
-from typing import Dict, Iterator, List, NamedTuple, Optional, Set, Tuple
+from typing import Dict, FrozenSet, Iterator, List, NamedTuple, Optional, Set, Tuple
 
 from .errors import UdfburnError
 from .reader import Kind, Medium, Note, Volume
 from .reader.audit import audit
-from .reader.basics import BLOCK, PARTITION, blocks_of
+from .reader.basics import BLOCK, PARTITION, blocks_of, crc
 from .reader.chain import Chain, Link
 from .reader.entry import Entry
 from .reader.notes import Cause
 from .reader.survey import Survey
 from .reader.volume import Path
+from .salvage_carve import Carver
 from .salvage_digests import DECLARATION, Digests, Manifest, add_manifests, is_manifest
+from .salvage_ledger import Commits, commits_of
 from .salvage_tree import LOST_AND_FOUND, Item, Tree
 from .salvage_write import Output, Written
 
@@ -64,7 +66,7 @@ class Bytes(NamedTuple):
 class Salvage:
     """A volume as far as it can be had. Nothing is written to it."""
 
-    def __init__(self, medium: Medium, commit: Optional[int] = None):
+    def __init__(self, medium: Medium, commit: Optional[int] = None, ledger: Optional[str] = None):
         self.medium = medium
         self.volume = Volume(medium)
         self.chain = Chain(self.volume, Survey(medium))
@@ -72,6 +74,14 @@ class Salvage:
         self.digests = Digests()
         audit(self.chain, self.index)
         self.tree = Tree(self.chain, self.index)
+        self._stored: Commits = {}
+        self._carver = Carver(self.chain)
+        self._digests_met: Set[str] = set()
+        self._manifests: Dict[Path, FrozenSet[Optional[Path]]] = {}
+        self._whole: Set[Optional[Path]] = set()
+        self._is_hurt = False
+        if ledger is not None:
+            self._stored = commits_of(ledger, self.volume, self._seen())
         self._add_manifests()
 
     @property
@@ -97,21 +107,59 @@ class Salvage:
         found: List[Manifest] = []
         bags: Set[Path] = set()
         for item in self.tree.items:
-            if item.kind is not Kind.FILE or item.entry is None:
+            if item.kind is not Kind.FILE or item.version is None:
                 continue
             if item.path[-1] == DECLARATION:
                 bags.add(item.path[:-1])
             elif is_manifest(item.path[-1]):
-                read = self.bytes_of(item.entry)
-                found.append(Manifest(item.path, read.data, hashlib.sha256(read.data).hexdigest(), bool(read.why)))
-        add_manifests(self.digests, found, bags)
+                read, digest = self.bytes_of(item.version.entry), hashlib.sha256
+                found.append(Manifest(item.path, read.data, digest(read.data).hexdigest(), bool(read.why), item.version.address))
+        self._manifests = add_manifests(self.digests, found, bags)
+
+    def _seen(self) -> Iterator[Tuple[int, int, Optional[int]]]:
+        """The commit, the size and the moment of each file."""
+        for item in self.tree.items:
+            commit = self.chain.commit_of(item.version.address) if item.version is not None else None
+            if item.entry is not None and commit is not None and item.kind is Kind.FILE:
+                yield commit, item.entry.size, item.entry.moment
+
+    # ---- digests
+
+    def _kept(self, item: Item) -> Optional[str]:
+        """The digest that the ledger keeps of what the commit wrote whose entry an item has."""
+        address = item.version.address if item.version is not None else self.tree.address(item)
+        commit = self.chain.commit_of(address) if address is not None else None
+        stored = self._stored.get(commit) if commit is not None else None
+        return stored.digest if stored is not None else None
+
+    def agrees(self, item: Item, data: bytes) -> Tuple[Optional[bool], str]:
+        """Whether bytes have the digest that is kept of a file (None where none is), and their digest, where one is asked for."""
+        if not self._stored and not len(self.digests):
+            return None, ""
+        digest = hashlib.sha256(data).hexdigest()
+        kept = self._kept(item)
+        address = item.version.address if item.version is not None else 0
+        return (digest == kept if kept is not None else self.digests.agrees(item.path, digest, address)), digest
+
+    def _carved(self, item: Item) -> Optional[bytes]:
+        """The newest bytes of a file whose newest entry is lost, where a digest of them is kept."""
+        address = self.tree.address(item)
+        is_lost = item.version is None or item.version.commit is not None or is_carved(item.version.entry)
+        if address is None or not is_lost or item.is_unfinished:
+            return None
+        kept = self._kept(item._replace(version=None))
+        if kept is not None:
+            return self._carver.find(address, lambda digest: digest == kept)
+        if item.kind is None:
+            return self._carver.find(address, lambda digest: self.digests.path_of(digest) is not None)
+        return self._carver.find(address, lambda digest: self.digests.is_known(item.path, digest)) if self.digests.has(item.path) else None
 
     # ---- files
 
     def bytes_of(self, entry: Entry) -> Bytes:
         """The bytes of a file."""
         doubt = "" if entry.proved else "its entry has a wrong byte, which may be one of its own"
-        if not entry.check and not entry.proved:
+        if is_carved(entry):
             doubt = "its entry is lost, and how many bytes it has is not known"
         if entry.inside is not None:
             return Bytes(entry.inside, (), doubt)
@@ -130,18 +178,36 @@ class Salvage:
 
     def judged(self, item: Item) -> Tuple[Outcome, bytes]:
         """What was had of a file, and its bytes."""
+        carved = self._carved(item)
+        if carved is not None:
+            return self._found(item, carved), carved
         entry = item.entry
         if entry is None:
             return Outcome(item.path, item.kind, LOST, 0, None, (), item.why, None), b""
         read = self.bytes_of(entry)
-        data = read.data if entry.proved or entry.inside is not None else self._fitted(item.path, read.data)
-        digest = hashlib.sha256(data).hexdigest() if len(self.digests) else ""
-        state, why = self._state(item, read, self.digests.agrees(item.path, digest))
+        data = self._mended(item, entry, read.data)
+        agrees, digest = self.agrees(item, data)
+        state, why = self._state(item, read, agrees)
         if state == NAMELESS:
-            known = self.digests.path_of(digest)
-            why += f"; it has the digest that is kept of /{'/'.join(known)}" if known is not None else ""
+            why += self._called(digest)
+        self._digests_met.add(digest)
         ranges = read.ranges if state == DAMAGED else ()
         return Outcome(item.path, item.kind, state, len(data), item.commit, ranges, why, None), data
+
+    def _found(self, item: Item, data: bytes) -> Outcome:
+        """A file whose entry is lost, and whose bytes have the digest that is kept of it."""
+        digest = hashlib.sha256(data).hexdigest()
+        self._digests_met.add(digest)
+        if item.kind is None:
+            return Outcome(item.path, Kind.FILE, NAMELESS, len(data), None, (), "no name leads to it, and its entry is lost" + self._called(digest), None)
+        is_listed = item.version is not None and item.commit == item.version.commit or item.commit is None
+        state = WHOLE if is_listed else EARLIER
+        return Outcome(item.path, Kind.FILE, state, len(data), item.commit if state == EARLIER else None, (), "", None)
+
+    def _called(self, digest: str) -> str:
+        """What a manifest says of the path of a file without a name."""
+        known = self.digests.path_of(digest) if digest else None
+        return f"; it has the digest that is kept of /{'/'.join(known)}" if known is not None else ""
 
     def _state(self, item: Item, read: Bytes, agrees: Optional[bool]) -> Tuple[str, str]:
         """How a file was had, and why it is not whole."""
@@ -157,35 +223,55 @@ class Salvage:
             return DAMAGED, "its bytes do not have the digest that is kept of them"
         return WHOLE if agrees else UNPROVED, item.why
 
-    def _fitted(self, path: Path, data: bytes) -> bytes:
-        """The bytes of a file whose size is not known: as many as have the digest that is kept of it, else all."""
-        begin = max(len(data) - BLOCK, 0)
-        known = hashlib.sha256(data[:begin])
-        for end in range(begin + 1, len(data) + 1) if self.digests.has(path) else ():
-            digest = known.copy()
-            digest.update(data[begin:end])
-            if self.digests.agrees(path, digest.hexdigest()):
-                return data[:end]
+    def _mended(self, item: Item, entry: Entry, data: bytes) -> bytes:
+        """The bytes of a file inside an entry with a wrong byte, where one bit leads to the digest that is kept; else as read."""
+        if entry.proved or entry.inside is None or self.agrees(item, data)[0] is None:
+            return data
+        for other in flips(self.medium, item, entry):
+            if self.agrees(item, other)[0]:
+                return other
         return data
 
     def outcomes(self, output: Optional[Output]) -> Iterator[Outcome]:
         """Each file, and each directory that is not whole. With an output each is written there."""
         waiting: Dict[int, Outcome] = {}
+        last: List[int] = []
         for key, item in enumerate(self.tree.items):
-            tail = str(item.entry.unique) if item.entry is not None else str(item.virtual)
-            if item.kind is not Kind.FILE:
-                yield from self._directory(item, output, tail)
-                continue
-            outcome, data = self.judged(item)
-            if output is None or outcome.state == LOST:
-                yield outcome
-                continue
-            target = item.target if outcome.state != DAMAGED else item.target[:-1] + (item.target[-1] + DAMAGED_SUFFIX,)
-            waiting[key] = outcome
-            moment = item.entry.moment if item.entry is not None else None
-            yield from settled(waiting, output.write(key, target, data, moment, tail))
+            if item.kind is Kind.DIRECTORY:
+                yield from self._directory(item, output, tail_of(item))
+            elif item.path in self._manifests:
+                # Whether it is whole is known once the files are that it lists.
+                last.append(key)
+            else:
+                yield from self._file(key, item, output, waiting)
+        for key in last:
+            yield from self._file(key, self.tree.items[key], output, waiting)
         if output is not None:
             yield from settled(waiting, output.finish())
+        if self._is_hurt:
+            yield from self._unmet()
+
+    def _file(self, key: int, item: Item, output: Optional[Output], waiting: Dict[int, Outcome]) -> Iterator[Outcome]:
+        """A file, and those that got their names meanwhile."""
+        outcome, data = self.judged(item)
+        if outcome.state == WHOLE:
+            self._whole.add(item.path)
+        elif outcome.state == UNPROVED and self._manifests.get(item.path, frozenset([None])) <= self._whole:
+            outcome = outcome._replace(state=WHOLE)
+        self._is_hurt |= outcome.state in (LOST, NAMELESS)
+        if output is None or outcome.state == LOST:
+            yield outcome
+            return
+        waiting[key] = outcome
+        moment = item.entry.moment if item.entry is not None else None
+        yield from settled(waiting, output.write(key, target_of(item, outcome), data, moment, tail_of(item)))
+
+    def _unmet(self) -> Iterator[Outcome]:
+        """Files that a manifest has and that were not met, where nodes without a name were: it is not known which these are."""
+        met = {item.path for item in self.tree.items}
+        for path in self.digests.paths():
+            if path not in met and not self.digests.digests_of(path) & self._digests_met:
+                yield Outcome(path, Kind.FILE, LOST, 0, None, (), "a manifest has it, and nothing of it was found", None)
 
     def _directory(self, item: Item, output: Optional[Output], tail: str) -> Iterator[Outcome]:
         written = None
@@ -196,6 +282,38 @@ class Salvage:
         elif item.commit is not None or item.why:
             state = EARLIER if item.commit is not None else UNPROVED
             yield Outcome(item.path, item.kind, state, 0, item.commit, (), item.why or f"as of commit {item.commit}", written)
+
+
+def tail_of(item: Item) -> str:
+    """What tells a node from another of the same name."""
+    return str(item.entry.unique) if item.entry is not None else str(item.virtual)
+
+
+def target_of(item: Item, outcome: Outcome) -> Path:
+    """The names that a file is written under."""
+    if outcome.state == DAMAGED:
+        return item.target[:-1] + (item.target[-1] + DAMAGED_SUFFIX,)
+    if outcome.state == WHOLE:
+        return item.target[:-1] + (item.path[-1],)
+    return item.target
+
+
+def is_carved(entry: Entry) -> bool:
+    """Whether an entry is lost, and was made of the blocks before it."""
+    return not entry.proved and not entry.check
+
+
+def flips(medium: Medium, item: Item, entry: Entry) -> Iterator[bytes]:
+    """The bytes inside an entry with one bit changed, where its check agrees then."""
+    block = medium.block(item.version.address) if item.version is not None else None
+    if block is None or entry.inside is None:
+        return
+    body = bytearray(block[16 : 176 + entry.size])
+    for bit in range(160 * 8, len(body) * 8):
+        body[bit // 8] ^= 1 << bit % 8
+        if crc(body) == entry.check:
+            yield bytes(body[160:])
+        body[bit // 8] ^= 1 << bit % 8
 
 
 def settled(waiting: Dict[int, Outcome], done: List[Written]) -> Iterator[Outcome]:

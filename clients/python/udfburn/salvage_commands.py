@@ -30,6 +30,7 @@ def add(subs: Subs) -> None:
     words.add_argument("folder", metavar="DIR", nargs="?", help="the folder that files are written into; nothing that is there is replaced")
     words.add_argument("--list", action="store_true", help="report, and write nothing")
     words.add_argument("--at", metavar="COMMIT", type=commit_number, help="the state after this commit, and not the newest")
+    words.add_argument("--ledger", metavar="PATH", help="the ledger that stored the files: their digests are compared too")
     words.add_argument("--accept-unproved", action="store_true", help="status 0 also where no digest covers a file")
     add_output(words)
     text = "print the commits of an image, also of a damaged one"
@@ -62,7 +63,7 @@ def salvage(arguments: argparse.Namespace) -> int:
     except MapError as error:
         raise UsageError(str(error)) from error
     with medium:
-        found = Salvage(medium, arguments.at)
+        found = Salvage(medium, arguments.at, arguments.ledger)
         output = Output(arguments.folder) if arguments.folder is not None else None
         try:
             return Report(arguments.progress, found, arguments.accept_unproved).print(output)

@@ -3,12 +3,12 @@
 from __future__ import annotations
 
 import re
-from typing import Dict, Iterator, List, NamedTuple, Optional, Set, Tuple
+from typing import Dict, FrozenSet, Iterator, List, NamedTuple, Optional, Set, Tuple
 
 from .reader.volume import Path
 
 MANIFEST, TAG_MANIFEST, DECLARATION = "manifest-sha256.txt", "tagmanifest-sha256.txt", "bagit.txt"
-LINE = re.compile(r"(\\?)([0-9A-Fa-f]{64})[ \t]+\*?(.+)")
+LINE = re.compile(r"(\\?)([0-9A-Fa-f]{64})[ \t]+\*?(.+)", re.DOTALL)
 ESCAPES = {"n": "\n", "r": "\r", "\\": "\\"}
 
 
@@ -21,7 +21,7 @@ class Listed(NamedTuple):
 
 def lines_of(folder: Path, data: bytes, is_bag: bool) -> Iterator[Listed]:
     """The lines of a manifest in a folder, as far as they are lines of one."""
-    for line in data.decode("utf-8", "replace").splitlines():
+    for line in split_lines(data, is_bag):
         found = LINE.fullmatch(line)
         if found is None:
             continue
@@ -33,29 +33,41 @@ def lines_of(folder: Path, data: bytes, is_bag: bool) -> Iterator[Listed]:
         yield Listed(folder + tuple(part for part in name.split("/") if part not in ("", ".")), found[2].lower())
 
 
+def split_lines(data: bytes, is_bag: bool) -> List[str]:
+    """The lines of a manifest that are not empty. In names both forms write what ends a line otherwise."""
+    return [line for line in re.split("\r\n|\r|\n" if is_bag else "\r?\n", data.decode("utf-8", "replace")) if line]
+
+
+class Kept(NamedTuple):
+    """A digest of a file, and the address of the entry of the manifest that has it. Where it is doubted, that a file has another says
+    nothing."""
+
+    digest: str
+    address: int
+    doubted: bool
+
+
 class Digests:
-    """What is known of files' digests: by the manifests on the volume, and by what else is added."""
+    """What the manifests on a volume say of files' digests."""
 
     def __init__(self) -> None:
-        self._known: Dict[Path, Set[str]] = {}
-        self._doubted: Set[Path] = set()
+        self._known: Dict[Path, List[Kept]] = {}
         self._paths: Dict[str, Path] = {}
 
-    def add(self, path: Path, digest: str, doubted: bool = False) -> None:
-        """Adds a file's digest. Where it is doubted, that a file has another says nothing."""
-        self._known.setdefault(path, set()).add(digest)
-        self._paths.setdefault(digest, path)
-        if doubted:
-            self._doubted.add(path)
+    def add(self, path: Path, kept: Kept) -> None:
+        """Adds a file's digest."""
+        self._known.setdefault(path, []).append(kept)
+        self._paths.setdefault(kept.digest, path)
 
-    def agrees(self, path: Path, digest: str) -> Optional[bool]:
-        """Whether a digest is that of the file at a path; None where none is known for certain."""
-        known = self._known.get(path)
-        if known is None:
-            return None
-        if digest in known:
+    def agrees(self, path: Path, digest: str, address: int) -> Optional[bool]:
+        """Whether a digest is that of the file at a path, whose entry has this address; None where that is not known.
+
+        A file that was written after a manifest may be another than the manifest has.
+        """
+        known = self._known.get(path, [])
+        if any(kept.digest == digest for kept in known):
             return True
-        return None if path in self._doubted else False
+        return False if any(not kept.doubted and kept.address > address for kept in known) else None
 
     def has(self, path: Path) -> bool:
         """Whether a digest of the file at a path is known."""
@@ -65,35 +77,53 @@ class Digests:
         """The path of a file with this digest."""
         return self._paths.get(digest)
 
+    def is_known(self, path: Path, digest: str) -> bool:
+        """Whether a digest is one that is kept of the file at a path."""
+        return digest in self.digests_of(path)
+
+    def paths(self) -> List[Path]:
+        """All paths with a digest."""
+        return sorted(self._known)
+
+    def digests_of(self, path: Path) -> Set[str]:
+        """The digests that are kept of the file at a path."""
+        return {kept.digest for kept in self._known.get(path, [])}
+
     def __len__(self) -> int:
         return len(self._known)
 
 
 class Manifest(NamedTuple):
-    """A manifest that is on the volume: where, its bytes, its own digest, and whether some of its bytes are missing."""
+    """A manifest that is on the volume: where, its bytes, its own digest, whether some of its bytes are missing, and the address of its
+    entry."""
 
     path: Path
     data: bytes
     digest: str
     hurt: bool
+    address: int
 
 
-def add_manifests(digests: Digests, found: List[Manifest], bags: Set[Path]) -> None:
-    """Adds the lines of manifests. `bags` are the folders with a `bagit.txt`. One that is not as its own digest has it is doubted."""
-    ordered = sorted(found, key=lambda manifest: manifest.path[-1] != TAG_MANIFEST)
-    lines: List[Tuple[Manifest, List[Listed]]] = []
-    for manifest in ordered:
-        folder = manifest.path[:-1]
-        lines.append((manifest, list(lines_of(folder, manifest.data, folder in bags))))
+def add_manifests(digests: Digests, found: List[Manifest], bags: Set[Path]) -> Dict[Path, FrozenSet[Optional[Path]]]:
+    """Adds the lines of manifests, and gives the paths that each lists, with None among them where it has a line that is none.
+
+    `bags` are the folders with a `bagit.txt`. A manifest that is not as another has it is doubted.
+    """
+    lines = [(manifest, list(lines_of(manifest.path[:-1], manifest.data, manifest.path[:-1] in bags))) for manifest in found]
     own: Dict[Path, Set[str]] = {}
     for _, listed in lines:
         for path, digest in listed:
             own.setdefault(path, set()).add(digest)
+    paths: Dict[Path, FrozenSet[Optional[Path]]] = {}
     for manifest, listed in lines:
         known = own.get(manifest.path)
         doubted = manifest.hurt or known is not None and manifest.digest not in known
         for path, digest in listed:
-            digests.add(path, digest, doubted)
+            digests.add(path, Kept(digest, manifest.address, doubted))
+        count = len(split_lines(manifest.data, manifest.path[:-1] in bags))
+        is_read = len(listed) == count and not manifest.hurt
+        paths[manifest.path] = frozenset([path for path, _ in listed] + ([] if is_read and listed else [None]))
+    return paths
 
 
 def is_manifest(name: str) -> bool:

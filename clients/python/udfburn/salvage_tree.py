@@ -63,6 +63,7 @@ class Tree:
         self._reached: Set[int] = {0}
         self._hurt: List[Item] = []
         self._loose: List[Tuple[Item, Identifier]] = []
+        self._older: List[Tuple[Item, Identifier, int]] = []
         self._build()
 
     def _build(self) -> None:
@@ -78,11 +79,14 @@ class Tree:
 
     def _finish(self) -> None:
         """Takes what is less certain once all that is certain was taken: names that were not proved, then those of earlier listings."""
-        while self._loose or self._hurt:
+        while self._loose or self._older or self._hurt:
             while self._loose:
                 above, name = self._loose.pop(0)
                 self._take(above, self._confirmed(above, name), None)
-            if self._hurt:
+            if self._older:
+                above, name, commit = self._older.pop(0)
+                self._take(above, name, commit)
+            elif self._hurt:
                 self._recover(self._hurt.pop(0))
 
     # ---- entries
@@ -99,7 +103,7 @@ class Tree:
         if address is not None:
             entry = self._entry(address, virtual, unique, kind, True)
             if entry is not None:
-                return Version(entry, address, None)
+                return self._newest(Version(entry, address, None), virtual, unique, kind)
             if listed is not None and self._entry(address, virtual, None, None) is not None:
                 return None
         return (
@@ -122,6 +126,13 @@ class Tree:
         if unique is not None and entry.unique != unique:
             return None
         return entry if entry.location == virtual or entry.proved and unique is not None else None
+
+    def _newest(self, version: Version, virtual: int, unique: Optional[int], kind: Optional[Kind]) -> Version:
+        """The entry that the table leads to; where no other table says so, as in a block of an older table, the newer of two."""
+        if self.chain.is_confirmed(virtual, version.address, self.index):
+            return version
+        other = self._by_others(virtual, unique, kind, version.address)
+        return other if other is not None and other.address > version.address else version
 
     def _by_others(self, virtual: int, unique: Optional[int], kind: Optional[Kind], address: Optional[int]) -> Optional[Version]:
         """The entry that the table has to lead to by all else that is on the volume, where its own word is wrong."""
@@ -146,7 +157,7 @@ class Tree:
             return None
         data, size, first = found
         links = 1 + sum(name.is_directory for name in read_directory(data, size, first)[0].names)
-        place = self.chain.index_of(self.chain.commit_of(address) or 0)
+        place = self.chain.place_of(address)
         table = self.chain.links[place].table if place is not None else None
         moment = table.moment if table is not None else None
         return Version(Entry(Kind.DIRECTORY, moment, links, unique, size, first, None, virtual, 0, True), address, None)
@@ -164,24 +175,33 @@ class Tree:
         """A file whose entry is lost, by the blocks before it: a commit begins with them. How many bytes it has is not known."""
         if kind is not Kind.FILE or unique is None or address is None or not self.chain.is_confirmed(virtual, address, self.index):
             return None
-        start = self.chain.begin_of(address)
-        if start is None or not 0 < address - start <= blocks_of(FILE_BYTES):
+        start = self.chain.floor(address)
+        if not 0 < address - start <= blocks_of(FILE_BYTES):
             return None
         size = (address - start) * BLOCK
         return Version(Entry(Kind.FILE, None, 1, unique, size, start - PARTITION, None, virtual, 0, False), address, None)
 
+    def address(self, item: Item) -> Optional[int]:
+        """The address of the entry to which the table leads for a node."""
+        number = self.entries[item.virtual] if item.virtual < len(self.entries) else UNUSED
+        return number + PARTITION if number != UNUSED else None
+
     def versions(self, virtual: int, after: int) -> Iterator[Tuple[int, int]]:
         """The entries that were committed for a virtual address below an address, the newest first, and until which commit each stood."""
         for at in self.survey.nodes(virtual, min(after, self.link.start)):
-            written = self.chain.commit_of(at)
-            replaced = self.chain.commit_of(after)
-            if written is None or replaced is None or written > self.link.commit:
+            place, replaced = self.chain.place_of(at), self.chain.place_of(after)
+            if place is None or replaced is None or place < self.index:
                 continue
-            place = self.chain.index_of(written)
-            words = self.chain.entries(place)[0] if place is not None else ()
-            if virtual < len(words) and words[virtual] + PARTITION == at:
-                yield at, max(replaced - 1, written) if replaced > written else written
-                after = at
+            entries = self.chain.entries(place)[0]
+            is_there = virtual < len(entries) and entries[virtual] + PARTITION == at
+            if is_there and place > replaced:
+                yield at, self.chain.links[replaced + 1].commit
+            elif is_there or not self.chain.links[place].adjacent:
+                # It stood for a while, and no table of that while is left.
+                yield at, max(self.chain.links[place].commit - 1, 0)
+            else:
+                continue
+            after = at
 
     # ---- directories
 
@@ -191,7 +211,9 @@ class Tree:
         if directory is None:
             return
         for name in directory.names:
-            if name.proved:
+            if item.version is not None and item.version.commit is not None:
+                self._older.append((item, name, item.version.commit))
+            elif name.proved:
                 self._take(item, name, None)
             else:
                 self._loose.append((item, name))
@@ -232,8 +254,8 @@ class Tree:
             break
         return name
 
-    def _take(self, above: Item, name: Identifier, listed: Optional[int]) -> None:
-        """Takes a node that a directory names, in this state or in an earlier one."""
+    def _take(self, above: Item, name: Identifier, listed: Optional[int], is_marked: bool = False) -> None:
+        """Takes a node that a directory names, in this state or in an earlier one; its path has the commit then, where it is marked."""
         path = above.path + (name.name,)
         kind = Kind.DIRECTORY if name.is_directory else Kind.FILE
         if name.virtual in self._reached:
@@ -248,9 +270,9 @@ class Tree:
         if len(path) > DEPTH:
             return
         self._reached.add(name.virtual)
-        commit = listed if listed is not None else version.commit if version is not None else None
+        commit = listed if is_marked else version.commit if version is not None else None
         suffix = f".at-commit-{commit}" if commit is not None else ""
-        why = "no entry of it can be read" if version is None else "" if name.proved else "a byte of its name is wrong, and it may be another"
+        why = "no entry of it can be read" if version is None else "" if name.proved else "its name is not certain: what says it has a wrong byte, or is older"
         self._put(Item(path, above.target + (name.name + suffix,), kind, name.virtual, version, commit, why))
 
     def _put(self, item: Item) -> None:
@@ -271,7 +293,7 @@ class Tree:
                 continue
             for name in directory.names:
                 if name.proved:
-                    self._take(item, name, commit)
+                    self._take(item, name, commit, True)
             if directory.complete:
                 return
 

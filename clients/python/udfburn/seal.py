@@ -31,18 +31,28 @@ class Sealed(NamedTuple):
     written: List[Path]
 
 
-class Payload(NamedTuple):
-    """A file that was read back: its path, its bytes, and their SHA-256."""
+class Read(NamedTuple):
+    """A file that was read back: its path, its bytes, their SHA-256, whether the ledger sent just these, and the data of a file that
+    sealing may write."""
 
     path: Path
     size: int
     sha256: bytes
+    proved: bool
+    data: bytes
+
+
+Found = Dict[Path, Read]
+
+KEPT = (m.MANIFEST, m.TAG_MANIFEST, m.BAG_INFO, m.BAG_DECLARATION)
+"""Names of files whose data is looked at."""
 
 
 def seal(client: Client, path: Path, manifest_only: bool = False, dry_run: bool = False, told: Told = quiet) -> Sealed:
     """Seals the directory at a path. The same call again finishes what was interrupted, and writes nothing where all is there.
 
-    Raises `Differs` where the volume has other bytes than the ledger sent, `TooLarge` where the manifest of a bag has no room in a file.
+    Raises `Differs` where the volume has other bytes than the ledger sent, or than a manifest says that is there already, and
+    `TooLarge` where the manifest of a bag has no room in a file.
     """
     with client.held():
         sent: Dict[Path, Known] = {}
@@ -51,11 +61,13 @@ def seal(client: Client, path: Path, manifest_only: bool = False, dry_run: bool 
             sent = client.known_files().now
         top = path if manifest_only else path + (m.PAYLOAD,)
         require_directory(client, path, top)
-        files = [file for file in files_below(client, top) if not (manifest_only and file[-1] == m.MANIFEST)]
-        payload, known = read_back(client, sorted(files), sent)
-        wanted = plain_files(path, payload) if manifest_only else bag_files(client, path, payload)
-        written = write(client, wanted, dry_run, told)
-    return Sealed(len(payload), sum(file.size for file in payload), known, written)
+        found = read_back(client, sorted(files_below(client, path)), sent)
+        if not dry_run:
+            require_agreement(found)
+        payload = [found[file] for file in found if file[: len(top)] == top and file != path + (m.MANIFEST,)]
+        wanted = plain_files(path, payload) if manifest_only else bag_files(path, found, payload)
+        written = write(client, wanted, found, dry_run, told)
+    return Sealed(len(payload), sum(file.size for file in payload), sum(file.proved for file in payload), written)
 
 
 def require_directory(client: Client, path: Path, top: Path) -> None:
@@ -79,58 +91,76 @@ def files_below(client: Client, top: Path) -> List[Path]:
 
 # ---- read back
 
-def read_back(client: Client, paths: List[Path], sent: Dict[Path, Known]) -> Tuple[List[Payload], int]:
-    """The files as the volume has them, and of how many the ledger has the digest; `Differs` where that is another."""
-    found: List[Payload] = []
+def read_back(client: Client, paths: List[Path], sent: Dict[Path, Known]) -> Found:
+    """The files as the volume has them; `Differs` where the ledger sent other bytes."""
+    found: Found = {}
     faults: List[str] = []
-    known = 0
     for path, node, data in with_data(client, paths):
-        file = Payload(path, len(data), sha256(data).digest())
-        found.append(file)
         expected = sent.get(path)
         # A file of another size or moment is not the one that the ledger sent: another client replaced it.
-        if expected is None or (expected.size, expected.moment) != (node.size, node.moment):
-            continue
-        known += 1
-        if expected.sha256 != file.sha256:
-            faults.append(f"{show(path)}: has other bytes than were sent (commit {expected.commit}): SHA-256 {expected.sha256.hex()} was sent, {file.sha256.hex()} is there")
+        known = expected is not None and (expected.size, expected.moment) == (node.size, node.moment)
+        found[path] = Read(path, len(data), sha256(data).digest(), known, data if path[-1] in KEPT else b"")
+        if expected is not None and known and expected.sha256 != found[path].sha256:
+            faults.append(
+                f"{show(path)}: has other bytes than were sent (commit {expected.commit}): SHA-256 {expected.sha256.hex()} was sent,"
+                f" {found[path].sha256.hex()} is there"
+            )
     if faults:
         raise Differs("\n".join(faults))
-    return found, known
+    return found
 
 
-def with_data(client: Client, paths: Iterable[Path]) -> Iterator[Tuple[Path, Node, bytes]]:
+def with_data(client: Client, paths: List[Path]) -> Iterator[Tuple[Path, Node, bytes]]:
     """Files with their nodes and their bytes."""
-    wanted = list(paths)
     queries: List[Query] = []
-    for path in wanted:
+    for path in paths:
         queries += [Stat(path), Get(path)]
     with closing(client.ask_all(queries)) as answers:
-        for path in wanted:
+        for path in paths:
             node, data = met(Stat(path), next(answers)), met(Get(path), next(answers))
             assert isinstance(node, Node) and isinstance(data, Data)
             yield path, node, data.data
 
 
+def require_agreement(found: Found) -> None:
+    """Raises where a manifest that is there says other bytes of a file, and the ledger did not send those that came back: a new
+    manifest would hide what happened to it."""
+    faults: List[str] = []
+    for manifest in found.values():
+        above = manifest.path[:-1]
+        if manifest.path[-1] not in (m.MANIFEST, m.TAG_MANIFEST):
+            continue
+        for line in m.read_manifest(manifest.data, above + (m.BAG_DECLARATION,) in found)[0]:
+            file = found.get(above + line.path)
+            if file is not None and not file.proved and file.sha256 != line.sha256:
+                faults.append(
+                    f"{show(file.path)}: has other bytes than {show(manifest.path)} says, and this ledger did not store them. Nothing was"
+                    " written. Where these bytes are right, remove that manifest and seal again"
+                )
+    if faults:
+        raise Differs("\n".join(faults))
+
+
 # ---- what is written
 
-def plain_files(path: Path, payload: List[Payload]) -> Dict[Path, bytes]:
+def plain_files(path: Path, payload: List[Read]) -> Dict[Path, bytes]:
     """One manifest beside the files; where it would pass a mebibyte, one in each directory, of the files in it."""
     whole = m.plain_manifest(lines_of(path, payload))
     if len(whole) <= limits.FILE:
         return {path + (m.MANIFEST,): whole}
-    folders: Dict[Path, List[Payload]] = {}
+    folders: Dict[Path, List[Read]] = {}
     for file in payload:
-        folders.setdefault(file.path[:-1], []).append(file)
+        if file.path[-1] != m.MANIFEST:
+            folders.setdefault(file.path[:-1], []).append(file)
     return {folder + (m.MANIFEST,): m.plain_manifest(lines_of(folder, files)) for folder, files in folders.items()}
 
 
-def lines_of(path: Path, files: Iterable[Payload]) -> List[m.Line]:
+def lines_of(path: Path, files: Iterable[Read]) -> List[m.Line]:
     """The lines of files, whose paths begin below a directory."""
     return [m.Line(file.sha256, file.path[len(path) :]) for file in files]
 
 
-def bag_files(client: Client, path: Path, payload: List[Payload]) -> Dict[Path, bytes]:
+def bag_files(path: Path, found: Found, payload: List[Read]) -> Dict[Path, bytes]:
     """The tag files of a bag, the manifest of these last."""
     manifest = m.bag_manifest(lines_of(path, payload))
     if len(manifest) > limits.FILE:
@@ -138,28 +168,15 @@ def bag_files(client: Client, path: Path, payload: List[Payload]) -> Dict[Path, 
             f"{show(path + (m.MANIFEST,))}: would have {len(manifest)} bytes, and a file has at most {limits.FILE}: seal the directories below"
             " by themselves, or say --manifest-only, which has one in each directory then"
         )
-    others = [other for other in files_outside(client, path) if not is_tag_manifest(other[len(path) :])]
-    present = {other: data for other, _, data in with_data(client, others)}
     info, old = path + (m.BAG_INFO,), path + (m.MANIFEST,)
-    same = present.get(old) == manifest
-    wanted = {
-        path + (m.BAG_DECLARATION,): m.DECLARATION, info: bag_info(present.get(info, b""), payload, same), old: manifest,
-    }
-    tags = {**present, **wanted}
-    lines = [m.Line(sha256(tags[tag]).digest(), tag[len(path) :]) for tag in sorted(tags)]
-    wanted[path + (m.TAG_MANIFEST,)] = m.bag_manifest(lines)
+    same = old in found and found[old].data == manifest
+    metadata = bag_info(found[info].data if info in found else b"", payload, same)
+    wanted = {path + (m.BAG_DECLARATION,): m.DECLARATION, info: metadata, old: manifest}
+    outside = [file for file in found if file[len(path)] != m.PAYLOAD or len(file) == len(path) + 1]
+    tags = {file: found[file].sha256 for file in outside if not is_tag_manifest(file[len(path) :])}
+    tags.update({file: sha256(data).digest() for file, data in wanted.items()})
+    wanted[path + (m.TAG_MANIFEST,)] = m.bag_manifest(m.Line(tags[tag], tag[len(path) :]) for tag in sorted(tags))
     return wanted
-
-
-def files_outside(client: Client, path: Path) -> List[Path]:
-    """The files of a bag that are not of its payload."""
-    found: List[Path] = []
-    for name in client.list(path):
-        if name.kind is NodeKind.FILE:
-            found.append(path + (name.name,))
-        elif name.name != m.PAYLOAD:
-            found += files_below(client, path + (name.name,))
-    return found
 
 
 def is_tag_manifest(path: Path) -> bool:
@@ -167,7 +184,7 @@ def is_tag_manifest(path: Path) -> bool:
     return len(path) == 1 and path[0].startswith("tagmanifest-") and path[0].endswith(".txt")
 
 
-def bag_info(old: bytes, payload: List[Payload], same: bool) -> bytes:
+def bag_info(old: bytes, payload: List[Read], same: bool) -> bytes:
     """The metadata of a bag (RFC 8493, 2.2.2). What others wrote there stays; the day stays too, where the payload is the same."""
     oxum = f"Payload-Oxum: {sum(file.size for file in payload)}.{len(payload)}"
     kept = elements(old.decode(errors="surrogateescape"))
@@ -194,19 +211,16 @@ def label(element: str) -> str:
     return element.partition(":")[0].strip().lower()
 
 
-def write(client: Client, wanted: Dict[Path, bytes], dry_run: bool, told: Told) -> List[Path]:
+def write(client: Client, wanted: Dict[Path, bytes], found: Found, dry_run: bool, told: Told) -> List[Path]:
     """Writes the files that are not there with these bytes, in their order, and reads them back. Gives their paths."""
-    changed: List[Tuple[Path, bytes, Type[AnyRequest]]] = []
-    for path, data in wanted.items():
-        node = client.find(path)
-        if node is None or client.get(path) != data:
-            changed.append((path, data, Create if node is None else Replace))
-    for path, data, kind in changed:
+    changed = [path for path, data in wanted.items() if path not in found or found[path].data != data]
+    for path in changed:
+        kind: Type[AnyRequest] = Replace if path in found else Create
         if dry_run:
-            told("would store" if kind is Create else "would replace", path, len(data), 0)
-            continue
-        store(client, Operation(kind, path, now(), data), told)
-    return [path for path, _, _ in changed]
+            told("would replace" if path in found else "would store", path, len(wanted[path]), 0)
+        else:
+            store(client, Operation(kind, path, now(), wanted[path]), told)
+    return changed
 
 
 def store(client: Client, operation: Operation, told: Told) -> None:

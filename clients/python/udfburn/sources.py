@@ -5,7 +5,7 @@ from __future__ import annotations
 import os
 import stat
 import time
-from typing import Iterator, List, NamedTuple, Optional
+from typing import Dict, Iterator, List, NamedTuple, Optional
 
 from .errors import SourceChanged, SourceError
 from .escape import encode
@@ -62,13 +62,14 @@ class Folder(NamedTuple):
 
 
 class Scan:
-    """What was found: folders before what is in them, files, those that the volume has already, and what cannot be stored, each
-    with why."""
+    """What was found: folders before what is in them, files, those that the volume has already, the parts that it has of others, by
+    their paths and numbers, each with its SHA-256, and what cannot be stored, each with why."""
 
     def __init__(self) -> None:
         self.folders: List[Folder] = []
         self.files: List[Source] = []
         self.same: List[Source] = []
+        self.kept: Dict[Path, Dict[int, bytes]] = {}
         self.faults: List[str] = []
         self.skipped: List[str] = []
         self.not_kept = NotKept()

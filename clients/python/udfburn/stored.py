@@ -13,7 +13,7 @@ from .walk import walk
 
 
 class Stored(NamedTuple):
-    """A file of the volume: its path, the paths of its parts, the moment of the first of them, and the bytes of all. `folders` are
+    """A file of the volume: its path, the paths of its parts, the moment of the last of them, and the bytes of all. `folders` are
     those that its parts take, each after the one above it."""
 
     path: Path
@@ -48,7 +48,7 @@ class Tree:
 
     def of(self, path: Path, parts: List[Path], folders: List[Path]) -> Stored:
         """A file by its parts."""
-        return Stored(path, parts, self.nodes[parts[0]].moment, sum(self.nodes[part].size for part in parts), folders)
+        return Stored(path, parts, self.nodes[parts[-1]].moment, sum(self.nodes[part].size for part in parts), folders)
 
     def directories(self, files: Sequence[Stored]) -> List[Path]:
         """The directories in the order of the walk, but those that are the parts of a file."""

@@ -3,13 +3,13 @@
 from __future__ import annotations
 
 from collections import deque
-from contextlib import closing
+from contextlib import closing, suppress
 from typing import TYPE_CHECKING, Callable, Deque, Iterable, Iterator, List, Optional, Tuple, Type
 
 from .client import Client, refusal
 from .connection import find_program
 from .errors import Differs, DoesNotFit, SourceError, TooLarge, UsageError
-from .jobs import Job, Options, Summary, reads_back, same_bytes
+from .jobs import Job, Options, Summary, reads_back, same_parts
 from .operations import Operation, Outcome, now
 from .preflight import Plan, Present, plan, refuse_sizes
 from .protocol import AnyRequest, Code, Create, Get, MakeDir, Node, NodeKind, Path, Remove, Replace, Stat, limits, show
@@ -108,7 +108,7 @@ class Importer:
         with self.client.held():
             self._make(planned)
             self._finish_same(planned)
-            for chunk in self._chunks(Job(source, paths) for source, paths in planned.files):
+            for chunk in self._chunks(Job(source, paths, planned.kept.get(source.path)) for source, paths in planned.files):
                 self._chunk(chunk, planned)
         return self.summary
 
@@ -133,7 +133,8 @@ class Importer:
         for job in self.same:
             self.told("same", job.source.path, job.source.identity.size, 0)
         for source, paths in planned.files:
-            for path in paths:
+            kept = planned.kept.get(source.path, ())
+            for path in (path for index, path in enumerate(paths) if index not in kept):
                 self.told("would replace" if path in self.present.kinds else "would store", path, source.identity.size, 0)
         for source in [job.source for job in self.same] + [source for source, _ in planned.files]:
             for path in planned.stale.get(source.path, []):
@@ -179,6 +180,9 @@ class Importer:
             try:
                 for index, (path, part) in enumerate(zip(job.paths, read_parts(job.source))):
                     whole = job.take(part)
+                    if job.same.get(index) == job.digests[-1]:
+                        job.done += 1
+                        continue
                     kind: Type[AnyRequest] = Replace if path in self.present.kinds else Create
                     yield Operation(kind, path, self._moment(job.source.moment()), part, tag=(job, index), sha256=job.digests[-1], whole=whole)
             except (SourceError, TooLarge) as error:
@@ -214,24 +218,36 @@ class Importer:
             job.fail(str(refusal(outcome)))
 
     def _leave_same(self, found: Scan) -> None:
-        """Takes the files out of which the volume has all bytes already."""
+        """Takes the files out of which the volume has all bytes already; of others in parts it keeps which parts these are."""
         jobs = [Job(source, stored_paths(source.path, source.identity.size, self.options.split)) for source in found.files]
-        there = [job for job in jobs if all(self.present.kinds.get(path) is NodeKind.FILE for path in job.paths)]
-        sized = self._sized(there)
-        with closing(self.client.ask_all(Get(path) for job in sized for path in job.paths)) as answers:
-            self.same = [job for job in sized if self._same(job, answers)]
+        there = self._sized(jobs)
+        with closing(self.client.ask_all(Get(job.paths[index]) for job, indexes in there for index in indexes)) as answers:
+            for job, indexes in there:
+                # One that cannot be read is told of when it is stored.
+                with suppress(SourceError):
+                    job.same = same_parts(job.source, len(job.paths), indexes, answers)
+        self.same = [job for job, _ in there if len(job.same) == len(job.paths)]
         found.same = [job.source for job in self.same]
+        # The last part is stored with each change: it has the moment of the file, and with it the digest of the whole file is kept.
+        found.kept = {job.source.path: {index: sha256 for index, sha256 in job.same.items() if index + 1 < len(job.paths)} for job, _ in there}
         if self.options.moment == "mtime":
             found.not_kept.newer = sum(job.moment != job.source.moment() for job in self.same)
         left = set(map(id, found.same))
         found.files = [source for source in found.files if id(source) not in left]
 
-    def _same(self, job: Job, answers: Iterator[object]) -> bool:
-        """Whether the volume has the bytes of a file. One that cannot be read is told of when it is stored."""
-        try:
-            return same_bytes(job.source, len(job.paths), answers)
-        except SourceError:
-            return False
+    def _sized(self, jobs: List[Job]) -> List[Tuple[Job, List[int]]]:
+        """The files of which the volume has parts of the right sizes, with the numbers of these. What stands whole is one part."""
+        asked = [(job, [i for i, path in enumerate(job.paths) if self.present.kinds.get(path) is NodeKind.FILE]) for job in jobs]
+        sized: List[Tuple[Job, List[int]]] = []
+        with closing(self.client.ask_all(Stat(job.paths[index]) for job, indexes in asked for index in indexes)) as answers:
+            for job, indexes in asked:
+                nodes = {index: next(answers) for index in indexes}
+                right = [index for index, node in nodes.items() if isinstance(node, Node) and node.size == job.size_of(index)]
+                last = nodes.get(len(job.paths) - 1)
+                job.moment = last.moment if isinstance(last, Node) else None
+                if right:
+                    sized.append((job, right))
+        return sized
 
     def _finish_same(self, planned: Plan) -> None:
         """What is done with the files that the volume has: their bytes were read just now."""
@@ -241,17 +257,6 @@ class Importer:
         self._remove_stale([job.source.path for job in self.same], planned)
         if self.options.delete_source:
             self._delete(self.same)
-
-    def _sized(self, jobs: List[Job]) -> List[Job]:
-        """The files whose parts have the right sizes, with the moment that the volume has of each."""
-        sized = []
-        with closing(self.client.ask_all(Stat(path) for job in jobs for path in job.paths)) as answers:
-            for job in jobs:
-                nodes = [next(answers) for _ in job.paths]
-                if sum(node.size if isinstance(node, Node) else -1 for node in nodes) == job.source.identity.size:
-                    job.moment = nodes[0].moment if isinstance(nodes[0], Node) else None
-                    sized.append(job)
-        return sized
 
     def _remove_stale(self, stored: List[Path], planned: Plan) -> None:
         """Removes what an earlier file of the same name left, the last part first, so that no part is without those before."""

@@ -11,11 +11,14 @@ from .client import Client
 from .commands import progress_of, writer
 from .errors import UsageError
 from .escape import encode
-from .manifest import PAYLOAD
-from .progress import plural, size
-from .protocol import NodeKind, Path, path_of, show
+from .manifest import MANIFEST, PAYLOAD
+from .progress import Progress, plural, size
+from .protocol import NodeKind, Path, path_of, show, shown
 from .seal_command import add_manifest_only
-from .tree import Importer, Options, Summary, remove_tree, walk
+from .sources import Source
+from .stored import find_file
+from .tree import Importer, Options, Summary
+from .walk import remove_paths, walk
 from .words import command
 
 if TYPE_CHECKING:
@@ -37,6 +40,7 @@ def add(subs: Subs) -> None:
     )
     remove.add_argument("path", nargs="+", metavar="PATH", help="a file, an empty directory, or with -r any directory")
     remove.add_argument("-r", "--recursive", action="store_true", help="remove directories with all below them")
+    remove.add_argument("--split", action="store_true", help="remove a file in parts by its own name")
     again = command(
         subs, "resume", resume, "finish what an earlier command began",
         "Sends again, under its number, what the ledger has without a reply; each command that changes the tree does so first.", ledger=True,
@@ -98,6 +102,8 @@ def put(arguments: argparse.Namespace) -> int:
         importer = Importer(client, options, progress.told, progress.stored)
         planned = importer.plan(targets(arguments.local, payload_of(arguments), arguments.escape))
         sources = [source for source, _ in planned.files] + [job.source for job in importer.same]
+        if arguments.seal and arguments.manifest_only:
+            refuse_manifests(sources)
         progress.begin(len(sources), sum(source.identity.size for source in sources))
         try:
             summary = importer.run(planned)
@@ -124,6 +130,13 @@ def payload_of(arguments: argparse.Namespace) -> str:
     payload = show(path_of(path) if arguments.manifest_only else path_of(path) + (PAYLOAD,))
     folder = len(arguments.local) == 1 and os.path.isdir(arguments.local[0])
     return payload if folder else payload.rstrip("/") + "/"
+
+
+def refuse_manifests(sources: List[Source]) -> None:
+    """Raises where a local file would have the path of a manifest: sealing would replace it, and its source may be gone by then."""
+    for source in sources:
+        if source.path[-1:] == (MANIFEST,):
+            raise UsageError(f"{shown(source.local)}: has the name of a manifest, which sealing writes: leave --seal out, or store LOCAL as a bag")
 
 
 def seal_stored(client: Client, importer: Importer, arguments: argparse.Namespace) -> str:
@@ -196,18 +209,26 @@ def rm(arguments: argparse.Namespace) -> int:
     with writer(arguments) as client, client.held():
         finish_first(client, arguments)
         for path in map(path_of, arguments.path):
-            node = client.stat(path)
-            whole = arguments.recursive and node.kind is NodeKind.DIRECTORY
+            paths = paths_below(client, path, arguments)
             if arguments.dry_run:
-                for at, names in walk(client, path) if whole else ():
-                    for name in names:
-                        progress.told("would remove", at + (name.name,), 0, 0)
-                progress.told("would remove", path, 0, 0)
-            elif whole:
-                remove_tree(client, path, progress.told)
+                for gone in paths:
+                    progress.told("would remove", gone, 0, 0)
+            elif paths != [path]:
+                remove_paths(client, paths, progress.told)
             else:
                 progress.told("removed", path, 0, client.remove(path))
     return 0
+
+
+def paths_below(client: Client, path: Path, arguments: argparse.Namespace) -> List[Path]:
+    """What goes with a path, in the order in which it goes: the leaves first, and the last part of a file before the others."""
+    if arguments.split and client.find(path) is None:
+        file = find_file(client, path, True)
+        return sorted(file.parts + file.folders, reverse=True)
+    if client.stat(path).kind is NodeKind.FILE or not arguments.recursive:
+        return [path]
+    found = [at + (name.name,) for at, names in walk(client, path) for name in names]
+    return sorted(found, key=lambda below: -len(below)) + ([path] if path else [])
 
 
 def resume(arguments: argparse.Namespace) -> int:
@@ -220,8 +241,7 @@ def resume(arguments: argparse.Namespace) -> int:
                 progress.say(f"would send number {waiting.number} again: {waiting.path}", did="would send", number=waiting.number, path=waiting.path)
             return 0
         if arguments.forget:
-            for gone in client.forget():
-                progress.say(f"dropped {gone}", did="dropped", path=gone)
+            forget(client, progress)
             return 0
         done = client.resume()
         for number, path, code, commit in done:
@@ -229,6 +249,18 @@ def resume(arguments: argparse.Namespace) -> int:
             progress.say(f"number {number}, {path}: {how}, commit {commit}", did="resumed", number=number, path=path, code=int(code), commit=commit)
         progress.result(f"pending were {plural(len(done), 'request', 'requests')}", count=len(done))
     return 0
+
+
+def forget(client: Client, progress: Progress) -> None:
+    """Drops what is pending, and says which volume the next request goes to."""
+    ledger = client.session().ledger
+    before = {volume.id for volume in ledger.volumes()}
+    for gone in client.forget():
+        progress.say(f"dropped {gone}", did="dropped", path=gone)
+    volume = client.session().volume()
+    known = volume.id in before
+    line = f"goes on at number {volume.latest + 1}, with {'a volume that the ledger knows' if known else 'a volume that is new to the ledger'}"
+    progress.note(line, did="goes on", number=volume.latest + 1, known=known)
 
 
 __all__ = ["add", "mkdir", "mv", "put", "resume", "rm"]

@@ -41,7 +41,7 @@ def blocks_of(size: int) -> int:
     return -(-size // BLOCK)
 
 
-def crc(data: Union[bytes, memoryview]) -> int:
+def crc(data: Union[bytes, bytearray, memoryview]) -> int:
     """The CRC of ECMA-167 3/7.2.6: polynomial x^16 + x^12 + x^5 + 1, from 0, the highest bit first."""
     return crc_hqx(data, 0)
 

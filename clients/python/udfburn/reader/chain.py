@@ -118,6 +118,8 @@ class Chain:
         """The next older link, and this one with what is wrong with the way to it."""
         lower = self.survey.table_below(link.start)
         known = self._link(lower) if lower is not None else None
+        if known is not None and self._is_stale(link, known):
+            link = self._broken(link, "its data is that of an older table")._replace(table=None, said=None)
         previous = link.table.previous if link.table is not None else None
         if link.table is not None and link.said == 0 and previous is None and lower is None:
             return None, link
@@ -133,6 +135,15 @@ class Chain:
         if known is not None:
             return known, self._broken(link, "the table before it is lost", False)
         return None, link if link.said == 0 else self._broken(link, "the tables before it are lost", False)
+
+    def _is_stale(self, link: Link, lower: Link) -> bool:
+        """Whether the data of a table is that of an older one: commits go up, and a table leads to the one below it."""
+        if link.table is None or lower.table is None or link.table.previous == lower.address:
+            return False
+        if link.table.commit != lower.table.commit:
+            return link.table.commit < lower.table.commit
+        # A copy may have a commit twice that the drive failed to write at first: these have places of their own.
+        return self.volume.data_of(link.table).data == self.volume.data_of(lower.table).data
 
     def _broken(self, link: Link, text: str, adjacent: bool = True) -> Link:
         self.volume.notes.add(link.address, Cause.CHAIN, f"of the table whose entry stands here: {text}")
@@ -193,20 +204,24 @@ class Chain:
         """The place of a commit's link; None where it is not there."""
         return self._places.get(commit)
 
-    def commit_of(self, address: int) -> Optional[int]:
-        """The commit that wrote a block: that of the first table from it on. None after the last table."""
-        place = bisect_left(self._addresses, address)
-        return self.links[len(self.links) - 1 - place].commit if place < len(self._addresses) else None
+    def place_of(self, address: int) -> Optional[int]:
+        """The place of the first table from a block on; None after the last table."""
+        found = bisect_left(self._addresses, address)
+        return len(self.links) - 1 - found if found < len(self._addresses) else None
 
-    def begin_of(self, address: int) -> Optional[int]:
-        """The address at which the commit that wrote an entry began to write, where nothing of an entry lies between."""
-        commit = self.commit_of(address)
-        place = self.index_of(commit) if commit is not None else None
-        if place is None or place + 1 >= len(self.links) or not self.links[place].adjacent:
+    def commit_of(self, address: int) -> Optional[int]:
+        """The commit that wrote a block; None after the last table, and where tables are lost, so that it may be of one of these."""
+        place = self.place_of(address)
+        if place is None:
             return None
-        begin = self.links[place + 1].address + 1
-        between = any(at < address for at in self.survey.nodes_after(begin)[:1])
-        return None if between else begin
+        link = self.links[place]
+        return link.commit if link.adjacent or link.commit == 0 else None
+
+    def floor(self, address: int) -> int:
+        """The address after the last structure below an address: data of a file that ends there begins no earlier."""
+        place = self.place_of(address)
+        older = self.links[place + 1].address if place is not None and place + 1 < len(self.links) else PARTITION - 1
+        return max(older, self.survey.entry_below(address) or 0) + 1
 
     def entries(self, index: int) -> "Tuple[array[int], Set[int]]":
         """The block numbers of virtual addresses behind a commit, and those that were not read but follow from other tables."""
@@ -264,14 +279,21 @@ class Chain:
         return older[virtual] + PARTITION if virtual < len(older) and older[virtual] != UNUSED else None
 
     def is_confirmed(self, virtual: int, address: int, index: int) -> bool:
-        """Whether a table's word for a virtual address is that of a table beside it, or lies in what the commit wrote."""
-        for beside in (index + 1, index - 1):
-            if 0 <= beside < len(self.links):
-                entries = self.entries(beside)[0]
-                if virtual < len(entries) and entries[virtual] + PARTITION == address:
-                    return True
+        """Whether a table's word for a virtual address is that of the table before, or lies in what the commit wrote.
+
+        Where the table before is lost, that after it is asked.
+        """
+        is_next = index + 1 < len(self.links) and self.links[index].adjacent
         low = self.links[index + 1].address if index + 1 < len(self.links) else PARTITION - 1
-        return low < address < self.links[index].start
+        if low < address < self.links[index].start:
+            return True
+        return self._says(index + 1, virtual, address) or not is_next and self._says(index - 1, virtual, address)
+
+    def _says(self, index: int, virtual: int, address: int) -> bool:
+        if not 0 <= index < len(self.links):
+            return False
+        entries = self.entries(index)[0]
+        return virtual < len(entries) and entries[virtual] + PARTITION == address
 
 
 def follows(newer: Link, known: Optional[Link]) -> bool:

@@ -170,9 +170,10 @@ class Reading:
         """Goes on where an identifier is not as it must be."""
         name = said_by(piece, self.first) if piece is not None else None
         if piece is not None and name is not None and crc(piece.data[16:]) == read_tag(piece.data).crc:
-            # A tag that agrees with itself for another block was written for that one.
-            self.complete &= name.proved or not read_tag(piece.data).agrees
-            return self._take(piece, name)
+            # A tag that agrees with itself for another block was written for that one; else a byte of it is wrong.
+            is_here = name.proved or not read_tag(piece.data).agrees
+            self.complete &= is_here
+            return self._take(piece, name._replace(proved=is_here))
         end = next_proved(self.data, at + 4, self.size, self.first)
         whole = mend_identifier(self.data[at:end], self.first + at // BLOCK, at == 0) if end - at <= BLOCK else None
         mended = piece_at(whole, 0, len(whole)) if whole is not None else None

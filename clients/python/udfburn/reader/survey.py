@@ -34,6 +34,7 @@ class Survey:
         self.heads: List[int] = []
         self.missing: List[int] = []
         self._nodes: "Dict[int, array[int]]" = {}
+        self._entries: "array[int]" = array("I")
         for at, run in medium.pieces(PARTITION, medium.blocks):
             self._look(at, run)
 
@@ -61,6 +62,13 @@ class Survey:
         known = self._nodes.get(location, array("I"))
         for index in range(bisect_left(known, below) - 1, -1, -1):
             yield known[index]
+
+    def entry_below(self, address: int) -> Optional[int]:
+        """The last entry of a node or a table below an address."""
+        if not self._entries:
+            self._entries = array("I", sorted([at for known in self._nodes.values() for at in known] + self.tables))
+        index = bisect_left(self._entries, address)
+        return self._entries[index - 1] if index else None
 
     def nodes_after(self, address: int) -> List[int]:
         """The addresses of nodes' entries after an address."""

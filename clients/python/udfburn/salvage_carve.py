@@ -1,0 +1,50 @@
+"""Files whose entries are lost, by the digests that are kept of them: their blocks end where the entry stood."""
+
+from __future__ import annotations
+
+import hashlib
+from typing import Callable, Optional
+
+from .reader.basics import BLOCK, FILE_BYTES, blocks_of
+from .reader.chain import Chain
+
+STARTS = 20_000
+"""How many beginnings of files are tried in all."""
+
+IsKept = Callable[[str], bool]
+"""Whether a digest, in lower case, is one that is looked for."""
+
+
+class Carver:
+    """Tries the blocks before lost entries."""
+
+    def __init__(self, chain: Chain):
+        self.chain = chain
+        self._left = STARTS
+
+    def find(self, address: int, is_kept: IsKept) -> Optional[bytes]:
+        """The bytes of the file whose entry stood at an address, where some that it may have had have a digest that is kept."""
+        low = max(self.chain.floor(address), address - blocks_of(FILE_BYTES))
+        run = self.chain.volume.medium.run(low, max(address - low, 0))
+        # What is missing is not hashed, so the file begins after it.
+        begin = run.missing[-1] + 1 - low if run.missing else 0
+        for start in range(begin, address - low):
+            if self._left == 0:
+                return None
+            self._left -= 1
+            found = with_digest(run.data[start * BLOCK :], is_kept)
+            if found is not None:
+                return found
+        return None
+
+
+def with_digest(data: bytes, is_kept: IsKept) -> Optional[bytes]:
+    """The front of blocks that has a digest which is kept: it ends in the last block, and what is after it is zeros."""
+    begin = max(len(data) - BLOCK, 0)
+    known = hashlib.sha256(data[:begin])
+    for end in range(max(len(data.rstrip(b"\0")), begin + 1), len(data) + 1):
+        digest = known.copy()
+        digest.update(data[begin:end])
+        if is_kept(digest.hexdigest()):
+            return data[:end]
+    return None
