@@ -122,13 +122,14 @@ def wait_for(path: str) -> None:
 def sync_time(room: str) -> float:
     """Microseconds that the disk takes now for a block that is written and synced: the median of twenty."""
     times = []
-    with open(os.path.join(room, "probe"), "wb", buffering=0) as probe:
+    path = os.path.join(room, "probe")
+    with open(path, "wb", buffering=0) as probe:
         for _ in range(20):
             begin = time.perf_counter()
             probe.write(bytes(2048))
             os.fsync(probe.fileno())
             times.append(time.perf_counter() - begin)
-    os.unlink(probe.name)
+    os.unlink(path)
     return statistics.median(times) * 1e6
 
 

@@ -157,7 +157,8 @@ class Commands(Local):
         self.assertEqual(self.volume.commits, 0)
 
     def test_words_that_are_no_command(self) -> None:
-        for words in ([], ["what"], ["put"], ["ls", "--no-such"], ["put", "--moment", "then", "a", "/b"]):
+        lines: List[List[str]] = [[], ["what"], ["put"], ["ls", "--no-such"], ["put", "--moment", "then", "a", "/b"]]
+        for words in lines:
             with self.assertRaises(SystemExit) as raised, mock.patch("sys.stderr"):
                 cli.main(words)
             self.assertEqual(raised.exception.code, 2)

@@ -302,7 +302,7 @@ class Ledgers(WithServer):
         source = os.path.join(self.room, "source")
         with open(source, "wb") as file:
             file.write(b"the only copy")
-        lied = []
+        lied: List[int] = []
 
         def before(payload: bytes) -> Optional[p.Answer]:
             if request_of(payload) and not lied:

@@ -2,16 +2,18 @@
 
 from __future__ import annotations
 
+import contextlib
 import os
 import socket
 import stat
 import struct
 import unittest
 from types import SimpleNamespace
-from typing import Iterator, List, Optional, Tuple
+from typing import Dict, Iterator, List, Optional, Tuple
 from unittest import mock
 
 from udfburn import Client, blocks, errors as e, fetch, saving, split, tree
+from udfburn.jobs import Job
 from udfburn import protocol as p
 from udfburn.sources import Identity, Scan, Source, delete, read_parts, scan
 from udfburn.tree import Options, put_all
@@ -395,7 +397,7 @@ class Changes(Local):
 
         def sizes(count: int, **options: bool) -> List[int]:
             importer = tree.Importer(self.client(), Options(**options))  # type: ignore[arg-type]
-            return [len(chunk) for chunk in importer._chunks(tree.Job(source, [()]) for _ in range(count))]
+            return [len(chunk) for chunk in importer._chunks(Job(source, [()]) for _ in range(count))]
 
         self.assertEqual(sizes(0), [])
         self.assertEqual(sizes(1500), [1024, 476])
@@ -526,7 +528,7 @@ class Fetch(Local):
         next(answers)
         with self.assertRaises(e.UsageError):
             client.get("/a")
-        answers.close()  # type: ignore[attr-defined]
+        answers.close()
         self.assertEqual(client.get("/a"), b"")
 
 
@@ -557,7 +559,8 @@ class Left(Local):
         for name, data in (("log", b"log"), ("log.000", b"0"), ("log.001", b"1"), ("big", big), ("big.002", b"2")):
             self.write(name, data)
         wanted = {"log": b"log", "log.000": b"0", "log.001": b"1", "big.000": big[:-1], "big.001": big[-1:], "big.002": b"2"}
-        for options in ({}, {"skip_same": True}, {}, {"skip_same": True, "delete_source": True}):
+        choices: List[Dict[str, bool]] = [{}, {"skip_same": True}, {}, {"skip_same": True, "delete_source": True}]
+        for options in choices:
             self.assertEqual(self.put(split=True, **options).failures, [])
             self.assertEqual(self.files(), wanted)
         self.assertEqual(os.listdir(self.folder), [])
@@ -576,14 +579,17 @@ class Left(Local):
 
     def test_what_was_left(self) -> None:
         full = p.limits.FILE
+        choices: List[Dict[str, bool]] = [{}, {"skip_same": True}]
         for before, size, left in ((2 * full + 1, 5, ["big"]), (2 * full + 1, full + 1, ["big.000", "big.001"]), (5, full + 1, ["big.000", "big.001"])):
-            for options in ({}, {"skip_same": True}):
+            for options in choices:
                 self.server.volume = Volume()
                 self.ledger = os.path.join(self.room, f"{before}-{size}-{len(options)}.sqlite")
                 self.write("big", bytes(before))
                 self.put(split=True)
                 self.write("big", bytes(size))
-                with mock.patch.object(tree.Importer, "_remove_stale") if options else mock.patch("udfburn.tree.CHUNK", 64):
+                with contextlib.ExitStack() as stack:
+                    if options:
+                        stack.enter_context(mock.patch.object(tree.Importer, "_remove_stale"))
                     self.put(split=True)
                 told = self.put(split=True, **options).skipped
                 # Behind a part that is shorter by now nobody can tell what was left from a file of its own.

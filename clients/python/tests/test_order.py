@@ -175,7 +175,7 @@ class Order(WithServer):
             return
         sent.add(request.number)
         for state in states:
-            pending = dict(self.asked(state, PENDING))
+            pending: Dict[object, object] = {row[0]: row[1] for row in self.asked(state, PENDING)}
             self.assertEqual(pending.get(request.number), payload, f"request {request.number} was sent before it was kept")
             self.assertLessEqual(len(pending), 4)
 

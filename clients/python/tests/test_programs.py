@@ -183,8 +183,8 @@ class Folders(WithPrograms):
         client.remove("/a")
         client.close()
         where = ["--image", self.image]
-        for commit, text in ((1, "first"), (2, "second"), (3, "third")):
-            self.assertEqual(self.run_command("get", "--as-of", str(commit), "/a", "-", where=where), text)
+        for commit, word in ((1, "first"), (2, "second"), (3, "third")):
+            self.assertEqual(self.run_command("get", "--as-of", str(commit), "/a", "-", where=where), word)
             self.assertEqual(self.run_command("ls", "--as-of", str(commit), where=where), "f a\n")
         self.assertEqual(self.run_command("ls", "--as-of", "0", where=where), "")
         self.run_command("get", "/a", "-", where=where, status=1)

@@ -37,12 +37,12 @@ def conversation() -> List[Tuple[str, bytes, bytes]]:
     return [(row[0], unhex(row[1].strip("`")), unhex(row[2].strip("`"))) for row in cells(section("A conversation"))[1:]]
 
 
-MESSAGES = [
+MESSAGES: List[p.Message] = [
     p.MakeDir(7, 2, 0, ("d",)), p.Rename(7, 3, 0, ("a",), ("d", "b")), p.Replace(7, 4, 0, ("d", "b"), b"bye"),
     p.Get(("d", "b")), p.List(("d",)), p.Stat(("d",)), p.Remove(7, 5, 0, ("d",)), p.Remove(7, 6, 0, ("d", "b")),
     p.Rename(7, 3, 0, ("a",), ("d", "b")), p.MakeDir(7, 2, 0, ("d",)), p.Remove(7, 8, 0, ("d",)), p.Get(("a",)), p.Get(("d",)),
 ]
-ANSWERS = [
+ANSWERS: List[p.Answer] = [
     p.Committed(p.Code.DONE, 2), p.Committed(p.Code.DONE, 3), p.Committed(p.Code.DONE, 4), p.Data(b"bye"),
     p.Names((p.Name(p.NodeKind.FILE, "b"),)), p.Node(p.NodeKind.DIRECTORY, 0, 1), p.Committed(p.Code.NOT_EMPTY, 5),
     p.Committed(p.Code.DONE, 6), p.Committed(p.Code.DONE, 3), p.Stale(6), p.Gap(6), p.NOT_FOUND, p.IS_DIRECTORY,
@@ -132,8 +132,9 @@ class Faults(unittest.TestCase):
         self.assertEqual(self.fault(b"\x12\x02\x01\x00."), p.Cause.PATH)
 
     def test_what_cannot_be_said(self) -> None:
-        for message in (p.MakeDir(0, 1, 0, ("a",)), p.MakeDir(1, 0, 0, ("a",)), p.MakeDir(1, 1, p.limits.MOMENT, ("a",)), p.MakeDir(1, 1, -1, ("a",)),
-                        p.MakeDir(1 << 64, 1, 0, ("a",)), p.MakeDir(1, 1, 0, ("",)), p.MakeDir(1, 1, 0, ("a",) * 256), p.Create(1, 1, 0, ("a",), bytes(p.limits.FILE + 1))):
+        messages: List[p.Message] = [p.MakeDir(0, 1, 0, ("a",)), p.MakeDir(1, 0, 0, ("a",)), p.MakeDir(1, 1, p.limits.MOMENT, ("a",)), p.MakeDir(1, 1, -1, ("a",)),
+                        p.MakeDir(1 << 64, 1, 0, ("a",)), p.MakeDir(1, 1, 0, ("",)), p.MakeDir(1, 1, 0, ("a",) * 256), p.Create(1, 1, 0, ("a",), bytes(p.limits.FILE + 1))]
+        for message in messages:
             with self.assertRaises(p.Fault):
                 p.encode_message(message)
 
@@ -144,9 +145,9 @@ class Faults(unittest.TestCase):
         for path, error in (("a", p.InvalidPath), ("", p.InvalidPath), ("/a//b", p.InvalidName), ("/a/../b", p.InvalidName), ("/" + "a/" * 256, p.InvalidPath)):
             with self.assertRaises(error):
                 p.path_of(path)
-        for path, told in ((b"/b\xff\x80", r"b\xff\x80 is not UTF-8"), (b"/\xed\xa0\x80", r"\xed\xa0\x80 is not UTF-8"), (b"/\xef\xbb\xbf", r"'\ufeff' has a character")):
+        for octets, told in ((b"/b\xff\x80", r"b\xff\x80 is not UTF-8"), (b"/\xed\xa0\x80", r"\xed\xa0\x80 is not UTF-8"), (b"/\xef\xbb\xbf", r"'\ufeff' has a character")):
             with self.assertRaises(p.InvalidName) as raised:
-                p.path_of(os.fsdecode(path))
+                p.path_of(os.fsdecode(octets))
             self.assertIn(told, str(raised.exception))
         self.assertEqual(name_module.spelled_size("\u00e9"), 2)
         self.assertEqual(name_module.spelled_size("\u0101a"), 5)
@@ -229,20 +230,22 @@ def random_name(chance: random.Random) -> str:
 def random_message(chance: random.Random) -> p.Message:
     numbers = (chance.randint(1, p.limits.U64), chance.randint(1, p.limits.U64), chance.randrange(p.limits.MOMENT))
     path, data = random_path(chance), chance.randbytes(chance.choice((0, 1, 5, 5000)))
-    return chance.choice([
+    messages: List[p.Message] = [
         p.Create(*numbers, path, data), p.Replace(*numbers, path, data), p.MakeDir(*numbers, path), p.Rename(*numbers, path, random_path(chance)),
         p.Remove(*numbers, path), p.Get(path), p.List(path), p.Stat(path),
-    ])
+    ]
+    return chance.choice(messages)
 
 
 def random_answer(chance: random.Random) -> p.Answer:
     names = list(dict.fromkeys(random_name(chance) for _ in range(chance.choice((0, 1, 9, 100)))))
-    return chance.choice([
+    answers: List[p.Answer] = [
         p.Committed(chance.choice(list(p.Code)), chance.randrange(1 << 32)), p.Stale(chance.randrange(1 << 64)), p.Gap(chance.randrange(1 << 64)),
         p.Malformed(chance.choice(list(p.Cause))), p.Data(chance.randbytes(chance.choice((0, 9, 9000)))), chance.choice(list(p.BARE.values())),
         p.Names(tuple(p.Name(chance.choice(list(p.NodeKind)), name) for name in names)),
         p.Node(p.NodeKind.FILE, chance.randrange(p.limits.MOMENT), chance.randrange(p.limits.FILE + 1)),
-    ])
+    ]
+    return chance.choice(answers)
 
 
 if __name__ == "__main__":

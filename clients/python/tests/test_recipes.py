@@ -9,7 +9,6 @@ import shlex
 import shutil
 import signal
 import subprocess
-import sys
 import textwrap
 import unittest
 from typing import Dict, List

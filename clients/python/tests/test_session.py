@@ -14,7 +14,7 @@ import time
 import unittest
 from contextlib import closing, redirect_stderr, redirect_stdout
 from types import SimpleNamespace
-from typing import Any, Callable, Deque, Iterator, List, Optional, Tuple
+from typing import Any, Callable, Deque, Iterator, List, Optional, Tuple, Type
 from unittest import mock
 
 from udfburn import Client, cli, errors as e
@@ -99,7 +99,7 @@ class Plain(WithServer):
         client.create("/d/f", b"")
         deep = "/d" + "/e" * 15
         client.makedirs(deep)
-        cases = [
+        cases: List[Tuple[Type[Exception], Callable[[], object]]] = [
             (e.NoParent, lambda: client.create("/no/f", b"")), (e.NoParent, lambda: client.mkdir("/d/f/g")), (e.NotFound, lambda: client.replace("/no", b"")),
             (e.NotFound, lambda: client.remove("/no")), (e.NotFound, lambda: client.rename("/no", "/new")), (e.Exists, lambda: client.create("/d", b"")),
             (e.Exists, lambda: client.rename("/d/f", "/d")), (e.IsDirectory, lambda: client.replace("/d", b"")), (e.NotEmpty, lambda: client.remove("/d")),
@@ -143,8 +143,9 @@ class Plain(WithServer):
         outcomes = list(client.run(creates(20)))
         self.assertEqual([outcome.number for outcome in outcomes], list(range(1, 21)))
         sent = [p.decode_message(payload) for payload in self.server.payloads[1:]]
-        self.assertEqual([message.number for message in sent[::2]], list(range(1, 21)))
-        self.assertEqual([p.Stat(message.path) for message in sent[::2]], sent[1::2])
+        requests = [message for message in sent[::2] if isinstance(message, p.Request)]
+        self.assertEqual([message.number for message in requests], list(range(1, 21)))
+        self.assertEqual([p.Stat(message.path) for message in requests], sent[1::2])
         history = client.session().ledger.history(client.session().volume())
         self.assertEqual([(number, commit, confirmed) for number, _, _, commit, confirmed in history], [(n, n, True) for n in range(1, 21)])
 
@@ -315,7 +316,8 @@ class Trouble(WithServer):
     def test_damaged_and_malformed(self) -> None:
         client = self.client()
         self.server.before = lambda payload: p.DAMAGED
-        for call in (lambda: client.create("/a", b""), lambda: client.get("/a")):
+        calls: List[Callable[[], object]] = [lambda: client.create("/a", b""), lambda: client.get("/a")]
+        for call in calls:
             with self.assertRaises(e.Damaged):
                 call()
         self.server.before = lambda payload: p.Malformed(p.Cause.PATH) if request_of(payload) else None
@@ -551,8 +553,9 @@ class Ahead(WithServer):
             request = request_of(payload)
             # All before it are answered, so that nothing but the taking is waited for.
             if request:
-                await_true(lambda: len(taken) >= min(request.number + 4, 20))
-                ahead.append(len(taken) - request.number)
+                number = request.number
+                await_true(lambda: len(taken) >= min(number + 4, 20))
+                ahead.append(len(taken) - number)
 
         self.server.before, self.server.together = before, False
         self.assertEqual([outcome.number for outcome in self.client().run(operations())], list(range(1, 21)))

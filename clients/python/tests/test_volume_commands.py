@@ -9,7 +9,6 @@ import time
 import unittest
 from typing import Any, Dict
 
-from udfburn import protocol as p
 
 from .programs import WithPrograms
 

@@ -215,13 +215,13 @@ class Client:
     def digest_of(self, path: PathLike) -> Optional[bytes]:
         """The SHA-256 of the file at a path, as this ledger sent it, also of one in parts; None where the ledger does not have it, or
         where the volume has another size or moment there now."""
-        from .digests import KnownWhole
+        from .digests import KnownWhole as Whole
 
         files, names = self.known_files(), path_of(path)
         found: Union[Known, KnownWhole, None] = files.now.get(names) or files.wholes.get(names)
         if found is None:
             return None
-        parts = found.parts if isinstance(found, KnownWhole) else (found.path,)
+        parts = found.parts if isinstance(found, Whole) else (found.path,)
         with self.held():
             return found.sha256 if all(self._is_as_sent(files.now[part]) for part in parts) else None
 

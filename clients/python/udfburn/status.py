@@ -7,7 +7,7 @@ from typing import List, NamedTuple, Optional
 
 from .client import Client
 from .errors import Damaged
-from .protocol import NodeKind, Path, Stat, limits, shown
+from .protocol import NodeKind, Path, Stat, shown
 from .words import patience_of
 
 

@@ -12,7 +12,7 @@ from .errors import Differs, DoesNotFit, SourceError, TooLarge, UsageError
 from .jobs import Job, Options, Summary, reads_back, same_parts
 from .operations import Operation, Outcome, now
 from .preflight import Plan, Present, plan, refuse_sizes
-from .protocol import AnyRequest, Code, Create, Get, MakeDir, Node, NodeKind, Path, Remove, Replace, Stat, limits, show
+from .protocol import AnyRequest, Code, Create, Get, MakeDir, Node, NodeKind, Path, Replace, Stat, limits, show
 from .sources import Folder, Scan, delete, read_parts, scan, shown
 from .split import stored_paths
 from .stale import Stale, find_stale

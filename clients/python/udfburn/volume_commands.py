@@ -13,7 +13,7 @@ from .errors import ProgramFailed, SourceError, UsageError
 from .operations import now
 from .progress import Progress, moment, plural, size
 from .protocol import limits, shown, spelled_size
-from .words import add_output, add_volume, command
+from .words import add_volume, command
 
 if TYPE_CHECKING:
     from .status import Status
