@@ -118,8 +118,8 @@ impl<'b> PacketWriter<'b> {
     {
         match self.finish(drive) {
             Ok(()) => {
-                let one = slice::from_ref(block);
-                self.packet.extend_from_slice(one).unwrap();
+                let alone = slice::from_ref(block);
+                self.packet.extend_from_slice(alone).unwrap();
                 Ok(())
             }
             Err(fault) => Err(fault),

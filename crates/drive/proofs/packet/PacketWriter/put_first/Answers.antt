@@ -5,7 +5,7 @@ use Rattle.drive.proofs.packet.PacketWriter.put_first.Goals as goal
 
 pub returns-in-Ok-clause-ok : goal.returns-in-Ok-clause-ok
 returns-in-Ok-clause-ok g c =
-    let pushed = rw (c.unwrap.ensures, c.from_ref-one.ensures.value) at c.extend_from_slice.ensures.items in
+    let pushed = rw (c.unwrap.ensures, c.from_ref-alone.ensures.value) at c.extend_from_slice.ensures.items in
     let before = c.self.view_is ∙ c.in-Ok.ensures.empty in
     let empty = ap (λ (v : Waiting). v.blocks) before in
     let lent = none_lent c.self.inside.lent.now c.self.inside.packet.items empty in
