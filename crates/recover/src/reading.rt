@@ -67,6 +67,13 @@ pub(crate) fn read_into<D: Drive>(
     }
 }
 
+/// Tells the drive that so many blocks from an address on are read soon, if they are more than one.
+pub(crate) fn announce_blocks<D: Drive>(drive: &D, at: u32, count: u32) {
+    if count > 1 {
+        drive.read_soon(at, count);
+    }
+}
+
 /// Reads so many blocks from an address on.
 pub fn read_blocks<D: Drive>(
     alloc: Global,
@@ -83,6 +90,7 @@ pub fn read_blocks<D: Drive>(
     ensures reads { Reads D.Drive (devices result) drive.old drive.new }
 {
     let mut blocks = Vec::with_capacity(alloc, count as usize)?;
+    announce_blocks(drive, at, count);
     for i in 0..count {
         let block = read_block(drive, at + i)?;
         blocks.push(block)?;
@@ -105,6 +113,7 @@ pub fn read_bytes<D: Drive>(
     ensures reads { Reads D.Drive (devices result) drive.old drive.new }
 {
     let mut bytes = Vec::with_capacity(alloc, size as usize)?;
+    announce_blocks(drive, at, block_count(size));
     for i in 0..block_count(size) {
         let block = read_block(drive, at + i)?;
         let left = (size - i * BLOCK_BYTES).min(BLOCK_BYTES);
