@@ -67,13 +67,6 @@ pub(crate) fn read_into<D: Drive>(
     }
 }
 
-/// Tells the drive that so many blocks from an address on are read soon, if they are more than one.
-pub(crate) fn announce_blocks<D: Drive>(drive: &D, at: u32, count: u32) {
-    if count > 1 {
-        drive.read_soon(at, count);
-    }
-}
-
 /// Reads so many blocks from an address on.
 pub fn read_blocks<D: Drive>(
     alloc: Global,
@@ -90,7 +83,6 @@ pub fn read_blocks<D: Drive>(
     ensures reads { Reads D.Drive (devices result) drive.old drive.new }
 {
     let mut blocks = Vec::with_capacity(alloc, count as usize)?;
-    announce_blocks(drive, at, count);
     for i in 0..count {
         let block = read_block(drive, at + i)?;
         blocks.push(block)?;
@@ -113,7 +105,6 @@ pub fn read_bytes<D: Drive>(
     ensures reads { Reads D.Drive (devices result) drive.old drive.new }
 {
     let mut bytes = Vec::with_capacity(alloc, size as usize)?;
-    announce_blocks(drive, at, block_count(size));
     for i in 0..block_count(size) {
         let block = read_block(drive, at + i)?;
         let left = (size - i * BLOCK_BYTES).min(BLOCK_BYTES);

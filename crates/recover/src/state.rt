@@ -14,7 +14,7 @@ ghost use Rattle.recover.specs.Tables.{HasTableAt};
 use crate::cause;
 use crate::fault::{StoreFault, damaged};
 use crate::known::Known;
-use crate::reading::{PARTITION_START, announce_blocks, read_block};
+use crate::reading::{PARTITION_START, read_block};
 use crate::table::{address_below, read_table, table_entry};
 use crate::walk::{Named, Walk};
 use drive::Drive;
@@ -134,7 +134,6 @@ pub(crate) fn read_front<D: Drive>(drive: &mut D) -> Result<Front, StoreFault>
     ensures limits { IfOk result (λ front. (LEAST_CAPACITY ≤ front.capacity) × (front.capacity ≤ GREATEST_CAPACITY)) }
     ensures reads { Reads D.Drive (devices result) drive.old drive.new }
 {
-    announce_blocks(drive, 0, FRONT_BLOCKS);
     let primary = read_block(drive, PRIMARY)?;
     let partition = read_block(drive, PARTITION)?;
     let front = match front_words(&primary, &partition) {

@@ -203,9 +203,10 @@ impl<'a> Walk<'a> {
         } = names;
         let count = dir.entries.len();
         let mut index = self.visit_seen(&files, 0, node.depth);
-        self.announce_front(drive, known, &dir, index);
+        let is_once = !known.keeps_nodes();
+        self.announce(drive, is_once, &dir, index, AHEAD);
         while index < count {
-            self.announce(drive, known, &dir, index.saturating_add(AHEAD));
+            self.announce(drive, is_once, &dir, index.saturating_add(AHEAD), 1);
             let (_, entry) = dir.entries.get_index(index).unwrap();
             let child = node.child(entry, extent.first + PARTITION_START);
             self.visit(alloc, drive, known, &child)?;
@@ -216,30 +217,27 @@ impl<'a> Walk<'a> {
         Ok(())
     }
 
-    /// Tells the drive that the entries under the names from this place on, as many as are told of ahead, are read soon.
-    fn announce_front<D: Drive>(&self, drive: &D, known: &Known, dir: &Dir, from: usize)
+    /// Tells the drive that the entries under so many names from this place on are read soon. Only a walk of one state
+    /// does so: states that follow one another lead to blocks all over the medium, which a system reads ahead better.
+    fn announce<D: Drive>(&self, drive: &D, is_once: bool, dir: &Dir, from: usize, count: usize)
         requires { PARTITION_START ≤ self.now.at }
     {
-        for index in from..from.saturating_add(AHEAD) {
-            self.announce(drive, known, dir, index);
+        if !is_once {
+            return;
+        }
+        for index in from..from.saturating_add(count) {
+            self.announce_entry(drive, dir, index);
         }
     }
 
-    /// Tells the drive that the entry under the name at this place is read soon, if there is one and it is not known.
-    fn announce<D: Drive>(&self, drive: &D, known: &Known, dir: &Dir, index: usize)
+    /// Tells the drive that the entry under the name at this place is read soon, if there is one.
+    fn announce_entry<D: Drive>(&self, drive: &D, dir: &Dir, index: usize)
         requires { PARTITION_START ≤ self.now.at }
     {
         let Some((_, entry)) = dir.entries.get_index(index) else {
             return;
         };
-        let Some(at) = address_below(self.entries, entry.icb, self.at) else {
-            return;
-        };
-        let place = EntryPlace {
-            at,
-            address: entry.icb,
-        };
-        if known.find(place).is_none() {
+        if let Some(at) = address_below(self.entries, entry.icb, self.at) {
             drive.read_soon(at, 1);
         }
     }
