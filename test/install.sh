@@ -2,7 +2,7 @@
 # The installation and the Debian package, each in an empty root; the manual pages, and the unit of systemd.
 #
 # usage: test/install.sh [UDFBURN [UDFBURND]]
-# Its last line is 'install: N passed, M failed'. mandoc, strace and systemd's commands are installed where they are not there
+# Its last line is 'install: N passed, M failed'. mandoc, strace, lintian and systemd's commands are installed where they are not there
 # and we may; what cannot be had is said, and is a failure where CI=true.
 set -u
 absolute() {
@@ -71,8 +71,8 @@ expected() {
         echo "755 $1/bin/udfburnd"
         echo "644 $1/lib/systemd/system/udfburnd@.service"
         echo "644 $1/lib/sysusers.d/udfburn.conf"
-        for page in README.md CHANGELOG.md $(cd docs && ls); do
-            case $page in *.md | *.svg) echo "644 $1/share/doc/udfburn/$page" ;; esac
+        for page in README.md CHANGELOG.md SECURITY.md LICENSE-MIT LICENSE-APACHE $(cd docs && ls); do
+            case $page in *.md | *.svg | LICENSE-*) echo "644 $1/share/doc/udfburn/$page" ;; esac
         done
         echo "644 $1/share/doc/udfburn/installed"
         echo "644 $1/share/man/man1/udfburn.1"
@@ -137,7 +137,7 @@ if [ -d clients/python/udfburn ] && [ -f clients/python/udfburn/__main__.py ]; t
     if command -v python3 > "$room/which"; then
         holds 'the installed client says its words' "$prefix/bin/udfburn-client" --help
         # Its page has the options that its commands have.
-        for command in put get ls mkdir mv rm verify resume map; do
+        for command in put get ls mkdir mv rm verify resume map format status check; do
             "$prefix/bin/udfburn-client" "$command" --help
         done | grep -o -e '--[a-z][a-z-]*' | sort -u > "$room/wanted"
         sed -n -e 's/\.It.* Fl -help.*//' -e 's/\.\{0,1\}[A-Z][a-z] Fl -/\n--/' -e 's/ Fl -/\n--/g' -e p man/udfburn-client.1 |
@@ -153,14 +153,19 @@ fi
 if command -v dpkg-deb > "$room/which"; then
     holds 'a package is made' packaging/deb/build.sh "$room/deb"
     package=$(find "$room/deb" -name '*.deb')
-    version=$(sed -n 's/^## \([0-9][0-9.]*\).*/\1/p' CHANGELOG.md | head -n 1)
+    version=$(sed -n 's/^## \[\([0-9][0-9.]*\)\] - .*/\1/p' CHANGELOG.md | head -n 1)
     printf 'Package: udfburn\nVersion: %s\nArchitecture: %s\n' "$version" "$(dpkg --print-architecture)" > "$room/wanted"
     holds 'it says what it is' same "$room/wanted" dpkg-deb -f "$package" Package Version Architecture
-    expected usr | sed -e '/doc\/udfburn\/installed$/d' -e 's|CHANGELOG.md$|changelog.gz|' -e 's|\(share/man/.*\)|\1.gz|' \
-        -e 's|usr/lib/udfburn/udfburn|usr/lib/python3/dist-packages/udfburn|' | LC_ALL=C sort -k 2 > "$room/wanted"
+    expected usr | sed -e '/doc\/udfburn\/installed$/d' -e 's|CHANGELOG.md$|NEWS.gz|' -e '/doc\/udfburn\/LICENSE-/d' -e 's|\(share/man/.*\)|\1.gz|' \
+        -e 's|usr/lib/udfburn/udfburn|usr/lib/python3/dist-packages/udfburn|' > "$room/listed"
+    printf '644 usr/share/doc/udfburn/%s\n' changelog.gz copyright | LC_ALL=C sort -k 2 - "$room/listed" > "$room/wanted"
     dpkg-deb -x "$package" "$room/unpacked"
     holds 'it has these files' same "$room/wanted" files "$room/unpacked"
     holds 'all of them are root'"'"'s' sh -c '! dpkg-deb -c "$1" | grep -v " root/root "' - "$package"
+    need lintian lintian
+    if command -v lintian > "$room/which"; then
+        holds 'lintian has nothing to say' silent lintian --allow-root "$package"
+    fi
     if [ "$(id -u)" -eq 0 ]; then
         # dpkg's own installation, in a root that has nothing but its list of packages, and the users that a system has.
         mkdir -p "$room/system/var/lib/dpkg/info" "$room/system/var/lib/dpkg/updates" "$room/system/etc"
@@ -169,7 +174,8 @@ if command -v dpkg-deb > "$room/which"; then
         printf 'root:x:0:0:root:/root:/bin/sh\n' > "$room/system/etc/passwd"
         printf 'root:x:0:\n' > "$room/system/etc/group"
         holds 'dpkg installs it' dpkg --root="$room/system" --log=/dev/null --force-script-chrootless,depends -i "$package"
-        holds 'the installed program is the one that was built' cmp "$UDFBURN" "$room/system/usr/bin/udfburn"
+        strip --strip-unneeded --remove-section=.comment --remove-section=.note -o "$room/stripped" "$UDFBURN"
+        holds 'the installed program is the one that was built' cmp "$room/stripped" "$room/system/usr/bin/udfburn"
         holds 'the user of the unit is there' grep -q '^udfburn:' "$room/system/etc/passwd"
         mkdir -p "$room/system/var/lib/udfburn"
         echo image > "$room/system/var/lib/udfburn/archive.img"
@@ -236,6 +242,8 @@ supervise() {
     while read -r command; do
         holds "before the start: ${command%% *}" "$@" $command
     done < "$room/before"
+    # Words of the unit, and none or two of a test's.
+    # shellcheck disable=SC2046
     "$@" $(commands ExecStart) $more > "$room/daemon" 2>&1 &
     daemon=$!
     holds 'the daemon answers' same "$room/wanted" asked

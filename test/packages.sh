@@ -29,7 +29,7 @@ case $1 in
     --lists) shift ;;
     --suites)
         shift
-        for tool in gcc:gcc python3:python3 rsync:rsync mandoc:mandoc strace:strace systemd-analyze:systemd udfclient:udfclient \
+        for tool in gcc:gcc python3:python3 rsync:rsync mandoc:mandoc strace:strace lintian:lintian strip:binutils mypy:mypy pyflakes3:pyflakes3 shellcheck:shellcheck systemd-analyze:systemd udfclient:udfclient \
             udfinfo:udftools blkid:util-linux mkfs.ext4:e2fsprogs mount:mount; do
             command -v "${tool%:*}" > /dev/null || set -- "$@" "${tool#*:}"
         done

@@ -124,7 +124,7 @@ make="\035\000\000\000\003\007$zeros\002$zeros\000$zeros\001\001\000d"
 first='\006\000\000\000\000\000\001\000\000\000'
 second='\006\000\000\000\000\000\002\000\000\000'
 printf "$create" > create
-printf "$make" > make
+printf "$make" > make_directory
 printf "$create$make" > both
 printf "$create\\000\\000\\000\\200$make" > long
 printf '\046\000\000\000\001\007' > part
@@ -241,7 +241,7 @@ kill -9 "$client"
 wait "$client" 2> wait.errors
 client=
 exec 3>&-
-input=make
+input=make_directory
 run send "$socket"
 told 'the next client' 0 "$second" ''
 line=$(cat daemon.errors)
@@ -320,9 +320,9 @@ if [ -c /dev/full ]; then
     cp before.img full.img
     : > output
     status=0
-    "$udfburn" apply full.img < make 2> errors > /dev/full || status=$?
+    "$udfburn" apply full.img < make_directory 2> errors > /dev/full || status=$?
     told 'a full disk' 1 '' 'udfburn: 92 Write\n'
-    input=make
+    input=make_directory
     run apply full.img
     told 'what was committed before it' 0 "$second" ''
     holds 'it was committed once' blocks full.img 273

@@ -3,7 +3,6 @@ from __future__ import annotations
 
 import argparse
 import os
-import shutil
 import signal
 import subprocess
 import sys
@@ -17,8 +16,10 @@ REPOSITORY = HERE.parent.parent
 # The shim that logs calls, its log and the frames are those of the tests.
 sys.path.insert(0, str(REPOSITORY / "test"))
 
-from faults.harness import answers_of, committed, compile_shim, read_log  # noqa: E402
-from plans import Plan, plan_of  # noqa: E402
+from faults.log import read_log  # noqa: E402
+from faults.programs import compile_shim  # noqa: E402
+from protocol import answers_of, committed  # noqa: E402
+from plans import Plan, plan_of, two_sync_plan  # noqa: E402
 from streams import Stream, creations, history  # noqa: E402
 from timing import ENVIRONMENT, Ended, Taken, clocks, difference, least_ratio, load, median_of, processors, ratio, run, sync_time  # noqa: E402
 
@@ -154,13 +155,24 @@ def logged(tools: Tools, program: str, stream: Stream) -> Logged:
     return made
 
 
+def least_plan(tools: Tools, made: Logged) -> Plan:
+    """The plan that writes the same image with two syncs a commit; `udfburn log` has the commits' last blocks, the newest first."""
+    image = put(tools.path("least.img"), made.image)
+    listed = subprocess.run([tools.udfburn, "log", image], check=True, stdout=subprocess.PIPE, text=True).stdout
+    os.unlink(image)
+    entries = [int(line.split()[1]) for line in reversed(listed.splitlines())]
+    return two_sync_plan(len(formatted(tools)), entries[1:], made.plan.opening_syncs())
+
+
 def sides_of(tools: Tools, program: str, name: str, made: Logged, place: str) -> list[Side]:
-    """The loop and the program, on images of their own."""
+    """The loop with two syncs a commit, the loop with the program's own calls, and the program, on images of their own."""
+    least = put(tools.path(name + ".least"), least_plan(tools, made).calls)
     plan = put(tools.path(name + ".plan"), made.plan.calls)
     blocks = put(tools.path(name + ".blocks"), made.image)
-    images = [os.path.join(place, "%s.%s.img" % (name, side)) for side in ("loop", "apply")]
-    return [Side([tools.loop, plan, blocks, images[0]], images[0], made.image, True),
-            Side([program, "apply", images[1]], images[1], made.image, False)]
+    images = [os.path.join(place, "%s.%s.img" % (name, side)) for side in ("least", "loop", "apply")]
+    return [Side([tools.loop, least, blocks, images[0]], images[0], made.image, True),
+            Side([tools.loop, plan, blocks, images[1]], images[1], made.image, True),
+            Side([program, "apply", images[2]], images[2], made.image, False)]
 
 
 def timed(tools: Tools, side: Side) -> Taken:
@@ -217,10 +229,10 @@ def heading(*cells: str) -> None:
 
 
 def measure_apply(tools: Tools, cases: Sequence[Case], places: Sequence[tuple[str, str]]) -> None:
-    """A table of `apply` beside its loop, and of the second program beside the first."""
+    """A table of `apply` beside two syncs a commit and beside its own calls, and of the second program beside the first."""
     lines: list[Sequence[object]] = []
-    heading("Files", "Names a directory", "On", "Program", "Writes, syncs a commit", "Loop, ms", "`apply`, ms", "Ratio (of a round)",
-            "Of the least times", "Of processor time", "Rounds", "Load")
+    heading("Files", "Names a directory", "On", "Program", "Writes, syncs a commit", "Two syncs, ms", "Same calls, ms", "`apply`, ms",
+            "Beside two syncs (of a round)", "Of the least times", "Beside the same calls", "Of processor time", "Rounds", "Load")
     for case in cases:
         programs = [("new", tools.udfburn)] + ([("before", tools.before)] if tools.before else [])
         made = [logged(tools, program, case.stream) for _, program in programs]
@@ -230,14 +242,14 @@ def measure_apply(tools: Tools, cases: Sequence[Case], places: Sequence[tuple[st
                 sides += sides_of(tools, program, name, one, place)
             series = rounds_of(tools, sides, "%s on %s" % (case.files, kind))
             for number, (name, _) in enumerate(programs):
-                loop, apply = series[2 * number], series[2 * number + 1]
+                least, loop, apply = series[3 * number:3 * number + 3]
                 plan = made[number].plan
                 calls = "%.2f, %.2f" % (plan.writes / case.stream.commits, plan.syncs / case.stream.commits)
-                row(case.files, case.names, kind, name, calls, median_of(clocks(loop)), median_of(clocks(apply)),
-                    ratio(clocks(apply), clocks(loop)), least_ratio(clocks(apply), clocks(loop)),
-                    ratio(processors(apply), processors(loop)), len(apply), load())
+                row(case.files, case.names, kind, name, calls, median_of(clocks(least)), median_of(clocks(loop)), median_of(clocks(apply)),
+                    ratio(clocks(apply), clocks(least)), least_ratio(clocks(apply), clocks(least)), ratio(clocks(apply), clocks(loop)),
+                    ratio(processors(apply), processors(least)), len(apply), load())
             if tools.before:
-                for what, new, old in (("`apply`", series[1], series[3]), ("loop", series[0], series[2])):
+                for what, new, old in (("`apply`", series[2], series[5]), ("same calls", series[1], series[4]), ("two syncs", series[0], series[3])):
                     lines.append((case.files, case.names, kind, what, median_of(clocks(old)), median_of(clocks(new)),
                                   ratio(clocks(new), clocks(old)), least_ratio(clocks(new), clocks(old)),
                                   difference(clocks(new), clocks(old), case.stream.commits)))
@@ -298,8 +310,10 @@ def measure(asked: argparse.Namespace, disk: str, memory: str, checks: Checks) -
     tools = Tools(os.path.abspath(asked.udfburn), before, compiled(HERE / "loop.c", os.path.join(memory, "loop")),
                   compiled(HERE / "read.c", os.path.join(memory, "read")), shim, memory, checks, asked.rounds, asked.quiet)
     few, large, many = (20, 2, 200) if asked.small else (asked.files, max(round(asked.files * 0.064), 1), 36000)
+    middle = 4 if asked.small else max(asked.files // 5, 1)
     names, fewer = (12, 4) if asked.small else (250, 32)
     cases = [Case("%d of 4 KiB" % few, names, creations(few, names, 4096)),
+             Case("%d of 100 KB" % middle, names, creations(middle, names, 100000)),
              Case("%d of a mebibyte" % large, 64, creations(large, 64, 1 << 20)),
              Case("%d of 4 KiB" % few, fewer, creations(few, fewer, 4096))]
     print("%s, %d rounds; disk: %s, memory: %s\n" % (load(), asked.rounds, kind_of(disk), kind_of(memory)))

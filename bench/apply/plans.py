@@ -1,10 +1,13 @@
-"""What a program writes to an image, in which writes and with which syncs, from a log of its calls."""
+"""What a program writes to an image, in which writes and with which syncs: from a log of its calls, or with two syncs a commit."""
 from __future__ import annotations
 
 import struct
 from typing import NamedTuple, Sequence
 
-from faults.harness import Record
+from faults.log import Record
+
+
+BLOCK = 2048
 
 
 class Plan(NamedTuple):
@@ -13,6 +16,11 @@ class Plan(NamedTuple):
     calls: bytes
     writes: int
     syncs: int
+
+    def opening_syncs(self) -> int:
+        """The syncs before the first write."""
+        lengths = [length for _, length in struct.iter_unpack("=qq", self.calls)]
+        return next((at for at, length in enumerate(lengths) if length), len(lengths))
 
 
 def plan_of(records: Sequence[Record], before: bytes, image: bytes) -> Plan:
@@ -34,4 +42,23 @@ def plan_of(records: Sequence[Record], before: bytes, image: bytes) -> Plan:
             raise ValueError("the file was cut back")
     if made != image:
         raise ValueError("the writes of the log do not make the image")
-    return Plan(b"".join(struct.pack("=qq", *call) for call in calls), writes, syncs)
+    return Plan(packed(calls), writes, syncs)
+
+
+def packed(calls: Sequence[tuple[int, int]]) -> bytes:
+    return b"".join(struct.pack("=qq", *call) for call in calls)
+
+
+def two_sync_plan(length_before: int, entries: Sequence[int], opening_syncs: int) -> Plan:
+    """The fewest calls that keep the promise: of each commit all blocks but the last as one write, a sync, the last block, a sync.
+
+    `length_before` is the length of the image in bytes before the first commit, `entries` the addresses of the commits' last blocks
+    in order. The syncs with which a program opens an image come first.
+    """
+    calls = [(0, 0)] * opening_syncs
+    begin = length_before
+    for entry in entries:
+        last = entry * BLOCK
+        calls += [(begin, last - begin), (0, 0), (last, BLOCK), (0, 0)]
+        begin = last + BLOCK
+    return Plan(packed(calls), 2 * len(entries), opening_syncs + 2 * len(entries))

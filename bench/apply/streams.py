@@ -4,7 +4,8 @@ from __future__ import annotations
 import random
 from typing import Iterator, NamedTuple
 
-from faults.harness import Request, spell
+from protocol import Request, encode
+
 
 CLIENT = 7
 # So that the streams of two runs are the same.
@@ -37,7 +38,7 @@ def creations(files: int, names: int, size: int) -> Stream:
         if number % names == 0:
             requests.append(Request("mkdir", CLIENT, len(requests) + 1, directory(above)))
         requests.append(Request("create", CLIENT, len(requests) + 1, file_in(above, number), chance.randbytes(size)))
-    frames = b"".join(spell(request) for request in requests)
+    frames = b"".join(encode(request) for request in requests)
     return Stream(frames, len(requests), files, len(requests) - files + 1)
 
 
@@ -58,7 +59,7 @@ def history(directories: int, names: int, commits: int) -> Stream:
 
     def add(kind: str, path: str) -> None:
         data = b"" if kind in ("mkdir", "remove") else chance.randbytes(chance.randrange(1, 1500))
-        frames.append(spell(Request(kind, CLIENT, len(frames) + 1, path, data)))
+        frames.append(encode(Request(kind, CLIENT, len(frames) + 1, path, data)))
 
     for above in range(directories):
         add("mkdir", directory(above))

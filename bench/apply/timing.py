@@ -29,7 +29,7 @@ def run(words: Sequence[str], input_path: str, output_path: str, environment: Op
     with open(input_path, "rb") as given, open(output_path, "w+b") as output, open(output_path + ".errors", "w+b") as errors:
         actions = [(os.POSIX_SPAWN_DUP2, file.fileno(), number) for number, file in enumerate((given, output, errors))]
         begun = time.perf_counter_ns()
-        process = os.posix_spawn(words[0], words, ENVIRONMENT if environment is None else environment, file_actions=actions)
+        process = os.posix_spawn(words[0], list(words), ENVIRONMENT if environment is None else environment, file_actions=actions)
         _, status, usage = os.wait4(process, 0)
         clock = time.perf_counter_ns() - begun
         output.seek(0)

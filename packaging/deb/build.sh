@@ -2,14 +2,17 @@
 # Makes a Debian package of what install.sh installs, and prints its path.
 #
 # usage: packaging/deb/build.sh FOLDER
-# UDFBURN and UDFBURND name the programs, as for install.sh. It needs dpkg-deb alone.
+# UDFBURN and UDFBURND name the programs, as for install.sh. It needs dpkg-deb, and strip of binutils.
 set -eu
 [ $# -eq 1 ] || { echo 'usage: build.sh FOLDER' >&2; exit 2; }
 mkdir -p "$1"
 folder=$(cd "$1" && pwd)
 cd "$(dirname "$0")/../.."
-version=$(sed -n 's/^## \([0-9][0-9.]*\).*/\1/p' CHANGELOG.md | head -n 1)
+version=$(sed -n 's/^__version__ = "\(.*\)"$/\1/p' clients/python/udfburn/__init__.py)
+# The date of the release, as CHANGELOG.md has it beside the version; of an unreleased one, today.
+released=$(sed -n "s/^## \[\{0,1\}$version\]\{0,1\} - \([0-9-]*\)$/\1/p" CHANGELOG.md)
 architecture=$(dpkg --print-architecture)
+maintainer='Yashkobal maintainers <maintainers@users.noreply.yashkobal.example>'
 work=$(mktemp -d)
 trap 'rm -rf "$work"' EXIT
 trap 'exit 1' HUP INT PIPE TERM
@@ -21,8 +24,21 @@ DESTDIR=$room PYTHON_DIR=/usr/lib/python3/dist-packages ./install.sh /usr
 # The package's own list is what dpkg keeps.
 rm "$room/usr/share/doc/udfburn/installed"
 find "$room/usr/share/man" -type f -exec gzip -9n {} +
-gzip -9n "$room/usr/share/doc/udfburn/CHANGELOG.md"
-mv "$room/usr/share/doc/udfburn/CHANGELOG.md.gz" "$room/usr/share/doc/udfburn/changelog.gz"
+strip --strip-unneeded --remove-section=.comment --remove-section=.note "$room/usr/bin/udfburn" "$room/usr/bin/udfburnd"
+documents=$room/usr/share/doc/udfburn
+# Debian's policy has names of its own for the licence and for what changed.
+rm "$documents/LICENSE-MIT" "$documents/LICENSE-APACHE"
+install -m 644 packaging/deb/copyright "$documents/copyright"
+gzip -9n "$documents/CHANGELOG.md"
+mv "$documents/CHANGELOG.md.gz" "$documents/NEWS.gz"
+gzip -9n > "$documents/changelog.gz" << END
+udfburn ($version) unstable; urgency=medium
+
+  * See NEWS.gz.
+
+ -- $maintainer  $(LC_ALL=C date -u -R -d "${released:-today}")
+END
+chmod 644 "$documents/changelog.gz"
 
 # The newest symbols of the C library that the programs ask for say which one they need.
 libc=
@@ -45,7 +61,7 @@ cat > "$room/DEBIAN/control" << END
 Package: udfburn
 Version: $version
 Architecture: $architecture
-Maintainer: Yashkobal maintainers <maintainers@users.noreply.yashkobal.example>
+Maintainer: $maintainer
 Installed-Size: $size
 Depends: libc6$libc$client
 Section: utils

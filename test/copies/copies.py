@@ -16,7 +16,6 @@ import random
 import shutil
 import signal
 import socket
-import struct
 import subprocess
 import sys
 import threading
@@ -24,11 +23,11 @@ import time
 from pathlib import Path
 from typing import Callable, Dict, List, Optional, Tuple
 
-sys.path.insert(0, str(Path(__file__).resolve().parent.parent / "readers"))
+sys.path.insert(0, str(Path(__file__).resolve().parent.parent))
 
-from frames import (  # noqa: E402
+from protocol import (  # noqa: E402
     BLOCK, CREATE, GET, LIST, MAKE_DIRECTORY, REMOVE, RENAME, REPLACE, STAT,
-    Directory, File, Path as Names, Request, Tree, answers, committed, encode, query,
+    Answer, Directory, File, Names, Request, Tree, answers_of, committed, encode, path_of, query,
 )
 
 CAPACITY = 200_000
@@ -55,17 +54,18 @@ def requests(die: random.Random, count: int) -> List[Request]:
         folders = [()] + [path for path, node in nodes if isinstance(node, Directory) and len(path) < 8]
         words = die.choice((0, 1, 100, 234, 235, 700, 2000, 5000, 20_000, 131_072 if die.randrange(4) == 0 else 300))
         data = die.getrandbits(64).to_bytes(8, "little") * words
-        new = die.choice(folders) + ("n%d" % number,)
+        new = path_of(die.choice(folders) + ("n%d" % number,))
+        moment = number * 1_000_001
         what = die.randrange(10)
-        request = Request(CREATE, 9, number, number * 1_000_001, new, data)
+        request = Request(CREATE, 9, number, new, data, moment=moment)
         if what == 0:
-            request = Request(MAKE_DIRECTORY, 9, number, number * 1_000_001, new)
+            request = Request(MAKE_DIRECTORY, 9, number, new, moment=moment)
         elif what in (1, 2) and files:
-            request = Request(REPLACE, 9, number, number * 1_000_001, die.choice(files), data)
+            request = Request(REPLACE, 9, number, path_of(die.choice(files)), data, moment=moment)
         elif what == 3 and files:
-            request = Request(RENAME, 9, number, number * 1_000_001, die.choice(files), b"", new)
+            request = Request(RENAME, 9, number, path_of(die.choice(files)), to=new, moment=moment)
         elif what == 4 and empty + files or len(files) > 60:
-            request = Request(REMOVE, 9, number, number * 1_000_001, die.choice(empty + files))
+            request = Request(REMOVE, 9, number, path_of(die.choice(empty + files)), moment=moment)
         if tree.do(request) != 0:
             raise AssertionError("a request that is refused")
         out.append(request)
@@ -139,7 +139,7 @@ class Writer(threading.Thread):
                     raise ConnectionError("the daemon closed")
                 held += piece
                 while len(held) >= 10:
-                    if held[:10] != committed(0, self.answered + 1):
+                    if held[:10] != committed(0, self.answered + 1).framed():
                         raise AssertionError("request %d is answered %r" % (self.answered + 1, held[:10]))
                     held = held[10:]
                     self.answered += 1
@@ -210,29 +210,18 @@ class Replay:
 
 def differences(udfburn: str, copy: Path, tree: Tree) -> List[str]:
     """What the image's tree has otherwise than this one, by questions for each of its nodes."""
-    asked: List[bytes] = []
-    wanted: List[bytes] = []
-    of: List[Names] = []
-    for path, node in tree.walk():
-        file = isinstance(node, File)
-        size = len(node.data) if isinstance(node, File) else len(node.names)
-        asked.append(query(STAT, path))
-        wanted.append(struct.pack("<HBQQ", 66, 0 if file else 1, node.moment, size))
-        if isinstance(node, File):
-            asked.append(query(GET, path))
-            wanted.append(struct.pack("<HI", 64, size) + node.data)
-        else:
-            asked.append(query(LIST, path))
-            body = struct.pack("<HH", 65, size)
-            for name, child in node.names.items():
-                text = name.encode()
-                body += struct.pack("<BH", 0 if isinstance(child, File) else 1, len(text)) + text
-            wanted.append(body)
+    asked = b""
+    wanted: List[Answer] = []
+    of: List[str] = []
+    for names, node in tree.walk():
+        path = path_of(names)
+        asked += query(STAT, path) + query(GET if isinstance(node, File) else LIST, path)
+        wanted += [tree.stat(path), tree.get(path) if isinstance(node, File) else tree.list(path)]
         of += [path, path]
-    found = answers(run(udfburn, "apply", str(copy), given=b"".join(asked)))
+    found = answers_of(run(udfburn, "apply", str(copy), given=asked))
     if len(found) != len(wanted):
         return ["%d answers, not %d" % (len(found), len(wanted))]
-    return ["/%s is %r" % ("/".join(path), got[:40]) for path, got, want in zip(of, found, wanted) if got != want]
+    return ["%s is %d %r" % (path, got.code, got.rest[:40]) for path, got, want in zip(of, found, wanted) if got != want]
 
 
 class Copies:

@@ -18,7 +18,7 @@ import subprocess
 import sys
 import time
 from pathlib import Path
-from typing import Dict, List, Optional, Tuple
+from typing import Dict, List, Tuple
 
 HOME = Path(__file__).resolve().parent.parent.parent
 SPAN = re.compile(r"`([^`]*)`|(\w+) zero bytes")

@@ -17,7 +17,8 @@ from concurrent.futures import ThreadPoolExecutor
 from pathlib import Path
 from typing import Any, NamedTuple
 
-from faults import harness
+from faults.programs import build
+
 
 # Seconds after which a module counts as hanging: many times what one takes, also beside other work.
 LONGEST = 3600.0
@@ -103,7 +104,7 @@ def main() -> int:
     found = {path.stem for pattern in ("test_*.py", "load_*.py") for path in here.glob(pattern)}
     names = asked.words[2:] or sorted(found - {SUPPORT})
     names.sort(key=lambda name: name not in LONG)
-    room = harness.build().room
+    room = build().room
     environment = {**os.environ, "FAULTS_BUILT": room, "PYTHONDONTWRITEBYTECODE": "1"}
     passed = failed = skipped = 0
     with ThreadPoolExecutor(asked.jobs) as pool:

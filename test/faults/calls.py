@@ -10,7 +10,9 @@ import os
 from pathlib import Path
 from typing import Optional, Sequence, Union
 
-from faults.harness import BLOCK, Answer, Record, split_answers
+from faults.log import Record
+from protocol import BLOCK, Answer, split_answers
+
 
 EINTR = 4
 

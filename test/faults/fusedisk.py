@@ -10,7 +10,8 @@ import time
 from pathlib import Path
 from typing import NamedTuple, NoReturn
 
-from faults.harness import BLOCK
+from protocol import BLOCK
+
 
 LOOKUP, FORGET, GETATTR, SETATTR, OPEN, READ, WRITE, STATFS, RELEASE, FSYNC, FLUSH, INIT = 1, 2, 3, 4, 14, 15, 16, 17, 18, 20, 25, 26
 OPENDIR_RELEASE, INTERRUPT, DESTROY, BATCH_FORGET = 29, 36, 38, 42

@@ -14,15 +14,21 @@ import unittest
 from pathlib import Path
 from typing import Callable, Optional
 
-from faults import harness
-from faults.harness import Answer, Client, Daemon, Model, Ran, Request, await_true
+from faults.case import need_shim
 from faults.load_support import Case, as_nobody, descriptors_of, memory_of, seconds_of
+from faults.machine import need_root
+from faults.processes import PATIENCE, await_true
+from faults.programs import built
+from faults.running import Client, Daemon, Ran
+from protocol import (
+    MALFORMED, NAMES, NO_NODE, Answer, Model, Request, answers_of, committed, data_answer, encode, frame, paths_of, query,
+)
 
 # Seconds without a byte behind which a client is let go (docs/OPERATIONS.md).
 SILENCE = 60.0
-EMPTY_ROOT = Answer(harness.NAMES, b"\0\0")
-TOO_LONG = Answer(harness.MALFORMED, struct.pack("<H", 51))
-CUT = Answer(harness.MALFORMED, struct.pack("<H", 53))
+EMPTY_ROOT = Answer(NAMES, b"\0\0")
+TOO_LONG = Answer(MALFORMED, struct.pack("<H", 51))
+CUT = Answer(MALFORMED, struct.pack("<H", 53))
 READ_OR_WRITE = (b"udfburnd: 91 Read\n", b"udfburnd: 92 Write\n")
 
 
@@ -42,9 +48,9 @@ class Serving(Case):
         """Another client's request is committed, and all that was committed is there."""
         with daemon.client() as client:
             request = self.request(b"next")
-            self.assertEqual(client.ask(harness.spell(request)), self.model.answer(request))
+            self.assertEqual(client.ask(encode(request)), self.model.answer(request))
             for each in self.requests:
-                self.assertEqual(client.ask(harness.query("get", each.path)), self.model.get(each.path))
+                self.assertEqual(client.ask(query("get", each.path)), self.model.get(each.path))
         self.assertIsNone(daemon.process.poll())
 
 
@@ -62,7 +68,7 @@ class Rude(Serving):
             self.assertLessEqual(len(told), lines)
             for line in told:
                 self.assertIn(line, READ_OR_WRITE)
-        self.tree_is(self.model, harness.paths_of(self.requests))
+        self.tree_is(self.model, paths_of(self.requests))
 
     def test_closed_at_once(self) -> None:
         def rude(daemon: Daemon) -> None:
@@ -71,7 +77,7 @@ class Rude(Serving):
         self.with_daemon(rude, 0)
 
     def test_closed_in_a_frame(self) -> None:
-        whole = harness.spell(Request("create", 9, 1, "/never", b"x" * 3000))
+        whole = encode(Request("create", 9, 1, "/never", b"x" * 3000))
 
         def rude(daemon: Daemon) -> None:
             for cut in (1, 2, 3, 4, 5, 20, 31, 100, len(whole) - 1):
@@ -81,14 +87,14 @@ class Rude(Serving):
 
     def test_no_more_is_sent_in_a_frame(self) -> None:
         """Where the stream ends inside a frame, what came before it is answered and the frame is not."""
-        whole = harness.spell(Request("create", 9, 1, "/never", b"x" * 3000))
+        whole = encode(Request("create", 9, 1, "/never", b"x" * 3000))
 
         def rude(daemon: Daemon) -> None:
             for cut in (1, 4, 5, 100, len(whole) - 1):
                 with daemon.client() as client:
-                    client.send(harness.query("get", "/none") + whole[:cut])
+                    client.send(query("get", "/none") + whole[:cut])
                     client.end()
-                    self.assertEqual(client.answer(), Answer(harness.NO_NODE))
+                    self.assertEqual(client.answer(), Answer(NO_NODE))
                     self.assertIsNone(client.answer())
         self.with_daemon(rude, 0)
 
@@ -98,7 +104,7 @@ class Rude(Serving):
             for number in range(10):
                 with daemon.client() as client:
                     request = self.request(b"u" * number * 900)
-                    client.send(harness.spell(request) + harness.query("get", request.path) * 5)
+                    client.send(encode(request) + query("get", request.path) * 5)
                     self.model.answer(request)
                     # It was committed where an answer waits.
                     client.socket.recv(1, socket.MSG_PEEK)
@@ -108,10 +114,10 @@ class Rude(Serving):
         def rude(daemon: Daemon) -> None:
             large = self.request(b"l" * 1_000_000)
             with daemon.client() as client:
-                self.assertEqual(client.ask(harness.spell(large)), self.model.answer(large))
+                self.assertEqual(client.ask(encode(large)), self.model.answer(large))
             for taken in (1, 5000, 300_000):
                 with daemon.client() as client:
-                    client.send(harness.query("get", large.path) * 20)
+                    client.send(query("get", large.path) * 20)
                     while taken > 0:
                         taken -= len(client.socket.recv(taken))
         self.with_daemon(rude, 3)
@@ -139,9 +145,9 @@ class Rude(Serving):
                     kind = fall.choice([0, 6, 15, 19, 255, 1, 2, 3, 4, 5, 16, 17, 18])
                     # The length of the first name lies above what follows, so that no path is whole.
                     rest = fall.randbytes(24) + b"\x01\xff\xff" if kind < 16 else b"\x05\xff\xff"
-                    answer = client.ask(harness.frame(bytes([kind]) + rest + fall.randbytes(fall.randrange(200))))
+                    answer = client.ask(frame(bytes([kind]) + rest + fall.randbytes(fall.randrange(200))))
                     assert answer is not None
-                    self.assertEqual(answer.code, harness.MALFORMED)
+                    self.assertEqual(answer.code, MALFORMED)
                     if kind in (0, 6, 15, 19, 255):
                         self.assertEqual(answer.rest, struct.pack("<H", 52))
                     else:
@@ -152,20 +158,20 @@ class Rude(Serving):
         def rude(daemon: Daemon) -> None:
             for length in (1_114_113, 1 << 31, 0xFFFFFFFF):
                 with daemon.client() as client:
-                    client.send(harness.query("get", "/none") + struct.pack("<I", length))
+                    client.send(query("get", "/none") + struct.pack("<I", length))
                     # Its answer comes with its length, and the conversation is over, though the client sent no end.
-                    self.assertEqual([client.answer(), client.answer(), client.answer()], [Answer(harness.NO_NODE), TOO_LONG, None])
+                    self.assertEqual([client.answer(), client.answer(), client.answer()], [Answer(NO_NODE), TOO_LONG, None])
             with daemon.client() as client:
                 never = self.model.latest[7] + 1
-                client.send(struct.pack("<I", 1_114_113) + harness.spell(Request("create", 7, never, "/never")))
+                client.send(struct.pack("<I", 1_114_113) + encode(Request("create", 7, never, "/never")))
                 self.assertEqual([client.answer(), client.answer()], [TOO_LONG, None])
         self.with_daemon(rude, 4)
 
     def test_the_longest_frame(self) -> None:
         def rude(daemon: Daemon) -> None:
             with daemon.client() as client:
-                self.assertEqual(client.ask(harness.frame(b"\x00" * 1_114_112)), Answer(harness.MALFORMED, struct.pack("<H", 52)))
-                self.assertEqual(client.ask(harness.query("get", "/none")), Answer(harness.NO_NODE))
+                self.assertEqual(client.ask(frame(b"\x00" * 1_114_112)), Answer(MALFORMED, struct.pack("<H", 52)))
+                self.assertEqual(client.ask(query("get", "/none")), Answer(NO_NODE))
         self.with_daemon(rude, 0)
 
     def test_a_flood_of_malformed_frames(self) -> None:
@@ -176,9 +182,9 @@ class Rude(Serving):
             with daemon.client() as client:
                 # Once with less, so that what is kept for answers is there.
                 for rounds in (20_000, count):
-                    sender = threading.Thread(target=client.send, args=(harness.frame(b"") * rounds,))
+                    sender = threading.Thread(target=client.send, args=(frame(b"") * rounds,))
                     sender.start()
-                    expected = harness.frame(struct.pack("<HH", 38, 53))
+                    expected = frame(struct.pack("<HH", 38, 53))
                     left = len(expected) * rounds
                     seen = bytearray()
                     while left:
@@ -204,21 +210,21 @@ class Many(Serving):
                 with daemon.client() as client:
                     if number % 100 == 0:
                         request = self.request(b"%d" % number)
-                        self.assertEqual(client.ask(harness.spell(request)), self.model.answer(request))
+                        self.assertEqual(client.ask(encode(request)), self.model.answer(request))
                     elif number % 3 == 0:
-                        self.assertEqual(client.ask(harness.query("get", "/f1")), self.model.get("/f1"))
+                        self.assertEqual(client.ask(query("get", "/f1")), self.model.get("/f1"))
                     elif number % 3 == 1:
-                        client.send(harness.query("get", "/f1"))
+                        client.send(query("get", "/f1"))
                         client.end()
                         self.assertEqual([client.answer(), client.answer()], [self.model.get("/f1"), None])
                 if number == 1000:
                     before = memory_of(process)
                     client = daemon.client()
-                    self.assertEqual(client.ask(harness.query("get", "/f1")), self.model.get("/f1"))
+                    self.assertEqual(client.ask(query("get", "/f1")), self.model.get("/f1"))
                     descriptors = descriptors_of(process)
                     client.close()
             with daemon.client() as client:
-                self.assertEqual(client.ask(harness.query("get", "/f1")), self.model.get("/f1"))
+                self.assertEqual(client.ask(query("get", "/f1")), self.model.get("/f1"))
                 self.assertEqual(descriptors_of(process), descriptors)
             behind = memory_of(process)
             for name in ("VmRSS", "VmHWM"):
@@ -226,7 +232,7 @@ class Many(Serving):
             # Clients that closed without a word, or with an answer unread, are no more than a line each.
             self.assertLessEqual(set(daemon.errors().splitlines(True)), set(READ_OR_WRITE))
         self.assertEqual(self.model.commits, 100)
-        self.tree_is(self.model, harness.paths_of(self.requests))
+        self.tree_is(self.model, paths_of(self.requests))
 
     def test_exactly_so_many(self) -> None:
         self.fresh(capacity=20000)
@@ -238,12 +244,12 @@ class Many(Serving):
                         # One that says nothing counts as well.
                         if number % 3 != 1:
                             request = self.request()
-                            self.assertEqual(client.ask(harness.spell(request)), self.model.answer(request))
+                            self.assertEqual(client.ask(encode(request)), self.model.answer(request))
                 self.assertEqual(daemon.wait(), 0)
                 self.assertEqual(daemon.errors(), b"")
                 with self.assertRaises(ConnectionRefusedError):
                     Client(daemon.path, patience=0.0)
-        self.tree_is(self.model, harness.paths_of(self.requests))
+        self.tree_is(self.model, paths_of(self.requests))
 
     def test_none(self) -> None:
         self.fresh()
@@ -258,12 +264,12 @@ class Many(Serving):
             self.requests = [Request("create", 100 + number, 1, "/f%d" % number, b"%d" % number) for number in range(40)]
             # The last to come asks first.
             for client, request in reversed(list(zip(clients, self.requests))):
-                client.send(harness.spell(request))
+                client.send(encode(request))
             for client, request in zip(clients, self.requests):
                 self.assertEqual(client.answer(), self.model.answer(request))
                 client.close()
             self.assertEqual(daemon.wait(), 0)
-        self.tree_is(self.model, harness.paths_of(self.requests))
+        self.tree_is(self.model, paths_of(self.requests))
 
 
     def test_many_senders_at_once(self) -> None:
@@ -280,8 +286,8 @@ class Many(Serving):
                 senders = {}
                 for client, requests in frames.items():
                     if requests[0].number == number:
-                        stdin = harness.spell(requests[0]) + harness.query("get", requests[0].path)
-                        process = subprocess.Popen([harness.built().udfburn, "send", "s"], cwd=self.folder, stdin=subprocess.PIPE,
+                        stdin = encode(requests[0]) + query("get", requests[0].path)
+                        process = subprocess.Popen([built().udfburn, "send", "s"], cwd=self.folder, stdin=subprocess.PIPE,
                                                    stdout=subprocess.PIPE, stderr=subprocess.PIPE)
                         assert process.stdin is not None
                         process.stdin.write(stdin)
@@ -290,8 +296,8 @@ class Many(Serving):
                 for client, process in senders.items():
                     with process:
                         assert process.stdout is not None and process.stderr is not None
-                        codes[client] = harness.answers_of(process.stdout.read())
-                        self.assertEqual((process.wait(harness.PATIENCE), process.stderr.read()), (0, b""))
+                        codes[client] = answers_of(process.stdout.read())
+                        self.assertEqual((process.wait(PATIENCE), process.stderr.read()), (0, b""))
             self.assertEqual(daemon.errors(), b"")
         commits = sorted(answers[0].commit for answers in codes.values())
         self.assertEqual(commits, list(range(1, count + 1)))
@@ -331,13 +337,13 @@ class Descriptors(Serving):
             for stretch in (1, 2):
                 with daemon.client() as client:
                     request = self.request(b"before")
-                    self.assertEqual(client.ask(harness.spell(request)), self.model.answer(request))
+                    self.assertEqual(client.ask(encode(request)), self.model.answer(request))
                     # The connection has the lowest number that was free, so behind it none is.
                     (number,) = set(descriptors_of(process)) - set(idle)
                     resource.prlimit(process, resource.RLIMIT_NOFILE, (number, limits[1]))
                 request = self.request(b"late")
                 with daemon.client() as client:
-                    client.send(harness.spell(request))
+                    client.send(encode(request))
                     self.assertTrue(await_true(lambda: len(daemon.errors().splitlines()) == stretch))
                     self.rests(process)
                     self.assertIsNone(daemon.process.poll())
@@ -351,16 +357,16 @@ class Descriptors(Serving):
             self.assertIsNone(daemon.process.poll())
             self.next_is_served_last(daemon)
             self.assertEqual(daemon.wait(), 0)
-        self.tree_is(self.model, harness.paths_of(self.requests))
+        self.tree_is(self.model, paths_of(self.requests))
 
     def next_is_served_last(self, daemon: Daemon) -> None:
         with daemon.client() as client:
             request = self.request(b"last")
-            self.assertEqual(client.ask(harness.spell(request)), self.model.answer(request))
+            self.assertEqual(client.ask(encode(request)), self.model.answer(request))
 
     def test_connections_that_could_not_be_taken(self) -> None:
         """Each error of accept: no descriptor in the system, no memory, a client that went away before."""
-        harness.need_shim()
+        need_shim()
         for error in (24, 23, 12, 103):
             with self.subTest(error=error):
                 self.fresh(capacity=20000)
@@ -375,7 +381,7 @@ class Descriptors(Serving):
         """Where there are fewer descriptors than a start takes the daemon ends, and says why."""
         self.fresh()
         # One is left, which the image takes, so that its folder finds none. Behind that the socket takes the folder's.
-        ran = self.program([harness.built().udfburnd, "d.img", "s"], preexec_fn=lambda: resource.setrlimit(resource.RLIMIT_NOFILE, (4, 4)))
+        ran = self.program([built().udfburnd, "d.img", "s"], preexec_fn=lambda: resource.setrlimit(resource.RLIMIT_NOFILE, (4, 4)))
         self.tell(ran, 1, b"", b"udfburnd: 64 Device\n")
         self.assertFalse(self.path("s").exists())
         self.assertEqual(self.sound(), 0)
@@ -390,7 +396,7 @@ class Paths(Case):
     def refused(self, path: str) -> None:
         before = self.there()
         image = self.path("d.img").read_bytes()
-        ran = self.program([harness.built().udfburnd, "d.img", path, "--connections", "0"])
+        ran = self.program([built().udfburnd, "d.img", path, "--connections", "0"])
         self.tell(ran, 1, b"", b"udfburnd: 94 Socket\n")
         self.assertEqual(self.path("d.img").read_bytes(), image)
         self.assertEqual(self.there(), before)
@@ -409,12 +415,12 @@ class Paths(Case):
         self.assertEqual(self.path("there").read_bytes(), b"a file")
 
     def send(self, path: str) -> Ran:
-        return self.udfburn("send", path, stdin=harness.query("list", "/"))
+        return self.udfburn("send", path, stdin=query("list", "/"))
 
     def test_the_longest_path(self) -> None:
         self.fresh()
         name = "x" * 107
-        process = subprocess.Popen([harness.built().udfburnd, "d.img", name, "--connections", "1"], cwd=self.folder,
+        process = subprocess.Popen([built().udfburnd, "d.img", name, "--connections", "1"], cwd=self.folder,
                                    stdin=subprocess.DEVNULL, stdout=subprocess.DEVNULL, stderr=subprocess.DEVNULL)
         try:
             ran = self.send(name)
@@ -422,8 +428,8 @@ class Paths(Case):
             while ran.errors == b"udfburn: 94 Socket\n" and process.poll() is None:
                 time.sleep(0.01)
                 ran = self.send(name)
-            self.tell(ran, 0, harness.frame(b"\x41\0\0\0"), b"")
-            self.assertEqual(process.wait(harness.PATIENCE), 0)
+            self.tell(ran, 0, frame(b"\x41\0\0\0"), b"")
+            self.assertEqual(process.wait(PATIENCE), 0)
         finally:
             process.kill()
             process.wait()
@@ -439,7 +445,7 @@ class Rights(Case):
     """Who may connect is decided by the socket's folder, and by the rights that the umask leaves to the socket."""
 
     def test_each_mask(self) -> None:
-        harness.need_root()
+        need_root()
         self.fresh()
         room = self.path("room")
         room.mkdir()
@@ -451,9 +457,9 @@ class Rights(Case):
                         # Root may, whatever the rights are.
                         daemon.client().close()
                         self.assertEqual(stat.S_IMODE(daemon.path.stat().st_mode), 0o777 & ~mask)
-                        ran = self.udfburn("send", "room/s", stdin=harness.query("list", "/"), **as_nobody())
+                        ran = self.udfburn("send", "room/s", stdin=query("list", "/"), **as_nobody())
                         if folder & 0o001 and not mask & 0o002:
-                            self.tell(ran, 0, harness.frame(b"\x41\0\0\0"), b"")
+                            self.tell(ran, 0, frame(b"\x41\0\0\0"), b"")
                         else:
                             self.tell(ran, 1, b"", b"udfburn: 94 Socket\n")
 
@@ -476,7 +482,7 @@ class Stall:
 
     def wait(self) -> None:
         try:
-            self.answer = self.waiting.ask(harness.query("list", "/none"))
+            self.answer = self.waiting.ask(query("list", "/none"))
         except OSError:
             pass
         self.seconds = time.monotonic() - self.begin
@@ -495,21 +501,21 @@ class Waiting(Case):
         pass
 
     def half(self, client: Client) -> None:
-        client.send(harness.spell(Request("create", 9, 1, "/never", b"x" * 5000))[:700])
+        client.send(encode(Request("create", 9, 1, "/never", b"x" * 5000))[:700])
 
     def answered_and_silent(self, client: Client) -> None:
         request = Request("create", 9, 1, "/kept", b"x" * 5000)
-        self.assertEqual(client.ask(harness.spell(request)), harness.committed(0, 1))
+        self.assertEqual(client.ask(encode(request)), committed(0, 1))
 
     def never_reads(self, client: Client) -> None:
         request = Request("create", 9, 1, "/kept", b"x" * 1_000_000)
-        self.assertEqual(client.ask(harness.spell(request)), harness.committed(0, 1))
-        client.send(harness.query("get", "/kept") * 10)
+        self.assertEqual(client.ask(encode(request)), committed(0, 1))
+        client.send(query("get", "/kept") * 10)
 
     def never_reads_many(self, client: Client) -> None:
         request = Request("create", 9, 1, "/kept", b"x" * 100)
-        self.assertEqual(client.ask(harness.spell(request)), harness.committed(0, 1))
-        client.send(harness.query("get", "/kept") * 5000)
+        self.assertEqual(client.ask(encode(request)), committed(0, 1))
+        client.send(query("get", "/kept") * 5000)
 
     def takes_little(self, client: Client) -> None:
         """It takes a byte now and then, and no piece of an answer whole."""
@@ -537,20 +543,20 @@ class Waiting(Case):
             self.path("slow.img").write_bytes(self.path("base.img").read_bytes())
             slow = Daemon(self.folder, "slow.img", "--connections", "1", socket_name="slow")
             self.addCleanup(slow.kill)
-            frames = harness.spell(Request("create", 9, 1, "/slow", b"x" * 5000))
+            frames = encode(Request("create", 9, 1, "/slow", b"x" * 5000))
             with slow.client() as client:
                 for at in range(3):
                     client.send(frames[at:at + 1])
                     time.sleep(0.4 * SILENCE)
                 client.send(frames[3:])
-                self.assertEqual(client.answer(), harness.committed(0, 1))
+                self.assertEqual(client.answer(), committed(0, 1))
             self.assertEqual((slow.wait(), slow.errors()), (0, b""))
             for stall in stalls:
                 with self.subTest(stall=stall.name):
                     is_unread = stall.name in ("unread", "many", "little")
-                    stall.thread.join(harness.PATIENCE)
+                    stall.thread.join(PATIENCE)
                     self.assertFalse(stall.thread.is_alive(), "the next client was never served")
-                    self.assertEqual(stall.answer, Answer(harness.NO_NODE))
+                    self.assertEqual(stall.answer, Answer(NO_NODE))
                     self.assertGreater(stall.seconds, SILENCE - 2.0)
                     self.assertLess(stall.seconds, 2 * SILENCE)
                     line = b"udfburnd: 92 Write\n" if is_unread else b"udfburnd: 91 Read\n"
@@ -562,9 +568,9 @@ class Waiting(Case):
         # What was committed stands, what was not whole does not.
         for name, path, size in (("silent", "/never", 0), ("half", "/never", 0), ("done", "/kept", 5000), ("unread", "/kept", 1_000_000),
                                  ("many", "/kept", 100), ("little", "/kept", 1_000_000), ("slow", "/slow", 5000)):
-            expected = harness.data_answer(b"x" * size) if size else Answer(harness.NO_NODE)
-            ran = self.apply(harness.query("get", path), image=name + ".img")
-            self.assertEqual((ran.status, harness.answers_of(ran.output)), (0, [expected]))
+            expected = data_answer(b"x" * size) if size else Answer(NO_NODE)
+            ran = self.apply(query("get", path), image=name + ".img")
+            self.assertEqual((ran.status, answers_of(ran.output)), (0, [expected]))
 
 
 if __name__ == "__main__":

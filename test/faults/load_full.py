@@ -9,9 +9,12 @@ import subprocess
 import unittest
 from pathlib import Path
 
-from faults import harness
-from faults.harness import BLOCK, Answer, Daemon, Model, Ran, Request, paths_of
 from faults.load_support import Case, during, listing, spell_all
+from faults.machine import lacks
+from faults.processes import PATIENCE
+from faults.programs import built
+from faults.running import Daemon, Ran
+from protocol import BLOCK, FAULT, Answer, Model, Request, answers_of, encode, paths_of, query
 
 PAGE = 4096
 BEFORE = [
@@ -39,7 +42,7 @@ class Disk(Case):
         super().setUp()
         self.disk = self.mounted("disk", "-t", "tmpfs", "-o", "size=8m", "none")
         if os.sysconf("SC_PAGE_SIZE") != PAGE:
-            harness.lacks("a page is not %d bytes" % PAGE)
+            lacks("a page is not %d bytes" % PAGE)
 
     def room(self, pages: int) -> None:
         """Leaves so many pages free."""
@@ -84,10 +87,10 @@ class Full(Disk):
                     new = self.old.copy()
                     expected = new.answer(request)
                     self.room(pages)
-                    ran = self.apply(harness.spell(request), image=str(image))
+                    ran = self.apply(encode(request), image=str(image))
                     self.assertEqual((ran.status, ran.errors), (0, b""))
-                    (answer,) = harness.answers_of(ran.output)
-                    if answer == Answer(harness.FAULT):
+                    (answer,) = answers_of(ran.output)
+                    if answer == Answer(FAULT):
                         faults += 1
                         # Behind the old one there are whole blocks at most, which are nothing without the last.
                         found = image.read_bytes()
@@ -95,8 +98,8 @@ class Full(Disk):
                         self.assertEqual(len(found) % BLOCK, 0)
                         self.tree_is(self.old, paths, str(image))
                         self.room(100)
-                        again = self.apply(harness.spell(request), image=str(image))
-                        self.assertEqual(harness.answers_of(again.output), [expected])
+                        again = self.apply(encode(request), image=str(image))
+                        self.assertEqual(answers_of(again.output), [expected])
                     else:
                         done += 1
                         self.assertEqual(answer, expected)
@@ -116,16 +119,16 @@ class Full(Disk):
                 with daemon.client() as client:
                     self.room(0 if number % 2 else 1)
                     for _ in range(3):
-                        answer = client.ask(harness.spell(request))
-                        if answer != Answer(harness.FAULT):
+                        answer = client.ask(encode(request))
+                        if answer != Answer(FAULT):
                             break
                     else:
                         # Queries are answered by the state that stands.
                         for path in paths_of(BEFORE + asked):
-                            self.assertEqual(client.ask(harness.query("get", path)), model.get(path))
-                            self.assertEqual(client.ask(harness.query("list", path)), model.names(path))
+                            self.assertEqual(client.ask(query("get", path)), model.get(path))
+                            self.assertEqual(client.ask(query("list", path)), model.names(path))
                         self.room(200)
-                        answer = client.ask(harness.spell(request))
+                        answer = client.ask(encode(request))
                     self.assertEqual(answer, model.answer(request))
             self.assertEqual(daemon.errors(), b"")
         self.room(200)
@@ -163,25 +166,25 @@ class Output(Case):
     def setUp(self) -> None:
         super().setUp()
         if not os.path.exists("/dev/full"):
-            harness.lacks("there is no /dev/full")
+            lacks("there is no /dev/full")
         self.fresh(capacity=4000)
         self.model = Model()
 
     def full(self, words: list[str], stdin: bytes) -> Ran:
         with open("/dev/full", "wb") as full:
-            done = subprocess.run([harness.built().udfburn, *words], cwd=self.folder, input=stdin, stdout=full, stderr=subprocess.PIPE,
-                                  timeout=harness.PATIENCE)
+            done = subprocess.run([built().udfburn, *words], cwd=self.folder, input=stdin, stdout=full, stderr=subprocess.PIPE,
+                                  timeout=PATIENCE)
         return Ran(done.returncode, b"", done.stderr)
 
     def test_apply(self) -> None:
         request = Request("create", 7, 1, "/a", b"x" * 100_000)
         for _ in range(2):
-            self.tell(self.full(["apply", "d.img"], harness.spell(request)), 1, b"", b"udfburn: 92 Write\n")
+            self.tell(self.full(["apply", "d.img"], encode(request)), 1, b"", b"udfburn: 92 Write\n")
         # It was committed once, and the repeat that has an output tells how it went.
         expected = self.model.answer(request)
         self.assertEqual(self.sound(), 1)
-        self.tell(self.full(["apply", "d.img"], harness.query("get", "/a") * 3), 1, b"", b"udfburn: 92 Write\n")
-        self.assertEqual(harness.answers_of(self.apply(harness.spell(request)).output), [expected])
+        self.tell(self.full(["apply", "d.img"], query("get", "/a") * 3), 1, b"", b"udfburn: 92 Write\n")
+        self.assertEqual(answers_of(self.apply(encode(request)).output), [expected])
         self.tree_is(self.model, ["/", "/a"])
 
     def test_send(self) -> None:
@@ -189,10 +192,10 @@ class Output(Case):
         with Daemon(self.folder) as daemon:
             daemon.client().close()
             for _ in range(2):
-                self.tell(self.full(["send", "s"], harness.spell(request)), 1, b"", b"udfburn: 92 Write\n")
+                self.tell(self.full(["send", "s"], encode(request)), 1, b"", b"udfburn: 92 Write\n")
             expected = self.model.answer(request)
-            ran = self.udfburn("send", "s", stdin=harness.spell(request))
-            self.assertEqual((ran.status, harness.answers_of(ran.output)), (0, [expected]))
+            ran = self.udfburn("send", "s", stdin=encode(request))
+            self.assertEqual((ran.status, answers_of(ran.output)), (0, [expected]))
         self.tree_is(self.model, ["/", "/a"])
         self.assertEqual((self.path("d.img").stat().st_size) % BLOCK, 0)
 

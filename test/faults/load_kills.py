@@ -1,6 +1,6 @@
 """A daemon that is killed, stopped or told to end in the middle of commits: each request is done once, and what was acknowledged stands.
 
-The model is that of harness.py, which knows nothing of blocks. Behind each end it must agree, for one count of commits that is not
+The model is that of py, which knows nothing of blocks. Behind each end it must agree, for one count of commits that is not
 below what was acknowledged and not above what was sent.
 """
 from __future__ import annotations
@@ -12,9 +12,11 @@ import time
 import unittest
 from typing import Optional
 
-from faults import harness
-from faults.harness import Answer, Client, Daemon, Model, Request, await_true, state_of, stop
+from faults.case import need_shim
 from faults.load_support import PATHS, Applying, Case, Die, connect_or_none, counted, during, has_shim, listing, log_lines
+from faults.processes import await_true, state_of, stop
+from faults.running import Client, Daemon
+from protocol import Answer, Model, Request, answers_of, encode, query, questions
 
 QUESTIONS = ["/"] + PATHS
 # How many requests go out before their answers are read: a client's last four replies are kept.
@@ -57,7 +59,7 @@ class Run(Case):
             request = self.die.request(last)
             last.answer(request)
             self.sent.append(request)
-            frames += harness.spell(request)
+            frames += encode(request)
         try:
             client.send(frames)
         except (BrokenPipeError, ConnectionResetError):
@@ -96,14 +98,14 @@ class Run(Case):
         """The tree is that of the state, and each of the last requests is repeated by its number: what was done has its reply, what
         was not is done now, once."""
         state = self.committed
-        client.send(harness.questions(QUESTIONS))
+        client.send(questions(QUESTIONS))
         for path in QUESTIONS:
             self.assertEqual([client.answer(), client.answer()], [state.get(path), state.names(path)], path)
         for request in self.answered + self.sent:
             before = state.commits
             expected = state.answer(request)
             self.assertLessEqual(state.commits, before + 1)
-            self.assertEqual(client.ask(harness.spell(request)), expected, "the repeat of %r" % (request,))
+            self.assertEqual(client.ask(encode(request)), expected, "the repeat of %r" % (request,))
         for request in self.sent:
             self.model.answer(request)
         self.answered = (self.answered + self.sent)[-8:]
@@ -159,7 +161,7 @@ class Kills(Run):
         self.assertGreater(self.model.commits, 300)
 
     def test_kills_at_chosen_calls(self) -> None:
-        harness.need_shim()
+        need_shim()
         seed = 7002
         self.begin(seed)
         by_rule = 0
@@ -263,9 +265,9 @@ class Signals(Run):
             with daemon.client() as client:
                 rest(daemon)
                 large = Request("create", 9, 1, "/large", b"l" * 1_000_000)
-                self.assertEqual(client.ask(harness.spell(large)), self.model.answer(large))
+                self.assertEqual(client.ask(encode(large)), self.model.answer(large))
                 rest(daemon)
-                client.send(harness.query("get", "/large") * 8)
+                client.send(query("get", "/large") * 8)
                 rest(daemon)
                 for _ in range(8):
                     self.assertEqual(client.answer(), self.model.get("/large"))
@@ -276,7 +278,7 @@ class Signals(Run):
         self.at_the_end()
 
     def test_while_it_is_stopped_what_was_acknowledged_stands(self) -> None:
-        harness.need_shim()
+        need_shim()
         for rule in ("pwrite:1:H", "pwrite:2:H", "fsync:2:H", "fsync:3:H", "send:1:H"):
             with self.subTest(rule=rule):
                 self.begin(7006)
@@ -286,7 +288,7 @@ class Signals(Run):
                         request = self.die.request(last)
                         last.answer(request)
                         self.sent.append(request)
-                        client.send(harness.spell(request))
+                        client.send(encode(request))
                     self.assertTrue(await_true(lambda: state_of(daemon.process.pid) == "T"), "the rule came to nothing")
                     # Readers see what stands, as it is, while the writer rests.
                     self.look()
@@ -313,7 +315,7 @@ class Signals(Run):
                             request = self.die.request(last)
                             last.answer(request)
                             self.sent.append(request)
-                            party.give(harness.spell(request))
+                            party.give(encode(request))
                             answer = party.take()
                             if answer is None:
                                 break
@@ -322,10 +324,10 @@ class Signals(Run):
                     finally:
                         party.kill()
                     self.look()
-                    ran = self.apply(b"".join(harness.spell(request) for request in self.answered + self.sent))
+                    ran = self.apply(b"".join(encode(request) for request in self.answered + self.sent))
                     self.assertEqual(ran.status, 0)
                     expected = [self.committed.answer(request) for request in self.answered + self.sent]
-                    self.assertEqual(harness.answers_of(ran.output), expected)
+                    self.assertEqual(answers_of(ran.output), expected)
                     for request in self.sent:
                         self.model.answer(request)
                     self.answered, self.sent = (self.answered + self.sent)[-8:], []

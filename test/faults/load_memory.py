@@ -9,9 +9,11 @@ import unittest
 from pathlib import Path
 from typing import Optional, Union
 
-from faults import harness
-from faults.harness import Answer, Client, Daemon, Model, Ran, Request
 from faults.load_support import Case, connect_or_none, converse, during, expect_answers, in_pairs, listing, spell_all
+from faults.machine import lacks
+from faults.programs import built
+from faults.running import Client, Daemon, Ran
+from protocol import MEMORY, Answer, Model, Request, answers_of, paths_of, split_answers
 
 Message = Union[Request, tuple[str, str]]
 
@@ -44,15 +46,15 @@ class Refusing(Case):
         self.fresh("new.img", capacity=20000)
         ran = self.apply(spell_all(BEFORE), image="new.img")
         model = Model()
-        self.assertEqual(harness.answers_of(ran.output), [model.answer(request) for request in BEFORE])
+        self.assertEqual(answers_of(ran.output), [model.answer(request) for request in BEFORE])
         self.before = self.path("new.img").read_bytes()
         self.path("new.img").unlink()
 
     def need_allocfail(self) -> None:
         """Leaves the tests out where the programs do not take their memory from the system's library."""
-        ran = self.udfburn("ls", "none.img", "/", more={"LD_PRELOAD": harness.built().allocfail, "ALLOC_FROM": "1"})
+        ran = self.udfburn("ls", "none.img", "/", more={"LD_PRELOAD": built().allocfail, "ALLOC_FROM": "1"})
         if ran.errors == b"udfburn: 64 Device\n":
-            harness.lacks("the programs do not take their memory from a library of LD_PRELOAD")
+            lacks("the programs do not take their memory from a library of LD_PRELOAD")
 
     def volume(self, name: str) -> Path:
         path = self.path(name)
@@ -67,7 +69,7 @@ class Refusing(Case):
 
     def refusing(self, **rule: int) -> dict[str, str]:
         """The environment of a program of whose allocations some are refused."""
-        return {"LD_PRELOAD": harness.built().allocfail, **{"ALLOC_" + name.upper(): str(number) for name, number in rule.items()}}
+        return {"LD_PRELOAD": built().allocfail, **{"ALLOC_" + name.upper(): str(number) for name, number in rule.items()}}
 
     def count(self, *words: str, stdin: bytes = b"") -> int:
         """How many allocations a run takes in which none is refused."""
@@ -180,8 +182,8 @@ class Applying(Refusing):
         ran = self.apply(spell_all(MESSAGES), image="whole.img")
         self.assertEqual((ran.status, ran.errors), (0, b""))
         self.final = self.model()
-        self.assertEqual(harness.answers_of(ran.output), expect_answers(self.final, MESSAGES, harness.answers_of(ran.output)))
-        self.assertNotIn(Answer(harness.MEMORY), harness.answers_of(ran.output))
+        self.assertEqual(answers_of(ran.output), expect_answers(self.final, MESSAGES, answers_of(ran.output)))
+        self.assertNotIn(Answer(MEMORY), answers_of(ran.output))
         self.whole = self.path("whole.img").read_bytes()
 
     def follow(self, model: Model, answers: list[Answer]) -> None:
@@ -200,20 +202,20 @@ class Applying(Refusing):
                 path = self.volume(name)
                 ran = self.apply(spell_all(MESSAGES), image=name, more=self.refusing(**rule))
                 line = self.told(ran)
-                answers, rest = harness.split_answers(ran.output)
+                answers, rest = split_answers(ran.output)
                 model = self.model()
                 self.follow(model, answers)
                 if line is None:
                     self.assertEqual((len(answers), rest), (len(MESSAGES), b""))
                 else:
                     self.assertIn(line, MEMORY_LINES)
-                short += line is not None or Answer(harness.MEMORY) in answers
+                short += line is not None or Answer(MEMORY) in answers
                 # The same messages again, with memory for all: what was run has its reply, the others are run now.
                 ran = self.apply(spell_all(MESSAGES), image=name)
                 self.assertEqual((ran.status, ran.errors), (0, b""))
-                again = harness.answers_of(ran.output)
+                again = answers_of(ran.output)
                 self.assertEqual(len(again), len(MESSAGES))
-                self.assertNotIn(Answer(harness.MEMORY), again)
+                self.assertNotIn(Answer(MEMORY), again)
                 if line is None:
                     self.follow(model, again)
                 self.assertEqual(path.read_bytes(), self.whole)
@@ -222,7 +224,7 @@ class Applying(Refusing):
         in_pairs(run, self.rules(count))
         self.assertGreater(short, count // 2)
         self.path("d.img").write_bytes(self.whole)
-        self.tree_is(self.final, harness.paths_of([message for message in BEFORE + MESSAGES if isinstance(message, Request)]))
+        self.tree_is(self.final, paths_of([message for message in BEFORE + MESSAGES if isinstance(message, Request)]))
 
     def serve(self, name: str, more: dict[str, str], connections: int) -> tuple[Daemon, Optional[Client]]:
         daemon = Daemon(self.folder, name, "--connections", str(connections), socket_name=name[:-4], more=more)
@@ -267,7 +269,7 @@ class Applying(Refusing):
                         if is_whole:
                             self.follow(model, answers)
                         is_whole = is_whole and len(answers) == len(MESSAGES)
-                        short += not is_whole or Answer(harness.MEMORY) in answers
+                        short += not is_whole or Answer(MEMORY) in answers
                         client = None if last else connect_or_none(daemon)
                     status = daemon.wait()
                     lines = daemon.errors().splitlines()
@@ -278,10 +280,10 @@ class Applying(Refusing):
                         self.assertEqual(len(lines), 1)
                 # One refusal alone leaves the second conversation in peace.
                 if status == 0 and "fail" in rule:
-                    self.assertNotIn(Answer(harness.MEMORY), answers)
+                    self.assertNotIn(Answer(MEMORY), answers)
                     self.assertEqual(path.read_bytes(), self.whole)
                 ran = self.apply(spell_all(MESSAGES), image=name)
-                self.assertEqual((ran.status, len(harness.answers_of(ran.output))), (0, len(MESSAGES)))
+                self.assertEqual((ran.status, len(answers_of(ran.output))), (0, len(MESSAGES)))
                 self.assertEqual(path.read_bytes(), self.whole)
                 path.unlink()
 

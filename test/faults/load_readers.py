@@ -8,12 +8,17 @@ import subprocess
 import threading
 import unittest
 from contextlib import contextmanager
-from typing import Any, Callable, Iterator, Optional, Sequence
+from typing import Any, Callable, Iterator, Sequence
 
-from faults import harness
-from faults.harness import Daemon, Model, Ran, Request, await_true, built, state_of
+from faults.case import need_shim
 from faults.load_support import Case, Die, as_nobody, counted, during, listing, log_lines
+from faults.log import read_log
+from faults.machine import lacks, need_root, need_tools
 from faults.pages import Disk
+from faults.processes import PATIENCE, await_true, state_of
+from faults.programs import built
+from faults.running import Daemon, Ran, environment
+from protocol import FAULT, Answer, File, Model, Request, committed, encode, query
 
 # What is read all the time, beside the root.
 WATCHED = "/watched"
@@ -44,11 +49,11 @@ class Reading(Case):
             return Ran(0, listing(state, "/"), b"")
         if words[0] == "check":
             return Ran(0, b"sound %d\n" % state.commits, b"")
-        node = state.nodes.get((WATCHED[1:],))
+        node = state.tree.at((WATCHED[1:],))
         if node is None:
             return Ran(1, b"", b"udfburn: 96 NotFound\n")
-        assert isinstance(node, bytes)
-        return Ran(0, node, b"")
+        assert isinstance(node, File)
+        return Ran(0, node.data, b"")
 
     def is_a_state(self, words: list[str], ran: Ran, first: int, last: int) -> None:
         """The reading is of a state between these, which were acknowledged before it and sent until its end."""
@@ -105,7 +110,7 @@ class Beside(Reading):
                     await_true(lambda: bool(faults or at_work and sum(counts.values()) * 2 >= acknowledged))
                     sent += 1
                     model = self.states[sent - 1].copy()
-                    self.assertEqual(client.ask(harness.spell(request)), model.answer(request))
+                    self.assertEqual(client.ask(encode(request)), model.answer(request))
                     self.assertEqual(model.commits, state.commits)
                     acknowledged += 1
             finally:
@@ -126,7 +131,7 @@ class Beside(Reading):
     def test_beside_a_daemon_by_another_user(self) -> None:
         """A reader to whom the image and its folder are not his to write."""
         if os.geteuid() != 0:
-            harness.need_root()
+            need_root()
         self.fresh()
         self.path("d.img").chmod(0o644)
         self.folder.chmod(0o755)
@@ -134,23 +139,23 @@ class Beside(Reading):
 
     def test_a_reader_that_stopped(self) -> None:
         """A reader that rests keeps no commit waiting, and goes on with the state that it found at first."""
-        harness.need_shim()
+        need_shim()
         self.begin(7023, 60)
         for number, (words, rule) in enumerate((words, rule) for words in self.READINGS for rule in ("pread:1:H", "pread:3:H", "pread:6:H")):
             with during("%r, %s" % (words, rule)):
                 self.fresh(capacity=400000)
                 with Daemon(self.folder) as daemon, daemon.client() as client:
                     for request in self.requests[:20]:
-                        self.assertIsNotNone(client.ask(harness.spell(request)))
+                        self.assertIsNotNone(client.ask(encode(request)))
                     reader = subprocess.Popen([built().udfburn, *words], cwd=self.folder, stdin=subprocess.DEVNULL, stdout=subprocess.PIPE,
-                                              stderr=subprocess.PIPE, env=harness.environment("d.img", None, rule))
+                                              stderr=subprocess.PIPE, env=environment("d.img", None, rule))
                     try:
                         self.assertTrue(await_true(lambda: state_of(reader.pid) == "T"), "the rule came to nothing")
                         model = self.states[20].copy()
                         for request in self.requests[20:]:
-                            self.assertEqual(client.ask(harness.spell(request)), model.answer(request))
+                            self.assertEqual(client.ask(encode(request)), model.answer(request))
                         reader.send_signal(signal.SIGCONT)
-                        output, errors = reader.communicate(timeout=harness.PATIENCE)
+                        output, errors = reader.communicate(timeout=PATIENCE)
                     finally:
                         reader.kill()
                         reader.wait()
@@ -159,14 +164,14 @@ class Beside(Reading):
 
     def test_beside_commits_that_are_cut(self) -> None:
         """A reader in the middle of a commit: at each of its writes, finds the state before it."""
-        harness.need_shim()
+        need_shim()
         request = Request("create", 7, 1, WATCHED, b"w" * 200_000)
         for write in range(1, 6):
             for action in ("H", "P1000K", "P100000K", "k"):
                 with self.subTest(write=write, action=action):
                     self.fresh(capacity=4000)
                     with Daemon(self.folder, rules="pwrite:%d:%s" % (write, action)) as daemon, daemon.client() as client:
-                        client.send(harness.spell(request))
+                        client.send(encode(request))
                         process = daemon.process.pid
                         await_true(lambda: state_of(process) in "TZX" or bool(select.select([client.socket], [], [], 0)[0]))
                         if state_of(process) not in "TZX":
@@ -174,7 +179,7 @@ class Beside(Reading):
                             if answer is not None:
                                 # There are fewer writes: the bytes, what is encoded after them, and the last block.
                                 self.assertGreater(write, 3)
-                                self.assertEqual(answer, harness.committed(0, 1))
+                                self.assertEqual(answer, committed(0, 1))
                                 continue
                             daemon.wait()
                         commits = log_lines(self.udfburn("log", "d.img"))[0][0]
@@ -188,7 +193,7 @@ class Beside(Reading):
     def stopped_reader(self, words: Sequence[str], rule: str) -> Iterator[subprocess.Popen[bytes]]:
         """A reader that has stopped itself where the rule says."""
         reader = subprocess.Popen([built().udfburn, *words], cwd=self.folder, stdin=subprocess.DEVNULL, stdout=subprocess.PIPE,
-                                  stderr=subprocess.PIPE, env=harness.environment("d.img", None, rule))
+                                  stderr=subprocess.PIPE, env=environment("d.img", None, rule))
         try:
             self.assertTrue(await_true(lambda: state_of(reader.pid) == "T"), "the rule came to nothing")
             yield reader
@@ -198,25 +203,25 @@ class Beside(Reading):
 
     def test_beside_a_write_that_fails(self) -> None:
         """A reader that found blocks which are cut away behind it tells the state, or that a read failed; the next tells the state."""
-        harness.need_shim()
+        need_shim()
         self.begin(7025, 20)
         request = Request("create", 7, 1, "/never", b"n" * 200_000)
         for words in self.READINGS:
             for rule in ("pread:1:H", "pread:2:H", "pread:9:H"):
                 with during("%r, %s" % (words, rule)):
                     self.fresh(capacity=400000)
-                    self.apply(b"".join(harness.spell(each) for each in self.requests))
+                    self.apply(b"".join(encode(each) for each in self.requests))
                     before = self.path("d.img").stat().st_size
                     with Daemon(self.folder, rules="pwrite:1:P40960E28;ftruncate:1:H") as daemon, daemon.client() as client:
-                        client.send(harness.spell(request))
+                        client.send(encode(request))
                         self.assertTrue(await_true(lambda: state_of(daemon.process.pid) == "T"), "nothing was cut")
                         self.assertEqual(self.path("d.img").stat().st_size, before + 40960)
                         with self.stopped_reader(words, rule) as reader:
                             daemon.process.send_signal(signal.SIGCONT)
-                            self.assertEqual(client.answer(), harness.Answer(harness.FAULT))
+                            self.assertEqual(client.answer(), Answer(FAULT))
                             self.assertEqual(self.path("d.img").stat().st_size, before)
                             reader.send_signal(signal.SIGCONT)
-                            output, errors = reader.communicate(timeout=harness.PATIENCE)
+                            output, errors = reader.communicate(timeout=PATIENCE)
                         ran = Ran(reader.returncode, output, errors)
                         if ran != Ran(1, b"", b"udfburn: 64 Device\n"):
                             self.is_a_state(words, ran, 20, 20)
@@ -226,7 +231,7 @@ class Beside(Reading):
         """A commit is whole in the file, and its last sync failed: a reader shows it, though it is answered 36. One that goes on when it
         was taken back, and another commit stands behind its other blocks, tells that state, or the one before, or that a block is not
         what it was. The next one tells the state."""
-        harness.need_shim()
+        need_shim()
         self.begin(7026, 20)
         taken = Request("replace", 7, 1, WATCHED, b"t" * 20_000)
         other = Request("create", 8, 1, "/other", b"o" * 60_000)
@@ -237,21 +242,21 @@ class Beside(Reading):
             for place in (0.0, 0.5, 0.97, 1.0):
                 with during("%r, at %.2f of its reads" % (words, place)):
                     self.fresh(capacity=400000)
-                    self.apply(b"".join(harness.spell(each) for each in self.requests))
+                    self.apply(b"".join(encode(each) for each in self.requests))
                     with Daemon(self.folder, rules="fsync:3:E5;ftruncate:1:H") as daemon, daemon.client() as client:
-                        client.send(harness.spell(taken))
+                        client.send(encode(taken))
                         self.assertTrue(await_true(lambda: state_of(daemon.process.pid) == "T"), "nothing was cut")
                         self.states[21:] = [whole]
                         self.is_a_state(words, self.udfburn(*words, log=self.new_log()), 21, 21)
-                        reads = sum(record.kind == "pread" for record in harness.read_log(self.log_path()))
+                        reads = sum(record.kind == "pread" for record in read_log(self.log_path()))
                         rule = "pread:%d:H" % max(1, round(place * reads))
                         with self.stopped_reader(words, rule) as reader:
                             daemon.process.send_signal(signal.SIGCONT)
-                            self.assertEqual(client.answer(), harness.Answer(harness.FAULT))
+                            self.assertEqual(client.answer(), Answer(FAULT))
                             self.is_a_state(words, self.udfburn(*words), 20, 20)
-                            self.assertEqual(client.ask(harness.spell(other)), answer)
+                            self.assertEqual(client.ask(encode(other)), answer)
                             reader.send_signal(signal.SIGCONT)
-                            output, errors = reader.communicate(timeout=harness.PATIENCE)
+                            output, errors = reader.communicate(timeout=PATIENCE)
                     ran = Ran(reader.returncode, output, errors)
                     if ran.status:
                         self.assertRegex(errors, rb"^udfburn: (64 Device|67 Damaged block \d+ cause \d+)\n$")
@@ -263,15 +268,15 @@ class Beside(Reading):
 
     def test_what_a_reader_shows_is_no_answer(self) -> None:
         """A program is killed before its last sync: readers show the commit, of which no answer told, and a loss of power takes it."""
-        harness.need_shim()
+        need_shim()
         before = self.fresh().read_bytes()
         request = Request("create", 7, 1, WATCHED, b"w" * 5000)
-        ran = self.apply(harness.spell(request), rules="fsync:3:K", log=self.new_log())
+        ran = self.apply(encode(request), rules="fsync:3:K", log=self.new_log())
         self.assertEqual((ran.status, ran.output), (-signal.SIGKILL, b""))
         self.tell(self.udfburn("get", "d.img", WATCHED), 0, request.data, b"")
         self.assertEqual(self.sound(), 1)
         disk = Disk(before, 4096)
-        for record in harness.read_log(self.log_path()):
+        for record in read_log(self.log_path()):
             disk.call(record)
         self.path("left.img").write_bytes(disk.left(lambda n: [False] * n, len(disk.disk)))
         self.assertEqual(self.sound("left.img"), 0)
@@ -283,7 +288,7 @@ class MayNotWrite(Reading):
     def setUp(self) -> None:
         super().setUp()
         self.begin(7024, 40)
-        ran = self.apply(b"".join(harness.spell(request) for request in self.requests))
+        ran = self.apply(b"".join(encode(request) for request in self.requests))
         self.assertEqual(ran.status, 0)
         self.state = self.states[-1]
 
@@ -308,7 +313,7 @@ class MayNotWrite(Reading):
         self.addCleanup(self.folder.chmod, 0o755)
         who = as_nobody()
         self.reads(lambda words: self.udfburn(*words, **who))
-        self.refused(lambda words: self.udfburn(*words, stdin=harness.query("list", "/"), **who))
+        self.refused(lambda words: self.udfburn(*words, stdin=query("list", "/"), **who))
 
     def test_that_may_not_be_read(self) -> None:
         self.path("d.img").chmod(0o200 if os.geteuid() == 0 else 0o000)
@@ -318,33 +323,33 @@ class MayNotWrite(Reading):
         self.path("d.img").chmod(0o644)
 
     def test_a_folder_that_is_mounted_read_only(self) -> None:
-        harness.need_root()
-        harness.need_tools("unshare", "mount")
+        need_root()
+        need_tools("unshare", "mount")
         before = self.path("d.img").read_bytes()
 
         def run(words: list[str]) -> Ran:
             shell = 'mount --bind . . && mount -o remount,bind,ro . . && cd "$PWD" && exec "$@"'
-            return self.program(["unshare", "-m", "sh", "-c", shell, "sh", built().udfburn, *words], stdin=harness.query("list", "/"))
+            return self.program(["unshare", "-m", "sh", "-c", shell, "sh", built().udfburn, *words], stdin=query("list", "/"))
 
         probe = self.program(["unshare", "-m", "sh", "-c", "mount --bind . . && mount -o remount,bind,ro . ."])
         if probe.status != 0:
-            harness.lacks("a folder cannot be mounted here: %r" % probe.errors)
+            lacks("a folder cannot be mounted here: %r" % probe.errors)
         self.reads(run)
         self.refused(run)
         self.assertEqual(self.path("d.img").read_bytes(), before)
 
     def test_readers_leave_no_trace(self) -> None:
         """Nothing that a reader does is a write, a lock or a sync of the image."""
-        harness.need_shim()
+        need_shim()
         before = self.path("d.img").stat()
         for words in Beside.READINGS:
             with self.subTest(words=words):
                 log = self.new_log()
                 self.udfburn(*words, log=log)
-                kinds = {record.kind for record in harness.read_log(log)}
+                kinds = {record.kind for record in read_log(log)}
                 self.assertIn("pread", kinds)
                 self.assertEqual(kinds & {"pwrite", "ftruncate", "flock", "foldersync"}, set())
-                opened = [record for record in harness.read_log(log) if record.kind == "open"]
+                opened = [record for record in read_log(log) if record.kind == "open"]
                 self.assertEqual([record.offset & os.O_ACCMODE for record in opened], [os.O_RDONLY])
         behind = self.path("d.img").stat()
         self.assertEqual((before.st_mtime_ns, before.st_size), (behind.st_mtime_ns, behind.st_size))

@@ -7,9 +7,11 @@ import time
 import unittest
 from typing import Callable, Iterator, Union
 
-from faults import harness
-from faults.harness import Answer, Daemon, Model, Request
 from faults.load_support import Applying, Case, converse, during, expect_answers, spell_all, write_all
+from faults.processes import PATIENCE
+from faults.programs import built
+from faults.running import Daemon, environment
+from protocol import MALFORMED, Answer, Model, Request, answers_of, frame, paths_of
 
 Message = Union[Request, tuple[str, str]]
 
@@ -37,12 +39,12 @@ LARGE: list[Message] = [
     ("list", "/"),
 ]
 # A payload of a kind that there is not, an empty one, and a length too large, with their answers; nothing is read behind the last.
-MALFORMED = harness.frame(b"\x09rest") + harness.frame(b"")
-MALFORMED_ANSWERS = [Answer(harness.MALFORMED, b"\x34\0"), Answer(harness.MALFORMED, b"\x35\0")]
+BAD_FRAMES = frame(b"\x09rest") + frame(b"")
+MALFORMED_ANSWERS = [Answer(MALFORMED, b"\x34\0"), Answer(MALFORMED, b"\x35\0")]
 TOO_LONG = b"\xff\xff\xff\xff"
 # Seconds without an answer, below those behind which a daemon that waits for more lets its client go.
 LONGEST_WAIT = 50.0
-TOO_LONG_ANSWER = Answer(harness.MALFORMED, b"\x33\0")
+TOO_LONG_ANSWER = Answer(MALFORMED, b"\x33\0")
 
 
 def pieces(data: bytes, size: int) -> Iterator[bytes]:
@@ -72,7 +74,7 @@ class Cuts(Case):
             frames += spell_all([message])
             answers += expect_answers(model, [message], [Answer(0)])
             if number % 5 == 2:
-                frames += MALFORMED
+                frames += BAD_FRAMES
                 answers += MALFORMED_ANSWERS
         return frames + TOO_LONG, answers + [TOO_LONG_ANSWER], model
 
@@ -89,7 +91,7 @@ class Cuts(Case):
         party.patience = LONGEST_WAIT
         try:
             answers = converse(lambda: send_parts(parts, pause, party.give), party.take)
-            self.assertEqual(party.process.wait(harness.PATIENCE), 0)
+            self.assertEqual(party.process.wait(PATIENCE), 0)
             self.assertEqual(party.errors(), b"")
             return answers
         finally:
@@ -97,7 +99,7 @@ class Cuts(Case):
 
     def cut(self, messages: list[Message], sizes: list[int], pause: Callable[[int], float]) -> None:
         frames, answers, model = self.stream(messages)
-        paths = harness.paths_of([message for message in messages if isinstance(message, Request)])
+        paths = paths_of([message for message in messages if isinstance(message, Request)])
         volumes = set()
         for size in sizes:
             for way in (self.by_socket, self.by_pipe):
@@ -170,14 +172,14 @@ class Cuts(Case):
                 whole.append(frames[at:at + 4 + length])
                 at += 4 + length
             spelled = {spell_all([message]): message for message in MESSAGES}
-            for frame in whole:
-                if frame in spelled:
-                    expected += expect_answers(model, [spelled[frame]], [Answer(0)])
+            for piece in whole:
+                if piece in spelled:
+                    expected += expect_answers(model, [spelled[piece]], [Answer(0)])
                 else:
-                    expected.append(MALFORMED_ANSWERS[0 if len(frame) > 4 else 1])
+                    expected.append(MALFORMED_ANSWERS[0 if len(piece) > 4 else 1])
             self.path("f.img").write_bytes(self.path("new.img").read_bytes())
             ran = self.apply(frames[:cut], image="f.img")
-            self.assertEqual((ran.status, ran.errors, harness.answers_of(ran.output)), (0, b"", expected), "cut at %d" % cut)
+            self.assertEqual((ran.status, ran.errors, answers_of(ran.output)), (0, b"", expected), "cut at %d" % cut)
             self.assertEqual(self.sound("f.img"), model.commits)
 
 
@@ -185,18 +187,18 @@ class Sending:
     """A `send` that is given its input in pieces."""
 
     def __init__(self, case: Case) -> None:
-        self.process = subprocess.Popen([harness.built().udfburn, "send", "s"], cwd=case.folder, stdin=subprocess.PIPE,
-                                        stdout=subprocess.PIPE, bufsize=0, env=harness.environment())
+        self.process = subprocess.Popen([built().udfburn, "send", "s"], cwd=case.folder, stdin=subprocess.PIPE,
+                                        stdout=subprocess.PIPE, bufsize=0, env=environment())
 
     def give(self, data: bytes) -> None:
         assert self.process.stdin is not None
         write_all(self.process.stdin.fileno(), data)
 
     def end(self) -> list[Answer]:
-        output, _ = self.process.communicate(timeout=harness.PATIENCE)
+        output, _ = self.process.communicate(timeout=PATIENCE)
         if self.process.returncode != 0:
             raise AssertionError("send ended with %d" % self.process.returncode)
-        return harness.answers_of(output)
+        return answers_of(output)
 
 
 if __name__ == "__main__":

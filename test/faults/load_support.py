@@ -18,8 +18,13 @@ from concurrent.futures import ThreadPoolExecutor
 from pathlib import Path
 from typing import Any, Callable, Iterable, Iterator, Optional, Sequence, TypeVar, Union
 
-from faults import harness
-from faults.harness import Answer, Client, Daemon, Model, Ran, Request, built, fields_of
+from faults import case
+from faults.case import need_shim
+from faults.processes import PATIENCE, fields_of
+from faults.programs import built, need_way
+from faults.running import Client, Daemon, Ran, environment
+from protocol import MEMORY, Answer, Directory, Model, Request, encode, names_of, query, split_answers
+
 
 Item = TypeVar("Item")
 
@@ -48,7 +53,7 @@ def during(what: str) -> Iterator[None]:
 def has_shim() -> bool:
     """Whether the programs take the shim."""
     try:
-        harness.need_shim()
+        need_shim()
     except unittest.SkipTest:
         return False
     return True
@@ -58,7 +63,7 @@ def as_nobody() -> dict[str, Any]:
     """The words for a process of a user who may not write what others made. Without root the user is one whom a mode stops."""
     if os.geteuid() != 0:
         return {}
-    harness.need_way()
+    need_way()
     return {"user": NOBODY, "group": NOBODY, "extra_groups": []}
 
 
@@ -74,7 +79,7 @@ def _brief(value: object) -> str:
     return text if len(text) <= 1500 else text[:700] + " .. " + text[-700:]
 
 
-class Case(harness.Case):
+class Case(case.Case):
     """A test that tells in few words what differs: what is compared here may be long, and unittest would seek for hours."""
 
     def assertEqual(self, first: Any, second: Any, msg: Any = None) -> None:
@@ -158,7 +163,7 @@ class Applying(Writer):
 
     name = "udfburn"
 
-    patience = harness.PATIENCE
+    patience = PATIENCE
 
     def __init__(self, folder: Path, number: Union[int, str], image: str = "d.img", log: Union[str, Path, None] = None, rules: str = "",
                  **popen: Any) -> None:
@@ -167,7 +172,7 @@ class Applying(Writer):
         with open(self.lines, "wb") as errors:
             self.process = subprocess.Popen([built().udfburn, "apply", image], cwd=folder, stdin=subprocess.PIPE,
                                             stdout=subprocess.PIPE, stderr=errors, bufsize=0,
-                                            env=harness.environment(image, log, rules), **popen)
+                                            env=environment(image, log, rules), **popen)
 
     def give(self, frames: bytes) -> None:
         assert self.process.stdin is not None
@@ -180,7 +185,7 @@ class Applying(Writer):
         assert self.process.stdout is not None
         end = time.monotonic() + self.patience
         while True:
-            answers, _ = harness.split_answers(self.waiting)
+            answers, _ = split_answers(self.waiting)
             if answers:
                 self.waiting = self.waiting[4 + int.from_bytes(self.waiting[:4], "little"):]
                 return answers[0]
@@ -188,7 +193,7 @@ class Applying(Writer):
                 raise AssertionError("no answer came")
             piece = os.read(self.process.stdout.fileno(), 1 << 16)
             if not piece:
-                self.process.wait(harness.PATIENCE)
+                self.process.wait(PATIENCE)
                 return None
             self.waiting += piece
 
@@ -198,7 +203,7 @@ class Applying(Writer):
     def end(self) -> int:
         assert self.process.stdin is not None
         self.process.stdin.close()
-        return self.process.wait(harness.PATIENCE)
+        return self.process.wait(PATIENCE)
 
     def kill(self) -> None:
         for stream in (self.process.stdin, self.process.stdout):
@@ -248,7 +253,7 @@ class Serving(Writer):
 
 def connect_or_none(daemon: Daemon) -> Optional[Client]:
     """A connection, or None where the daemon ended before it took one."""
-    end = time.monotonic() + harness.PATIENCE
+    end = time.monotonic() + PATIENCE
     while True:
         try:
             return Client(daemon.path, patience=0.0)
@@ -302,17 +307,15 @@ class Die:
 
 
 def counted(model: Model) -> tuple[int, int]:
-    """How many files and directories the tree has, the root counted."""
-    files = sum(isinstance(node, bytes) for node in model.nodes.values())
-    return files, len(model.nodes) - files
+    """How many files and directories the tree has, the root included."""
+    return model.tree.count()
 
 
 def listing(model: Model, path: str) -> bytes:
     """What `ls` prints of a directory."""
-    above = harness.names_of(path)
-    node = model.nodes[above]
-    assert isinstance(node, list)
-    return b"".join(b"%c %s\n" % (b"d" if isinstance(model.nodes[above + (name,)], list) else b"f", name.encode()) for name in node)
+    node = model.tree.at(names_of(path))
+    assert isinstance(node, Directory)
+    return b"".join(b"%c %s\n" % (b"d" if isinstance(child, Directory) else b"f", name.encode()) for name, child in node.names.items())
 
 
 def log_lines(ran: Ran) -> list[tuple[int, int, int, int]]:
@@ -330,7 +333,7 @@ def expect_answers(model: Model, messages: Sequence[Union[Request, tuple[str, st
     A message is a request or a query, of a kind and a path. The answers may end before the messages do."""
     found = []
     for message, answer in zip(messages, answers):
-        if answer == Answer(harness.MEMORY):
+        if answer == Answer(MEMORY):
             found.append(answer)
         elif isinstance(message, Request):
             found.append(model.answer(message))
@@ -341,4 +344,4 @@ def expect_answers(model: Model, messages: Sequence[Union[Request, tuple[str, st
 
 
 def spell_all(messages: Iterable[Union[Request, tuple[str, str]]]) -> bytes:
-    return b"".join(harness.spell(message) if isinstance(message, Request) else harness.query(*message) for message in messages)
+    return b"".join(encode(message) if isinstance(message, Request) else query(*message) for message in messages)

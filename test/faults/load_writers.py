@@ -8,9 +8,13 @@ import threading
 import unittest
 from typing import Callable, Optional
 
-from faults import harness
-from faults.harness import BLOCK, FORMATTED_BLOCKS, Answer, Model, Ran, Request, await_true, built, read_log, state_of
+from faults.case import FORMATTED_BLOCKS
 from faults.load_support import Applying, Case, Serving, Writer, during, has_shim, log_lines
+from faults.log import read_log
+from faults.processes import PATIENCE, await_true, state_of
+from faults.programs import built
+from faults.running import Ran, environment
+from protocol import BLOCK, NAMES, Answer, Model, Request, answers_of, encode, paths_of, query
 
 # Where both writers wait for each other: nowhere, before they look at the image, and before they ask for the lock.
 GATES = ["", "open:1:H", "flock:1:H"]
@@ -62,14 +66,14 @@ class Round(Case):
             waker.start()
             requests = [self.request(client) for client in (1, 2)]
             for party, request in zip(parties, requests):
-                party.give(harness.spell(request))
+                party.give(encode(request))
             answers = [party.take() for party in parties]
             served = [place for place, answer in enumerate(answers) if answer is not None]
             self.assertEqual(len(served), 1, "answers: %r" % answers)
             winner, loser = parties[served[0]], parties[1 - served[0]]
             self.assertEqual(answers[served[0]], self.model.answer(requests[served[0]]))
             self.requests.remove(requests[1 - served[0]])
-            self.assertEqual(loser.process.wait(harness.PATIENCE), 1)
+            self.assertEqual(loser.process.wait(PATIENCE), 1)
             self.assertEqual(loser.errors(), b"%s: 64 Device\n" % loser.name.encode())
             if isinstance(loser, Serving):
                 self.assertFalse(loser.daemon.path.exists(), "a daemon that has no image made its socket")
@@ -95,22 +99,22 @@ class Round(Case):
         request = self.request(3)
         words = [("apply", "d.img"), ("format", "d.img", "DISC", "0", "60000"), ("format", "d.img", "OTHER", "0", "60000")][number % 3]
         before = self.path("d.img").read_bytes()
-        self.tell(self.udfburn(*words, stdin=harness.spell(request)), 1, b"", b"udfburn: 64 Device\n")
+        self.tell(self.udfburn(*words, stdin=encode(request)), 1, b"", b"udfburn: 64 Device\n")
         self.assertEqual(self.path("d.img").read_bytes(), before, "%r wrote an image that another holds" % (words,))
-        winner.give(harness.spell(request))
+        winner.give(encode(request))
         self.assertEqual(winner.take(), self.model.answer(request))
 
     def free_again(self) -> None:
         """The lock went with its holder, and the last files are there."""
         request = self.request(4)
         last = self.requests[-3:]
-        ran = self.apply(harness.spell(request) + b"".join(harness.query("get", each.path) for each in last))
+        ran = self.apply(encode(request) + b"".join(query("get", each.path) for each in last))
         expected = [self.model.answer(request)] + [self.model.get(each.path) for each in last]
         self.assertEqual((ran.status, ran.errors), (0, b""))
-        self.assertEqual(harness.answers_of(ran.output), expected)
+        self.assertEqual(answers_of(ran.output), expected)
 
     def all_is_there(self) -> None:
-        self.tree_is(self.model, harness.paths_of(self.requests))
+        self.tree_is(self.model, paths_of(self.requests))
         ran = self.udfburn("log", "d.img")
         self.assertEqual([line[0] for line in log_lines(ran)], list(range(self.model.commits, -1, -1)))
 
@@ -150,7 +154,7 @@ class Formats(Case):
 
     def start(self, label: str, rules: str) -> subprocess.Popen[bytes]:
         return subprocess.Popen([built().udfburn, "format", "d.img", label, "7", "900"], cwd=self.folder, stdin=subprocess.DEVNULL,
-                                stdout=subprocess.PIPE, stderr=subprocess.PIPE, env=harness.environment("d.img", None, rules))
+                                stdout=subprocess.PIPE, stderr=subprocess.PIPE, env=environment("d.img", None, rules))
 
     def test_two_formats(self) -> None:
         alone = {label: self.alone(label) for label in ("ONE", "TWO")}
@@ -171,7 +175,7 @@ class Formats(Case):
                         os.kill(process.pid, signal.SIGCONT)
                 ran = {}
                 for label, process in both.items():
-                    output, errors = process.communicate(timeout=harness.PATIENCE)
+                    output, errors = process.communicate(timeout=PATIENCE)
                     ran[label] = Ran(process.returncode, output, errors)
                 winners = [label for label in ran if ran[label] == Ran(0, b"formatted\n", b"")]
                 self.assertEqual(len(winners), 1, "%r" % ran)
@@ -191,8 +195,8 @@ class Lock(Case):
     def held(self, number: int, kind: Callable[..., Writer], end: Callable[[Writer], Optional[int]]) -> None:
         party = kind(self.folder, number)
         try:
-            party.give(harness.query("list", "/"))
-            self.assertEqual(party.take(), Answer(harness.NAMES, b"\0\0"))
+            party.give(query("list", "/"))
+            self.assertEqual(party.take(), Answer(NAMES, b"\0\0"))
             self.tell(self.apply(b""), 1, b"", b"udfburn: 64 Device\n")
             # Readers take none, and do not end the holder's.
             self.tell(self.udfburn("ls", "d.img", "/"), 0, b"", b"")
@@ -212,7 +216,7 @@ class Lock(Case):
         def signalled(which: int) -> Callable[[Writer], Optional[int]]:
             def end(party: Writer) -> Optional[int]:
                 party.process.send_signal(which)
-                return party.process.wait(harness.PATIENCE)
+                return party.process.wait(PATIENCE)
             return end
 
         ends: list[Callable[[Writer], Optional[int]]] = [lambda party: party.end(), lambda party: party.kill()]

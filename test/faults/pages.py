@@ -10,7 +10,8 @@ import errno
 import random
 from typing import Callable, Iterator, NamedTuple, Optional, Sequence
 
-from faults.harness import Record
+from faults.log import Record
+
 
 # Which of the unsynced pages reach the disk: for each, in order, whether it does.
 Choice = Callable[[int], Sequence[bool]]

@@ -10,10 +10,12 @@ import errno
 import random
 from typing import Optional, Sequence
 
-from faults import harness
 from faults.calls import Discipline, told_by
-from faults.harness import Answer, Case, Daemon, Model, Record, Request, answers_of, paths_of, questions, read_log, spell
+from faults.case import Case, need_shim
+from faults.log import Record, read_log
 from faults.pages import Disk, losses
+from faults.running import Daemon
+from protocol import FAULT, Answer, Model, Request, answers_of, encode, paths_of, questions
 
 SEED = 20261123
 ROUNDS = 60
@@ -76,7 +78,7 @@ def is_left_to_the_disk(records: Sequence[Record]) -> bool:
 class Chance(Case):
     def setUp(self) -> None:
         super().setUp()
-        harness.need_shim()
+        need_shim()
 
     def served(self, requests: Sequence[Request], rules: str, answers: list[Answer]) -> None:
         """A daemon under these rules gets the requests from the first one without an answer on, up to its end."""
@@ -90,10 +92,10 @@ class Chance(Case):
             with client:
                 patience = 40
                 while len(answers) < len(requests) and patience:
-                    answer: Optional[Answer] = client.ask(spell(requests[len(answers)]))
+                    answer: Optional[Answer] = client.ask(encode(requests[len(answers)]))
                     if answer is None:
                         return
-                    if answer == Answer(harness.FAULT):
+                    if answer == Answer(FAULT):
                         patience -= 1
                     else:
                         answers.append(answer)

@@ -7,13 +7,18 @@ import socket
 import subprocess
 from typing import Callable
 
-from faults import harness
-from faults.harness import Case, Daemon, Ran, Request, answers_of, committed, query, spell
+from faults.case import Case, need_shim
+from faults.machine import lacks
+from faults.processes import PATIENCE
+from faults.programs import built
+from faults.running import Daemon, Ran
+from protocol import Request, answers_of, committed, encode, frame, query
+
 
 SETS = [set(closed) for count in (1, 2, 3) for closed in itertools.combinations(range(3), count)]
 
-CREATE = spell(Request("create", 7, 1, "/a", b"hello"))
-SECOND = spell(Request("mkdir", 7, 2, "/d"))
+CREATE = encode(Request("create", 7, 1, "/a", b"hello"))
+SECOND = encode(Request("mkdir", 7, 2, "/d"))
 
 
 def closing(closed: set[int]) -> Callable[[], None]:
@@ -83,7 +88,7 @@ class Descriptors(Case):
         """More than any buffer holds, so that it goes out in pieces."""
         self.fresh(capacity=3000)
         data = b"0123456789abcdef" * 60000
-        self.apply(spell(Request("create", 7, 1, "/a", data)))
+        self.apply(encode(Request("create", 7, 1, "/a", data)))
         self.two = self.path("d.img").read_bytes()
         self.reading(data, "get", "d.img", "/a")
 
@@ -135,7 +140,7 @@ class Descriptors(Case):
                         self.told(ran, closed, 1, b"", b"udfburn: 92 Write\n")
                         self.assertIn(left, states)
                     else:
-                        output = b"".join(harness.frame(bytes([0, 0, n, 0, 0, 0])) for n in range(1, len(states)))
+                        output = b"".join(frame(bytes([0, 0, n, 0, 0, 0])) for n in range(1, len(states)))
                         self.told(ran, closed, 0, output, b"")
                         self.assertEqual(left, states[-1])
 
@@ -158,7 +163,7 @@ class Descriptors(Case):
                     self.told(ran, closed, 1, b"", b"udfburn: 92 Write\n")
                     self.assertIn(left, [self.new, self.one])
                 else:
-                    self.told(ran, closed, 0, harness.frame(bytes([0, 0, 1, 0, 0, 0])), b"")
+                    self.told(ran, closed, 0, frame(bytes([0, 0, 1, 0, 0, 0])), b"")
                     self.assertEqual(left, self.one)
 
     def test_daemon(self) -> None:
@@ -187,7 +192,7 @@ class Descriptors(Case):
             with self.subTest(closed=closed):
                 self.path("d.img").write_bytes(self.two)
                 self.path("taken").write_bytes(b"")
-                ran = self.program([harness.built().udfburnd, "d.img", "taken"], preexec_fn=closing(closed))
+                ran = self.program([built().udfburnd, "d.img", "taken"], preexec_fn=closing(closed))
                 self.told(ran, closed, 1, b"", b"udfburnd: 94 Socket\n")
                 self.assertEqual(self.path("d.img").read_bytes(), self.two)
 
@@ -196,12 +201,12 @@ class Untaken(Case):
     """Closed descriptors that cannot be taken, since nothing more can be opened: nothing is done then."""
 
     def test_it_is_refused(self) -> None:
-        harness.need_shim()
+        need_shim()
         self.fresh()
         self.apply(CREATE)
         before = self.path("d.img").read_bytes()
-        daemon = (harness.built().udfburnd, "d.img", "s")
-        udfburn = harness.built().udfburn
+        daemon = (built().udfburnd, "d.img", "s")
+        udfburn = built().udfburn
         for words in ((udfburn, "ls", "d.img", "/"), (udfburn, "get", "d.img", "/a"), (udfburn, "apply", "d.img"),
                       (udfburn, "format", "new.img", "DISC", "0", "600"), daemon):
             for closed in SETS:
@@ -218,14 +223,14 @@ class Streams(Case):
 
     def test_full(self) -> None:
         if not os.path.exists("/dev/full"):
-            harness.lacks("there is no /dev/full")
+            lacks("there is no /dev/full")
         self.fresh()
         self.apply(CREATE)
         before = self.path("d.img").read_bytes()
         for words in (("ls", "d.img", "/"), ("get", "d.img", "/a"), ("log", "d.img"), ("check", "d.img"),
                       ("format", "new.img", "DISC", "0", "600")):
             with self.subTest(words), open("/dev/full", "wb") as full:
-                done = subprocess.run([harness.built().udfburn, *words], cwd=self.folder, stdin=subprocess.DEVNULL, stdout=full,
+                done = subprocess.run([built().udfburn, *words], cwd=self.folder, stdin=subprocess.DEVNULL, stdout=full,
                                       stderr=subprocess.PIPE)
                 self.assertEqual((done.returncode, done.stderr), (1, b"udfburn: 92 Write\n"))
                 self.assertEqual(self.path("d.img").read_bytes(), before)
@@ -238,11 +243,11 @@ class Streams(Case):
         self.path("file").write_bytes(b"kept")
         for words in (("ls", "d.img", "/"), ("get", "d.img", "/a"), ("log", "d.img"), ("check", "d.img")):
             with self.subTest(words), open(self.path("file"), "rb") as output:
-                done = subprocess.run([harness.built().udfburn, *words], cwd=self.folder, stdin=subprocess.DEVNULL, stdout=output,
+                done = subprocess.run([built().udfburn, *words], cwd=self.folder, stdin=subprocess.DEVNULL, stdout=output,
                                       stderr=subprocess.PIPE)
                 self.assertEqual((done.returncode, done.stderr), (1, b"udfburn: 92 Write\n"))
         with open(self.path("file"), "ab") as wrong:
-            done = subprocess.run([harness.built().udfburn, "apply", "d.img"], cwd=self.folder, stdin=wrong, capture_output=True)
+            done = subprocess.run([built().udfburn, "apply", "d.img"], cwd=self.folder, stdin=wrong, capture_output=True)
         self.assertEqual((done.returncode, done.stdout, done.stderr), (1, b"", b"udfburn: 91 Read\n"))
         self.assertEqual(self.path("d.img").read_bytes(), before)
         self.assertEqual(self.path("file").read_bytes(), b"kept")
@@ -256,7 +261,7 @@ class Streams(Case):
             with self.subTest(words):
                 read, write = os.pipe()
                 os.close(read)
-                done = subprocess.run([harness.built().udfburn, *words], cwd=self.folder, stdin=subprocess.DEVNULL, stdout=write,
+                done = subprocess.run([built().udfburn, *words], cwd=self.folder, stdin=subprocess.DEVNULL, stdout=write,
                                       stderr=subprocess.PIPE)
                 os.close(write)
                 self.assertEqual((done.returncode, done.stderr), (1, b"udfburn: 92 Write\n"))
@@ -265,7 +270,7 @@ class Streams(Case):
     def test_errors_that_take_nothing(self) -> None:
         """A line that the standard error does not take is lost, and nothing else: on a full disk, and in a pipe that nobody reads."""
         if not os.path.exists("/dev/full"):
-            harness.lacks("there is no /dev/full")
+            lacks("there is no /dev/full")
         self.fresh()
         self.apply(CREATE)
         full = os.open("/dev/full", os.O_WRONLY)
@@ -276,7 +281,7 @@ class Streams(Case):
         for errors in (full, unread):
             for words, status in ((("get", "d.img", "/none"), 1), (("what",), 2)):
                 with self.subTest(words, errors=errors):
-                    done = subprocess.run([harness.built().udfburn, *words], cwd=self.folder, stdin=subprocess.DEVNULL,
+                    done = subprocess.run([built().udfburn, *words], cwd=self.folder, stdin=subprocess.DEVNULL,
                                           stdout=subprocess.PIPE, stderr=errors)
                     self.assertEqual((done.returncode, done.stdout), (status, b""))
             with self.subTest("the daemon", errors=errors), Daemon(self.folder, stderr=errors) as daemon:
@@ -309,5 +314,5 @@ class Streams(Case):
                     client.answer()
                 self.tell(self.udfburn("ls", "d.img", "/"), 0, b"f a\n", b"")
                 os.read(read, 1 << 20)
-                client.socket.settimeout(harness.PATIENCE)
+                client.socket.settimeout(PATIENCE)
                 self.assertEqual(client.answer(), committed(0, 2))

@@ -16,9 +16,14 @@ import threading
 from pathlib import Path
 from typing import Callable, Iterator, Optional, Sequence
 
-from faults import harness
+from faults.case import Case, need_shim
 from faults.fusedisk import Event, FuseDisk, events
-from faults.harness import Answer, Case, Daemon, Model, Request, answers_of, paths_of, questions, read_log, spell
+from faults.log import read_log
+from faults.machine import first_line, lacks, need_root, need_tools
+from faults.processes import PATIENCE
+from faults.programs import built
+from faults.running import Daemon
+from protocol import BLOCK, FAULT, Answer, Model, Request, answers_of, encode, paths_of, questions
 
 SIZE = 12 << 20
 JOURNAL = ("-J", "size=4")
@@ -63,12 +68,12 @@ def mend(disk: Path) -> None:
 class Disks(Case):
     def setUp(self) -> None:
         super().setUp()
-        harness.need_root()
-        harness.need_tools("mkfs.ext4", "e2fsck", "losetup", "mount")
+        need_root()
+        need_tools("mkfs.ext4", "e2fsck", "losetup", "mount")
         if not os.path.exists("/dev/fuse"):
-            harness.lacks("there is no /dev/fuse")
+            lacks("there is no /dev/fuse")
         if not os.path.exists("/dev/loop-control"):
-            harness.lacks("there are no loop devices")
+            lacks("there are no loop devices")
 
     def made(self, features: Sequence[str]) -> Path:
         """A new file system in a file."""
@@ -94,7 +99,7 @@ class Disks(Case):
         try:
             served = FuseDisk(folder, disk, log)
         except OSError as fault:
-            harness.lacks("nothing can be mounted by FUSE: %s" % fault)
+            lacks("nothing can be mounted by FUSE: %s" % fault)
         said: list[tuple[int, int]] = []
         device = ""
         is_mounted = False
@@ -106,7 +111,7 @@ class Disks(Case):
                 run("mount", "-t", "ext4", "-o", QUIET_JOURNAL if features == JOURNAL else QUIET, device, str(where))
                 is_mounted = True
             except OSError as fault:
-                harness.lacks("no loop device can be mounted: " + harness.first_line(str(fault)))
+                lacks("no loop device can be mounted: " + first_line(str(fault)))
             if pushes:
                 pusher.start()
             self.tell(self.udfburn("format", str(where / "d.img"), "DISC", "0", "600"), 0, b"formatted\n", b"")
@@ -116,7 +121,7 @@ class Disks(Case):
             for request in STREAM if ends else ():
                 assert ends
                 ends(image, request, served)
-                answers = answers_of(self.apply(spell(request), image).output)
+                answers = answers_of(self.apply(encode(request), image).output)
                 size = served.size()
                 self.assertEqual(answers, [model.answer(request)])
                 said.append((size, model.commits))
@@ -124,9 +129,9 @@ class Disks(Case):
                 for request in () if ends else STREAM:
                     if fails:
                         served.fail(self.blocks_of(image, request))
-                        self.assertEqual(client.ask(spell(request)), Answer(harness.FAULT))
+                        self.assertEqual(client.ask(encode(request)), Answer(FAULT))
                         self.assertTrue(served.has_failed())
-                    answer = client.ask(spell(request))
+                    answer = client.ask(encode(request))
                     size = served.size()
                     self.assertEqual(answer, model.answer(request))
                     said.append((size, model.commits))
@@ -146,23 +151,23 @@ class Disks(Case):
     def blocks_of(self, image: str, request: Request, rules: str = "") -> bytes:
         """The blocks that this request will write, by a copy of the image; where rules end it, those that it leaves unsynced."""
         shutil.copyfile(image, self.path("ahead.img"))
-        self.apply(spell(request), "ahead.img", rules=rules, log=self.new_log())
+        self.apply(encode(request), "ahead.img", rules=rules, log=self.new_log())
         blocks = b""
         for record in read_log(self.log_path()):
             if record.kind == "pwrite":
                 blocks += record.data
             elif record.kind == "fsync" and rules:
                 blocks = b""
-        self.assertGreaterEqual(len(blocks), harness.BLOCK)
+        self.assertGreaterEqual(len(blocks), BLOCK)
         return blocks
 
     def dies(self, image: str, request: Request, served: FuseDisk) -> None:
         """The request's second write reaches the disk and fails there, and the process is killed before it cuts the file back."""
         blocks = self.blocks_of(image, request)
-        process = self.stopped([harness.built().udfburn, "apply", image], spell(request), image, "pwrite:2:H;ftruncate:1:K")
+        process = self.stopped([built().udfburn, "apply", image], encode(request), image, "pwrite:2:H;ftruncate:1:K")
         served.fail(blocks)
         process.send_signal(signal.SIGCONT)
-        output, _ = process.communicate(timeout=harness.PATIENCE)
+        output, _ = process.communicate(timeout=PATIENCE)
         self.assertEqual((process.returncode, output), (-9, b""))
         self.assertTrue(served.has_failed())
 
@@ -172,9 +177,9 @@ class Disks(Case):
         rules = "fsync:3:K"
         # The failure waits for them, since the system may write them before the next process does.
         served.fail(self.blocks_of(image, request, rules))
-        killed = self.apply(spell(request), image, rules=rules)
+        killed = self.apply(encode(request), image, rules=rules)
         self.assertEqual((killed.status, killed.output), (-9, b""))
-        self.tell(self.apply(spell(request), image), 1, b"", b"udfburn: 64 Device\n")
+        self.tell(self.apply(encode(request), image), 1, b"", b"udfburn: 64 Device\n")
         self.assertTrue(served.has_failed())
 
     @staticmethod
@@ -292,19 +297,19 @@ class Disks(Case):
 
     def test_writes_that_fail(self) -> None:
         """The system drops what it could not write, though it still shows it: the repeat writes it anew, and it is there."""
-        harness.need_shim()
+        need_shim()
         self.lose(JOURNAL, fails=True)
 
     def test_writes_that_fail_without_a_journal(self) -> None:
-        harness.need_shim()
+        need_shim()
         self.lose(NO_JOURNAL, fails=True)
 
     def test_a_kill_between_a_failed_sync_and_the_cut(self) -> None:
         """The system shows what the disk does not have, and the next start makes it forget that."""
-        harness.need_shim()
+        need_shim()
         self.lose(JOURNAL, ends=self.dies)
 
     def test_a_start_whose_sync_failed(self) -> None:
         """The same behind a start that ended with `64 Device`, since what the process before it had written could not be synced."""
-        harness.need_shim()
+        need_shim()
         self.lose(JOURNAL, ends=self.refused)

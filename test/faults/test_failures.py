@@ -5,11 +5,13 @@ import errno
 from pathlib import Path
 from typing import Optional, Sequence
 
-from faults import harness
 from faults.calls import Discipline
-from faults.harness import (Answer, Case, Client, Daemon, Model, Record, Request, answers_of, committed, paths_of, query, read_log,
-                            spell)
+from faults.case import Case, need_shim
+from faults.log import KINDS, Record, read_log
 from faults.pages import Disk
+from faults.programs import built
+from faults.running import Client, Daemon
+from protocol import FAULT, Answer, Model, Request, answers_of, committed, encode, frame, paths_of, query
 
 STREAM = [
     Request("create", 1, 1, "/a", b"first"),
@@ -26,13 +28,13 @@ DEVICE = b"udfburn: 64 Device\n"
 class Failures(Case):
     def setUp(self) -> None:
         super().setUp()
-        harness.need_shim()
+        need_shim()
 
     def insisted(self, client: Client, request: Request, most: int = 12) -> tuple[Optional[Answer], int]:
         """Sends a request until it is answered otherwise than 36; how often it was."""
         for faults in range(most):
-            answer = client.ask(spell(request))
-            if answer != Answer(harness.FAULT):
+            answer = client.ask(encode(request))
+            if answer != Answer(FAULT):
                 return answer, faults
         return answer, most
 
@@ -76,7 +78,7 @@ class Failures(Case):
             daemon.kill()
         records = read_log(self.log_path())
         upto = [record.kind for record in records].index("accept")
-        return {kind: sum(record.kind == kind for record in records[:upto]) for kind in harness.KINDS}
+        return {kind: sum(record.kind == kind for record in records[:upto]) for kind in KINDS}
 
     def cut_behind(self, records: Sequence[Record]) -> None:
         """Behind the first failure the next call that changes or reads the file cuts it, and the one behind that is a sync."""
@@ -151,12 +153,12 @@ class Failures(Case):
         before = self.fresh().read_bytes()
         first, second, third = STREAM[0], STREAM[1], STREAM[2]
         with Daemon(self.folder, log=self.new_log(), rules="fsync:4:E5;ftruncate:1-6:E5") as daemon, daemon.client() as client:
-            self.assertEqual(client.ask(spell(first)), committed(0, 1))
-            for frame in (spell(second), spell(third), query("get", "/a"), query("list", "/"), spell(second)):
-                self.assertEqual(client.ask(frame), Answer(harness.FAULT))
+            self.assertEqual(client.ask(encode(first)), committed(0, 1))
+            for asked in (encode(second), encode(third), query("get", "/a"), query("list", "/"), encode(second)):
+                self.assertEqual(client.ask(asked), Answer(FAULT))
             answer, _ = self.insisted(client, second)
             self.assertEqual(answer, committed(0, 2))
-            self.assertEqual(client.ask(spell(third)), committed(0, 3))
+            self.assertEqual(client.ask(encode(third)), committed(0, 3))
         records = read_log(self.log_path())
         self.assertEqual(Discipline(len(before), self.folder).follow(records, daemon=True).faults, [])
         failed = next(index for index, record in enumerate(records) if record.kind == "fsync" and record.error)
@@ -171,13 +173,13 @@ class Failures(Case):
             with self.subTest(rules):
                 self.fresh()
                 with Daemon(self.folder, rules=rules) as daemon, daemon.client() as client:
-                    self.assertEqual(client.ask(spell(STREAM[0])), committed(0, 1))
+                    self.assertEqual(client.ask(encode(STREAM[0])), committed(0, 1))
                     for _ in range(20):
-                        self.assertEqual(client.ask(spell(STREAM[1])), Answer(harness.FAULT))
+                        self.assertEqual(client.ask(encode(STREAM[1])), Answer(FAULT))
                 model = Model()
                 model.answer(STREAM[0])
                 self.tree_is(model, paths_of(STREAM))
-                ran = self.apply(spell(STREAM[1]))
+                ran = self.apply(encode(STREAM[1]))
                 self.assertEqual(answers_of(ran.output), [committed(0, 2)])
 
     def test_each_read_of_a_stream(self) -> None:
@@ -211,10 +213,10 @@ class Failures(Case):
                 rule = "%s:%d:E5" % (kind, number)
                 with self.subTest(rule):
                     self.path("d.img").write_bytes(before)
-                    ran = self.apply(spell(STREAM[0]), rules=rule, log=self.new_log())
+                    ran = self.apply(encode(STREAM[0]), rules=rule, log=self.new_log())
                     self.tell(ran, 1, b"", DEVICE)
                     self.nothing_was_done(self.log_path(), before)
-                    ran = self.program([harness.built().udfburnd, "d.img", "s"], rules=rule, log=self.new_log())
+                    ran = self.program([built().udfburnd, "d.img", "s"], rules=rule, log=self.new_log())
                     self.tell(ran, 1, b"", b"udfburnd: 64 Device\n")
                     self.nothing_was_done(self.log_path(), before)
                     self.assertFalse(self.path("s").exists())
@@ -287,7 +289,7 @@ class Failures(Case):
 
     def test_apply(self) -> None:
         """The same in one stream, where each frame comes three times: a fault, and then the reply twice."""
-        frames = b"".join(spell(request) * 3 for request in STREAM)
+        frames = b"".join(encode(request) * 3 for request in STREAM)
         for rule in ("pwrite:4:E28", "fsync:5:E5", "pwrite:7:P2048E28", "fsync:8:A5", "fstat:6:E5"):
             with self.subTest(rule):
                 before = self.fresh().read_bytes()
@@ -296,9 +298,9 @@ class Failures(Case):
                 ran = self.apply(frames, rules=rule, log=self.new_log())
                 self.assertEqual((ran.status, ran.errors), (0, b""))
                 answers = answers_of(ran.output)
-                self.assertEqual(sum(answer == Answer(harness.FAULT) for answer in answers), 1)
+                self.assertEqual(sum(answer == Answer(FAULT) for answer in answers), 1)
                 for place, want in enumerate(wanted):
-                    given = [answer for answer in answers[3 * place:3 * place + 3] if answer.code != harness.FAULT]
+                    given = [answer for answer in answers[3 * place:3 * place + 3] if answer.code != FAULT]
                     self.assertEqual(set(given), {want})
                 followed = Discipline(len(before), self.folder).follow(read_log(self.log_path()))
                 self.assertEqual(followed.faults, [])
@@ -308,7 +310,7 @@ class Failures(Case):
         """The last call of a process is a failed one: the next process answers for nothing that is not on the disk."""
         request = STREAM[0]
         self.fresh()
-        self.apply(spell(request), log=self.new_log())
+        self.apply(encode(request), log=self.new_log())
         calls = {kind: sum(record.kind == kind for record in read_log(self.log_path())) for kind in ("pwrite", "fsync")}
         for kind, count in calls.items():
             for number in range(1 if kind == "pwrite" else 2, count + 1):
@@ -316,9 +318,9 @@ class Failures(Case):
                     with self.subTest(kind=kind, number=number, cut=cut):
                         before = self.fresh().read_bytes()
                         rules = "%s:%d:E5%s" % (kind, number, cut)
-                        ran = self.apply(spell(request), rules=rules, log=self.new_log())
-                        self.tell(ran, 0, harness.frame(bytes([36, 0])), b"")
-                        ran = self.apply(spell(request), log=self.log_path())
+                        ran = self.apply(encode(request), rules=rules, log=self.new_log())
+                        self.tell(ran, 0, frame(bytes([36, 0])), b"")
+                        ran = self.apply(encode(request), log=self.log_path())
                         self.assertEqual(answers_of(ran.output), [committed(0, 1)])
                         self.assertEqual(self.sound(), 1)
                         if cut:

@@ -4,10 +4,12 @@ from __future__ import annotations
 
 from typing import Sequence
 
-from faults import harness
 from faults.calls import Discipline, told_by
-from faults.harness import (BLOCK, FORMATTED_BLOCKS, Case, Daemon, Model, Request, answers_of, committed, paths_of, read_log, spell)
+from faults.case import FORMATTED_BLOCKS, Case, need_shim
+from faults.log import read_log
 from faults.pages import Disk
+from faults.running import Daemon
+from protocol import BLOCK, STALE, Answer, Model, Request, answers_of, committed, encode, paths_of
 
 STREAM = [
     Request("create", 1, 1, "/a", b"first"),
@@ -19,18 +21,18 @@ STREAM = [
     Request("remove", 1, 4, "/d/y"),
     Request("create", 1, 5, "/long", bytes(range(256)) * 600),
 ]
-FRAMES = b"".join(map(spell, STREAM))
+FRAMES = b"".join(map(encode, STREAM))
 KILLED = -9
 
 
 class Kills(Case):
     def setUp(self) -> None:
         super().setUp()
-        harness.need_shim()
+        need_shim()
         # For each write of the stream, how many syncs are before it.
         self.syncs_before_write: list[int] = []
 
-    def wanted(self) -> tuple[Model, list[harness.Answer]]:
+    def wanted(self) -> tuple[Model, list[Answer]]:
         model = Model()
         return model, [model.answer(request) for request in STREAM]
 
@@ -43,13 +45,13 @@ class Kills(Case):
                                    for index, record in enumerate(records) if record.kind == "pwrite"]
         return {kind: sum(record.kind == kind for record in records) for kind in kinds}
 
-    def again(self, length: int, model: Model, wanted: Sequence[harness.Answer]) -> None:
+    def again(self, length: int, model: Model, wanted: Sequence[Answer]) -> None:
         """The same frames on what a kill left."""
         ran = self.apply(FRAMES, log=self.log_path())
         self.assertEqual((ran.status, ran.errors), (0, b""))
         answers = answers_of(ran.output)
         for request, answer, want in zip(STREAM, answers, wanted):
-            if answer.code == harness.STALE:
+            if answer.code == STALE:
                 # Its reply fell behind four later ones, so that it was committed.
                 self.assertLessEqual(request.number, model.latest[request.client] - 4)
             else:
@@ -123,7 +125,7 @@ class Kills(Case):
                     with self.subTest(kind=kind, number=number, action=action):
                         length = self.fresh(capacity=2000).stat().st_size
                         self.new_log()
-                        answers: list[harness.Answer] = []
+                        answers: list[Answer] = []
                         rules = "%s:%d:%s" % (kind, number, action)
                         for attempt in (rules, ""):
                             with Daemon(self.folder, log=self.log_path(), rules=attempt) as daemon:
@@ -135,7 +137,7 @@ class Kills(Case):
                                     continue
                                 with client:
                                     while len(answers) < len(STREAM):
-                                        answer = client.ask(spell(STREAM[len(answers)]))
+                                        answer = client.ask(encode(STREAM[len(answers)]))
                                         if answer is None:
                                             break
                                         answers.append(answer)
@@ -172,11 +174,11 @@ class Kills(Case):
         request = Request("create", 7, 1, "/a", b"hello")
         self.fresh(capacity=2000)
         with Daemon(self.folder, rules="send:1:P4K") as daemon, daemon.client() as client:
-            self.assertIsNone(client.ask(spell(request)))
+            self.assertIsNone(client.ask(encode(request)))
             self.assertEqual(client.waiting, bytes.fromhex("06000000"))
             self.assertEqual(daemon.process.wait(), KILLED)
         with Daemon(self.folder) as daemon, daemon.client() as client:
-            self.assertEqual(client.ask(spell(request)), committed(0, 1))
+            self.assertEqual(client.ask(encode(request)), committed(0, 1))
         self.assertEqual(self.sound(), 1)
 
     def test_the_log_is_one(self) -> None:

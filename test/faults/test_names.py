@@ -8,8 +8,13 @@ import signal
 import subprocess
 from typing import Callable, Optional
 
-from faults import harness
-from faults.harness import BLOCK, Answer, Case, Client, Daemon, Model, Request, committed, query, read_log, spell, split_answers
+from faults.case import Case, need_shim
+from faults.log import read_log
+from faults.processes import PATIENCE
+from faults.programs import built
+from faults.running import Client, Daemon, environment
+from protocol import BLOCK, FAULT, Answer, Model, Request, answers_of, committed, data_answer, encode, query, split_answers
+
 
 FIRST = Request("create", 7, 1, "/a", b"hello")
 SECOND = Request("mkdir", 7, 2, "/d")
@@ -21,13 +26,13 @@ class Names(Case):
         self.fresh()
         with Daemon(self.folder) as daemon:
             with daemon.client() as client:
-                self.assertEqual(client.ask(spell(FIRST)), committed(0, 1))
+                self.assertEqual(client.ask(encode(FIRST)), committed(0, 1))
                 change()
                 for _ in range(3):
-                    self.assertEqual(client.ask(spell(SECOND)), Answer(harness.FAULT))
+                    self.assertEqual(client.ask(encode(SECOND)), Answer(FAULT))
             with daemon.client() as other:
-                self.assertEqual(other.ask(spell(Request("mkdir", 8, 1, "/other"))), Answer(harness.FAULT))
-                self.assertEqual(other.ask(spell(SECOND)), Answer(harness.FAULT))
+                self.assertEqual(other.ask(encode(Request("mkdir", 8, 1, "/other"))), Answer(FAULT))
+                self.assertEqual(other.ask(encode(SECOND)), Answer(FAULT))
 
     def test_deleted(self) -> None:
         self.refused_behind(lambda: self.path("d.img").unlink())
@@ -43,7 +48,7 @@ class Names(Case):
         model.answer(FIRST)
         self.tree_is(model, ["/", "/a", "/d"])
         with Daemon(self.folder) as daemon, daemon.client() as client:
-            self.assertEqual(client.ask(spell(SECOND)), committed(0, 2))
+            self.assertEqual(client.ask(encode(SECOND)), committed(0, 2))
         model.answer(SECOND)
         self.tree_is(model, ["/", "/a", "/d"])
 
@@ -65,16 +70,16 @@ class Names(Case):
                 self.assertTrue(self.path("d.img").read_bytes().endswith(more))
                 self.assertEqual(self.sound(), 1)
                 with Daemon(self.folder) as daemon, daemon.client() as client:
-                    self.assertEqual(client.ask(spell(SECOND)), committed(0, 2))
+                    self.assertEqual(client.ask(encode(SECOND)), committed(0, 2))
                 self.assertEqual(self.sound(), 2)
 
     def test_moved_away(self) -> None:
         """A file that has another name now is a file with a name: what is acknowledged is in it."""
         self.fresh()
         with Daemon(self.folder) as daemon, daemon.client() as client:
-            self.assertEqual(client.ask(spell(FIRST)), committed(0, 1))
+            self.assertEqual(client.ask(encode(FIRST)), committed(0, 1))
             self.path("d.img").rename(self.path("moved.img"))
-            self.assertEqual(client.ask(spell(SECOND)), committed(0, 2))
+            self.assertEqual(client.ask(encode(SECOND)), committed(0, 2))
         model = Model()
         model.answer(FIRST)
         model.answer(SECOND)
@@ -90,25 +95,25 @@ class Names(Case):
             with self.subTest(is_replaced=is_replaced):
                 self.fresh()
                 with Daemon(self.folder) as daemon, daemon.client() as client:
-                    self.assertEqual(client.ask(spell(FIRST)), committed(0, 1))
+                    self.assertEqual(client.ask(encode(FIRST)), committed(0, 1))
                     os.link(self.path("d.img"), self.path("linked.img"))
                     shutil.copyfile(self.path("d.img"), self.path("other.img"))
                     if is_replaced:
                         self.path("other.img").replace(self.path("d.img"))
                     else:
                         self.path("d.img").unlink()
-                    self.assertEqual(client.ask(spell(SECOND)), committed(0, 2))
+                    self.assertEqual(client.ask(encode(SECOND)), committed(0, 2))
                     self.tell(self.udfburn("ls", "linked.img", "/"), 0, b"f a\nd d\n", b"")
                     if is_replaced:
                         self.tree_is(model, ["/", "/a", "/d"])
                     # Without its last name it is refused.
                     self.path("linked.img").unlink()
-                    self.assertEqual(client.ask(spell(Request("mkdir", 7, 3, "/e"))), Answer(harness.FAULT))
+                    self.assertEqual(client.ask(encode(Request("mkdir", 7, 3, "/e"))), Answer(FAULT))
 
     def test_deleted_under_apply(self) -> None:
         self.fresh()
-        process = subprocess.Popen([harness.built().udfburn, "apply", "d.img"], cwd=self.folder, stdin=subprocess.PIPE,
-                                   stdout=subprocess.PIPE, stderr=subprocess.PIPE, env=harness.environment())
+        process = subprocess.Popen([built().udfburn, "apply", "d.img"], cwd=self.folder, stdin=subprocess.PIPE,
+                                   stdout=subprocess.PIPE, stderr=subprocess.PIPE, env=environment())
         assert process.stdin is not None and process.stdout is not None
 
         def ask(frame: bytes) -> Optional[Answer]:
@@ -123,17 +128,17 @@ class Names(Case):
                 found += piece
             return split_answers(found)[0][0]
 
-        self.assertEqual(ask(spell(FIRST)), committed(0, 1))
+        self.assertEqual(ask(encode(FIRST)), committed(0, 1))
         self.path("d.img").unlink()
-        self.assertEqual(ask(spell(SECOND)), Answer(harness.FAULT))
+        self.assertEqual(ask(encode(SECOND)), Answer(FAULT))
         _, errors = process.communicate()
         self.assertEqual((process.returncode, errors), (0, b""))
 
     def test_in_the_middle_of_a_commit(self) -> None:
         """Deleted or replaced while a commit is under way, at each of its calls up to the last sync: a fault too."""
-        harness.need_shim()
+        need_shim()
         self.fresh()
-        self.apply(spell(FIRST), log=self.log_path())
+        self.apply(encode(FIRST), log=self.log_path())
         records = read_log(self.log_path())
         calls = [(record.kind, sum(other.kind == record.kind for other in records[:index + 1]))
                  for index, record in enumerate(records) if record.kind in ("pwrite", "fsync")]
@@ -143,7 +148,7 @@ class Names(Case):
                 with self.subTest(kind=kind, number=number, is_replaced=is_replaced):
                     image = self.fresh()
                     before = image.read_bytes()
-                    process = self.stopped([harness.built().udfburn, "apply", "d.img"], spell(FIRST), "d.img",
+                    process = self.stopped([built().udfburn, "apply", "d.img"], encode(FIRST), "d.img",
                                            "%s:%d:H" % (kind, number))
                     if is_replaced:
                         self.path("other.img").write_bytes(before)
@@ -151,8 +156,8 @@ class Names(Case):
                     else:
                         image.unlink()
                     process.send_signal(signal.SIGCONT)
-                    output, errors = process.communicate(timeout=harness.PATIENCE)
-                    self.assertEqual((process.returncode, harness.answers_of(output), errors), (0, [Answer(harness.FAULT)], b""))
+                    output, errors = process.communicate(timeout=PATIENCE)
+                    self.assertEqual((process.returncode, answers_of(output), errors), (0, [Answer(FAULT)], b""))
                     if is_replaced:
                         self.assertEqual(image.read_bytes(), before)
 
@@ -160,17 +165,17 @@ class Names(Case):
         """A query changes nothing: it is answered by what was committed, or is a fault."""
         self.fresh()
         with Daemon(self.folder) as daemon, daemon.client() as client:
-            self.assertEqual(client.ask(spell(FIRST)), committed(0, 1))
+            self.assertEqual(client.ask(encode(FIRST)), committed(0, 1))
             self.path("d.img").unlink()
-            self.assertIn(client.ask(query("get", "/a")), [harness.data_answer(b"hello"), Answer(harness.FAULT)])
-            self.assertEqual(client.ask(spell(SECOND)), Answer(harness.FAULT))
+            self.assertIn(client.ask(query("get", "/a")), [data_answer(b"hello"), Answer(FAULT)])
+            self.assertEqual(client.ask(encode(SECOND)), Answer(FAULT))
 
     def test_it_is_the_name_that_counts(self) -> None:
         """The same steps without the deletion are done, so that the refusals above are its doing."""
         self.fresh()
         with Daemon(self.folder) as daemon:
             with daemon.client() as client:
-                self.assertEqual(client.ask(spell(FIRST)), committed(0, 1))
-                self.assertEqual(client.ask(spell(SECOND)), committed(0, 2))
+                self.assertEqual(client.ask(encode(FIRST)), committed(0, 1))
+                self.assertEqual(client.ask(encode(SECOND)), committed(0, 2))
             with Client(daemon.path) as other:
-                self.assertEqual(other.ask(spell(Request("mkdir", 8, 1, "/other"))), committed(0, 3))
+                self.assertEqual(other.ask(encode(Request("mkdir", 8, 1, "/other"))), committed(0, 3))

@@ -12,9 +12,13 @@ import subprocess
 from pathlib import Path
 from typing import Any, Callable
 
-from faults import harness
-from faults.harness import (BLOCK, FORMATTED_BLOCKS, Answer, Case, Daemon, Model, Ran, Request, answers_of, committed, paths_of, query,
-                            read_log, spell)
+from faults.case import FORMATTED_BLOCKS, Case, need_shim
+from faults.log import read_log
+from faults.machine import first_line, lacks, need_root, need_tools
+from faults.programs import built, need_way
+from faults.running import Daemon, Ran
+from protocol import BLOCK, DAMAGED, FAULT, Answer, Model, Request, answers_of, committed, data_answer, encode, paths_of, query
+
 
 FORMAT = ("DISC", "0", "600")
 CREATE = Request("create", 7, 1, "/a", b"hello")
@@ -37,9 +41,9 @@ class Kinds(Case):
     def refused(self, image: str) -> None:
         for words in everything(image):
             with self.subTest(words):
-                self.tell(self.udfburn(*words, stdin=spell(CREATE)), 1, b"", DEVICE)
+                self.tell(self.udfburn(*words, stdin=encode(CREATE)), 1, b"", DEVICE)
         with self.subTest("the daemon"):
-            ran = self.program([harness.built().udfburnd, image, "s"])
+            ran = self.program([built().udfburnd, image, "s"])
             self.tell(ran, 1, b"", b"udfburnd: 64 Device\n")
             self.assertFalse(self.path("s").exists())
 
@@ -73,14 +77,14 @@ class Kinds(Case):
         self.refused("/dev/zero")
 
     def test_a_block_device(self) -> None:
-        harness.need_root()
-        harness.need_tools("losetup")
+        need_root()
+        need_tools("losetup")
         self.path("backing").write_bytes(bytes(1 << 20))
         made = subprocess.run(["losetup", "--find", "--show", str(self.path("backing"))], capture_output=True, text=True)
         if made.returncode:
-            harness.lacks("no loop device can be had: " + harness.first_line(made.stderr))
+            lacks("no loop device can be had: " + first_line(made.stderr))
         device = made.stdout.strip()
-        self.addCleanup(subprocess.run, ["losetup", "--detach", device], check=True)
+        self.addCleanup(subprocess.check_call, ["losetup", "--detach", device])
         self.refused(device)
         subprocess.run(["sync", device], check=True)
         self.assertEqual(self.path("backing").read_bytes(), bytes(1 << 20))
@@ -89,7 +93,7 @@ class Kinds(Case):
         """A link is what it leads to."""
         new = self.fresh().read_bytes()
         self.path("link").symlink_to("d.img")
-        self.assertEqual(answers_of(self.apply(spell(CREATE), "link").output), [committed(0, 1)])
+        self.assertEqual(answers_of(self.apply(encode(CREATE), "link").output), [committed(0, 1)])
         self.tell(self.udfburn("get", "link", "/a"), 0, b"hello", b"")
         self.assertTrue(self.path("link").is_symlink())
         self.assertGreater(self.path("d.img").stat().st_size, len(new))
@@ -140,7 +144,7 @@ class Contents(Case):
         self.path("d.img").write_bytes(b"")
         for words in (("ls", "d.img", "/"), ("get", "d.img", "/a"), ("log", "d.img"), ("check", "d.img")):
             self.tell(self.udfburn(*words), 1, b"", NOT_FORMATTED)
-        self.assertEqual(answers_of(self.apply(spell(CREATE)).output), [Answer(harness.DAMAGED)])
+        self.assertEqual(answers_of(self.apply(encode(CREATE)).output), [Answer(DAMAGED)])
         self.assertEqual(self.path("d.img").read_bytes(), b"")
 
     def test_some_bytes(self) -> None:
@@ -184,7 +188,7 @@ class Contents(Case):
 
     def test_a_volume_in_use(self) -> None:
         self.path("d.img").write_bytes(self.whole)
-        self.apply(spell(CREATE))
+        self.apply(encode(CREATE))
         self.kept(self.path("d.img").read_bytes())
 
     def test_longer_than_its_capacity(self) -> None:
@@ -213,9 +217,9 @@ class Rights(Case):
         super().setUp()
         self.user: dict[str, Any] = {}
         self.fresh()
-        self.apply(spell(CREATE))
+        self.apply(encode(CREATE))
         if os.geteuid() == 0:
-            harness.need_way()
+            need_way()
             self.user = {"user": NOBODY, "group": NOBODY, "extra_groups": []}
             os.chown(self.path("d.img"), NOBODY, NOBODY)
             os.chown(self.folder, NOBODY, NOBODY)
@@ -234,9 +238,9 @@ class Rights(Case):
         before = self.path("d.img").read_bytes()
         self.path("d.img").chmod(0o444)
         self.readable()
-        self.tell(self.as_user("apply", "d.img", stdin=spell(CREATE)), 1, b"", DEVICE)
+        self.tell(self.as_user("apply", "d.img", stdin=encode(CREATE)), 1, b"", DEVICE)
         self.tell(self.as_user("format", "d.img", *FORMAT), 1, b"", DEVICE)
-        ran = self.program([harness.built().udfburnd, "d.img", "s"], **self.user)
+        ran = self.program([built().udfburnd, "d.img", "s"], **self.user)
         self.tell(ran, 1, b"", b"udfburnd: 64 Device\n")
         self.assertEqual(self.path("d.img").read_bytes(), before)
 
@@ -246,7 +250,7 @@ class Rights(Case):
             self.path("d.img").chmod(mode)
             for words in everything("d.img"):
                 with self.subTest(words=words, mode=mode):
-                    self.tell(self.as_user(*words, stdin=spell(CREATE)), 1, b"", DEVICE)
+                    self.tell(self.as_user(*words, stdin=encode(CREATE)), 1, b"", DEVICE)
         self.path("d.img").chmod(0o600)
         self.assertEqual(self.path("d.img").read_bytes(), before)
 
@@ -262,7 +266,7 @@ class Rights(Case):
         self.tell(self.as_user("format", "part.img", *FORMAT), 0, b"formatted\n", b"")
         self.assertEqual(self.path("part.img").read_bytes(), whole)
         request = Request("mkdir", 7, 2, "/d")
-        self.assertEqual(answers_of(self.as_user("apply", "d.img", stdin=spell(request)).output), [committed(0, 2)])
+        self.assertEqual(answers_of(self.as_user("apply", "d.img", stdin=encode(request)).output), [committed(0, 2)])
 
     def test_a_disk_that_is_mounted_for_reading(self) -> None:
         where = self.mounted("mounted", "-t", "tmpfs", "-o", "size=4m", "none")
@@ -272,7 +276,7 @@ class Rights(Case):
         image = str(where / "d.img")
         self.tell(self.udfburn("ls", image, "/"), 0, b"f a\n", b"")
         self.tell(self.udfburn("check", image), 0, b"sound 1\n", b"")
-        self.tell(self.udfburn("apply", image, stdin=spell(CREATE)), 1, b"", DEVICE)
+        self.tell(self.udfburn("apply", image, stdin=encode(CREATE)), 1, b"", DEVICE)
         self.tell(self.udfburn("format", str(where / "new.img"), *FORMAT), 1, b"", DEVICE)
 
 
@@ -295,17 +299,17 @@ class Limits(Case):
                 self.fresh()
                 model = Model()
                 for request in self.STREAM[:4]:
-                    ran = self.apply(spell(request), preexec_fn=self.limited(blocks, True))
+                    ran = self.apply(encode(request), preexec_fn=self.limited(blocks, True))
                     self.assertEqual((ran.status, ran.errors), (0, b""))
                     (answer,) = answers_of(ran.output)
-                    if answer == Answer(harness.FAULT):
+                    if answer == Answer(FAULT):
                         self.assertLessEqual(self.path("d.img").stat().st_size, blocks * BLOCK)
                         self.tree_is(model, paths_of(self.STREAM[:5]))
                         break
                     self.assertEqual(answer, model.answer(request))
                 else:
                     self.fail("the limit was never met")
-                self.assertEqual(answers_of(self.apply(spell(request)).output), [model.answer(request)])
+                self.assertEqual(answers_of(self.apply(encode(request)).output), [model.answer(request)])
                 self.tree_is(model, paths_of(self.STREAM[:5]))
 
     def test_a_limit_under_the_daemon(self) -> None:
@@ -314,15 +318,15 @@ class Limits(Case):
         with Daemon(self.folder, preexec_fn=self.limited(300, True)) as daemon, daemon.client() as client:
             faults = 0
             for request in self.STREAM[:4]:
-                answer = client.ask(spell(request))
-                if answer == Answer(harness.FAULT):
+                answer = client.ask(encode(request))
+                if answer == Answer(FAULT):
                     faults += 1
                     for _ in range(3):
-                        self.assertEqual(client.ask(spell(request)), Answer(harness.FAULT))
+                        self.assertEqual(client.ask(encode(request)), Answer(FAULT))
                     # A smaller one has room, and the queries are answered.
-                    self.assertEqual(client.ask(query("get", "/1")), harness.data_answer(self.STREAM[0].data))
+                    self.assertEqual(client.ask(query("get", "/1")), data_answer(self.STREAM[0].data))
                     small = Request("create", 9, 1, "/small", b"x")
-                    self.assertEqual(client.ask(spell(small)), model.answer(small))
+                    self.assertEqual(client.ask(encode(small)), model.answer(small))
                     break
                 self.assertEqual(answer, model.answer(request))
             self.assertEqual(faults, 1)
@@ -343,7 +347,7 @@ class Limits(Case):
         self.fresh()
         model = Model()
         for request in self.STREAM[:4]:
-            ran = self.apply(spell(request), preexec_fn=self.limited(284, False))
+            ran = self.apply(encode(request), preexec_fn=self.limited(284, False))
             if ran.status != 0:
                 self.assertEqual((ran.status, ran.output), (-signal.SIGXFSZ, b""))
                 break
@@ -351,7 +355,7 @@ class Limits(Case):
         else:
             self.fail("the limit was never met")
         self.tree_is(model, paths_of(self.STREAM[:5]))
-        self.assertEqual(answers_of(self.apply(spell(request)).output), [model.answer(request)])
+        self.assertEqual(answers_of(self.apply(encode(request)).output), [model.answer(request)])
 
     def full_disk(self, where: Path) -> None:
         """Requests until the disk is full; then 36, the tree is what was answered; with room again the rest is done."""
@@ -368,8 +372,8 @@ class Limits(Case):
         with Daemon(where, str(image), socket_name="s") as daemon, daemon.client() as client:
             done = 0
             for request in self.STREAM:
-                answer = client.ask(spell(request))
-                if answer == Answer(harness.FAULT):
+                answer = client.ask(encode(request))
+                if answer == Answer(FAULT):
                     break
                 self.assertEqual(answer, model.answer(request))
                 done += 1
@@ -377,13 +381,13 @@ class Limits(Case):
                 self.fail("the disk was never full")
             self.assertGreater(done, 1)
             for _ in range(3):
-                self.assertEqual(client.ask(spell(request)), Answer(harness.FAULT))
-            self.assertEqual(client.ask(query("get", "/1")), harness.data_answer(self.STREAM[0].data))
+                self.assertEqual(client.ask(encode(request)), Answer(FAULT))
+            self.assertEqual(client.ask(query("get", "/1")), data_answer(self.STREAM[0].data))
             self.path("copy.img").write_bytes(image.read_bytes())
             self.tree_is(model, paths, "copy.img")
             filler.unlink()
             for request in self.STREAM[done:done + 3]:
-                self.assertEqual(client.ask(spell(request)), model.answer(request))
+                self.assertEqual(client.ask(encode(request)), model.answer(request))
         self.path("copy.img").write_bytes(image.read_bytes())
         self.tree_is(model, paths, "copy.img")
 
@@ -391,8 +395,8 @@ class Limits(Case):
         self.full_disk(self.mounted("small", "-t", "tmpfs", "-o", "size=1500k", "none"))
 
     def test_a_full_disk(self) -> None:
-        harness.need_root()
-        harness.need_tools("mkfs.ext4")
+        need_root()
+        need_tools("mkfs.ext4")
         disk = self.path("disk")
         with open(disk, "wb") as file:
             file.truncate(8 << 20)
@@ -401,8 +405,8 @@ class Limits(Case):
 
     def test_a_limit_is_told_by_the_system(self) -> None:
         """The limit is met by a write, so that the tests above test what they say."""
-        harness.need_shim()
+        need_shim()
         self.fresh()
-        self.apply(spell(self.STREAM[0]), preexec_fn=self.limited(265, True), log=self.log_path())
+        self.apply(encode(self.STREAM[0]), preexec_fn=self.limited(265, True), log=self.log_path())
         failed = {record.error for record in read_log(self.log_path()) if record.kind == "pwrite"}
         self.assertIn(errno.EFBIG, failed)

@@ -4,9 +4,11 @@ from __future__ import annotations
 import os
 from typing import Sequence
 
-from faults import harness
 from faults.calls import Discipline, is_entry, told_by
-from faults.harness import BLOCK, FORMATTED_BLOCKS, Case, Daemon, Model, Request, Record, committed, paths_of, questions, read_log, spell
+from faults.case import FORMATTED_BLOCKS, Case, need_shim
+from faults.log import Record, read_log
+from faults.running import Daemon
+from protocol import BLOCK, Model, Request, answers_of, committed, encode, paths_of, questions
 
 MEBIBYTE = 1 << 20
 
@@ -50,7 +52,7 @@ def entry_for(block: bytes, number: int) -> bytes:
 class Order(Case):
     def setUp(self) -> None:
         super().setUp()
-        harness.need_shim()
+        need_shim()
 
     def disciplined(self, records: Sequence[Record], length: int, daemon: bool = False, is_format: bool = False,
                     folder_synced: bool = True) -> Discipline:
@@ -63,8 +65,8 @@ class Order(Case):
         image = self.fresh(capacity=3000)
         model = Model()
         wanted = [model.answer(request) for request in BEFORE]
-        ran = self.apply(b"".join(map(spell, BEFORE)))
-        self.assertEqual(harness.answers_of(ran.output), wanted)
+        ran = self.apply(b"".join(map(encode, BEFORE)))
+        self.assertEqual(answers_of(ran.output), wanted)
         return model, image.stat().st_size
 
     def test_each_commit_of_apply(self) -> None:
@@ -72,8 +74,8 @@ class Order(Case):
             with self.subTest(name):
                 model, length = self.prepared()
                 wanted = model.answer(request)
-                ran = self.apply(spell(request), log=self.new_log())
-                self.assertEqual(harness.answers_of(ran.output), [wanted])
+                ran = self.apply(encode(request), log=self.new_log())
+                self.assertEqual(answers_of(ran.output), [wanted])
                 followed = self.disciplined(read_log(self.log_path()), length)
                 self.assertEqual((followed.answers, followed.seen_entries), (1, 1))
                 self.tree_is(model, paths_of([*BEFORE, request]))
@@ -84,8 +86,8 @@ class Order(Case):
                 model, length = self.prepared()
                 wanted = model.answer(request)
                 with Daemon(self.folder, log=self.new_log()) as daemon, daemon.client() as client:
-                    self.assertEqual(client.ask(spell(request)), wanted)
-                    self.assertEqual(client.ask(spell(request)), wanted)
+                    self.assertEqual(client.ask(encode(request)), wanted)
+                    self.assertEqual(client.ask(encode(request)), wanted)
                 followed = self.disciplined(read_log(self.log_path()), length, daemon=True)
                 self.assertEqual((followed.answers, followed.seen_entries), (2, 1))
                 self.tree_is(model, paths_of([*BEFORE, request]))
@@ -103,10 +105,10 @@ class Order(Case):
                 length = self.fresh(capacity=3000).stat().st_size
                 if by_daemon:
                     with Daemon(self.folder, log=self.new_log()) as daemon, daemon.client() as client:
-                        self.assertEqual([client.ask(spell(request)) for request in stream], wanted)
+                        self.assertEqual([client.ask(encode(request)) for request in stream], wanted)
                 else:
-                    ran = self.apply(b"".join(map(spell, stream)), log=self.new_log())
-                    self.assertEqual(harness.answers_of(ran.output), wanted)
+                    ran = self.apply(b"".join(map(encode, stream)), log=self.new_log())
+                    self.assertEqual(answers_of(ran.output), wanted)
                 followed = self.disciplined(read_log(self.log_path()), length, daemon=by_daemon)
                 self.assertEqual((followed.answers, followed.seen_entries), (len(stream), len(stream)))
                 self.tree_is(model, paths_of(stream))
@@ -120,8 +122,8 @@ class Order(Case):
         request = Request("create", 7, 1, "/a", imitation)
         model = Model()
         wanted = model.answer(request)
-        ran = self.apply(spell(request), log=self.log_path())
-        self.assertEqual(harness.answers_of(ran.output), [wanted])
+        ran = self.apply(encode(request), log=self.log_path())
+        self.assertEqual(answers_of(ran.output), [wanted])
         followed = self.disciplined(read_log(self.log_path()), len(made))
         self.assertEqual((followed.answers, followed.seen_entries), (1, 1))
         grown = image.read_bytes()
@@ -133,10 +135,10 @@ class Order(Case):
         """A kept reply tells of a commit, so that it waits for the sync of the opening, and it writes nothing."""
         request = Request("create", 7, 1, "/a", b"hello")
         self.fresh()
-        self.apply(spell(request))
+        self.apply(encode(request))
         before = self.path("d.img").read_bytes()
-        ran = self.apply(spell(request), log=self.log_path())
-        self.assertEqual(harness.answers_of(ran.output), [committed(0, 1)])
+        ran = self.apply(encode(request), log=self.log_path())
+        self.assertEqual(answers_of(ran.output), [committed(0, 1)])
         records = read_log(self.log_path())
         followed = self.disciplined(records, len(before))
         self.assertEqual(followed.answers, 1)
@@ -148,7 +150,7 @@ class Order(Case):
         """What a query tells is on the disk too."""
         request = Request("create", 7, 1, "/a", b"hello")
         length = self.fresh().stat().st_size
-        self.assertEqual(self.apply(spell(request), rules="fsync:2:K", log=self.log_path()).status, -9)
+        self.assertEqual(self.apply(encode(request), rules="fsync:2:K", log=self.log_path()).status, -9)
         self.apply(questions(["/", "/a"]), log=self.log_path())
         followed = self.disciplined(read_log(self.log_path()), length)
         self.assertGreaterEqual(followed.answers, 4)
@@ -162,9 +164,9 @@ class Order(Case):
             with self.subTest(rule):
                 length = self.fresh().stat().st_size
                 self.new_log()
-                self.assertEqual(self.apply(spell(request), rules=rule, log=self.log_path()).status, -9)
-                ran = self.apply(spell(request), log=self.log_path())
-                self.assertEqual(harness.answers_of(ran.output), [wanted])
+                self.assertEqual(self.apply(encode(request), rules=rule, log=self.log_path()).status, -9)
+                ran = self.apply(encode(request), log=self.log_path())
+                self.assertEqual(answers_of(ran.output), [wanted])
                 self.disciplined(read_log(self.log_path()), length)
                 self.tree_is(model, ["/", "/a"])
 
@@ -215,10 +217,10 @@ class Order(Case):
                 length = self.fresh().stat().st_size
                 if by_daemon:
                     with Daemon(self.folder, log=self.new_log()) as daemon, daemon.client() as client:
-                        self.assertEqual(client.ask(spell(request)), committed(0, 1))
+                        self.assertEqual(client.ask(encode(request)), committed(0, 1))
                 else:
-                    ran = self.apply(spell(request), log=self.new_log())
-                    self.assertEqual(harness.answers_of(ran.output), [committed(0, 1)])
+                    ran = self.apply(encode(request), log=self.new_log())
+                    self.assertEqual(answers_of(ran.output), [committed(0, 1)])
                 followed = self.disciplined(read_log(self.log_path()), length, daemon=by_daemon, folder_synced=False)
                 self.assertEqual(followed.answers, 1)
 
@@ -228,14 +230,14 @@ class Order(Case):
         # The first folder that is opened is the root, for the standard streams.
         for rule in ("folderopen:2:E13", "foldersync:1:E5", "foldersync:1:A5"):
             with self.subTest(rule):
-                ran = self.apply(spell(Request("create", 7, 1, "/a", b"hello")), rules=rule)
+                ran = self.apply(encode(Request("create", 7, 1, "/a", b"hello")), rules=rule)
                 self.tell(ran, 1, b"", b"udfburn: 64 Device\n")
                 self.assertEqual(self.path("d.img").read_bytes(), before)
 
     def test_readers_write_nothing(self) -> None:
         """Without a lock, and with nothing but reads."""
         self.fresh()
-        self.apply(spell(Request("create", 7, 1, "/a", b"hello")))
+        self.apply(encode(Request("create", 7, 1, "/a", b"hello")))
         for words in (("ls", "d.img", "/"), ("get", "d.img", "/a"), ("log", "d.img"), ("check", "d.img")):
             with self.subTest(words):
                 ran = self.udfburn(*words, log=self.new_log())
@@ -252,22 +254,22 @@ class Itself(Case):
 
     def setUp(self) -> None:
         super().setUp()
-        harness.need_shim()
+        need_shim()
 
     def test_a_sync_that_lies_is_seen(self) -> None:
         length = self.fresh().stat().st_size
-        self.apply(spell(Request("create", 7, 1, "/a", b"hello")), rules="fsync:*:L", log=self.log_path())
+        self.apply(encode(Request("create", 7, 1, "/a", b"hello")), rules="fsync:*:L", log=self.log_path())
         faults = Discipline(length, self.folder).follow(read_log(self.log_path())).faults
         self.assertTrue(any("not all is synced" in fault for fault in faults), faults)
         self.assertTrue(any("read before it was synced" in fault for fault in faults), faults)
 
     def test_a_file_that_is_not_forgotten_is_seen(self) -> None:
         length = self.fresh().stat().st_size
-        self.apply(spell(Request("create", 7, 1, "/a", b"hello")), rules="fadvise:*:L", log=self.log_path())
+        self.apply(encode(Request("create", 7, 1, "/a", b"hello")), rules="fadvise:*:L", log=self.log_path())
         faults = Discipline(length, self.folder).follow(read_log(self.log_path())).faults
         self.assertTrue(any("what the system kept of it" in fault for fault in faults), faults)
 
     def test_an_answer_is_found(self) -> None:
         self.fresh()
-        self.apply(spell(Request("create", 7, 1, "/a", b"hello")), log=self.log_path())
+        self.apply(encode(Request("create", 7, 1, "/a", b"hello")), log=self.log_path())
         self.assertEqual([answer for _, answer in told_by(read_log(self.log_path()), False)], [committed(0, 1)])

@@ -6,13 +6,14 @@ image must be a state of the run, and not one before the last acknowledged commi
 from __future__ import annotations
 
 import random
-from typing import Callable, Optional, Sequence
+from typing import Callable, Dict, Optional, Sequence
 
-from faults import harness
-from faults.harness import (BLOCK, FORMATTED_BLOCKS, Answer, Case, Client, Daemon, Model, Ran, Record, Request, answers_of, paths_of,
-                            questions, read_log, spell)
 from faults.calls import told_by
+from faults.case import FORMATTED_BLOCKS, Case, need_shim
+from faults.log import Record, read_log
 from faults.pages import Disk, losses
+from faults.running import Client, Daemon, Ran
+from protocol import BLOCK, FAULT, Answer, Model, Request, answers_of, encode, paths_of, questions
 
 SEED = 20261123
 
@@ -43,7 +44,7 @@ def states_of(requests: Sequence[Request]) -> list[Model]:
 class Power(Case):
     def setUp(self) -> None:
         super().setUp()
-        harness.need_shim()
+        need_shim()
         self.images = 0
         self.lost = 0
 
@@ -67,7 +68,7 @@ class Power(Case):
         states = states_of(requests)
         paths = paths_of(requests)
         told = [state.told(paths) for state in states]
-        said = {}
+        said: Dict[int, int] = {}
         for index, answer in told_by(records, daemon):
             if answer.is_commit:
                 said[index] = max(said.get(index, 0), answer.commit)
@@ -107,8 +108,8 @@ class Power(Case):
 
     def insisted(self, client: Client, request: Request) -> Optional[Answer]:
         for _ in range(8):
-            answer = client.ask(spell(request))
-            if answer is None or answer.code != harness.FAULT:
+            answer = client.ask(encode(request))
+            if answer is None or answer.code != FAULT:
                 break
         return answer
 
@@ -119,7 +120,7 @@ class Power(Case):
 
     def test_a_stream_of_apply(self) -> None:
         before = self.fresh().read_bytes()
-        ran = self.apply(b"".join(map(spell, STREAM)), log=self.log_path())
+        ran = self.apply(b"".join(map(encode, STREAM)), log=self.log_path())
         model = Model()
         self.assertEqual(answers_of(ran.output), [model.answer(request) for request in STREAM])
         self.lose(before, read_log(self.log_path()), STREAM, 2, False)
@@ -128,7 +129,7 @@ class Power(Case):
     def test_a_killed_stream(self) -> None:
         """A kill at each write and sync of a short stream, the same frames again, and power lost at every call of both processes."""
         requests = STREAM[:3]
-        frames = b"".join(map(spell, requests))
+        frames = b"".join(map(encode, requests))
         model = Model()
         wanted = [model.answer(request) for request in requests]
         self.fresh()
@@ -156,7 +157,7 @@ class Power(Case):
             model = Model()
             with Daemon(self.folder, log=self.new_log()) as daemon, daemon.client() as client:
                 for request in requests:
-                    self.assertEqual(client.ask(spell(request)), model.answer(request))
+                    self.assertEqual(client.ask(encode(request)), model.answer(request))
             self.lose(before, read_log(self.log_path()), requests, 3, True)
         self.assertGreater(self.images, 100)
 
@@ -265,10 +266,10 @@ class Itself(Case):
         self.assertEqual(bytes(disk.cache), b"AAAAAABBD")
 
     def test_a_sync_that_lies_loses_a_file(self) -> None:
-        harness.need_shim()
+        need_shim()
         requests = STREAM[:2]
         before = self.fresh().read_bytes()
-        self.apply(b"".join(map(spell, requests)), rules="fsync:*:L", log=self.log_path())
+        self.apply(b"".join(map(encode, requests)), rules="fsync:*:L", log=self.log_path())
         disk = Disk(before, 4096)
         for record in read_log(self.log_path()):
             disk.call(record)

@@ -6,8 +6,13 @@ import subprocess
 import threading
 from typing import Callable, Optional
 
-from faults import harness
-from faults.harness import Case, Daemon, Ran, Request, answers_of, committed, frame, query, spell
+from faults.case import Case, need_shim
+from faults.machine import lacks
+from faults.processes import PATIENCE
+from faults.programs import built
+from faults.running import Daemon, Ran, environment
+from protocol import Request, answers_of, committed, data_answer, encode, frame, query, split_answers
+
 
 READ = b"udfburn: 91 Read\n"
 WRITE = b"udfburn: 92 Write\n"
@@ -15,7 +20,7 @@ WRITE = b"udfburn: 92 Write\n"
 CREATE = Request("create", 7, 1, "/a", b"hello")
 SECOND = Request("mkdir", 7, 2, "/d")
 THIRD = Request("mkdir", 7, 3, "/e")
-FRAMES = [spell(CREATE), spell(SECOND), spell(THIRD)]
+FRAMES = [encode(CREATE), encode(SECOND), encode(THIRD)]
 ANSWERS = [bytes.fromhex("06000000 0000 01000000"), bytes.fromhex("06000000 0000 02000000"), bytes.fromhex("06000000 0000 03000000")]
 # A length above the limit, and what is answered to it (docs/PROTOCOL.md).
 TOO_LONG = bytes.fromhex("00000080")
@@ -47,7 +52,7 @@ class Played(Case):
         with socket.socket(socket.AF_UNIX) as listener:
             listener.bind(str(path))
             listener.listen()
-            listener.settimeout(harness.PATIENCE)
+            listener.settimeout(PATIENCE)
 
             def serve() -> None:
                 connection, _ = listener.accept()
@@ -99,7 +104,7 @@ class Played(Case):
                   whole[:-1], READ)
 
     def test_an_answer_that_is_long(self) -> None:
-        data = harness.data_answer(b"x" * 1000000)
+        data = data_answer(b"x" * 1000000)
         whole = frame(b"\x40\x00" + data.rest)
         self.tell(self.play(query("get", "/a"), whole), 0, whole, b"")
         self.tell(self.play(query("get", "/a"), whole[:-1]), 1, whole[:-1], READ)
@@ -142,7 +147,7 @@ class Played(Case):
 
     def test_a_daemon_that_reads_a_part(self) -> None:
         """It goes in the middle of what it is sent: the status is 1, with a line that tells of the stream."""
-        frames = spell(CREATE._replace(data=b"x" * 1000000)) * 4
+        frames = encode(CREATE._replace(data=b"x" * 1000000)) * 4
         for reads in (0, 1, 100000):
             for answer in (b"", ANSWERS[0][:5], ANSWERS[0]):
                 with self.subTest(reads=reads, answer=len(answer)):
@@ -164,7 +169,7 @@ class Killed(Case):
 
     def test_it_is_killed_before_it_answers(self) -> None:
         """`send .. && rm source` keeps the source: the status is not 0 where an answer is missing, at each call of a commit."""
-        harness.need_shim()
+        need_shim()
         for rule in ("recv:2:k", "pwrite:1:K", "pwrite:1:k", "fsync:2:K", "fsync:2:k", "send:1:K"):
             with self.subTest(rule):
                 self.fresh()
@@ -177,12 +182,12 @@ class Killed(Case):
 
     def test_it_is_killed_between_its_answers(self) -> None:
         """The next daemon gets all of it again, and then the status is 0."""
-        harness.need_shim()
+        need_shim()
         self.fresh()
         with Daemon(self.folder, rules="send:2:K") as daemon:
             daemon.client().close()
-            process = subprocess.Popen([harness.built().udfburn, "send", "s"], cwd=self.folder, stdin=subprocess.PIPE,
-                                       stdout=subprocess.PIPE, stderr=subprocess.PIPE, env=harness.environment())
+            process = subprocess.Popen([built().udfburn, "send", "s"], cwd=self.folder, stdin=subprocess.PIPE,
+                                       stdout=subprocess.PIPE, stderr=subprocess.PIPE, env=environment())
             assert process.stdin is not None
             # In two pieces, so that the first is answered before the second is there.
             process.stdin.write(FRAMES[0])
@@ -203,7 +208,7 @@ class Killed(Case):
     def test_many_frames(self) -> None:
         """More than a buffer holds, in one stream."""
         self.fresh(capacity=3000)
-        frames = b"".join(spell(Request("mkdir", 7, number, "/%d" % (number % 7))) for number in range(1, 301))
+        frames = b"".join(encode(Request("mkdir", 7, number, "/%d" % (number % 7))) for number in range(1, 301))
         with Daemon(self.folder) as daemon:
             daemon.client().close()
             ran = self.udfburn("send", "s", stdin=frames)
@@ -218,33 +223,33 @@ class Killed(Case):
         # What a kernel reckons for a message differs.
         count = waiting(250)
         if count < 100:
-            harness.lacks("a socket holds no more than %d answers" % count)
+            lacks("a socket holds no more than %d answers" % count)
         self.fresh(capacity=60000)
         with Daemon(self.folder) as daemon:
             daemon.client().close()
-            ran = self.udfburn("send", "s", stdin=b"".join(map(spell, self.LARGE[:count])))
+            ran = self.udfburn("send", "s", stdin=b"".join(map(encode, self.LARGE[:count])))
             self.assertEqual((ran.status, ran.errors), (0, b""))
             self.assertEqual([answer.commit for answer in answers_of(ran.output)], list(range(1, count + 1)))
 
     def test_more_than_wait(self) -> None:
         """Neither side goes on, until the daemon lets go: that is told, and what was answered is done. The next parts go on from there."""
         if waiting(len(self.LARGE)) == len(self.LARGE):
-            harness.lacks("a socket holds more answers than are asked for")
+            lacks("a socket holds more answers than are asked for")
         self.fresh(capacity=60000)
         with Daemon(self.folder) as daemon:
             daemon.client().close()
-            ran = self.udfburn("send", "s", stdin=b"".join(map(spell, self.LARGE)))
+            ran = self.udfburn("send", "s", stdin=b"".join(map(encode, self.LARGE)))
             self.assertEqual(ran.status, 1)
             self.assertIn(ran.errors, [READ, WRITE])
             self.assertEqual(daemon.errors(), b"udfburnd: 92 Write\n")
-            answers, _ = harness.split_answers(ran.output)
+            answers, _ = split_answers(ran.output)
             self.assertGreaterEqual(len(answers), waiting(250))
             self.assertLess(len(answers), len(self.LARGE))
             self.assertEqual([answer.commit for answer in answers], list(range(1, len(answers) + 1)))
             # The last one whose answer came is within the replies that are kept.
             rest = self.LARGE[len(answers) - 1:]
             for part in (rest[:100], rest[100:]):
-                ran = self.udfburn("send", "s", stdin=b"".join(map(spell, part)))
+                ran = self.udfburn("send", "s", stdin=b"".join(map(encode, part)))
                 self.assertEqual((ran.status, ran.errors), (0, b""))
                 self.assertEqual([answer.commit for answer in answers_of(ran.output)], [request.number for request in part])
         self.assertEqual(self.sound(), len(self.LARGE))

@@ -8,7 +8,7 @@ from pathlib import Path
 from typing import Callable, Dict, List, Tuple
 
 import naming
-from frames import BLOCK, Directory, File, Node, Tree
+from protocol import BLOCK, Directory, File, Node, Tree
 from linux import Mount
 from volumes import Volume
 
@@ -124,16 +124,16 @@ def udfclient(volume: Volume, room: Path) -> List[str]:
         out.append("status %d: %s" % (done.returncode, done.stdout.decode(errors="replace")[-300:]))
     out += ["%r is not there" % path for path in wanted if path not in found]
     out += ["%r is there" % path for path in found if path not in wanted]
-    for path, node in wanted.items():
-        copy = found.get(path)
+    for name, node in wanted.items():
+        copy = found.get(name)
         if copy is None:
             continue
         if copy.is_dir() != isinstance(node, Directory):
-            out.append("%r is of another kind" % path)
+            out.append("%r is of another kind" % name)
         elif isinstance(node, File):
             if copy.read_bytes() != node.data:
-                out.append("%r has other bytes" % path)
+                out.append("%r has other bytes" % name)
             moment = copy.stat().st_mtime_ns // 1000
             if moment != node.moment:
-                out.append("%r: moment %d, not %d" % (path, moment, node.moment))
+                out.append("%r: moment %d, not %d" % (name, moment, node.moment))
     return out

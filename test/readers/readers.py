@@ -18,10 +18,12 @@ import time
 from pathlib import Path
 from typing import List, Tuple
 
-import compare
-import linux
-from frames import Tree
-from volumes import PLANS, Maker, Volume
+sys.path.insert(0, str(Path(__file__).resolve().parent.parent))
+
+import compare  # noqa: E402
+import linux  # noqa: E402
+from protocol import Tree  # noqa: E402
+from volumes import PLANS, Maker, Volume  # noqa: E402
 
 # A path that is too long for the fixed room that it has ends udfclient. It takes no image of less than 300 blocks, and takes
 # the byte behind a label of 30 letters for a letter more.

@@ -8,7 +8,7 @@ from dataclasses import dataclass, field
 from pathlib import Path
 from typing import Callable, Dict, List, Optional, Tuple
 
-from frames import BLOCK, DONE, FRONT, Directory, Script, Tree
+from protocol import BLOCK, DONE, FRONT, Directory, Script, Tree
 
 # Names of all kinds. Those of characters up to U+00FF are spelled with one byte each, others with two.
 NAMES = (

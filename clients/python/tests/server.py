@@ -5,7 +5,6 @@ from __future__ import annotations
 
 import os
 import socket
-import struct
 import threading
 from typing import Callable, List, Optional, Tuple
 
@@ -133,8 +132,8 @@ class Direct(Connection):
 
 
 def is_probe(payload: bytes) -> bool:
-    """Whether this is the request by which a client learns its latest number."""
-    return len(payload) > 17 and payload[0] == 5 and struct.unpack_from("<Q", payload, 9)[0] == (1 << 64) - 1
+    """Whether this is a request by which a client learns its latest number or a reply that is kept: a removal of the root at moment 0."""
+    return len(payload) == 26 and payload[0] == 5 and not any(payload[17:])
 
 
 def request_of(payload: bytes) -> Optional[Request]:

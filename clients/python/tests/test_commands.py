@@ -36,7 +36,10 @@ class Commands(Local):
         self.assertEqual(self.words("ls", "/x/y"), ["f a.txt"])
         self.assertEqual(self.words("ls", "-l", "/x/y"), ["f         5 2023-11-14T22:13:20Z a.txt"])
         self.assertEqual(self.words("ls", "-R", "/"), ["/:", "d x", "/x:", "d y", "/x/y:", "f a.txt"])
-        self.assertEqual([json.loads(line) for line in self.words("ls", "--json", "/x/y")], [{"path": "/x/y/a.txt", "kind": "file", "size": 5, "moment": 1_700_000_000_000_000}])
+        self.assertEqual(
+            [json.loads(line) for line in self.words("ls", "--json", "/x/y")],
+            [{"path": "/x/y/a.txt", "kind": "file", "size": 5, "moment": 1_700_000_000_000_000}, {"did": "ls", "failures": [], "status": 0}],
+        )
         self.assertEqual(self.words("mv", "/x/y/a.txt", "/x/"), ["moved /x/y/a.txt to /x/a.txt"])
         self.assertEqual(self.words("verify", local, "/x/a.txt"), ["1 file, 5 B: all are there"])
         self.assertEqual(self.words("verify", local, "/x/y", status=1)[-1], "0 files, 0 B: 1 difference")
@@ -79,9 +82,10 @@ class Commands(Local):
     def test_json(self) -> None:
         self.write("a", b"hello")
         lines = [json.loads(line) for line in self.words("put", "--json", "-r", self.folder, "/x")]
-        self.assertEqual([line["did"] for line in lines], ["made", "stored", "put"])
+        self.assertEqual([line["did"] for line in lines], ["made", "stored", "not kept", "put"])
         self.assertEqual((lines[1]["path"], lines[1]["bytes"], lines[1]["commit"]), ("/x/a", 5, 2))
-        self.assertEqual((lines[2]["files"], lines[2]["failures"]), (1, []))
+        self.assertEqual(lines[2], {"did": "not kept", "folder_times": 1})
+        self.assertEqual((lines[3]["files"], lines[3]["failures"], lines[3]["status"]), (1, [], 0))
         result = json.loads(self.words("verify", "--json", self.folder, "/x")[-1])
         self.assertEqual((result["files"], result["differences"]), (1, 0))
 
@@ -98,7 +102,7 @@ class Commands(Local):
         with self.client() as client:
             client.put("/a", b"hello")
         synced: List[str] = []
-        with mock.patch("udfburn.fetch.os.fsync", lambda descriptor: synced.append(os.readlink(f"/proc/self/fd/{descriptor}"))):
+        with mock.patch("udfburn.disk.os.fsync", lambda descriptor: synced.append(os.readlink(f"/proc/self/fd/{descriptor}"))):
             self.assertEqual(self.words("get", "/a", os.path.join(self.room, "a")), ["got /a (5 bytes)"])
         self.assertEqual(synced[1:], [os.path.realpath(self.room)])
 
@@ -185,7 +189,7 @@ class Commands(Local):
 
     def test_help(self) -> None:
         """Each command tells what it does, and what each of its words and options is."""
-        for name in cli.COMMANDS:
+        for name in cli.parser().get_default("names"):
             output = StringIO()
             with self.assertRaises(SystemExit) as raised, redirect_stdout(output), mock.patch.dict(os.environ, {"COLUMNS": "1000"}):
                 cli.main([name, "--help"])

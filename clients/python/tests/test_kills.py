@@ -30,7 +30,10 @@ PER_KILL = 60
 BATCH, BATCHES = 100, 40
 """Files that are imported at once, and how many times a volume has room for the names of so many."""
 CODE = os.path.dirname(udfburn.__file__)
-TRACED = {os.path.join(CODE, name) for name in ("session.py", "ledger.py", "tree.py", "connection.py", "line.py")}
+NAMES = (
+    "session.py", "recognition.py", "identity.py", "ledger.py", "ledger_file.py", "ledger_records.py", "ledger_schema.py", "tree.py", "connection.py", "line.py",
+)
+TRACED = {os.path.join(CODE, name) for name in NAMES}
 
 
 def content(index: int) -> bytes:

@@ -22,7 +22,7 @@ from udfburn.ledger import LOG_BYTES, Ledger, Lock, Pending, Reply, Volume as Kn
 from udfburn.operations import Operation
 from udfburn.tree import Options, put_all
 
-from .model import Volume
+from .model import File, Volume
 from .programs import PATIENCE
 from .server import request_of
 from .test_kills import killer
@@ -83,7 +83,7 @@ class Ledgers(WithServer):
         base("names.sqlite", "CREATE TABLE ledger (what, ever)")
         base("none.sqlite", "CREATE TABLE ledger (version, client)")
         base("words.sqlite", "CREATE TABLE ledger (version, client)", "INSERT INTO ledger VALUES (1, 'me')")
-        base("newer.sqlite", "CREATE TABLE ledger (version, client)", "INSERT INTO ledger VALUES (2, '5')")
+        base("newer.sqlite", "CREATE TABLE ledger (version, client)", "INSERT INTO ledger VALUES (3, '5')")
         os.mkdir(os.path.join(room, "folder"))
         os.mkfifo(os.path.join(room, "pipe"))
 
@@ -93,7 +93,7 @@ class Ledgers(WithServer):
         before = found()
         self.assertEqual(len(before), 11)
         for name in before:
-            with self.assertRaisesRegex(e.LedgerError, "version 1" if name == "newer.sqlite" else "is no ledger .*--ledger", msg=name):
+            with self.assertRaisesRegex(e.LedgerError, "version 2" if name == "newer.sqlite" else "is no ledger .*--ledger", msg=name):
                 Ledger(os.path.join(room, name))
             self.assertEqual(found(), before, name)
         with self.assertRaises(e.LedgerError):
@@ -205,7 +205,7 @@ class Ledgers(WithServer):
             made[there] += 1
             if there:
                 base = sqlite3.connect(path)
-                self.assertEqual(base.execute("SELECT * FROM ledger").fetchall(), [(1, "5")])
+                self.assertEqual(base.execute("SELECT * FROM ledger").fetchall(), [(2, "5")])
                 base.close()
             Ledger(path, client=5 if there else 7, wait=0.0).close()
             self.assertEqual(sorted(os.listdir(room)), ["ledger.sqlite", "ledger.sqlite.lock"])
@@ -317,14 +317,31 @@ class Ledgers(WithServer):
             client.create("/b", b"")
 
     def test_another_volume(self) -> None:
+        """One without a request of this client is in its place, and one with more than the ledger sent."""
         client = self.client()
         client.create("/a", b"")
         client.create("/b", b"")
+        first = self.server.volume
         self.server.volume = Volume()
+        with self.assertRaisesRegex(e.EmptyVolume, "up to 2 .*Found: none"):
+            client.create("/a", b"")
+        self.server.volume.nodes[("x",)] = File(b"", 0)
+        self.server.volume.nodes[()].names.append("x")  # type: ignore[attr-defined]
+        with self.assertRaisesRegex(e.OtherVolume, "another volume"):
+            client.create("/a", b"")
+        self.assertEqual(self.volume.commits, 0)
+        self.assertEqual(client.forget(), [])
         self.assertEqual(client.create("/a", b""), 1)
         self.server.volume.clients[client.session().ledger.client] = (9, [p.Committed(p.Code.DONE, 9)])
         with self.assertRaises(e.NumberUsedElsewhere):
             client.create("/c", b"")
+        # Nor is the first one forgotten: it is known again when the user names it.
+        self.server.volume = first
+        with self.assertRaises(e.NumberUsedElsewhere):
+            client.create("/c", b"")
+        client.forget()
+        self.assertEqual(client.create("/c", b""), 3)
+        self.assertEqual(len(client.session().ledger.history(client.session().volume())), 3)
 
     def test_an_older_copy_of_the_volume(self) -> None:
         client = self.client()

@@ -11,7 +11,7 @@ from types import SimpleNamespace
 from typing import Iterator, List, Optional, Tuple
 from unittest import mock
 
-from udfburn import Client, blocks, errors as e, fetch, split, tree
+from udfburn import Client, blocks, errors as e, fetch, saving, split, tree
 from udfburn import protocol as p
 from udfburn.sources import Identity, Scan, Source, delete, read_parts, scan
 from udfburn.tree import Options, put_all
@@ -432,13 +432,13 @@ class Fetch(Local):
         with open(os.path.join(back, "a", "b"), "rb") as file:
             self.assertEqual(file.read(), b"bytes")
         self.assertEqual(os.stat(os.path.join(back, "a", "b")).st_mtime_ns // 1000, client.stat("/x/a/b").moment)
-        with self.assertRaises(e.SourceError):
-            fetch.get_tree(client, ("x",), back)
+        self.assertEqual(fetch.get_tree(client, ("x",), back), 2)
         os.unlink(os.path.join(back, "a", "b"))
         os.rmdir(os.path.join(back, "a"))
         os.symlink(self.folder, os.path.join(back, "a"))
-        with self.assertRaisesRegex(e.SourceError, "symbolic link"):
-            fetch.get_tree(client, ("x",), back, force=True)
+        for force in (False, True):
+            with self.assertRaisesRegex(e.SourceError, "symbolic link"):
+                fetch.get_tree(client, ("x",), back, force=force)
 
     def test_the_names_are_on_the_disk(self) -> None:
         """Whoever is told that all was got may remove it from the volume: what is synchronised last of a folder is all its names."""
@@ -454,7 +454,7 @@ class Fetch(Local):
             synced[os.path.relpath(path, where)] = sorted(os.listdir(path)) if os.path.isdir(path) else []
             real(descriptor)
 
-        with mock.patch("udfburn.fetch.os.fsync", fsync):
+        with mock.patch("udfburn.disk.os.fsync", fsync):
             fetch.get_tree(self.client(), ("x",), os.path.join(where, "new", "back"))
         for folder, names in (("new", ["back"]), ("new/back", ["a", "c", "empty"]), ("new/back/a", ["b"]), ("new/back/empty", [])):
             self.assertEqual(synced.get(folder), names, folder)
@@ -469,8 +469,8 @@ class Fetch(Local):
                 file.write(b"of another")
             yield b"of the volume"
 
-        for link in (os.link, mock.Mock(side_effect=refused)):
-            with mock.patch("udfburn.fetch.os.link", link):
+        for link, unnamed in ((os.link, saving.UNNAMED), (os.link, 0), (mock.Mock(side_effect=refused), 0)):
+            with mock.patch("udfburn.saving.os.link", link), mock.patch.object(saving, "UNNAMED", unnamed):
                 with self.assertRaisesRegex(e.SourceError, "is there already"):
                     fetch.save(local, parts(), None, False)
                 with open(local, "rb") as file:
@@ -579,6 +579,7 @@ class Left(Local):
         for before, size, left in ((2 * full + 1, 5, ["big"]), (2 * full + 1, full + 1, ["big.000", "big.001"]), (5, full + 1, ["big.000", "big.001"])):
             for options in ({}, {"skip_same": True}):
                 self.server.volume = Volume()
+                self.ledger = os.path.join(self.room, f"{before}-{size}-{len(options)}.sqlite")
                 self.write("big", bytes(before))
                 self.put(split=True)
                 self.write("big", bytes(size))

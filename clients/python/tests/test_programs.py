@@ -144,7 +144,8 @@ class Folders(WithPrograms):
         client = self.on_image()
         summary = put_all(client, [(local, ("x",))], Options(recursive=True))
         self.assertEqual(os.path.getsize(self.image) // 2048, 262 + (summary.blocks or 0))
-        again = put_all(client, [(local, ("x",))], Options(recursive=True))
+        again = put_all(client, [(local, ("x",))], Options(recursive=True, rewrite=True))
+        self.assertEqual(again.files, summary.files)
         self.assertEqual(os.path.getsize(self.image) // 2048, 262 + (summary.blocks or 0) + (again.blocks or 0))
 
     def test_parts(self) -> None:

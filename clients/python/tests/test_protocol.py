@@ -91,7 +91,7 @@ class Document(unittest.TestCase):
         self.assertEqual(kinds, {int(kind) for kind in p.Kind})
         causes = {int(row[0]) for row in cells(section("Requests and queries").split("### Faults")[1])[1:]}
         self.assertEqual(causes, {int(cause) for cause in p.Cause})
-        answers, codes = section("Answers").split("| Code | How")
+        answers, codes = section("Answers").split("| Code | Result")
         self.assertEqual({int(row[0]) for row in cells(answers)[2:]}, {int(code) for code in p.AnswerCode})
         self.assertEqual({int(row[0]) for row in cells(codes) if row[0].isdigit()}, {int(code) for code in p.Code})
         self.assertIn(f"at most {p.limits.PAYLOAD:,}", document())

@@ -61,7 +61,7 @@ class WithServer(unittest.TestCase):
 
     def direct(self, client: Client, most: int = PIECE) -> Any:
         """A client's conversations are held with the volume itself meanwhile, whose answers come in pieces of at most so many bytes."""
-        return mock.patch.object(client.way, "open", lambda: Direct(self.volume, most))
+        return mock.patch.object(client.way, "open", lambda *_: Direct(self.volume, most))
 
     @property
     def volume(self) -> Volume:
@@ -302,14 +302,15 @@ class Trouble(WithServer):
         self.assertEqual([number for number, *_ in client.session().ledger.history(client.session().volume())], list(range(1, 9)))
 
     def test_clients_full(self) -> None:
-        self.volume.clients = {client: (1, [p.Committed(p.Code.DONE, 1)]) for client in range(1, 65)}
+        self.volume.clients = {client: (1, [p.Committed(p.Code.DONE, client)]) for client in range(1, 65)}
+        self.volume.commits = 64
         client = self.client()
         with self.assertRaisesRegex(e.ClientsFull, "--client"):
             client.create("/a", b"")
         with self.assertRaises(e.ClientsFull):
             client.create("/a", b"")
         known = self.client(os.path.join(self.room, "other.sqlite"), 7)
-        self.assertEqual(known.create("/a", b""), 1)
+        self.assertEqual(known.create("/a", b""), 65)
 
     def test_damaged_and_malformed(self) -> None:
         client = self.client()
@@ -578,29 +579,21 @@ class Ahead(WithServer):
             self.assertEqual(len(list(client.run(creates(12)))), 12)
         self.assertEqual([step for step in steps if step][:10], [2, 2, -2, 2, -2, 2, -2, 2, -2, 2])
 
-    def test_numbers_are_those_of_the_volume_that_is_there(self) -> None:
-        """Between a conversation that was lost and the next turn another volume is put in place, which knows no number."""
-        client, probes, lost = self.client(), [0], [False]
+    def test_another_volume_between_two_turns(self) -> None:
+        """Nothing is sent to it: what was acknowledged before is not there."""
+        client, first = self.client(), self.volume
 
         def before(payload: bytes) -> None:
-            probes[0] += is_probe(payload)
-            if is_probe(payload) and probes[0] == 3:
+            if is_probe(payload) and payload[9:17] == b"\xff" * 8 and first.commits == 4:
                 self.server.volume = Volume()
 
-        def say(payload: bytes, answer: p.Answer) -> Optional[bytes]:
-            request = request_of(payload)
-            if request and request.number == 2 and not lost[0]:
-                lost[0] = True
-                return None
-            return honestly(payload, answer)
-
-        self.server.before, self.server.say = before, say
+        self.server.before = before
+        done: List[p.Path] = []
         # Each turn is over at once, also by a clock that stands still.
-        with mock.patch("udfburn.line.TURN", -1.0):
-            outcomes = list(client.run(creates(7)))
-        self.assertEqual([outcome.code for outcome in outcomes], [p.Code.DONE] * 7)
-        self.assertEqual([outcome.number for outcome in outcomes], [1, 2, 1, 2, 3, 4, 5])
-        self.assertEqual(len(self.volume.files()), 5)
+        with mock.patch("udfburn.line.TURN", -1.0), self.assertRaisesRegex(e.EmptyVolume, "empty .*up to 2 .*--forget"):
+            done.extend(outcome.operation.path for outcome in client.run(creates(7)))
+        self.assertEqual(done, [("f0",), ("f1",)])
+        self.assertEqual((first.commits, self.volume.commits), (4, 0))
 
 
 class Foreseen(WithServer):

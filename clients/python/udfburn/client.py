@@ -3,7 +3,7 @@
 from __future__ import annotations
 
 from contextlib import contextmanager
-from typing import TYPE_CHECKING, Generator, Iterable, Iterator, List, Optional, Tuple, Type
+from typing import TYPE_CHECKING, Generator, Iterable, Iterator, List, Optional, Tuple, Type, Union
 
 from .connection import Way
 from .errors import MISSES, REFUSALS, Exists, IsDirectory, NotDirectory, NotFound, Refused, UdfburnError, UsageError
@@ -11,10 +11,11 @@ from .line import Line
 from .operations import Operation, Outcome, now
 from .protocol import (
     Answer, AnyRequest, Bare, Code, Create, Data, Get, List as ListQuery, MakeDir, Name, Names, Node, NodeKind, Path, PathLike, Query,
-    Remove, Rename, Replace, Stat, path_of, show,
+    Remove, Rename, Replace, Stat, path_of, show, shown,
 )
 
 if TYPE_CHECKING:
+    from .digests import Files, Known, KnownWhole
     from .session import Session
 
 
@@ -37,6 +38,7 @@ class Client:
         program: Optional[str] = None,
         patience: float = 10.0,
         timeout: float = 120.0,
+        shared: bool = False,
     ):
         if not 0 <= patience < float("inf"):
             raise UsageError(f"{patience!r} is no count of seconds: one is a number from 0 on")
@@ -45,6 +47,7 @@ class Client:
         self._wanted = client
         self._ledger_path = ledger
         self._patience = patience
+        self._shared = shared
         self._session: Optional[Session] = None
         self._held = 0
 
@@ -78,7 +81,7 @@ class Client:
             from .ledger import Ledger, default_path
             from .session import Session
 
-            self._session = Session(self.line, Ledger(self._ledger_path or default_path(), self._wanted, self._patience))
+            self._session = Session(self.line, Ledger(self._ledger_path or default_path(), self._wanted, self._patience), self._shared)
         return self._session
 
     # ---- requests
@@ -195,6 +198,36 @@ class Client:
             return self.stat(path)
         except NotFound:
             return None
+
+    # ---- what the ledger knows
+
+    def known_files(self) -> Files:
+        """The files that this ledger stored on the volume, with their sizes, moments, SHA-256, commits and numbers. Asks the volume
+        nothing; what other clients did since is not known."""
+        from .digests import Files
+
+        ledger = self.session().ledger
+        volume = ledger.volume(self.way.key())
+        if volume is None:
+            raise UsageError(f"{self.way}: the ledger {shown(ledger.path)} knows no volume there")
+        return Files(ledger, volume)
+
+    def digest_of(self, path: PathLike) -> Optional[bytes]:
+        """The SHA-256 of the file at a path, as this ledger sent it, also of one in parts; None where the ledger does not have it, or
+        where the volume has another size or moment there now."""
+        from .digests import KnownWhole
+
+        files, names = self.known_files(), path_of(path)
+        found: Union[Known, KnownWhole, None] = files.now.get(names) or files.wholes.get(names)
+        if found is None:
+            return None
+        parts = found.parts if isinstance(found, KnownWhole) else (found.path,)
+        with self.held():
+            return found.sha256 if all(self._is_as_sent(files.now[part]) for part in parts) else None
+
+    def _is_as_sent(self, known: Known) -> bool:
+        """Whether the volume has a file of this size and moment at its path."""
+        return self.find(known.path) == Node(NodeKind.FILE, known.moment, known.size)
 
     # ---- whole trees
 

@@ -7,6 +7,7 @@ import os
 import select
 import socket
 import time
+from contextlib import suppress
 from typing import IO, List, Optional, Union
 
 from .errors import ProgramFailed, UsageError
@@ -22,18 +23,25 @@ class Lost(Exception):
 
 class Connection:
     """A conversation: frames go out, answers come in, in order. Both directions move at once, so that neither
-    side waits for the other to read."""
+    side waits for the other to read.
 
-    def __init__(self) -> None:
+    `since` is when the wait began in which nothing has come or gone yet; None where none is.
+    """
+
+    def __init__(self, timeout: float = 120.0) -> None:
         self.frames = Frames()
-        self.timeout = 120.0
+        self.timeout = timeout
+        self.since: Optional[float] = None
 
     def send(self, data: bytes) -> None:
         """Sends frames, and takes what comes in meanwhile."""
         view = memoryview(data)
         limit = time.monotonic() + self.timeout
         while view:
-            view = view[self._write(view) :]
+            gone = self._write(view)
+            view = view[gone:]
+            if gone:
+                self.since = None
             if view:
                 readable, writable = self._wait(limit, writing=True)
                 if readable:
@@ -64,6 +72,7 @@ class Connection:
         self._wait(time.monotonic() + self.timeout, writing=False)
         piece = self._read(len(expected))
         if piece == expected:
+            self.since = None
             return True
         self._take(piece)
         return False
@@ -80,17 +89,21 @@ class Connection:
             return
         if not piece:
             raise self._ended()
+        self.since = None
         self.frames.feed(piece)
 
     def _wait(self, limit: float, writing: bool) -> "tuple[bool, bool]":
         source, sink = self._descriptors()
+        now = time.monotonic()
+        if self.since is None:
+            self.since = now
         poll = select.poll()
         poll.register(source, select.POLLIN | (select.POLLOUT if writing and sink == source else 0))
         if writing and sink != source:
             poll.register(sink, select.POLLOUT)
-        found = poll.poll(max(0.0, limit - time.monotonic()) * 1000)
+        found = poll.poll(max(0.0, limit - now) * 1000)
         if not found:
-            raise Lost(f"nothing came for {self.timeout:g} seconds")
+            raise Lost(f"nothing came for {self.timeout:.3g} seconds")
         # An end or an error is found by reading or writing.
         if not writing:
             return True, False
@@ -115,13 +128,16 @@ class Connection:
 class UnixConnection(Connection):
     """A conversation with a daemon over its Unix socket."""
 
-    def __init__(self, path: str):
-        super().__init__()
+    def __init__(self, path: str, timeout: float = 120.0):
+        super().__init__(timeout)
         self.socket = socket.socket(socket.AF_UNIX, socket.SOCK_STREAM)
         # With a limit, a daemon that has too many clients waiting is an error and no pause without an end.
         self.socket.settimeout(self.timeout)
         try:
             connect(self.socket, path)
+        except socket.timeout as error:
+            self.socket.close()
+            raise Lost(f"the daemon took no conversation for {self.timeout:.3g} seconds") from error
         except OSError as error:
             self.socket.close()
             raise Lost(error.strerror or str(error)) from error
@@ -167,11 +183,11 @@ def connect(unix: socket.socket, path: str) -> None:
 class ImageConnection(Connection):
     """A conversation with `udfburn apply IMAGE`, which runs as long as the conversation lasts."""
 
-    def __init__(self, image: str, program: str):
+    def __init__(self, image: str, program: str, timeout: float = 120.0):
         import subprocess
         import tempfile
 
-        super().__init__()
+        super().__init__(timeout)
         # An absolute path is never the name of a volume in memory.
         self.image = os.path.abspath(image)
         self.errors: IO[bytes] = tempfile.TemporaryFile()
@@ -193,11 +209,23 @@ class ImageConnection(Connection):
         for stream in (self.process.stdin, self.process.stdout):
             if stream:
                 stream.close()
-        self.process.wait()
+        self._await_end()
         self.errors.close()
 
+    def _await_end(self) -> None:
+        """Waits for the program's end. One that does not come is killed, as by a loss of power: what it answered stays."""
+        import subprocess
+
+        try:
+            self.process.wait(self.timeout)
+        except subprocess.TimeoutExpired:
+            self.process.kill()
+            # One that waits for a disk goes when the disk lets it.
+            with suppress(subprocess.TimeoutExpired):
+                self.process.wait(1.0)
+
     def _ended(self) -> Exception:
-        self.process.wait()
+        self._await_end()
         self.errors.seek(0)
         line = self.errors.read(1 << 12).decode(errors="replace").strip()
         if line.startswith("udfburn: 64"):
@@ -243,17 +271,27 @@ class Way:
 
     def key(self) -> Union[str, bytes]:
         """The way's name in a ledger, by the file behind links; as bytes where these are not UTF-8."""
-        key = f"{self.kind}:{os.path.realpath(self.path)}"
-        return os.fsencode(key) if is_bytes(key) else key
+        return key_of(self.kind, self.path)
 
-    def open(self) -> Connection:
-        """A new conversation, or `Lost`."""
+    def open(self, timeout: float = 120.0) -> Connection:
+        """A new conversation, or `Lost`. `timeout` is the longest wait in it, in seconds."""
         if self.kind == "unix":
-            return UnixConnection(self.path)
+            return UnixConnection(self.path, timeout)
         assert self.program
         if not os.path.isfile(self.path):
             raise ProgramFailed(f"{self.path}: {os.strerror(errno.ENOENT)}, or no regular file")
-        return ImageConnection(self.path, self.program)
+        return ImageConnection(self.path, self.program, timeout)
+
+
+def key_of(kind: str, path: str) -> Union[str, bytes]:
+    """The name of a way in a ledger."""
+    key = f"{kind}:{os.path.realpath(path)}"
+    return os.fsencode(key) if is_bytes(key) else key
+
+
+def image_key(path: str) -> Union[str, bytes]:
+    """The name of an image in a ledger."""
+    return key_of("image", path)
 
 
 def find_program(program: Optional[str] = None) -> str:
@@ -288,4 +326,4 @@ def run_program(program: str, words: List[str]) -> bytes:
     return done.stdout
 
 
-__all__ = ["Connection", "ImageConnection", "Lost", "UnixConnection", "Way", "check_word", "find_program", "run_program"]
+__all__ = ["Connection", "ImageConnection", "Lost", "UnixConnection", "Way", "check_word", "find_program", "image_key", "run_program"]

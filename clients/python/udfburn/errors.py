@@ -2,7 +2,7 @@
 
 from __future__ import annotations
 
-from typing import Dict, Type
+from typing import Dict, Optional, Type
 
 from .protocol import AnswerCode, BadAnswer, Code, InvalidName, InvalidPath
 
@@ -132,8 +132,24 @@ class NumberUsedElsewhere(LedgerError):
     """The volume has requests of this client that this ledger did not send."""
 
 
-class VolumeBehind(LedgerError):
-    """The volume does not have requests that it acknowledged to this ledger."""
+class WrongVolume(LedgerError):
+    """What is at this way is not the volume that acknowledged requests of this ledger there. Nothing was sent to it."""
+
+
+class VolumeBehind(WrongVolume):
+    """An older copy: the volume does not have requests that were acknowledged to this ledger."""
+
+
+class EmptyVolume(VolumeBehind):
+    """A volume without any request of this client is in the place of one that acknowledged some."""
+
+
+class OtherVolume(WrongVolume):
+    """Another volume: its identity, the replies that it keeps or what they made are not what the ledger has."""
+
+
+class CopyWentOn(WrongVolume):
+    """A copy that went on by itself: it has the volume's earlier commits, and then others than the ledger has."""
 
 
 class ForeignReply(LedgerError):
@@ -172,15 +188,32 @@ class Differs(UdfburnError):
     """What is on the volume is not what it should be."""
 
 
+class DiskFull(UdfburnError):
+    """A local file system has no room: that of the image, of the ledger or of a local file."""
+
+
+class OutputFailed(UdfburnError):
+    """The standard output is closed, or takes no more."""
+
+
+class FileDiffers(Differs):
+    """A file of a volume is not what it should be. `commit` is the one that wrote it, where that is known."""
+
+    def __init__(self, text: str, path: str, commit: Optional[int]):
+        super().__init__(text)
+        self.path = path
+        self.commit = commit
+
+
 class UsageError(UdfburnError):
     """Words that are no command."""
 
 
 __all__ = [
-    "AnswerCode", "BadAnswer", "ClientsFull", "Code", "ConnectionFailed", "Damaged", "Differs", "DirectoryFull",
-    "DoesNotFit", "DriveFailed", "Exists", "ForeignReply", "Full", "IntoItself", "InvalidName", "InvalidPath",
-    "IsDirectory", "IsRoot", "LedgerBusy", "LedgerError", "MISSES", "NoParent", "NotCommitted", "NotDirectory",
-    "NotEmpty", "NotFound", "NumberUsedElsewhere", "OutOfMemory", "ProgramFailed", "REFUSALS",
+    "AnswerCode", "BadAnswer", "ClientsFull", "Code", "ConnectionFailed", "CopyWentOn", "Damaged", "Differs", "DirectoryFull",
+    "DiskFull", "DoesNotFit", "DriveFailed", "EmptyVolume", "Exists", "FileDiffers", "ForeignReply", "Full", "IntoItself", "InvalidName",
+    "InvalidPath", "IsDirectory", "IsRoot", "LedgerBusy", "LedgerError", "MISSES", "NoParent", "NotCommitted", "NotDirectory",
+    "NotEmpty", "NotFound", "NumberUsedElsewhere", "OtherVolume", "OutOfMemory", "OutputFailed", "ProgramFailed", "REFUSALS",
     "Refused", "Rejected", "SourceChanged", "SourceError", "TooDeep", "TooLarge", "TooMany", "UdfburnError",
-    "UsageError", "VolumeBehind",
+    "UsageError", "VolumeBehind", "WrongVolume",
 ]

@@ -7,35 +7,20 @@ volume runs each at most once, and keeps the replies of the last four. One proce
 
 from __future__ import annotations
 
-import fcntl
 import os
 import sqlite3
-import stat
 import time
 from contextlib import contextmanager
-from typing import Iterable, Iterator, List, NamedTuple, Optional, Sequence, Set, Tuple, Union
+from typing import Any, Dict, Iterable, Iterator, List, Mapping, Optional, Sequence, Set, Tuple, Union
 
-from .errors import LedgerBusy, LedgerError
+from .errors import LedgerError
+from .ledger_file import Lock, connect, default_path, is_there, lengthen, make_folder, remove, sync_file, sync_folder
+from .ledger_records import FACTS, Identity, Mark, Pending, Reply, Sent, Volume, facts_row, row_facts
+from .ledger_schema import SCHEMA, VERSION, statements, upgrade
 from .protocol import limits
 
-VERSION = 1
 LAST = (1 << 63) - 1
 """The greatest number that the ledger's columns hold."""
-
-SCHEMA = """
-CREATE TABLE ledger (version INTEGER NOT NULL, client TEXT NOT NULL);
-CREATE TABLE volume (id INTEGER PRIMARY KEY, way TEXT NOT NULL, latest INTEGER NOT NULL, made REAL NOT NULL);
-CREATE TABLE request (
-    volume INTEGER NOT NULL REFERENCES volume (id),
-    number INTEGER NOT NULL,
-    path TEXT NOT NULL,
-    code INTEGER,
-    commit_number INTEGER,
-    confirmed INTEGER NOT NULL DEFAULT 0,
-    PRIMARY KEY (volume, number)
-) WITHOUT ROWID;
-CREATE TABLE frame (id INTEGER PRIMARY KEY, payload BLOB NOT NULL);
-"""
 
 LATEST = """
 SELECT max(latest, coalesce(
@@ -43,8 +28,18 @@ SELECT max(latest, coalesce(
 """
 """The latest number with a reply: that which was learnt, or a later one."""
 
-PENDING = """
-SELECT number, payload, path FROM request JOIN frame ON frame.id = volume * 4 + number % 4
+VOLUME = f"""
+SELECT id, volume.way, ({LATEST}), unsettled, label, formatted, capacity, mark_commit, mark_address, mark_check FROM volume
+"""
+
+BOUND = "INSERT INTO way VALUES (?, ?) ON CONFLICT (way) DO UPDATE SET volume = excluded.volume"
+
+IDENTIFIED = """
+UPDATE volume SET label = ?, formatted = ?, capacity = ?, mark_commit = ?, mark_address = ?, mark_check = ? WHERE id = ?
+"""
+
+PENDING = f"""
+SELECT number, payload, path, {', '.join(FACTS)} FROM request JOIN frame ON frame.id = volume * 4 + number % 4
 WHERE volume = ?1 AND number > (SELECT max(number) FROM request WHERE volume = ?1) - 4 AND code IS NULL ORDER BY number
 """
 """What has no reply: it is among the last four. Four payloads are kept for a volume, each in the place of an older one."""
@@ -52,164 +47,20 @@ WHERE volume = ?1 AND number > (SELECT max(number) FROM request WHERE volume = ?
 KEPT_FRAME = "INSERT INTO frame VALUES (?, ?) ON CONFLICT (id) DO UPDATE SET payload = excluded.payload"
 """Writes a payload over an older one, in the pages of that where both have one size."""
 
+ASKED = f"INSERT INTO request (volume, number, path, {', '.join(FACTS)}) VALUES (?, ?, ?{', ?' * len(FACTS)})"
+
+SENT = f"SELECT number, path, code, commit_number, confirmed, {', '.join(FACTS)} FROM request"
+
+LAST_COMMIT = """
+SELECT max(coalesce((SELECT commit_number FROM request WHERE volume = ? AND code IS NOT NULL ORDER BY number DESC LIMIT 1), 0),
+    coalesce((SELECT commit_number FROM found WHERE volume = ? ORDER BY number DESC LIMIT 1), 0))
+"""
+
 LOG_PAGES = 128
 """Pages that the base's log has before they are taken over into the base, and it is written from its front again."""
 
 LOG_BYTES = 32 + (LOG_PAGES + 16) * (24 + 4096)
 """Bytes that such a log may take, with what the last transaction adds."""
-
-
-class Volume(NamedTuple):
-    """A volume as the ledger knows it: `latest` is the number of the last request with a reply."""
-
-    id: int
-    way: Union[str, bytes]
-    latest: int
-
-
-class Pending(NamedTuple):
-    """A request without a reply: its number, its payload, and the path it speaks of."""
-
-    number: int
-    payload: bytes
-    path: str
-
-
-class Reply(NamedTuple):
-    """A reply that came."""
-
-    number: int
-    code: int
-    commit: int
-    confirmed: bool
-
-
-def default_path() -> str:
-    """Where a user's ledger is: one a machine, since a volume keeps 64 clients for its life."""
-    state = os.environ.get("XDG_STATE_HOME") or os.path.expanduser("~/.local/state")
-    return os.environ.get("UDFBURN_LEDGER") or os.path.join(state, "udfburn", "ledger.sqlite")
-
-
-def sync_folder(path: str) -> None:
-    """Makes the names in a folder durable."""
-    folder = os.open(path, os.O_RDONLY | os.O_DIRECTORY)
-    try:
-        os.fsync(folder)
-    finally:
-        os.close(folder)
-
-
-def make_folder(path: str) -> None:
-    """Makes a folder with those above it, each durable: else a loss of power may take the ledger away with them."""
-    if os.path.isdir(path):
-        return
-    make_folder(os.path.dirname(path))
-    try:
-        os.mkdir(path)
-    except FileExistsError:
-        pass
-    sync_folder(os.path.dirname(path))
-
-
-def sync_file(path: str) -> None:
-    """Makes the bytes of a file durable."""
-    descriptor = os.open(path, os.O_RDWR | os.O_CLOEXEC)
-    try:
-        os.fsync(descriptor)
-    finally:
-        os.close(descriptor)
-
-
-def lengthen(path: str, size: int) -> None:
-    """Gives a file so many bytes, where it has fewer, and makes them durable. What is written in their place later takes no
-    change of the file system, for which a synchronisation would wait, and with it all others on the same disk."""
-    descriptor = os.open(path, os.O_WRONLY | os.O_CLOEXEC)
-    try:
-        begin = os.fstat(descriptor).st_size
-        if begin < size:
-            os.pwrite(descriptor, bytes(size - begin), begin)
-            os.fsync(descriptor)
-    finally:
-        os.close(descriptor)
-
-
-def remove(path: str) -> None:
-    """Removes a file that may be there."""
-    try:
-        os.unlink(path)
-    except FileNotFoundError:
-        pass
-
-
-MAGIC = b"SQLite format 3\0"
-
-
-def is_there(path: str) -> bool:
-    """Whether there is a file that may be a ledger. One without a byte is none yet; what is surely no ledger is an error."""
-    try:
-        status = os.stat(path)
-        if not stat.S_ISREG(status.st_mode):
-            raise LedgerError(f"{path}: is no ledger (no regular file): name another by --ledger")
-        if not status.st_size:
-            return False
-        with open(path, "rb") as file:
-            if file.read(len(MAGIC)) != MAGIC:
-                raise LedgerError(f"{path}: is no ledger (no base of SQLite): name another by --ledger")
-    except FileNotFoundError:
-        return False
-    return True
-
-
-def connect(path: str) -> sqlite3.Connection:
-    """A base, which nobody else reads but its user. Each of its transactions is durable at its end."""
-    old = os.umask(0o077)
-    try:
-        base = sqlite3.connect(path, isolation_level=None, timeout=5, check_same_thread=False)
-    finally:
-        os.umask(old)
-    try:
-        base.execute("PRAGMA locking_mode = EXCLUSIVE")
-        base.execute("PRAGMA synchronous = FULL")
-    except BaseException:
-        base.close()
-        raise
-    return base
-
-
-class Lock:
-    """The lock of a ledger: a file beside it, since closing the base would give up locks on the base itself."""
-
-    def __init__(self, path: str, wait: float):
-        self.path = path + ".lock"
-        limit = time.monotonic() + wait
-        while not self._take():
-            if time.monotonic() >= limit:
-                raise LedgerBusy(f"{path}: another process has this ledger: wait for it, or take another by --ledger")
-            time.sleep(0.05)
-
-    def _take(self) -> bool:
-        """Tries once. `made` is whether the file was not there."""
-        try:
-            self.descriptor = os.open(self.path, os.O_RDWR | os.O_CREAT | os.O_EXCL | os.O_CLOEXEC, 0o600)
-            self.made = True
-        except FileExistsError:
-            self.descriptor = os.open(self.path, os.O_RDWR | os.O_CREAT | os.O_CLOEXEC, 0o600)
-            self.made = False
-        try:
-            fcntl.flock(self.descriptor, fcntl.LOCK_EX | fcntl.LOCK_NB)
-            # Whoever found no ledger has taken the file away, maybe between the two calls.
-            if os.path.samestat(os.fstat(self.descriptor), os.stat(self.path)):
-                return True
-        except OSError:
-            pass
-        os.close(self.descriptor)
-        return False
-
-    def close(self, needless: bool = False) -> None:
-        """Gives the lock to others. Where it was needless its file goes, if it was made for it."""
-        if needless and self.made:
-            remove(self.path)
-        os.close(self.descriptor)
 
 
 class Ledger:
@@ -273,13 +124,16 @@ class Ledger:
         if not base.execute("SELECT 1 FROM sqlite_master").fetchone():
             return None
         version, client = base.execute("SELECT version, client FROM ledger").fetchone()
-        if version != VERSION:
+        if version not in (1, VERSION):
             raise LedgerError(f"{self.path}: has version {version}, and this program writes version {VERSION}")
-        if wanted is not None and wanted != int(client):
+        number = int(client)
+        if wanted is not None and wanted != number:
             raise LedgerError(
                 f"{self.path}: is the ledger of client {client}, not {wanted}: leave --client out, or name another ledger"
             )
-        return int(client)
+        if version == 1:
+            upgrade(base)
+        return number
 
     def _make(self, wanted: Optional[int]) -> None:
         """Makes the ledger under another name, and gives it its own once it is whole and durable."""
@@ -307,7 +161,7 @@ class Ledger:
             # A making that is cut short is thrown away, so nothing of it has to be undone.
             base.execute("PRAGMA journal_mode = MEMORY")
             base.execute("BEGIN IMMEDIATE")
-            for statement in SCHEMA.split(";\n"):
+            for statement in statements(SCHEMA):
                 base.execute(statement)
             base.execute("INSERT INTO ledger VALUES (?, ?)", (VERSION, str(client)))
             base.execute("COMMIT")
@@ -335,32 +189,73 @@ class Ledger:
     # ---- volumes
 
     def volume(self, way: Union[str, bytes]) -> Optional[Volume]:
-        """The volume that was last met on this way."""
-        self.set_back()
-        row = self._base.execute(f"SELECT id, way, ({LATEST}) FROM volume WHERE way = ? ORDER BY id DESC LIMIT 1", (way,)).fetchone()
-        return None if row is None else Volume(*row)
+        """The volume that is at this way."""
+        found = self._volumes("JOIN way ON way.volume = volume.id WHERE way.way = ?", way)
+        return found[0] if found else None
 
     def volumes(self) -> List[Volume]:
-        """All volumes that were met."""
-        self.set_back()
-        return [Volume(*row) for row in self._base.execute(f"SELECT id, way, ({LATEST}) FROM volume ORDER BY id")]
+        """All volumes that were met, the first one first."""
+        return self._volumes("ORDER BY id")
 
-    def learn(self, way: Union[str, bytes], latest: int) -> Volume:
-        """Keeps a volume that is met for the first time, and the number that it knows of this client."""
+    def _volumes(self, where: str, *values: object) -> List[Volume]:
+        self.set_back()
+        return [volume_of(row) for row in self._base.execute(f"{VOLUME} {where}", values)]
+
+    def ways(self, volume: Volume) -> List[Union[str, bytes]]:
+        """The ways that lead to a volume."""
+        self.set_back()
+        return [way for (way,) in self._base.execute("SELECT way FROM way WHERE volume = ? ORDER BY way", (volume.id,))]
+
+    def learn(self, way: Union[str, bytes], latest: int, replies: Mapping[int, Tuple[int, int]] = {}) -> Volume:
+        """Keeps a volume that is met for the first time: the number that it knows of this client, and the codes and commits of the
+        replies that it keeps, by their numbers."""
         if latest >= LAST - limits.REPLIES:
             raise LedgerError(f"client {self.client} has no numbers left: make a new ledger")
         with self._transaction():
-            self._base.execute("INSERT INTO volume (way, latest, made) VALUES (?, ?, ?)", (way, latest, time.time()))
+            made = self._base.execute("INSERT INTO volume (way, latest, made) VALUES (?, ?, ?)", (way, latest, time.time())).lastrowid
+            self._base.executemany("INSERT INTO found VALUES (?, ?, ?, ?)", [(made, number, *reply) for number, reply in replies.items()])
+            self._base.execute(BOUND, (way, made))
         found = self.volume(way)
         assert found
         return found
+
+    def bind(self, way: Union[str, bytes], volume: Volume) -> Volume:
+        """Keeps that a way leads to a volume that is known."""
+        with self._transaction():
+            self._base.execute(BOUND, (way, volume.id))
+        return volume
+
+    def take_over(self, volume: Volume, latest: int, replies: Mapping[int, Tuple[int, int]]) -> Volume:
+        """Goes on at the number that a volume knows, where requests that this ledger has no reply of are given up."""
+        with self._transaction():
+            self._base.execute("DELETE FROM request WHERE volume = ? AND code IS NULL", (volume.id,))
+            self._base.execute("UPDATE volume SET latest = ? WHERE id = ?", (latest, volume.id))
+            kept = {number for (number,) in self._base.execute("SELECT number FROM request WHERE volume = ?", (volume.id,))}
+            rows = [(volume.id, number, *reply) for number, reply in replies.items() if number not in kept]
+            self._base.executemany("INSERT OR REPLACE INTO found VALUES (?, ?, ?, ?)", rows)
+        return self._volumes("WHERE id = ?", volume.id)[0]
+
+    def identify(self, volume: Volume, identity: Identity, mark: Mark) -> Volume:
+        """Keeps what an image says of itself, and a commit by which it is known again."""
+        if (volume.identity, volume.mark) == (identity, mark):
+            return volume
+        with self._transaction():
+            self._base.execute(IDENTIFIED, (*identity, *mark, volume.id))
+        return self._volumes("WHERE id = ?", volume.id)[0]
+
+    def found(self, volume: Volume) -> Dict[int, Tuple[int, int]]:
+        """Code and commit of each reply that the volume kept when it was first met, by number."""
+        self.set_back()
+        rows = self._base.execute("SELECT number, code, commit_number FROM found WHERE volume = ?", (volume.id,))
+        return {number: (code, commit) for number, code, commit in rows}
 
     # ---- requests
 
     def pending(self, volume: Volume) -> List[Pending]:
         """The requests without a reply, in order of their numbers."""
         self.set_back()
-        return [Pending(*row) for row in self._base.execute(PENDING, (volume.id,))]
+        rows = self._base.execute(PENDING, (volume.id,))
+        return [Pending(number, payload, path, row_facts(path, facts)) for number, payload, path, *facts in rows]
 
     def latest(self, volume: Volume) -> int:
         """The number of the last request with a reply."""
@@ -370,10 +265,8 @@ class Ledger:
     def last_commit(self, volume: Volume) -> int:
         """The greatest commit that was acknowledged."""
         self.set_back()
-        row = self._base.execute(
-            "SELECT commit_number FROM request WHERE volume = ? AND code IS NOT NULL ORDER BY number DESC LIMIT 1", (volume.id,)
-        ).fetchone()
-        return int(row[0]) if row else 0
+        row = self._base.execute(LAST_COMMIT, (volume.id, volume.id)).fetchone()
+        return int(row[0] or 0)
 
     def record(self, volume: Volume, replies: Sequence[Reply], requests: Sequence[Pending]) -> None:
         """Keeps replies that came and requests that are to be sent, as one: durable when it returns."""
@@ -426,9 +319,7 @@ class Ledger:
             "UPDATE request SET code = ?, commit_number = ?, confirmed = ? WHERE volume = ? AND number = ?",
             [(int(r.code), r.commit, r.confirmed, volume.id, r.number) for r in replies],
         )
-        self._base.executemany(
-            "INSERT INTO request (volume, number, path) VALUES (?, ?, ?)", [(volume.id, r.number, r.path) for r in requests]
-        )
+        self._base.executemany(ASKED, [(volume.id, r.number, r.path, *facts_row(r.facts)) for r in requests])
         self._base.executemany(KEPT_FRAME, [(volume.id * 4 + r.number % 4, r.payload) for r in requests])
         self._logged += 2 + sum([len(r.payload) // 4000 for r in requests])
 
@@ -469,8 +360,21 @@ class Ledger:
 
     def history(self, volume: Volume) -> List[Tuple[int, str, Optional[int], Optional[int], bool]]:
         """Each request that is kept: number, path, code, commit, and whether the tree agreed."""
+        return [(sent.number, sent.path, sent.code, sent.commit, sent.confirmed) for sent in self.sent(volume)]
+
+    def sent(self, volume: Volume, after: int = 0) -> List[Sent]:
+        """Each request that is kept above a number, in order of the numbers."""
         self.set_back()
-        rows = self._base.execute(
-            "SELECT number, path, code, commit_number, confirmed FROM request WHERE volume = ? ORDER BY number", (volume.id,)
-        )
-        return [(n, path, code, commit, bool(confirmed)) for n, path, code, commit, confirmed in rows]
+        rows = self._base.execute(f"{SENT} WHERE volume = ? AND number > ? ORDER BY number", (volume.id, after))
+        return [Sent(n, path, row_facts(path, facts), code, commit, bool(ok)) for n, path, code, commit, ok, *facts in rows]
+
+
+def volume_of(row: Sequence[Any]) -> Volume:
+    """The volume of a row."""
+    number, way, latest, unsettled, label, formatted, capacity, commit, address, check = row
+    identity = None if label is None else Identity(label, formatted, capacity)
+    mark = None if check is None else Mark(commit, address, check)
+    return Volume(number, way, latest, bool(unsettled), identity, mark)
+
+
+__all__ = ["LOG_BYTES", "Ledger", "Lock", "Pending", "Reply", "Volume", "default_path"]

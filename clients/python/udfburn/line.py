@@ -6,13 +6,14 @@ import time
 from collections import deque
 from contextlib import contextmanager
 from itertools import islice
-from typing import Callable, Deque, Generator, Iterable, Iterator, List, Optional, Type
+from typing import Callable, Deque, Generator, Iterable, Iterator, List, Optional, Tuple, Type
 
 from .connection import Connection, Lost, Way
-from .errors import ConnectionFailed, Damaged, DriveFailed, OutOfMemory, UdfburnError, UsageError
+from .disk import room_left
+from .errors import ConnectionFailed, Damaged, DiskFull, DriveFailed, OutOfMemory, UdfburnError, UsageError
 from .protocol import (
     DAMAGED, FAULT, MEMORY, Answer, BadAnswer, Bare, Data, Gap, Get, List as ListQuery, Malformed, Names, Node, Query, Committed,
-    Stale, encode_message, frame,
+    Stale, encode_message, frame, shown,
 )
 
 TURN = 1.0
@@ -20,6 +21,12 @@ TURN = 1.0
 
 BEGINNINGS = 4
 """How many times as long as its beginning took it goes on all the same: a program reads a full volume anew from a slow disk."""
+
+LEAST = 0.2
+"""Seconds that an answer gets at least, however long was waited before."""
+
+COMMIT = 1_500_000
+"""Bytes that a commit may take on the medium, at most: those of a file, of two directories and of a table."""
 
 QUERIES = 16
 """Queries that are under way at once."""
@@ -39,6 +46,14 @@ class Patience:
         self.pause = 0.01
         self.began: Optional[float] = None
 
+    def waited(self, since: float) -> None:
+        """Counts a wait that came to nothing, from its beginning."""
+        self.began = since if self.began is None else min(self.began, since)
+
+    def spent(self) -> float:
+        """Seconds without any progress."""
+        return 0.0 if self.began is None else time.monotonic() - self.began
+
     def wait(self, kind: Type[UdfburnError], why: str) -> None:
         """Pauses, or raises an error of this kind where the time is up."""
         now = time.monotonic()
@@ -51,13 +66,15 @@ class Patience:
 
 
 class Line:
-    """A conversation on a way. `greet` is called on each new one before anything else is said."""
+    """A conversation on a way. `greet` is called on each new one before anything else is said, `part` before it is ended."""
 
     def __init__(self, way: Way, patience: float = 10.0, timeout: float = 120.0):
         self.way = way
         self.patience = Patience(patience)
         self.timeout = timeout
+        self.image = way.path if way.kind == "image" else None
         self.greet: Callable[[Connection], None] = lambda connection: None
+        self.part: Callable[[Connection], None] = lambda connection: None
         self._connection: Optional[Connection] = None
         self._opened = self._turn = 0.0
         self._claimed = False
@@ -66,16 +83,18 @@ class Line:
         """The conversation, or a new one."""
         while self._connection is None:
             began = time.monotonic()
+            # What was waited for nothing already counts. A moment is left for an answer that comes at once.
+            timeout = max(self.timeout - self.patience.spent(), min(self.timeout, LEAST))
             try:
-                connection = self.way.open()
+                connection = self.way.open(timeout)
             except Lost as lost:
+                self.patience.waited(began)
                 self.patience.wait(ConnectionFailed, f"{self.way}: {lost}")
                 continue
-            connection.timeout = self.timeout
             try:
                 self.greet(connection)
             except Lost as lost:
-                connection.close()
+                self._end(connection)
                 self.patience.wait(ConnectionFailed, f"{self.way}: {lost}")
                 continue
             except BaseException:
@@ -91,7 +110,16 @@ class Line:
         # Whoever is interrupted while it ends has none any more: its descriptors may be those of other files by then.
         connection, self._connection = self._connection, None
         if connection is not None:
-            connection.close()
+            try:
+                self.part(connection)
+            finally:
+                self._end(connection)
+
+    def _end(self, connection: Connection) -> None:
+        """Closes a conversation. Where it was waited for in vain, that counts."""
+        if connection.since is not None:
+            self.patience.waited(connection.since)
+        connection.close()
 
     def lost(self, why: str) -> None:
         """Ends a conversation that was lost, and pauses."""
@@ -108,10 +136,20 @@ class Line:
             return False
         self.drop()
         if answer == FAULT:
-            self.patience.wait(DriveFailed, f"{self.way}: the drive fails: see that the image's disk is well and has room")
+            kind, why = self._why_fault()
+            self.patience.wait(kind, f"{self.way}: {why}")
         else:
             self.patience.wait(OutOfMemory, f"{self.way}: the program has no memory")
         return True
+
+    def _why_fault(self) -> Tuple[Type[UdfburnError], str]:
+        """What is likely to be wrong with a drive that fails."""
+        if self.image is None:
+            return DriveFailed, "the drive fails, or its disk is full: see the disk that the daemon's image is on"
+        left = room_left(self.image)
+        if left is not None and left < COMMIT:
+            return DiskFull, f"the disk is full that {shown(self.image)} is on: {left:,} bytes are left there. Make room; 'resume', or the same command, goes on"
+        return DriveFailed, f"the drive fails: see that the disk is well that {shown(self.image)} is on"
 
     @contextmanager
     def claim(self) -> Iterator[None]:

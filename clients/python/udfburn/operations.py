@@ -3,12 +3,11 @@
 from __future__ import annotations
 
 import time
-from typing import Any, Dict, List, NamedTuple, Optional, Sequence, Tuple, Type
+from typing import Any, Dict, List, Mapping, NamedTuple, Optional, Sequence, Tuple, Type
 
 from .errors import TooLarge
 from .protocol import (
-    NOT_FOUND, Answer, AnyRequest, Code, Committed, Create, MakeDir, Node, NodeKind, Path, Rename, Replace, encode_answer, limits,
-    show,
+    NOT_FOUND, Answer, AnyRequest, Code, Create, Kind, MakeDir, Node, NodeKind, Path, Rename, Replace, encode_answer, limits, show,
 )
 
 
@@ -22,8 +21,20 @@ def clamped(moment: int) -> int:
     return min(max(moment, 0), limits.MOMENT - 1)
 
 
+class Whole(NamedTuple):
+    """A file that is stored in parts, as its last part has it: its own path, its bytes, and the SHA-256 of all of them."""
+
+    path: Path
+    size: int
+    sha256: bytes
+
+
 class Operation(NamedTuple):
-    """What a request is to do. `tag` is for whoever made it."""
+    """What a request is to do. `tag` is for whoever made it.
+
+    `sha256` is that of the data, where whoever made it has reckoned it already; else it is reckoned when the request is made. `whole`
+    is given with the last part of a file in parts.
+    """
 
     kind: Type[AnyRequest]
     path: Path
@@ -31,6 +42,8 @@ class Operation(NamedTuple):
     data: bytes = b""
     to: Path = ()
     tag: Any = None
+    sha256: Optional[bytes] = None
+    whole: Optional[Whole] = None
 
     def request(self, client: int, number: int) -> AnyRequest:
         """The request of a client under a number."""
@@ -73,6 +86,14 @@ class Expected(NamedTuple):
             and (self.size is None or answer.size == self.size)
             and (self.moment is None or answer.moment == self.moment)
         )
+
+    def text(self) -> str:
+        """What is known, as people read it."""
+        if not self.there:
+            return "nothing"
+        size = f" of {self.size} bytes" if self.kind is NodeKind.FILE and self.size is not None else ""
+        moment = f", moment {self.moment}" if self.moment is not None else ""
+        return (f"a {self.kind.name.lower()}" if self.kind is not None else "a file or directory") + size + moment
 
 
 ABSENT = Expected(False)
@@ -125,29 +146,59 @@ def surely(request: AnyRequest) -> Optional[bytes]:
     return None if isinstance(request, Rename) else encode_answer(NOT_FOUND)
 
 
-def after_all(replies: Sequence[Tuple[AnyRequest, Committed]]) -> Dict[Path, Expected]:
-    """What the tree has behind requests that came one after another, as far as nobody else changed it.
+class Deed(NamedTuple):
+    """What a request does, without its data: its kind, its path, where to, the bytes of its data, and its moment."""
 
-    Of a directory only its kind is known, since its moment and size change with its names.
+    kind: Kind
+    path: Path
+    to: Path
+    size: int
+    moment: int
+
+
+def deed_of(request: AnyRequest) -> Deed:
+    """The deed of a request."""
+    to = request.to if isinstance(request, Rename) else ()
+    size = len(request.data) if isinstance(request, (Create, Replace)) else 0
+    return Deed(request.kind, request.path, to, size, request.moment)
+
+
+def after_all(replies: Sequence[Tuple[Deed, Optional[Code]]]) -> Dict[Path, Expected]:
+    """What the tree has after deeds that came one after another, as far as nobody else changed it.
+
+    Of a directory only its kind is known, since its moment and size change with its names. Where a code is None it is not known
+    whether the deed was done, and then nothing is known of its paths.
     """
     known: Dict[Path, Expected] = {}
-    for request, reply in replies:
-        if reply.code is not Code.DONE:
-            continue
-        if isinstance(request, Rename):
-            moved = {path: known.pop(path) for path in below(known, request.path)}
-            known[request.path], known[request.to] = ABSENT, moved.pop(request.path, PRESENT)
-            known.update({request.to + path[len(request.path) :]: what for path, what in moved.items()})
-        elif isinstance(request, MakeDir):
-            known[request.path] = DIRECTORY
-        else:
-            known.update(after(request))
+    for deed, code in replies:
+        if code is None:
+            for path in below(known, deed.path) + below(known, deed.to if deed.kind is Kind.RENAME else deed.path):
+                known.pop(path, None)
+        elif code is Code.DONE:
+            do(deed, known)
     return known
 
 
-def below(known: Dict[Path, Expected], path: Path) -> List[Path]:
+def do(deed: Deed, known: Dict[Path, Expected]) -> None:
+    """Does a deed to what is known."""
+    if deed.kind is Kind.RENAME:
+        moved = {path: known.pop(path) for path in below(known, deed.path)}
+        known[deed.path], known[deed.to] = ABSENT, moved.pop(deed.path, PRESENT)
+        known.update({deed.to + path[len(deed.path) :]: what for path, what in moved.items()})
+    elif deed.kind is Kind.MAKE_DIR:
+        known[deed.path] = DIRECTORY
+    elif deed.kind is Kind.REMOVE:
+        known[deed.path] = ABSENT
+    else:
+        known[deed.path] = Expected(True, NodeKind.FILE, deed.size, deed.moment)
+
+
+def below(known: Mapping[Path, object], path: Path) -> List[Path]:
     """A path and those below it, as far as they are known."""
     return [other for other in known if other[: len(path)] == path]
 
 
-__all__ = ["Expected", "Operation", "Outcome", "after", "after_all", "clamped", "confirmed", "now", "paths_of", "refused", "surely"]
+__all__ = [
+    "Deed", "Expected", "Operation", "Outcome", "Whole", "after", "after_all", "below", "clamped", "confirmed", "deed_of", "now", "paths_of", "refused",
+    "surely",
+]

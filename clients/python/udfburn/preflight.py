@@ -7,7 +7,7 @@ from typing import TYPE_CHECKING, Dict, List, Optional, Set, Tuple
 
 from .protocol import NodeKind, Path, limits, show
 from .sources import Folder, Scan, Source, shown, why_not
-from .split import PARTS, own_paths, part_count, stored_paths
+from .split import base_of, has_form, own_paths, part_count, part_folders, stored_paths
 
 if TYPE_CHECKING:
     from .blocks import Space
@@ -26,10 +26,12 @@ class Present:
 
 
 class Plan:
-    """What an import does: directories that are made, files with the paths of their parts, and files that go."""
+    """What an import does: directories that are made, those for parts among them, files with the paths of their parts, and what
+    goes."""
 
     def __init__(self, faults: List[str]):
         self.folders: List[Folder] = []
+        self.part_folders: List[Folder] = []
         self.files: List[Tuple[Source, List[Path]]] = []
         self.stale: Dict[Path, List[Path]] = {}
         self.faults = faults
@@ -45,26 +47,52 @@ def plan(scan: Scan, present: Present, split: bool, space: Optional[Space]) -> P
             planned.faults.append(f"{show(folder.path)}: is a file, and is to be a directory")
         elif folder.path not in present.kinds:
             planned.folders.append(folder)
-    for source in scan.files:
-        size = source.identity.size
-        if size > limits.FILE and not split:
-            planned.faults.append(f"{shown(source.local)}: has {size} bytes, and a file has at most {limits.FILE} (--split stores it in parts)")
-            continue
-        if part_count(size) > PARTS:
-            planned.faults.append(f"{shown(source.local)}: takes more than {PARTS} parts")
-            continue
-        paths = stored_paths(source.path, size, split)
-        # All parts have names of one length. What stands whole has a name that was looked at where it was found.
-        if len(paths) > 1 and why_not(paths[0][-1]):
-            planned.faults.append(f"{shown(source.local)}: the name of a part takes more than 255 bytes as it is spelled on the medium")
-            continue
-        planned.files.append((source, paths))
+    planned.files = [(source, stored_paths(source.path, source.identity.size, split)) for source in scan.files]
+    taken = {folder.path for folder in scan.folders}
+    for source, _ in planned.files:
+        add_part_folders(planned, present, source, split, taken)
     sources = [source for source, _ in planned.files]
     check_shared(planned, [path for source in sources + scan.same for path in own_paths(source.path, source.identity.size, split)])
     check_paths(planned, present)
     check_counts(planned, present)
     reckon(planned, present, space)
     return planned
+
+
+def refuse_sizes(scan: Scan, split: bool) -> None:
+    """Takes out the files that no volume may have, by their sizes or the names of their parts: each is a fault."""
+    faults = [fault_of(source, split) for source in scan.files]
+    scan.faults += [f"{shown(source.local)}: {fault}" for source, fault in zip(scan.files, faults) if fault]
+    scan.files = [source for source, fault in zip(scan.files, faults) if not fault]
+
+
+def fault_of(source: Source, split: bool) -> Optional[str]:
+    """Why a file cannot be stored by its size and its name, if it cannot."""
+    size = source.identity.size
+    if size > limits.FILE and not split:
+        return f"has {size} bytes, and a file has at most {limits.FILE} (--split stores it in parts)"
+    if part_count(size) > limits.NODES:
+        return f"takes {part_count(size):,} parts, and a volume has at most {limits.NODES:,} files and directories"
+    # All parts have names of one length. What stands whole has a name that was looked at where it was found.
+    names = [path[-1] for path in own_paths(source.path, size, split)[1:2]]
+    if any(why_not(name) for name in names):
+        return "the name of a part takes more than 255 bytes as it is spelled on the medium"
+    return None
+
+
+def add_part_folders(planned: Plan, present: Present, source: Source, split: bool, taken: Set[Path]) -> None:
+    """Plans the folders that the parts of a file take, where they are missing. What else has one of their paths is a fault."""
+    base = base_of(source.path)
+    for path in part_folders(source.path, source.identity.size, split):
+        if path in taken:
+            planned.faults.append(f"{show(path)}: a folder has this path, and so would the parts of {shown(source.local)}")
+            break
+        elif present.kinds.get(path) is NodeKind.FILE:
+            planned.faults.append(f"{show(path)}: is a file, and the parts of {shown(source.local)} take a directory there")
+        elif path not in present.kinds:
+            planned.part_folders.append(Folder(source.local, path, source.identity.modified))
+        elif path == base and present.names.get(base) and not has_form(base, present.names, present.kinds):
+            planned.faults.append(f"{show(path)}: has other names than those of parts, and would have the parts of {shown(source.local)}")
 
 
 def check_shared(planned: Plan, taken: List[Path]) -> None:
@@ -77,8 +105,9 @@ def check_shared(planned: Plan, taken: List[Path]) -> None:
 
 def check_paths(planned: Plan, present: Present) -> None:
     """Names, depths, kinds and parents."""
-    made: Set[Path] = {folder.path for folder in planned.folders}
-    targets = [path for _, paths in planned.files for path in paths]
+    made: Set[Path] = {folder.path for folder in planned.folders + planned.part_folders}
+    # The parts of a file have one depth, and in a folder of parts one parent that is made.
+    targets = [paths[0] for _, paths in planned.files]
     for source, paths in planned.files:
         for path in dict.fromkeys([source.path, *paths]):
             if present.kinds.get(path) is NodeKind.DIRECTORY:
@@ -94,7 +123,7 @@ def check_paths(planned: Plan, present: Present) -> None:
 
 def new_paths(planned: Plan, present: Present) -> List[Path]:
     """The paths that an import adds."""
-    paths = [folder.path for folder in planned.folders] + [path for _, paths in planned.files for path in paths]
+    paths = [folder.path for folder in planned.folders + planned.part_folders] + [path for _, paths in planned.files for path in paths]
     return [path for path in dict.fromkeys(paths) if path not in present.kinds]
 
 
@@ -120,7 +149,7 @@ def reckon(planned: Plan, present: Present, space: Optional[Space]) -> None:
     reckoner = Reckoner(space)
     for path, names in present.names.items():
         reckoner.directory(path, names)
-    fits = [reckoner.make(folder.path) for folder in planned.folders]
+    fits = [reckoner.make(folder.path) for folder in planned.folders + planned.part_folders]
     for source, paths in planned.files:
         left = source.identity.size
         for path in paths:

@@ -1,12 +1,16 @@
-"""What a command tells while it works: a bar on a terminal, plain lines elsewhere, JSON where that is asked for."""
+"""What a command prints while it works: a bar on a terminal, plain lines elsewhere, JSON where that is asked for."""
 
 from __future__ import annotations
 
 import sys
 import time
-from typing import Any, Dict, Optional, TextIO
+from typing import TYPE_CHECKING, Any, Dict, List, Optional, TextIO
 
+from .errors import OutputFailed, UsageError
 from .protocol import Path, show
+
+if TYPE_CHECKING:
+    from .operations import Outcome
 
 BAR = 24
 """Columns of the bar."""
@@ -33,6 +37,13 @@ def clock(seconds: float) -> str:
     return f"{hours}:{minutes:02}:{rest:02}" if hours else f"{minutes}:{rest:02}"
 
 
+def moment(microseconds: int) -> str:
+    """A moment in microseconds from 1970 on, as people read it."""
+    from datetime import datetime, timezone
+
+    return datetime.fromtimestamp(microseconds // 1_000_000, timezone.utc).strftime("%Y-%m-%dT%H:%M:%SZ")
+
+
 def printable(text: str) -> str:
     """A line in which no name can break the line, or move the cursor of a terminal."""
     if text.isprintable():
@@ -41,16 +52,33 @@ def printable(text: str) -> str:
 
 
 class Progress:
-    """Steps of a command: files and bytes of a whole."""
+    """What a command prints: its steps, files and bytes of a whole, its failures, and its result."""
 
-    def __init__(self, quiet: bool, as_json: bool, output: Optional[TextIO] = None, errors: Optional[TextIO] = None):
-        self.quiet, self.as_json = quiet, as_json
+    def __init__(
+        self, quiet: bool, as_json: bool, output: Optional[TextIO] = None, errors: Optional[TextIO] = None, closed: bool = False,
+    ):
+        self.quiet, self.as_json, self.closed = quiet, as_json, closed
         self.output = output or sys.stdout
         self.errors = errors or sys.stderr
         self.bar = not quiet and not as_json and self.errors.isatty()
         self.files = self.bytes = self.done_files = self.done_bytes = 0
         self.began = self.shown = time.monotonic()
         self.tqdm: Any = None
+        self.failures: List[str] = []
+        self.outcome: Dict[str, object] = {}
+
+    def require_output(self) -> None:
+        """Raises where there is something to print, and nothing to print it on."""
+        if self.closed and (self.as_json or not self.quiet):
+            raise OutputFailed("the standard output is closed, and nothing was done (--quiet takes none)")
+
+    def bytes_only(self) -> None:
+        """Only bytes of a file go to the standard output."""
+        if self.as_json:
+            raise UsageError("the standard output takes the bytes of a file or lines of JSON, and not both")
+        if self.closed:
+            raise OutputFailed("the standard output is closed")
+        self.quiet = True
 
     def begin(self, files: int, total: int) -> None:
         """So many files and bytes are to come."""
@@ -76,7 +104,22 @@ class Progress:
             self._draw(count)
         elif not self.quiet:
             words = [what, show(path)] + ([f"({count} bytes)"] if what in ("stored", "got", "would store", "would replace") else [])
-            print(printable(" ".join(words)), file=self.output, flush=True)
+            self._print(printable(" ".join(words)))
+
+    def stored(self, outcome: Outcome) -> None:
+        """A file or a part was stored; programs get its SHA-256, and with a last part that of the whole file."""
+        operation = outcome.operation
+        if not self.as_json or self.quiet:
+            self.told("stored", operation.path, len(operation.data), outcome.commit)
+            return
+        self.done_files += 1
+        self.done_bytes += len(operation.data)
+        step: Dict[str, object] = {"did": "stored", "path": show(operation.path), "bytes": len(operation.data), "commit": outcome.commit}
+        if operation.sha256 is not None:
+            step["sha256"] = operation.sha256.hex()
+        if operation.whole is not None:
+            step["whole"] = {"path": show(operation.whole.path), "bytes": operation.whole.size, "sha256": operation.whole.sha256.hex()}
+        self._print_json(step)
 
     def _draw(self, count: int) -> None:
         if self.tqdm is not None:
@@ -111,14 +154,78 @@ class Progress:
             self.errors.flush()
 
     def say(self, line: str, **fields: object) -> None:
-        """The result: a line for people, fields for programs."""
+        """Something found or done: a line for people, fields for programs."""
         self.end()
         if self.as_json:
             self._print_json(fields)
         elif not self.quiet:
-            print(printable(line), file=self.output, flush=True)
+            self._print(printable(line))
+
+    def note(self, line: str, **fields: object) -> None:
+        """Something that a user should know of, and that is no failure."""
+        self.end()
+        if self.as_json:
+            self._print_json(fields)
+        elif not self.quiet:
+            self._print_error(line)
+
+    def left_out(self, line: str) -> None:
+        """Something that was left out, as it was asked for."""
+        self.end()
+        self._print_error(f"left out: {line}")
+        if self.as_json:
+            self._print_json({"did": "left out", "message": line})
+
+    def fail(self, error: object, status: int = 1) -> int:
+        """Says what is wrong: on the standard error, and as an object for programs. Gives the status. An error may have several
+        lines, a text is one, whatever names are in it."""
+        self.end()
+        text = str(error)
+        self.failures.append(text)
+        for line in text.split("\n") if isinstance(error, BaseException) else [text]:
+            self._print_error(line)
+        if self.as_json and not isinstance(error, OutputFailed):
+            kind = type(error).__name__ if isinstance(error, BaseException) else None
+            failed = {"did": "failed", "error": kind, "path": getattr(error, "path", None), "message": text}
+            commit = getattr(error, "commit", None)
+            self._print_json({**failed, "commit": commit} if commit else failed)
+        return status
+
+    def result(self, line: str, **fields: object) -> None:
+        """What the command did: a line for people; programs get it with the status, at the end."""
+        self.outcome = fields
+        if self.as_json:
+            self.end()
+        else:
+            self.say(line)
+
+    def finish(self, command: str, status: int) -> None:
+        """The end: for programs the last object, which each command has however it ended."""
+        if self.as_json:
+            self._print_json({**self.outcome, "did": command, "failures": self.failures, "status": status})
+
+    def write(self, data: bytes) -> None:
+        """Bytes of a file on the standard output."""
+        try:
+            self.output.buffer.write(data)
+            self.output.buffer.flush()
+        except BrokenPipeError:
+            raise
+        except OSError as error:
+            raise OutputFailed(f"the standard output takes no more: {error.strerror or error}") from error
+
+    def _print(self, line: str) -> None:
+        try:
+            print(line, file=self.output, flush=True)
+        except BrokenPipeError:
+            raise
+        except OSError as error:
+            raise OutputFailed(f"the standard output takes no more: {error.strerror or error}") from error
+
+    def _print_error(self, line: str) -> None:
+        print(f"udfburn-client: {printable(line)}", file=self.errors, flush=True)
 
     def _print_json(self, fields: Dict[str, object]) -> None:
         from json import dumps
 
-        print(dumps(fields), file=self.output, flush=True)
+        self._print(dumps(fields))

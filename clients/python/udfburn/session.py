@@ -7,20 +7,23 @@ then has without a reply is sent again, one by one, in `recover`. A new process 
 
 from __future__ import annotations
 
+import sqlite3
 from collections import deque
+from contextlib import contextmanager
 from typing import Deque, Dict, Iterable, Iterator, List, NamedTuple, Optional, Tuple
 
 from .connection import Connection, Lost
-from .errors import (
-    ClientsFull, Damaged, ForeignReply, Full, NotCommitted, NumberUsedElsewhere, Rejected, VolumeBehind,
-)
-from .ledger import Ledger, Pending, Reply, Volume
+from .errors import ClientsFull, Damaged, ForeignReply, Full, NotCommitted, NumberUsedElsewhere, Rejected, UdfburnError
+from .identity import Looked, looked_at, opened_path
+from .ledger import Ledger
+from .ledger_records import Pending, Reply, Volume, facts_of
 from .line import DAMAGE, Line
-from .operations import Operation, Outcome, after_all, confirmed, paths_of, surely
+from .operations import Operation, Outcome, after_all, confirmed, deed_of, paths_of, surely
 from .protocol import (
-    CLIENTS_FULL, DAMAGED, FAULT, FULL, MEMORY, Answer, AnyRequest, BadAnswer, Code, Committed, Gap, Malformed, Path, Remove, Stale,
-    Stat, decode_answer, decode_message, encode_answer, encode_message, frame, limits, show,
+    CLIENTS_FULL, DAMAGED, FAULT, FULL, MEMORY, Answer, AnyRequest, BadAnswer, Code, Committed, Gap, Malformed, Path, Stale, Stat,
+    decode_answer, decode_message, encode_answer, encode_message, frame, limits, show,
 )
+from .recognition import Meeting, Recognizer, see
 
 PART = limits.REPLIES // 2
 """Requests that are kept and sent as one. While their replies and the next ones are kept, the program works on the others."""
@@ -38,7 +41,8 @@ class Flight:
     def __init__(self, operation: Operation, client: int, number: int):
         self.operation = operation
         self.request = operation.request(client, number)
-        self.pending = Pending(number, encode_message(self.request), show(self.request.path))
+        facts = facts_of(self.request, operation.sha256, operation.whole)
+        self.pending = Pending(number, encode_message(self.request), show(self.request.path), facts)
         self.paths = paths_of(self.request)
         self.frames = frame(self.pending.payload) + b"".join([frame(encode_message(Stat(path))) for path in self.paths])
         self.sure = surely(self.request)
@@ -101,9 +105,10 @@ class Supply:
 class Session:
     """Requests of one client to one volume."""
 
-    def __init__(self, line: Line, ledger: Ledger):
+    def __init__(self, line: Line, ledger: Ledger, shared: bool = False):
         self.line = line
         self.ledger = ledger
+        self.shared = shared
         self.way = line.way.key()
         self._volume: Optional[Volume] = None
         self._commit = 0
@@ -111,58 +116,46 @@ class Session:
         self._foreseen: Optional[Foreseen] = None
         # A conversation that was begun without a greeting knows no numbers.
         line.drop()
-        line.greet = self._greet
+        line.greet, line.part = self._greet, self._part
 
     # ---- a new conversation
 
     def _greet(self, connection: Connection) -> None:
-        """Asks for the latest number of this client that the volume knows, and compares the ledger.
-
-        The greatest number of all is no client's next one, so it is answered with the latest and commits nothing.
-        """
-        probe = Remove(self.ledger.client, limits.U64, 0, ())
-        connection.send(frame(encode_message(probe)))
-        answer = connection.answer()
-        if answer in (FAULT, MEMORY):
-            raise Lost("the drive fails" if answer == FAULT else "the program has no memory")
-        if answer == DAMAGED:
-            raise Damaged(DAMAGE)
-        if not isinstance(answer, (Gap, Stale)):
-            raise BadAnswer(f"{answer!r} is no answer to a number that is not the next")
-        self._volume = self._settle(answer.latest)
+        """Finds which volume of the ledger this is, before anything else is sent."""
+        seen = see(connection, self.ledger.client)
+        with self._image(connection) as image:
+            meeting = Meeting(Recognizer(self.ledger, str(self.line.way), connection, seen, image, self.shared), self.way)
+            self._volume = meeting.anew() if self._forgetting else meeting.volume()
         self._commit = self.ledger.last_commit(self._volume)
 
-    def _settle(self, latest: int) -> Volume:
-        """The ledger's volume on this way, where its numbers are those that the volume knows."""
-        known = self.ledger.volume(self.way)
-        if known is None or self._forgetting:
-            return self.ledger.learn(self.way, latest)
-        pending = self.ledger.pending(known)
-        last = max([known.latest] + [waiting.number for waiting in pending])
-        if known.latest <= latest <= last:
-            return known
-        if not pending and (latest == 0 or self._by_another_way(latest)):
-            return self.ledger.learn(self.way, latest)
-        where = f"{self.ledger.path}, client {self.ledger.client}, {self.line.way}"
-        if latest > last:
-            raise NumberUsedElsewhere(
-                f"the volume has requests up to {latest} of this client, and this ledger sent {last} ({where}): another ledger"
-                " with the same client was used, or this one is an old copy. Take a new ledger with a client of its own"
-                " (--ledger FILE), or, where this is the only one left, 'resume --forget'; then 'verify' what is there"
-            )
-        raise VolumeBehind(
-            f"the volume has requests up to {latest} of this client, and {known.latest} were acknowledged ({where}): it is"
-            " another volume, or an older copy of it. Where that is meant, 'resume --forget' begins anew; then 'verify' what is there"
-        )
+    @contextmanager
+    def _image(self, connection: Connection) -> Iterator[Optional[Looked]]:
+        """The image that the program of a conversation has; None over a socket."""
+        if self.line.way.kind != "image":
+            yield None
+            return
+        with looked_at(opened_path(connection, self.line.way.path)) as image:
+            yield image
 
-    def _by_another_way(self, latest: int) -> bool:
-        """Whether this ledger itself has sent so many requests by another way, and all of them have replies."""
-        others = [volume for volume in self.ledger.volumes() if volume.way != self.way]
-        return any(volume.latest == latest and not self.ledger.pending(volume) for volume in others)
+    def _part(self, connection: Connection) -> None:
+        """Keeps the last commit of an image, while nobody else writes to it: by that it is known again. Where this fails, it is known
+        by an earlier one and by the replies."""
+        volume = self._volume
+        if volume is None or self.line.way.kind != "image" or volume.mark is not None and volume.mark.commit >= self._commit:
+            return
+        try:
+            if self.ledger.pending(volume):
+                return
+            with self._image(connection) as image:
+                if image is not None and image.commit >= self._commit:
+                    self._volume = self.ledger.identify(volume, image.identity, image.newest())
+        except (OSError, UdfburnError, Lost, sqlite3.Error):
+            pass
 
     def forget(self) -> List[str]:
         """Drops what is pending on this way, and learns anew which number the volume knows; gives the dropped paths."""
         known = self.ledger.volume(self.way)
+        waiting = self.ledger.pending(known) if known else []
         self._forgetting = True
         try:
             self.line.drop()
@@ -170,7 +163,9 @@ class Session:
         finally:
             self._forgetting = False
         # Not before, since where the volume cannot be asked nobody would be told what was dropped.
-        return [pending.path for pending in self.ledger.withdraw(known)] if known else []
+        if known and known.id != self.volume().id:
+            self.ledger.withdraw(known)
+        return [pending.path for pending in waiting]
 
     def volume(self) -> Volume:
         """The volume, once a conversation was begun."""
@@ -248,7 +243,7 @@ class Session:
 
     def _confirm(self, connection: Connection, done: List[Tuple[AnyRequest, Committed]]) -> None:
         """Sees that the tree has what replies say that came behind a lost conversation."""
-        wanted = after_all(done)
+        wanted = after_all([(deed_of(request), reply.code) for request, reply in done])
         for path, expected in wanted.items():
             connection.send(frame(encode_message(Stat(path))))
             answer = connection.answer()

@@ -8,6 +8,8 @@ import time
 from typing import Iterator, List, NamedTuple, Optional
 
 from .errors import SourceChanged, SourceError
+from .escape import encode
+from .notkept import NotKept
 from .operations import clamped
 from .protocol import NameFault, Path, is_bytes, limits, name_fault, shown
 
@@ -69,6 +71,7 @@ class Scan:
         self.same: List[Source] = []
         self.faults: List[str] = []
         self.skipped: List[str] = []
+        self.not_kept = NotKept()
 
 
 KINDS = (
@@ -95,8 +98,8 @@ def why_not(name: str) -> Optional[str]:
     return f"its name {fault.value}"
 
 
-def scan(local: str, path: Path, recursive: bool, skip_odd: bool, into: Scan) -> None:
-    """Adds a local file or folder, and what is below it."""
+def scan(local: str, path: Path, recursive: bool, skip_odd: bool, into: Scan, escape: bool = False) -> None:
+    """Adds a local file or folder, and what is below it. `escape` gives names that cannot be spelled a spelling of their own."""
     try:
         status = os.lstat(local)
     except OSError as error:
@@ -104,20 +107,36 @@ def scan(local: str, path: Path, recursive: bool, skip_odd: bool, into: Scan) ->
         return
     if stat.S_ISREG(status.st_mode):
         into.files.append(Source(local, path, Identity.of(status)))
+        into.not_kept.add_file(status)
     elif not stat.S_ISDIR(status.st_mode):
-        strange = odd(status)
-        (into.skipped if skip_odd else into.faults).append(f"{shown(local)}: is {strange}" + ("" if skip_odd else " (--skip-odd leaves it out)"))
+        leave(local, f"is {odd(status)}", "--skip-odd leaves it out", skip_odd, into)
     elif not recursive:
         into.faults.append(f"{shown(local)}: is a folder (-r stores folders)")
     else:
         into.folders.append(Folder(local, path, status.st_mtime_ns))
+        into.not_kept.add_folder(status)
         # A folder that is too deep is refused as it is, however deep it goes on.
         for name in names_in(local, into) if len(path) <= limits.DEPTH else ():
-            below, fault = os.path.join(local, name), why_not(name)
+            below, fault = os.path.join(local, name), why_not(encode(name) if escape else name) or why_not(encode(name))
             if fault:
-                into.faults.append(f"{shown(below)}: {fault}")
+                leave(below, fault, remedy(name), skip_odd, into)
             else:
-                scan(below, path + (name,), recursive, skip_odd, into)
+                scan(below, path + (encode(name),), recursive, skip_odd, into, escape)
+
+
+def leave(local: str, why: str, how: str, skip_odd: bool, into: Scan) -> None:
+    """Leaves out what cannot be stored, where that is asked for; else it is a fault. It is named in both cases."""
+    if skip_odd:
+        into.skipped.append(f"{shown(local)}: {why}")
+    else:
+        into.faults.append(f"{shown(local)}: {why} ({how})")
+
+
+def remedy(name: str) -> str:
+    """What can be done about a name that cannot be stored."""
+    if encode(name) != name and why_not(encode(name)) is None:
+        return "--escape stores it under another spelling, --skip-odd leaves it out"
+    return "--skip-odd leaves it out"
 
 
 def names_in(folder: str, into: Scan) -> List[str]:

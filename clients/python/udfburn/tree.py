@@ -1,23 +1,22 @@
-"""Whole trees: walked, stored, removed."""
+"""Whole trees, stored on a volume."""
 
 from __future__ import annotations
 
 from collections import deque
 from contextlib import closing
-from itertools import islice
-from typing import TYPE_CHECKING, Callable, Deque, Dict, Iterable, Iterator, List, NamedTuple, Optional, Tuple, Type
+from typing import TYPE_CHECKING, Callable, Deque, Iterable, Iterator, List, Optional, Tuple, Type
 
-from .client import Client, met, refusal
+from .client import Client, refusal
 from .connection import find_program
 from .errors import Differs, DoesNotFit, SourceError, TooLarge, UsageError
+from .jobs import Job, Options, Summary, reads_back, same_bytes
 from .operations import Operation, Outcome, now
-from .preflight import Plan, Present, plan
-from .protocol import (
-    AnyRequest, Code, Create, Data, Get, List as ListQuery, MakeDir, Name, Names, Node, NodeKind, Path, Remove, Replace, Stat, limits,
-    show,
-)
-from .sources import Folder, Scan, Source, delete, read_parts, scan, shown
-from .split import index_of, other_paths, part_name, stored_paths
+from .preflight import Plan, Present, plan, refuse_sizes
+from .protocol import AnyRequest, Code, Create, Get, MakeDir, Node, NodeKind, Path, Remove, Replace, Stat, limits, show
+from .sources import Folder, Scan, delete, read_parts, scan, shown
+from .split import stored_paths
+from .stale import Stale, find_stale
+from .walk import Told, look, quiet, remove_paths, remove_tree, walk
 
 if TYPE_CHECKING:
     from .blocks import Space
@@ -26,158 +25,61 @@ CHUNK = 64
 """Files that are stored before the first of them are read back or deleted, or what an earlier one left is removed."""
 
 LIST_FILES, LIST_BYTES = 1024, 64 * limits.FILE
-"""Files that are stored as one list of requests where nothing is done with them behind it, and their bytes, which memory has
+"""Files that are stored as one list of requests where nothing is done with them afterwards, and their bytes, which memory has
 where other clients make the same paths."""
-
-
-def walk(client: Client, path: Path) -> Iterator[Tuple[Path, Tuple[Name, ...]]]:
-    """Each directory from a path on, with its names in stored order: level by level."""
-    level = [path]
-    with client.held():
-        while level:
-            below: List[Path] = []
-            # All answers of a level are taken first, since whoever walks asks for more between.
-            for at, answer in zip(level, list(client.ask_all(ListQuery(at) for at in level))):
-                met(ListQuery(at), answer)
-                assert isinstance(answer, Names)
-                yield at, answer.names
-                below += [at + (name.name,) for name in answer.names if name.kind is NodeKind.DIRECTORY]
-            level = below
-
-
-def look(client: Client, paths: Iterable[Path], whole: bool) -> Present:
-    """What the volume has at paths and above them; or all that it has."""
-    present = Present(whole=whole)
-    present.add((), NodeKind.DIRECTORY)
-    if whole:
-        for at, names in walk(client, ()):
-            present.names[at] = [name.name for name in names]
-            for name in names:
-                present.add(at + (name.name,), name.kind)
-        return present
-    asked = sorted({path[:depth] for path in paths for depth in range(1, len(path) + 1)})
-    for answer, path in zip(client.ask_all(map(Stat, asked)), asked):
-        if isinstance(answer, Node):
-            present.add(path, answer.kind)
-    return present
-
-
-# ---- stored
-
-class Options(NamedTuple):
-    """How folders and files are stored."""
-
-    recursive: bool = False
-    parents: bool = False
-    split: bool = False
-    skip_same: bool = False
-    skip_odd: bool = False
-    delete_source: bool = False
-    verify: bool = False
-    dry_run: bool = False
-    moment: str = "mtime"
-    image: Optional[str] = None
-
-
-class Summary:
-    """What an import did: counts, and each file that was not stored or not deleted, with why."""
-
-    def __init__(self) -> None:
-        self.files = self.bytes = self.folders = self.same = self.verified = self.deleted = 0
-        self.blocks: Optional[int] = None
-        self.left: Optional[int] = None
-        self.failures: List[str] = []
-        self.skipped: List[str] = []
-
-
-Told = Callable[[str, Path, int, int], None]
-"""Is told of each step: what was done, the path, its bytes, its commit."""
-
-
-def quiet(*_: object) -> None:
-    """Tells nobody."""
-
-
-class Job:
-    """A file on its way: the paths of its parts, digests of what was read of it, and what became of it."""
-
-    def __init__(self, source: Source, paths: List[Path]):
-        self.source = source
-        self.paths = paths
-        self.digests: List[bytes] = []
-        self.done = 0
-        self.failure: Optional[str] = None
-
-    def fail(self, why: str) -> None:
-        self.failure = self.failure or why
-
-    def stored(self) -> bool:
-        return self.failure is None and self.done == len(self.paths)
 
 
 class Importer:
     """Stores local files and folders."""
 
-    def __init__(self, client: Client, options: Options, told: Told = quiet):
+    def __init__(self, client: Client, options: Options, told: Told = quiet, stored: Optional[Callable[[Outcome], None]] = None):
+        """`told` is told of each step; `stored`, where it is given, of each file or part in place of that, with its digests."""
         if options.verify and options.dry_run:
             raise UsageError("nothing is read back of a dry run")
         self.client = client
         self.options = options
-        self.told = told
+        self.told, self.stored = told, stored
         self.summary = Summary()
         self.present = Present()
         self.same: List[Job] = []
+        self._kept: List[Job] = []
 
     def plan(self, jobs: Iterable[Tuple[str, Path]]) -> Plan:
         """Looks at what is to be stored and at what is there, and raises `DoesNotFit` with all that stands against it."""
+        options = self.options
         found = Scan()
         wanted = list(jobs)
         for local, path in wanted:
-            scan(local, path, self.options.recursive, self.options.skip_odd, found)
+            scan(local, path, options.recursive, options.skip_odd, found, options.escape)
+        refuse_sizes(found, options.split)
         self.summary.skipped = found.skipped
         with self.client.held():
-            # What an earlier process began comes first, so that it changes nothing behind what is looked at here.
-            if not self.options.dry_run:
+            # What an earlier process began comes first, so that it changes nothing after this look.
+            if not options.dry_run:
                 self.client.resume()
-            paths = [path for file in found.files for path in stored_paths(file.path, file.identity.size, self.options.split)]
-            whole = bool(found.folders) or self.options.image is not None or self.options.split
-            self.present = look(self.client, paths + [path for _, path in wanted], whole)
-            stale = self._stale(found.files) if self.options.split else {}
-            if self.options.skip_same:
+            whole = bool(found.folders) or options.image is not None or options.split
+            paths = [] if whole else [file.path for file in found.files] + [path for _, path in wanted]
+            self.present = look(self.client, paths, whole)
+            stale = self._stale(found)
+            if not options.rewrite:
                 self._leave_same(found)
-        if self.options.parents:
+        if options.parents:
             self._add_parents(found, [path for _, path in wanted])
-        planned = plan(found, self.present, self.options.split, self._space())
+        planned = plan(found, self.present, options.split, self._space())
         planned.stale = stale
         self.summary.blocks, self.summary.left = planned.blocks, planned.left
+        self.summary.not_kept = found.not_kept.counts()
         if planned.faults:
             raise DoesNotFit("\n".join(planned.faults))
         return planned
 
-    def _stale(self, files: List[Source]) -> Dict[Path, List[Path]]:
-        """What earlier files of the same names left, by the path of each file. All parts of a file but the last one are full, so
-        what has the name of a part behind a shorter one may be a file of its own: it stays, and is told."""
-        wanted = {path for file in files for path in stored_paths(file.path, file.identity.size, True)}
-        stale = {file.path: other_paths(file.path, file.identity.size, self.present.kinds, wanted) for file in files}
-        for path, others in stale.items():
-            parts = [other for other in others if other != path]
-            if not parts:
-                continue
-            full = self._full_parts(path, index_of(parts[-1][-1]))
-            # The first of the parts has as many before it as its number says.
-            count = max(full - index_of(parts[0][-1]) + 1, 0) if full else 0
-            stale[path] = others[: len(others) - len(parts)] + parts[:count]
-            if full:
-                self.summary.skipped += [
-                    f"{show(part)}: stays, since it may be a file of its own as well as what an earlier {show(path)} left" for part in parts[count:]
-                ]
+    def _stale(self, found: Scan) -> Stale:
+        """What earlier files of the same names left, by the path of each file."""
+        if not self.options.split:
+            return {}
+        stale, doubtful = find_stale(self.client, found, self.present)
+        self.summary.skipped += doubtful
         return stale
-
-    def _full_parts(self, path: Path, last: int) -> int:
-        """How many parts of a name up to this one have a mebibyte, from the first on."""
-        parts = [path[:-1] + (part_name(path[-1], index),) for index in range(last + 1)]
-        sizes = [answer.size if isinstance(answer, Node) else None for answer in self.client.ask_all(map(Stat, parts))]
-        return next((index for index, size in enumerate(sizes) if size != limits.FILE), len(sizes))
 
     def _add_parents(self, found: Scan, paths: List[Path]) -> None:
         """Plans the directories above that are missing."""
@@ -226,7 +128,7 @@ class Importer:
             yield chunk
 
     def _tell_plan(self, planned: Plan) -> Summary:
-        for folder in planned.folders:
+        for folder in planned.folders + planned.part_folders:
             self.told("would make", folder.path, 0, 0)
         for job in self.same:
             self.told("same", job.source.path, job.source.identity.size, 0)
@@ -236,7 +138,7 @@ class Importer:
         for source in [job.source for job in self.same] + [source for source, _ in planned.files]:
             for path in planned.stale.get(source.path, []):
                 self.told("would remove", path, 0, 0)
-        self.summary.files, self.summary.folders = len(planned.files), len(planned.folders)
+        self.summary.files, self.summary.folders = len(planned.files), len(planned.folders) + len(planned.part_folders)
         self.summary.bytes = sum(source.identity.size for source, _ in planned.files)
         return self.summary
 
@@ -245,7 +147,8 @@ class Importer:
 
     def _make(self, planned: Plan) -> None:
         """Makes the directories. One that another client made meanwhile is as good."""
-        for outcome in self.client.run(Operation(MakeDir, folder.path, self._moment(folder.moment())) for folder in planned.folders):
+        folders = planned.folders + planned.part_folders
+        for outcome in self.client.run(Operation(MakeDir, folder.path, self._moment(folder.moment())) for folder in folders):
             if outcome.code is Code.DONE:
                 self.summary.folders += 1
                 self.told("made", outcome.operation.path, 0, outcome.commit)
@@ -275,10 +178,9 @@ class Importer:
         for job in jobs:
             try:
                 for index, (path, part) in enumerate(zip(job.paths, read_parts(job.source))):
-                    if self.options.verify:
-                        job.digests.append(digest(part))
+                    whole = job.take(part)
                     kind: Type[AnyRequest] = Replace if path in self.present.kinds else Create
-                    yield Operation(kind, path, self._moment(job.source.moment()), part, tag=(job, index))
+                    yield Operation(kind, path, self._moment(job.source.moment()), part, tag=(job, index), sha256=job.digests[-1], whole=whole)
             except (SourceError, TooLarge) as error:
                 job.fail(str(error))
 
@@ -301,10 +203,13 @@ class Importer:
         if outcome.code is Code.DONE:
             job.done += 1
             self.present.add(operation.path, NodeKind.FILE)
-            self.told("stored", operation.path, len(operation.data), outcome.commit)
+            if self.stored is not None:
+                self.stored(outcome)
+            else:
+                self.told("stored", operation.path, len(operation.data), outcome.commit)
         elif (operation.kind, outcome.code) in ((Create, Code.EXISTS), (Replace, Code.NOT_FOUND)):
             other: Type[AnyRequest] = Replace if operation.kind is Create else Create
-            again.append(Operation(other, operation.path, operation.moment, operation.data, tag=operation.tag))
+            again.append(operation._replace(kind=other))
         else:
             job.fail(str(refusal(outcome)))
 
@@ -314,10 +219,19 @@ class Importer:
         there = [job for job in jobs if all(self.present.kinds.get(path) is NodeKind.FILE for path in job.paths)]
         sized = self._sized(there)
         with closing(self.client.ask_all(Get(path) for job in sized for path in job.paths)) as answers:
-            self.same = [job for job in sized if compare(job, answers)]
+            self.same = [job for job in sized if self._same(job, answers)]
         found.same = [job.source for job in self.same]
+        if self.options.moment == "mtime":
+            found.not_kept.newer = sum(job.moment != job.source.moment() for job in self.same)
         left = set(map(id, found.same))
         found.files = [source for source in found.files if id(source) not in left]
+
+    def _same(self, job: Job, answers: Iterator[object]) -> bool:
+        """Whether the volume has the bytes of a file. One that cannot be read is told of when it is stored."""
+        try:
+            return same_bytes(job.source, len(job.paths), answers)
+        except SourceError:
+            return False
 
     def _finish_same(self, planned: Plan) -> None:
         """What is done with the files that the volume has: their bytes were read just now."""
@@ -329,39 +243,47 @@ class Importer:
             self._delete(self.same)
 
     def _sized(self, jobs: List[Job]) -> List[Job]:
-        """The files whose parts have the right sizes."""
+        """The files whose parts have the right sizes, with the moment that the volume has of each."""
         sized = []
         with closing(self.client.ask_all(Stat(path) for job in jobs for path in job.paths)) as answers:
             for job in jobs:
-                found = [next(answers) for _ in job.paths]
-                if sum(answer.size if isinstance(answer, Node) else -1 for answer in found) == job.source.identity.size:
+                nodes = [next(answers) for _ in job.paths]
+                if sum(node.size if isinstance(node, Node) else -1 for node in nodes) == job.source.identity.size:
+                    job.moment = nodes[0].moment if isinstance(nodes[0], Node) else None
                     sized.append(job)
         return sized
 
     def _remove_stale(self, stored: List[Path], planned: Plan) -> None:
         """Removes what an earlier file of the same name left, the last part first, so that no part is without those before."""
         paths = [path for name in stored for path in reversed(planned.stale.get(name, []))]
-        if not paths:
-            return
-        for outcome in self.client.run(Operation(Remove, path, now()) for path in paths):
-            if outcome.code not in (Code.DONE, Code.NOT_FOUND):
-                raise refusal(outcome)
-            self.told("removed", outcome.operation.path, 0, outcome.commit)
+        if paths:
+            remove_paths(self.client, paths, self.told)
 
     def _read_back(self, jobs: List[Job]) -> List[Job]:
         """The files whose bytes are on the volume as they were sent."""
         verified = []
         with closing(self.client.ask_all(Get(path) for job in jobs for path in job.paths)) as answers:
             for job in jobs:
-                found = [answer.data if isinstance(answer, Data) else None for answer in islice(answers, len(job.paths))]
-                if [None if data is None else digest(data) for data in found] == job.digests:
+                if reads_back(job, answers):
                     verified.append(job)
                     self.summary.verified += 1
                 else:
                     self.summary.failures.append(f"{show(job.source.path)}: the volume has other bytes than were stored")
         return verified
 
+    def delete_kept(self) -> None:
+        """Deletes the local files whose deletion was put off."""
+        kept, self._kept = self._kept, []
+        self._delete_now(kept)
+
     def _delete(self, jobs: List[Job]) -> None:
+        """Deletes local files, or puts that off."""
+        if self.options.delete_last:
+            self._kept += jobs
+        else:
+            self._delete_now(jobs)
+
+    def _delete_now(self, jobs: List[Job]) -> None:
         """Deletes local files, each as it was read, but not what this command keeps its numbers and replies in."""
         kept = self.client.session().ledger.files()
         for job in jobs:
@@ -372,23 +294,6 @@ class Importer:
                 self.summary.deleted += 1
             except SourceError as error:
                 self.summary.failures.append(f"{error} (it was stored, and is not deleted)")
-
-
-def digest(data: bytes) -> bytes:
-    """By which bytes that were sent are known again."""
-    from hashlib import sha256
-
-    return sha256(data).digest()
-
-
-def compare(job: Job, answers: Iterator[object]) -> bool:
-    """Whether answers have the bytes of a file. As many are taken as it has parts."""
-    found = list(islice(answers, len(job.paths)))
-    try:
-        parts = list(read_parts(job.source))
-    except SourceError:
-        return False
-    return [answer.data if isinstance(answer, Data) else None for answer in found] == parts
 
 
 def put_all(client: Client, jobs: Iterable[Tuple[str, Path]], options: Options, told: Told = quiet) -> Summary:
@@ -405,22 +310,4 @@ def put_tree(client: Client, local: str, path: Path, told: Told = quiet, **optio
     return summary
 
 
-# ---- removed
-
-def remove_tree(client: Client, path: Path, told: Told = quiet) -> int:
-    """Removes a directory with all below it, from the leaves up; the root itself stays. Gives how many went."""
-    with client.held():
-        found: List[Tuple[Path, NodeKind]] = []
-        for at, names in walk(client, path):
-            found += [(at + (name.name,), name.kind) for name in names]
-        order = sorted(found, key=lambda node: -len(node[0])) + ([(path, NodeKind.DIRECTORY)] if path else [])
-        count = 0
-        for outcome in client.run(Operation(Remove, at, now()) for at, _ in order):
-            if outcome.code not in (Code.DONE, Code.NOT_FOUND):
-                raise refusal(outcome)
-            told("removed", outcome.operation.path, 0, outcome.commit)
-            count += 1
-    return count
-
-
-__all__ = ["Importer", "Options", "Summary", "put_all", "put_tree", "remove_tree", "walk"]
+__all__ = ["Importer", "Options", "Summary", "Told", "put_all", "put_tree", "quiet", "remove_tree", "walk"]

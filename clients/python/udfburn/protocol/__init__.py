@@ -17,7 +17,7 @@ from .messages import (
     decode_message, encode_message,
 )
 from .names import (
-    InvalidName, InvalidPath, NameFault, Path, PathLike, is_bytes, name_fault, path_of, show, shown, spelled_size,
+    InvalidName, InvalidPath, NameFault, Path, PathLike, has_spelling, is_bytes, name_fault, path_of, show, shown, spelled_size,
 )
 
 __all__ = [
@@ -26,5 +26,5 @@ __all__ = [
     "InvalidPath", "Kind", "LENGTH", "List", "MEMORY", "MakeDir", "Malformed", "Message", "NOT_DIRECTORY",
     "NOT_FOUND", "Name", "NameFault", "Names", "Node", "NodeKind", "Path", "PathLike", "Query", "Remove", "Rename",
     "Replace", "Request", "Stale", "Stat", "decode_answer", "decode_message", "encode_answer", "encode_message",
-    "frame", "is_bytes", "limits", "name_fault", "path_of", "show", "shown", "spelled_size",
+    "frame", "has_spelling", "is_bytes", "limits", "name_fault", "path_of", "show", "shown", "spelled_size",
 ]

@@ -40,3 +40,6 @@ CAPACITY = (512, 450_000)
 
 U64 = (1 << 64) - 1
 """The greatest number of 8 bytes."""
+
+LINUX_CLIENTS = 38
+"""Clients of a volume that Linux mounts, at most: with more the head of its table is longer than a block."""

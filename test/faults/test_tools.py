@@ -1,10 +1,13 @@
-"""The harness itself: frames by the examples of docs/PROTOCOL.md, the model by its conversation, and the shim seen from a program."""
+"""What the tests stand on: frames by the examples of docs/PROTOCOL.md, the model by its conversation, and the shim seen from a program."""
 from __future__ import annotations
 
 import unittest
 
-from faults import harness
-from faults.harness import Answer, Case, Model, Record, Request, read_log
+from faults.case import Case, need_shim
+from faults.log import Record, read_log
+from faults.running import Daemon
+from protocol import A_DIRECTORY, NO_NODE, Answer, Model, Request, answers_of, committed, encode, query
+
 
 CONVERSATION = [
     (Request("create", 7, 1, "/a", b"hello"), "26000000010700000000000000010000000000000000000000000000000101006105000000 68656C6C6F",
@@ -28,17 +31,17 @@ class Spelling(unittest.TestCase):
         model = Model()
         for request, spelled, answer in CONVERSATION:
             with self.subTest(request=request):
-                self.assertEqual(harness.spell(request), bytes.fromhex(spelled))
-                self.assertEqual([model.answer(request)], harness.answers_of(bytes.fromhex(answer)))
+                self.assertEqual(encode(request), bytes.fromhex(spelled))
+                self.assertEqual([model.answer(request)], answers_of(bytes.fromhex(answer)))
                 if request.number == 4 and request.kind == "replace":
-                    self.assertEqual(model.get("/d/b"), harness.answers_of(bytes.fromhex("090000004000 03000000627965"))[0])
-                    self.assertEqual(model.names("/d"), harness.answers_of(bytes.fromhex("08000000410001 0000010062"))[0])
+                    self.assertEqual(model.get("/d/b"), answers_of(bytes.fromhex("090000004000 03000000627965"))[0])
+                    self.assertEqual(model.names("/d"), answers_of(bytes.fromhex("08000000410001 0000010062"))[0])
 
     def test_queries(self) -> None:
-        self.assertEqual(harness.query("get", "/a"), bytes.fromhex("05000000100101 0061"))
-        self.assertEqual(harness.query("list", "/"), bytes.fromhex("020000001100"))
-        self.assertEqual(Model().get("/a"), Answer(harness.NO_NODE))
-        self.assertEqual(Model().get("/"), Answer(harness.A_DIRECTORY))
+        self.assertEqual(query("get", "/a"), bytes.fromhex("05000000100101 0061"))
+        self.assertEqual(query("list", "/"), bytes.fromhex("020000001100"))
+        self.assertEqual(Model().get("/a"), Answer(NO_NODE))
+        self.assertEqual(Model().get("/"), Answer(A_DIRECTORY))
 
 
 class Shim(Case):
@@ -46,12 +49,12 @@ class Shim(Case):
 
     def setUp(self) -> None:
         super().setUp()
-        harness.need_shim()
+        need_shim()
 
     def test_a_commit_is_seen(self) -> None:
         image = self.fresh()
         before = image.read_bytes()
-        ran = self.apply(harness.spell(Request("create", 7, 1, "/a", b"hello")), log=self.log_path())
+        ran = self.apply(encode(Request("create", 7, 1, "/a", b"hello")), log=self.log_path())
         self.tell(ran, 0, bytes.fromhex("06000000000001000000"), b"")
         records = read_log(self.log_path())
         seen = bytearray(before)
@@ -66,9 +69,9 @@ class Shim(Case):
 
     def test_a_daemon_is_seen(self) -> None:
         self.fresh()
-        with harness.Daemon(self.folder, "d.img", "--connections", "1", log=self.log_path()) as daemon:
+        with Daemon(self.folder, "d.img", "--connections", "1", log=self.log_path()) as daemon:
             with daemon.client() as client:
-                self.assertEqual(client.ask(harness.spell(Request("create", 7, 1, "/a", b"hello"))), harness.committed(0, 1))
+                self.assertEqual(client.ask(encode(Request("create", 7, 1, "/a", b"hello"))), committed(0, 1))
             self.assertEqual(daemon.wait(), 0)
         records: list[Record] = read_log(self.log_path())
         self.assertEqual(b"".join(record.data for record in records if record.kind == "send"), bytes.fromhex("06000000000001000000"))
@@ -77,7 +80,7 @@ class Shim(Case):
 
     def test_a_rule_is_kept(self) -> None:
         self.fresh()
-        ran = self.apply(harness.spell(Request("create", 7, 1, "/a", b"hello")), rules="pwrite:1:K")
+        ran = self.apply(encode(Request("create", 7, 1, "/a", b"hello")), rules="pwrite:1:K")
         self.assertEqual(ran.status, -9)
-        ran = self.apply(harness.query("get", "/a"))
+        ran = self.apply(query("get", "/a"))
         self.tell(ran, 0, bytes.fromhex("020000006000"), b"")

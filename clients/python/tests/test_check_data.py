@@ -1,0 +1,185 @@
+"""Every byte compared with the digests that cover it: one changed byte is found, named with its path and its commit, by a manifest
+alone, by a ledger alone, and without the source."""
+
+from __future__ import annotations
+
+import hashlib
+import json
+import os
+import random
+import shutil
+import sqlite3
+import subprocess
+import unittest
+from contextlib import closing
+from typing import Any, Dict, List
+
+from udfburn import Client
+
+from .programs import UDFBURN, WithPrograms
+
+NOWHERE = "/nonexistent/ledger.sqlite"
+
+
+class Checked(WithPrograms):
+    """An image with a bag, a directory with a manifest, and files that no manifest covers."""
+
+    capacity = 20000
+
+    def setUp(self) -> None:
+        super().setUp()
+        chance = random.Random(7)
+        self.data = {f"f{index:02}": chance.randbytes(index * 500) for index in range(12)}
+        for name, data in self.data.items():
+            self.write(f"source/{name}", data)
+        self.where = ["--image", self.image]
+        source = os.path.join(self.room, "source")
+        self.run_command("put", "-r", "--seal", source, "/bag", where=self.where)
+        self.run_command("put", "-r", "--seal", "--manifest-only", source, "/plain", where=self.where)
+        self.run_command("put", "-r", source, "/bare", where=self.where)
+        shutil.rmtree(source)
+
+    def check(self, *words: str, status: int = 0, ledger: bool = True, image: str = "") -> List[Dict[str, Any]]:
+        """The objects that `check --data` prints."""
+        environment = {**self.environment(), **({} if ledger else {"UDFBURN_LEDGER": NOWHERE})}
+        line = [*self.words("check", "--json", "--data", image or self.image, *words, where=[])]
+        done = subprocess.run(line, capture_output=True, text=True, env=environment, check=False)
+        self.assertEqual(done.returncode, status, done.stdout + done.stderr)
+        return [json.loads(row) for row in done.stdout.split("\n") if row]
+
+    def result(self, *words: str, status: int = 0, ledger: bool = True, image: str = "") -> Dict[str, Any]:
+        found: Dict[str, Any] = self.check(*words, status=status, ledger=ledger, image=image)[-1]["data"]
+        return found
+
+    def changed(self, data: bytes, place: int, count: int = 1) -> str:
+        """A copy of the image in which a byte of each of some files with these bytes is another, the first ones first."""
+        image = os.path.join(self.room, f"changed{len(os.listdir(self.room))}.img")
+        shutil.copy(self.image, image)
+        with open(image, "r+b") as file:
+            all_of_it, at = file.read(), -1
+            for _ in range(count):
+                at = all_of_it.index(data, at + 1)
+                file.seek(at + place)
+                file.write(bytes([all_of_it[at + place] ^ 0x40]))
+        return image
+
+    def test_all_is_as_it_was_stored(self) -> None:
+        self.assertEqual(self.result(), {
+            "files": 12 * 3 + 5, "bytes": 3 * sum(map(len, self.data.values())) + self.bytes_of_manifests(), "covered": 41, "uncovered": 0,
+            "damaged": 0, "by_ledger": 41, "by_manifest": 12 + 3 + 12,
+        })
+
+    def bytes_of_manifests(self) -> int:
+        paths = [f"/bag/{name}" for name in ("bagit.txt", "bag-info.txt", "manifest-sha256.txt", "tagmanifest-sha256.txt")] + ["/plain/manifest-sha256.txt"]
+        with Client(f"image:{self.image}", program=UDFBURN) as client:
+            return sum(len(client.get(path)) for path in paths)
+
+    def test_without_the_ledger(self) -> None:
+        """The files of the third directory, the tag manifest and the manifest beside the files are covered by nothing."""
+        found = self.result(ledger=False)
+        self.assertEqual((found["covered"], found["uncovered"], found["by_manifest"], found["damaged"]), (27, 14, 27, 0))
+        told = subprocess.run(
+            self.words("check", "--data", self.image, where=[]), capture_output=True, text=True, check=True, env={**self.environment(), "UDFBURN_LEDGER": NOWHERE},
+        ).stdout
+        self.assertIn("no digest covers 14 files", told)
+        self.assertFalse(os.path.exists(NOWHERE))
+
+    def test_a_changed_byte(self) -> None:
+        """In each copy of a file: the structures are sound, and each is named with its commit."""
+        data = self.data["f09"]
+        image = self.changed(data, 4000, count=3)
+        self.assertEqual(self.udfburn("check", image)[:5], b"sound")
+        for ledger, paths in ((True, ["/bag/data/f09", "/plain/f09", "/bare/f09"]), (False, ["/bag/data/f09", "/plain/f09"])):
+            *failures, last = self.check(status=1, ledger=ledger, image=image)
+            failures = [failure for failure in failures if failure["did"] == "failed"]
+            self.assertEqual([failure["path"] for failure in failures], paths)
+            self.assertEqual(last["data"]["damaged"], len(paths))
+            for failure in failures:
+                self.assertEqual(failure["commit"], self.commit_of(failure["path"]))
+                self.assertIn(hashlib.sha256(data).hexdigest(), failure["message"])
+
+    def commit_of(self, path: str) -> int:
+        """The commit that the ledger has of a path."""
+        with closing(sqlite3.connect(self.ledger)) as base:
+            return int(base.execute("SELECT commit_number FROM request WHERE path = ?", (path,)).fetchone()[0])
+
+    def test_a_path(self) -> None:
+        image = self.changed(self.data["f08"], 0, count=3)
+        self.assertEqual(self.result("/plain", status=1, image=image)["damaged"], 1)
+        self.assertEqual(self.result("/plain/f07", image=image)["files"], 1)
+        self.assertEqual(self.result("/plain/f08", status=1, image=image)["files"], 1)
+        self.run_command("check", "--data", self.image, "/no", where=[], status=1)
+        self.run_command("check", self.image, "/plain", where=[], status=2)
+
+    def test_a_file_inside_its_entry(self) -> None:
+        """There the structure is damaged too, and the files are compared all the same."""
+        image = self.changed(self.data["f02"], 10)
+        *failures, last = self.check(status=1, ledger=False, image=image)
+        self.assertEqual([failure["error"] for failure in failures], ["Damaged", "FileDiffers"])
+        self.assertEqual((failures[1]["path"], last["data"]["files"]), ("/bag/data/f02", 41))
+
+    def test_moved_files(self) -> None:
+        """The ledger's digests are found by the commit that wrote a file, whatever path it has now, whoever moved it."""
+        with Client(f"image:{self.image}", ledger=os.path.join(self.room, "other.sqlite"), program=UDFBURN) as other:
+            other.rename("/bare", "/moved")
+            other.rename("/moved/f05", "/elsewhere")
+        found = self.result()
+        self.assertEqual((found["by_ledger"], found["damaged"]), (41, 0))
+        image = self.changed(self.data["f05"], 100, count=3)
+        self.assertIn("/elsewhere", [failure["path"] for failure in self.check(status=1, image=image)[:-1] if failure["did"] == "failed"])
+
+    def test_what_was_changed_since_it_was_sealed(self) -> None:
+        with Client(f"image:{self.image}", ledger=self.ledger, program=UDFBURN) as client:
+            client.replace("/bag/data/f03", b"newer")
+            client.remove("/bag/data/f04")
+        failures = {failure["path"]: failure["message"] for failure in self.check(status=1)[:-1]}
+        self.assertEqual(sorted(failures), ["/bag/data/f03", "/bag/data/f04"])
+        self.assertIn("was stored again after /bag/manifest-sha256.txt was written", failures["/bag/data/f03"])
+        self.assertIn("is not there, and /bag/manifest-sha256.txt lists it", failures["/bag/data/f04"])
+        self.run_command("seal", "/bag", where=self.where)
+        self.assertEqual(self.result()["damaged"], 0)
+
+    def test_another_volume_with_the_same_commits(self) -> None:
+        """The ledger's digests are of the volume that it sent to: replies show which that is."""
+        self.image = os.path.join(self.room, "other.img")
+        self.format(self.capacity)
+        with Client(f"image:{self.image}", ledger=os.path.join(self.room, "other.sqlite"), program=UDFBURN) as other:
+            for index in range(20):
+                other.create(f"/x{index}", b"other")
+        found = self.result()
+        self.assertEqual((found["by_ledger"], found["uncovered"], found["damaged"]), (0, 20, 0))
+
+    def test_a_commit_that_is_missing(self) -> None:
+        """The last table's entry is damaged: it looks like a commit that was cut short, and the ledger knows better."""
+        address = int(self.udfburn("log", self.image).split()[1])
+        image = shutil.copy(self.image, os.path.join(self.room, "cut.img"))
+        with open(image, "r+b") as file:
+            file.seek(address * 2048 + 100)
+            file.write(b"\xff")
+        newest = self.commits()
+        self.assertEqual(self.udfburn("check", image), b"sound %d\n" % (newest - 1))
+        told = self.run_command("check", image, "--ledger", self.ledger, where=[], status=1)
+        self.assertIn(f"its newest commit is {newest - 1}, and commit {newest} was acknowledged to the ledger", told)
+        self.assertIn("was acknowledged", self.run_command("check", "--data", image, where=[], status=1))
+        self.run_command("check", self.image, "--ledger", self.ledger, where=[])
+        self.assertIn("no ledger", self.run_command("check", self.image, "--ledger", NOWHERE, where=[], status=1))
+
+    def test_without_the_program(self) -> None:
+        environment = {**self.environment(), "UDFBURN": "", "PATH": "/usr/bin:/bin"}
+        done = subprocess.run(self.words("check", "--data", self.image, where=[]), capture_output=True, text=True, env=environment, check=False)
+        self.assertEqual(done.returncode, 1)
+        self.assertIn("the program udfburn is not on the PATH", done.stderr)
+        self.assertIn("41 files", done.stdout)
+        self.assertIn("all that digests cover are as they were stored", done.stdout)
+
+    def test_a_ledger_that_is_in_use(self) -> None:
+        from udfburn.ledger import Ledger
+
+        with closing(Ledger(self.ledger)):
+            told = self.run_command("check", "--data", self.image, where=[])
+        self.assertIn("another process has this ledger, so only the manifests", told)
+        self.assertIn("0 by the ledger, 27 by manifests", told)
+
+
+if __name__ == "__main__":
+    unittest.main()

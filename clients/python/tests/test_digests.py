@@ -1,0 +1,189 @@
+"""The SHA-256 of what was sent: kept in the ledger, and found again by path and by commit."""
+
+from __future__ import annotations
+
+import hashlib
+import io
+import json
+import os
+import random
+import unittest
+from contextlib import redirect_stdout
+from typing import Dict, List, Optional, Type
+from unittest import mock
+
+from udfburn import Client, cli, errors as e
+from udfburn import protocol as p
+from udfburn.digests import Files, Known
+from udfburn.operations import Operation, Whole
+from udfburn.split import stored_paths
+
+from .server import honestly, request_of
+from .test_session import WithServer
+
+FULL = p.limits.FILE
+
+
+def sha256(data: bytes) -> bytes:
+    return hashlib.sha256(data).digest()
+
+
+class Digests(WithServer):
+    def files(self) -> Files:
+        with self.client() as client:
+            return client.known_files()
+
+    def shown(self) -> Dict[str, bytes]:
+        return {p.show(path): known.sha256 for path, known in self.files().now.items()}
+
+    def test_what_is_kept_of_a_file(self) -> None:
+        with self.client() as client:
+            client.mkdir("/d", 1)
+            client.create("/d/a", b"one", 2)
+            self.assertEqual(client.known_files().now, {("d", "a"): Known(("d", "a"), 3, 2, sha256(b"one"), 2, 2)})
+            self.assertEqual(client.digest_of("/d/a"), sha256(b"one"))
+            self.assertIsNone(client.digest_of("/d"))
+            self.assertIsNone(client.digest_of("/no"))
+
+    def test_replaced_moved_and_removed(self) -> None:
+        with self.client() as client:
+            client.makedirs("/d/e")
+            for name in ("a", "b", "c"):
+                client.create(f"/d/e/{name}", name.encode())
+            client.replace("/d/e/a", b"other")
+            client.rename("/d/e/b", "/moved")
+            client.remove("/d/e/c")
+            client.rename("/d", "/x")
+            client.create("/empty", b"")
+            self.assertEqual(client.digest_of("/x/e/a"), sha256(b"other"))
+            self.assertIsNone(client.digest_of("/d/e/a"))
+        self.assertEqual(self.shown(), {"/x/e/a": sha256(b"other"), "/moved": sha256(b"b"), "/empty": sha256(b"")})
+        found = {commit: known.sha256 for commit, known in self.files().by_commit.items()}
+        self.assertEqual(found, {3: sha256(b"a"), 4: sha256(b"b"), 5: sha256(b"c"), 6: sha256(b"other"), 10: sha256(b"")})
+
+    def test_a_refused_request_stores_nothing(self) -> None:
+        with self.client() as client:
+            client.create("/a", b"one")
+            with self.assertRaises(e.Exists):
+                client.create("/a", b"two")
+        self.assertEqual(self.shown(), {"/a": sha256(b"one")})
+
+    def test_what_another_client_changed(self) -> None:
+        """The ledger does not know of it; the volume's size and moment show it."""
+        with Client(f"unix:{self.server.path}", ledger=self.ledger, shared=True) as client:
+            client.create("/a", b"one", 5)
+            with self.client(os.path.join(self.room, "other.sqlite")) as other:
+                other.replace("/a", b"two", 6)
+            self.assertIsNone(client.digest_of("/a"))
+            self.assertEqual(client.known_files().now[("a",)].sha256, sha256(b"one"))
+
+    def test_behind_a_lost_conversation(self) -> None:
+        """The digest of what was pending is that of the bytes that were sent again."""
+        lost: List[bool] = []
+
+        def say(payload: bytes, answer: p.Answer) -> Optional[bytes]:
+            if request_of(payload) and not lost:
+                lost.append(True)
+                return None
+            return honestly(payload, answer)
+
+        self.server.say = say
+        with self.client() as client:
+            client.create("/a", b"one")
+        self.assertEqual(self.shown(), {"/a": sha256(b"one")})
+
+    def test_a_file_in_parts(self) -> None:
+        first, second = bytes(2 * FULL + 5), b"x" * (FULL + 1)
+        with self.client() as client:
+            self.store(client, first)
+            self.assertEqual(client.digest_of("/big"), sha256(first))
+            self.assertEqual(client.digest_of("/big.002"), sha256(bytes(5)))
+            # As after an interrupted import of other bytes: the first part is newer than the last one.
+            client.replace("/big.000", second[:FULL])
+            self.assertIsNone(client.digest_of("/big"))
+            self.store(client, second)
+            client.remove("/big.002")
+            self.assertEqual(client.digest_of("/big"), sha256(second))
+            client.mkdir("/d")
+            for index in range(2):
+                client.rename(f"/big.{index:03}", f"/d/big.{index:03}")
+            self.assertIsNone(client.digest_of("/big"), "its parts were moved one by one")
+            client.rename("/d", "/e")
+            self.assertEqual(client.digest_of("/e/big.001"), sha256(b"x"))
+
+    def test_a_directory_with_a_file_in_parts_moves(self) -> None:
+        data = bytes(FULL + 5)
+        with self.client() as client:
+            client.mkdir("/d")
+            self.store(client, data, ("d", "big"))
+            client.rename("/d", "/e")
+            self.assertEqual((client.digest_of("/e/big"), client.digest_of("/d/big")), (sha256(data), None))
+
+    def store(self, client: Client, data: bytes, path: p.Path = ("big",)) -> None:
+        paths = stored_paths(path, len(data), True)
+        operations = []
+        for index, part in enumerate(paths):
+            whole = Whole(path, len(data), sha256(data)) if index == len(paths) - 1 else None
+            kind: Type[p.AnyRequest] = p.Replace if client.find(part) else p.Create
+            operations.append(Operation(kind, part, 7, data[index * FULL : (index + 1) * FULL], whole=whole))
+        self.assertEqual({outcome.code for outcome in client.run(operations)}, {p.Code.DONE})
+
+    def put(self) -> "list[dict[str, object]]":
+        """Stores the folder `source` by the command, and gives what it prints for programs."""
+        output = io.StringIO()
+        words = ["put", "-r", "--json", "--split", os.path.join(self.room, "source"), "/x", "--socket", self.server.path, "--ledger", self.ledger]
+        with redirect_stdout(output):
+            self.assertEqual(cli.main(words), 0)
+        return [json.loads(line) for line in output.getvalue().split("\n") if line]
+
+    def write(self, name: str, data: bytes) -> None:
+        local = os.path.join(self.room, "source", name)
+        os.makedirs(os.path.dirname(local), exist_ok=True)
+        with open(local, "wb") as file:
+            file.write(data)
+
+    def test_put_prints_them(self) -> None:
+        big = random.Random(1).randbytes(2 * FULL + 7)
+        self.write("small", b"small")
+        self.write("d/big", big)
+        stored = {step["path"]: step for step in self.put() if step["did"] == "stored"}
+        self.assertEqual(stored["/x/small"]["sha256"], sha256(b"small").hex())
+        self.assertNotIn("whole", stored["/x/small"])
+        for index in range(3):
+            self.assertEqual(stored[f"/x/d/big.{index:03}"]["sha256"], sha256(big[index * FULL : (index + 1) * FULL]).hex())
+        self.assertNotIn("whole", stored["/x/d/big.001"])
+        self.assertEqual(stored["/x/d/big.002"]["whole"], {"path": "/x/d/big", "bytes": len(big), "sha256": sha256(big).hex()})
+        with self.client() as client:
+            self.assertEqual((client.digest_of("/x/d/big"), client.digest_of("/x/small")), (sha256(big), sha256(b"small")))
+
+    def test_it_is_of_what_was_sent(self) -> None:
+        """And not of a second read: the file is read once."""
+        self.write("a", b"once")
+        reads, real = [], os.read
+
+        def read(descriptor: int, count: int) -> bytes:
+            data = real(descriptor, count)
+            reads.append(data)
+            return data
+
+        with mock.patch("udfburn.sources.os.read", read):
+            self.put()
+        self.assertEqual(reads.count(b"once"), 1)
+        self.assertEqual(self.shown(), {"/x/a": sha256(b"once")})
+
+    def test_where_another_client_made_the_path_meanwhile(self) -> None:
+        """The request is made again as the other kind, with the same digest."""
+        self.write("a", b"mine")
+
+        def before(payload: bytes) -> None:
+            request = request_of(payload)
+            if isinstance(request, p.Create) and request.client != 5:
+                self.volume.answer(p.Create(5, 1, 0, request.path, b"theirs"))
+
+        self.server.before = before
+        self.assertEqual([step["sha256"] for step in self.put() if step["did"] == "stored"], [sha256(b"mine").hex()])
+        self.assertEqual(self.shown(), {"/x/a": sha256(b"mine")})
+
+
+if __name__ == "__main__":
+    unittest.main()

@@ -1,0 +1,172 @@
+"""A ledger of version 1, as the client of that version wrote it: it becomes one of version 2 and loses nothing.
+
+`ledger_v1.sql` has one volume that was met by two ways in turn, which that client kept as three, another volume, and a request
+without a reply.
+"""
+
+from __future__ import annotations
+
+import hashlib
+import os
+import shutil
+import sqlite3
+import sys
+import unittest
+from contextlib import closing
+from typing import List, Tuple
+
+from udfburn import Client, errors as e
+from udfburn import protocol as p
+from udfburn.ledger import Ledger
+from udfburn.ledger_records import Sent
+from udfburn.operations import Deed
+
+from .model import Volume
+from .server import Server
+from .test_kills import killer
+from .test_session import WithServer
+
+HERE = os.path.dirname(os.path.abspath(__file__))
+CLIENT = 77
+ROWS = "SELECT volume, number, path, code, commit_number, confirmed FROM request ORDER BY volume, number"
+
+
+def first_volume() -> Volume:
+    """The volume that was met by two ways, as the requests of the ledger left it."""
+    volume = Volume()
+    requests: List[p.AnyRequest] = [p.MakeDir(CLIENT, 1, 10, ("d",))]
+    requests += [p.Create(CLIENT, 2 + index, 100 + index, ("d", f"f{index}"), b"x" * index) for index in range(5)]
+    requests += [
+        p.Rename(CLIENT, 7, 200, ("d", "f0"), ("d", "g")), p.Replace(CLIENT, 8, 201, ("d", "f1"), b"replaced"), p.Remove(CLIENT, 9, 202, ("d", "f2")),
+    ]
+    for request in requests:
+        volume.answer(request)
+    return volume
+
+
+class Migration(WithServer):
+    def setUp(self) -> None:
+        super().setUp()
+        self.room = os.path.realpath(self.room)
+        for name in ("one", "two"):
+            os.mkdir(os.path.join(self.room, name))
+        self.one = Server(os.path.join(self.room, "one"), first_volume())
+        self.addCleanup(self.one.close)
+        self.link = os.path.join(self.room, "one", "link")
+        os.link(self.one.path, self.link)
+        self.write_ledger()
+
+    def write_ledger(self) -> None:
+        with open(os.path.join(HERE, "ledger_v1.sql"), encoding="utf-8") as file:
+            script = file.read().replace("@", self.room)
+        with closing(sqlite3.connect(self.ledger)) as base:
+            base.executescript(script)
+            base.execute("PRAGMA journal_mode = WAL")
+
+    def asked(self, words: str) -> List[Tuple[object, ...]]:
+        with closing(sqlite3.connect(self.ledger)) as base:
+            return base.execute(words).fetchall()
+
+    def by(self, path: str) -> Client:
+        made = Client(f"unix:{path}", ledger=self.ledger)
+        self.addCleanup(made.close)
+        return made
+
+    def test_nothing_is_lost(self) -> None:
+        rows, frames = self.asked(ROWS), self.asked("SELECT * FROM frame ORDER BY id")
+        with closing(Ledger(self.ledger)) as ledger:
+            self.assertEqual(ledger.client, CLIENT)
+            self.assertEqual([volume.latest for volume in ledger.volumes()], [6, 1, 8, 9])
+            way = f"unix:{self.room}/one/"
+            self.assertEqual([volume and volume.id for volume in map(ledger.volume, (way + "socket", way + "link"))], [4, 3])
+            (pending,) = ledger.pending(ledger.volumes()[3])
+            self.assertEqual((pending.number, pending.path), (10, "/pending"))
+        self.assertEqual(self.asked(ROWS), rows)
+        self.assertEqual(self.asked("SELECT * FROM frame ORDER BY id"), frames)
+        self.assertEqual(self.asked("SELECT version FROM ledger"), [(2,)])
+        Ledger(self.ledger).close()
+        self.assertEqual(self.asked(ROWS), rows)
+
+    def test_what_the_last_frames_say_is_kept(self) -> None:
+        with closing(Ledger(self.ledger)) as ledger:
+            first, _, third, fourth = map(ledger.sent, ledger.volumes())
+        self.assertEqual([sent.facts is None for sent in first], [True, True, False, False, False, False])
+        self.assertEqual(first[2:4], [self.stored(3, "f1", 1, 101, b"x"), self.stored(4, "f2", 2, 102, b"xx")])
+        moved, replaced = [sent.facts for sent in third]
+        assert moved and replaced
+        self.assertEqual(moved.deed, Deed(p.Kind.RENAME, ("d", "f0"), ("d", "g"), 0, 200))
+        self.assertEqual(replaced.sha256, hashlib.sha256(b"replaced").digest())
+        waiting = fourth[-1].facts
+        assert waiting
+        self.assertEqual((waiting.deed, waiting.sha256), (Deed(p.Kind.CREATE, ("pending",), (), 13, 300), hashlib.sha256(b"pending bytes").digest()))
+
+    def stored(self, number: int, name: str, size: int, moment: int, data: bytes) -> Sent:
+        from udfburn.ledger_records import Facts
+
+        facts = Facts(Deed(p.Kind.CREATE, ("d", name), (), size, moment), hashlib.sha256(data).digest())
+        return Sent(number, f"/d/{name}", facts, 0, number, True)
+
+    def test_what_is_pending_is_sent(self) -> None:
+        with self.by(self.one.path) as client:
+            self.assertEqual(client.resume(), [(10, "/pending", p.Code.DONE, 10)])
+            self.assertEqual(client.create("/next", b""), 11)
+
+    def test_by_the_way_that_was_behind(self) -> None:
+        """It went on by the other way, where the ledger has it as another volume: both are one now."""
+        with self.by(self.link) as client:
+            self.assertEqual(client.resume(), [(10, "/pending", p.Code.DONE, 10)])
+        with self.by(self.one.path) as client:
+            self.assertEqual(client.create("/next", b""), 11)
+        with self.by(self.link) as client:
+            self.assertEqual(client.create("/last", b""), 12)
+            ledger = client.session().ledger
+            self.assertEqual(sorted(ledger.ways(client.session().volume())), [f"unix:{self.link}", f"unix:{self.one.path}"])
+
+    def test_another_volume_by_the_way_that_was_behind(self) -> None:
+        """With more requests than the ledger has by either way: it is none of them."""
+        self.one.volume.answer(p.Create(CLIENT, 10, 0, ("x",), b""))
+        self.one.volume.answer(p.Create(CLIENT, 11, 0, ("y",), b""))
+        for path in (self.link, self.one.path):
+            with self.by(path) as client, self.assertRaises(e.NumberUsedElsewhere):
+                client.create("/z", b"")
+
+    def test_an_older_copy(self) -> None:
+        """Of the volume that acknowledged nine requests, as it was after eight."""
+        volume = first_volume()
+        latest, kept = volume.clients[CLIENT]
+        volume.clients[CLIENT] = (latest - 1, kept[1:])
+        self.one.volume = volume
+        with self.by(self.one.path) as client, self.assertRaisesRegex(e.VolumeBehind, "up to 9 .* Found: requests up to 8"):
+            client.create("/z", b"")
+
+    def test_an_upgrade_that_is_killed(self) -> None:
+        """Between any two statements: the ledger has one version or the other, and all rows."""
+        rows, versions = self.asked(ROWS), set()
+        clean = os.path.join(self.room, "clean.sqlite")
+        shutil.copy(self.ledger, clean)
+        killed, lines = True, 0
+        while killed:
+            lines += 3
+            for end in ("", "-wal", "-shm", ".lock"):
+                if os.path.exists(self.ledger + end):
+                    os.unlink(self.ledger + end)
+            shutil.copy(clean, self.ledger)
+            child = os.fork()
+            if not child:
+                try:
+                    sys.settrace(killer(lines))
+                    Ledger(self.ledger)
+                finally:
+                    sys.settrace(None)
+                    os._exit(0)
+            killed = os.WIFSIGNALED(os.waitpid(child, 0)[1])
+            versions.add(self.asked("SELECT version FROM ledger")[0][0])
+            with closing(Ledger(self.ledger)) as ledger:
+                self.assertEqual([volume.latest for volume in ledger.volumes()], [6, 1, 8, 9])
+            self.assertEqual(self.asked(ROWS), rows)
+        self.assertEqual(versions, {1, 2})
+        self.assertGreater(lines, 50)
+
+
+if __name__ == "__main__":
+    unittest.main()

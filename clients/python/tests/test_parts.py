@@ -1,0 +1,215 @@
+"""Files in parts: beside others, and in folders of parts where there are more than 400."""
+
+from __future__ import annotations
+
+import os
+import random
+import subprocess
+import unittest
+from contextlib import ExitStack
+from typing import Dict, List
+from unittest import mock
+
+from udfburn import Client, fetch, split, tree, walk
+from udfburn import protocol as p
+
+from .model import Volume
+from .programs import WithPrograms
+from .test_local import Local
+
+MEBIBYTE = p.limits.FILE
+
+
+class Paths(unittest.TestCase):
+    """Where parts stand, by README.md."""
+
+    def test_up_to_400_parts_stand_beside_others(self) -> None:
+        paths = split.stored_paths(("a", "b"), 400 * MEBIBYTE, True)
+        self.assertEqual((len(paths), paths[0], paths[399]), (400, ("a", "b.000"), ("a", "b.399")))
+        self.assertEqual(split.part_folders(("a", "b"), 400 * MEBIBYTE, True), [])
+
+    def test_more_stand_in_folders_of_400(self) -> None:
+        paths = split.stored_paths(("a", "b"), 800 * MEBIBYTE + 1, True)
+        self.assertEqual(len(paths), 801)
+        for index, path in ((0, "00/000"), (399, "00/399"), (400, "01/000"), (799, "01/399"), (800, "02/000")):
+            self.assertEqual(paths[index], ("a", "b.parts", *path.split("/")))
+        self.assertEqual(split.part_folders(("a", "b"), 800 * MEBIBYTE + 1, True), [("a", "b.parts"), *[("a", "b.parts", f"0{index}") for index in range(3)]])
+        self.assertEqual(split.stored_paths(("b",), 400 * MEBIBYTE + 1, True)[400], ("b.parts", "01", "000"))
+        # The names of all parts in order are those of a sorted list, so that `cat NAME.parts/*/*` joins them.
+        self.assertEqual(paths, sorted(paths))
+
+    def test_joined_folders(self) -> None:
+        parts: List[p.Path] = [("b.parts", f"{index // 400:02}", f"{index % 400:03}") for index in range(401)]
+        names: Dict[p.Path, List[str]] = {("b.parts",): ["00", "01"], ("b.parts", "00"): [f"{i:03}" for i in range(400)], ("b.parts", "01"): ["000"]}
+        sizes = dict.fromkeys(parts, MEBIBYTE)
+        self.assertEqual(len(split.joined_folder(("b.parts",), names, sizes)), 401)
+        sizes[("b.parts", "01", "000")] = 5
+        self.assertEqual(len(split.joined_folder(("b.parts",), names, sizes)), 401)
+        self.assertEqual(split.joined_folder(("b.parts",), names, {**sizes, parts[200]: 5}), [])
+        self.assertEqual(split.joined_folder(("b.parts",), names, dict.fromkeys(parts[:400], MEBIBYTE)), [])
+        for path, more in ((("b.parts",), ["00", "01", "note"]), (("b.parts", "01"), ["000", "002"])):
+            self.assertEqual(split.joined_folder(("b.parts",), {**names, path: more}, sizes), [])
+
+
+class Folders(Local):
+    """The same by small numbers: parts of a mebibyte, of which up to two stand beside others, and two in each folder."""
+
+    def setUp(self) -> None:
+        super().setUp()
+        stack = ExitStack()
+        self.addCleanup(stack.close)
+        for name in ("FLAT", "FOLDER"):
+            stack.enter_context(mock.patch.object(split, name, 2))
+
+    def files(self) -> List[str]:
+        return sorted("/".join(path[1:]) for path in self.volume.nodes if len(path) > 1)
+
+    def of(self, count: int) -> List[str]:
+        """What the volume has of a file of so many mebibytes, and a byte."""
+        if not count:
+            return ["big"]
+        if count == 1:
+            return ["big.000", "big.001"]
+        return sorted(["big.parts", *[f"big.parts/{i:02}" for i in range(count // 2 + 1)], *[f"big.parts/{i // 2:02}/{i % 2:03}" for i in range(count + 1)]])
+
+    def data(self, count: int, seed: int = 0) -> bytes:
+        return random.Random(seed).randbytes(count * MEBIBYTE + 1)
+
+    def test_across_each_border(self) -> None:
+        """Whatever a file grows or shrinks to, nothing of the earlier one is left, and it is read as it is."""
+        for before in (0, 1, 2, 5):
+            for after in (0, 1, 2, 3, 5):
+                self.server.volume = Volume()
+                self.ledger = os.path.join(self.room, f"{before}-{after}.sqlite")
+                self.write("big", self.data(before))
+                self.put(split=True)
+                self.assertEqual(self.files(), self.of(before))
+                self.write("big", self.data(after, 1))
+                self.put(split=True)
+                self.assertEqual(self.files(), self.of(after), (before, after))
+                back = os.path.join(self.room, f"back{before}-{after}")
+                fetch.get_tree(self.client(), ("x",), back, True)
+                with open(os.path.join(back, "big"), "rb") as file:
+                    self.assertEqual(file.read(), self.data(after, 1))
+                self.assertEqual(os.listdir(back), ["big"])
+                result = fetch.verify_tree(self.client(), self.folder, ("x",), True)
+                self.assertEqual((result.differences, result.extra, result.files), ([], [], 1))
+
+    def test_what_is_the_same_is_left_alone(self) -> None:
+        self.write("big", self.data(5))
+        self.put(split=True)
+        commits = self.volume.commits
+        self.assertEqual(self.put(split=True).same, 1)
+        self.assertEqual(self.volume.commits, commits)
+        self.put(split=True, rewrite=True)
+        self.assertEqual(self.volume.commits, commits + 6)
+        self.write("big", self.data(5, 1))
+        self.assertEqual(self.put(split=True, delete_source=True).deleted, 1)
+
+    def test_a_removal_that_was_cut_short(self) -> None:
+        """The next one finishes it, wherever it was."""
+        for left in range(1, 8):
+            self.server.volume = Volume()
+            self.ledger = os.path.join(self.room, f"cut{left}.sqlite")
+            self.write("big", self.data(4))
+            self.put(split=True)
+            self.write("big", b"small")
+
+            def some(client: Client, paths: List[p.Path], told: walk.Told, left: int = left) -> None:
+                walk.remove_paths(client, paths[:left], told)
+                raise KeyboardInterrupt
+
+            with mock.patch.object(tree, "remove_paths", some), self.assertRaises(KeyboardInterrupt):
+                self.put(split=True)
+            self.put(split=True)
+            self.assertEqual(self.files(), ["big"], left)
+
+    def test_folders_of_others(self) -> None:
+        """A folder that has other names than parts is neither removed nor gone into, and a small file in one is nobody's part."""
+        for names in (["big.parts/00/000", "big.parts/note"], ["big.parts/00/000", "big.parts/1/000"], ["big.parts/00/000"]):
+            self.server.volume = Volume()
+            self.ledger = os.path.join(self.room, f"others{len(names)}{names[-1][-5:-4]}.sqlite")
+            for name in names:
+                self.write(name, b"own")
+            self.put(split=True, delete_source=True)
+            for folder in ("big.parts/00", "big.parts/1", "big.parts"):
+                if os.path.isdir(os.path.join(self.folder, folder)):
+                    os.rmdir(os.path.join(self.folder, folder))
+            before = self.files()
+            self.write("big", b"small")
+            self.put(split=True)
+            self.assertEqual(self.files(), sorted(before + ["big"]))
+            self.write("big", self.data(3))
+            if len(names) > 1:
+                self.assertIn("/x/big.parts: has other names than those of parts", self.refused(split=True))
+            os.unlink(os.path.join(self.folder, "big"))
+
+    def test_paths_that_would_be_shared(self) -> None:
+        self.write("big", self.data(3))
+        self.write("big.parts/00/000", b"own")
+        self.assertIn("/x/big.parts: a folder has this path, and so would the parts", self.refused(split=True))
+        os.unlink(os.path.join(self.folder, "big.parts/00/000"))
+        os.rmdir(os.path.join(self.folder, "big.parts/00"))
+        os.rmdir(os.path.join(self.folder, "big.parts"))
+        self.write("big.parts", b"a file")
+        self.assertIn("/x/big.parts: more than one", self.refused(split=True))
+
+    def test_a_folder_that_does_not_make_a_whole_file_is_a_folder(self) -> None:
+        """Nothing is hidden that is no part."""
+        self.write("big", self.data(3))
+        self.put(split=True)
+        with self.client() as client:
+            client.put("/x/big.parts/01/005", b"more")
+            back = os.path.join(self.room, "back")
+            self.assertEqual(fetch.get_tree(client, ("x",), back, True), 5)
+        self.assertEqual(os.listdir(back), ["big.parts"])
+
+    def test_a_dry_run(self) -> None:
+        self.write("big", self.data(3))
+        steps: List[str] = []
+        with self.client() as client:
+            options = tree.Options(recursive=True, split=True, dry_run=True)
+            tree.put_all(client, [(self.folder, ("x",))], options, lambda what, path, *_: steps.append(f"{what} {p.show(path)}"))
+        self.assertEqual(steps, ["would make /x", "would make /x/big.parts", "would make /x/big.parts/00", "would make /x/big.parts/01",
+                                 *[f"would store /x/big.parts/{name}" for name in ("00/000", "00/001", "01/000", "01/001")]])
+
+    def test_names_and_depths(self) -> None:
+        self.write("x" * 249, self.data(3))
+        self.assertIn("the name of a part takes more than 255 bytes", self.refused(split=True))
+        os.unlink(os.path.join(self.folder, "x" * 249))
+        self.write("/".join("d" * 13) + "/big", self.data(3))
+        self.assertIn("has 17 names", self.refused(split=True))
+
+
+class Long(WithPrograms):
+    """A file of more than 400 parts over the programs."""
+
+    capacity = 450_000
+
+    def test_a_file_of_more_than_400_mebibytes(self) -> None:
+        local = os.path.join(self.room, "source", "big")
+        os.makedirs(os.path.dirname(local))
+        with open(local, "wb") as file:
+            file.truncate(401 * MEBIBYTE)
+            for index in range(401):
+                file.seek(index * MEBIBYTE + index)
+                file.write(b"part %d" % index)
+        folder = os.path.dirname(local)
+        self.serve()
+        self.run_command("put", "-r", "--split", "--quiet", folder, "/x")
+        names = self.run_command("ls", "-R", "/x").splitlines()
+        self.assertEqual(names[:6], ["/x:", "d big.parts", "/x/big.parts:", "d 00", "d 01", "/x/big.parts/00:"])
+        self.assertEqual(names[-2:], ["/x/big.parts/01:", "f 000"])
+        self.assertIn("all are there", self.run_command("verify", "--split", "--exact", folder, "/x"))
+        back = os.path.join(self.room, "back")
+        self.run_command("get", "-r", "--split", "--quiet", "/x", back)
+        self.assertEqual(subprocess.run(["cmp", local, os.path.join(back, "big")], check=False).returncode, 0)
+        os.unlink(os.path.join(back, "big"))
+        # One byte less, and they stand beside others.
+        os.truncate(local, 400 * MEBIBYTE)
+        self.run_command("put", "-r", "--split", "--quiet", folder, "/x", status=0)
+        self.assertEqual([name.name for name in self.client().list("/x")], [f"big.{index:03}" for index in range(400)])
+
+
+if __name__ == "__main__":
+    unittest.main()

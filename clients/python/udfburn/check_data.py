@@ -1,0 +1,95 @@
+"""Every byte of the files of an image, compared with the digests that cover them: of manifests on the volume, and of a ledger."""
+
+from __future__ import annotations
+
+from hashlib import sha256
+from typing import Callable, Dict, Iterator, List, Optional
+
+from .coverage import Coverage
+from .errors import NotFound
+from .protocol import Path, show
+from .reader import Kind, Node
+
+Found = Callable[[str, str, Optional[int]], None]
+"""Is told of each file that is not as it should be: its path, how it differs, and the commit that wrote it."""
+
+
+class Result:
+    """Counts of files and bytes, of files that some digest covers and of those that none does, and of what is not as it should be."""
+
+    def __init__(self) -> None:
+        self.files = self.bytes = self.covered = self.uncovered = self.damaged = 0
+        self.by_ledger = self.by_manifest = 0
+
+
+def check_data(coverage: Coverage, path: Path, found: Found) -> Result:
+    """Reads each file at or below a path, in the order of the medium, and compares it."""
+    result = Result()
+    if path not in coverage.nodes:
+        raise NotFound(show(path))
+    for broken in coverage.broken:
+        if is_below(broken, path):
+            tell(result, found, broken, "its entry cannot be read", None)
+    for listed, source in coverage.missing:
+        if is_below(listed, path) and listed not in coverage.broken:
+            tell(result, found, listed, f"is not there, and {source} lists it", None)
+    for manifest, fault in coverage.faults:
+        if is_below(manifest, path):
+            tell(result, found, manifest, fault, coverage.commit_of(coverage.nodes[manifest]))
+    for node in in_order(coverage, path):
+        faults = faults_of(coverage, node, result)
+        if faults:
+            tell(result, found, node.path, "; ".join(faults), coverage.commit_of(node))
+    return result
+
+
+def is_below(path: Path, top: Path) -> bool:
+    """Whether a path is another one or below it."""
+    return path[: len(top)] == top
+
+
+def tell(result: Result, found: Found, path: Path, how: str, commit: Optional[int]) -> None:
+    """Counts what is not as it should be, and tells of it."""
+    result.damaged += 1
+    found(show(path), how, commit)
+
+
+def in_order(coverage: Coverage, path: Path) -> Iterator[Node]:
+    """The files at or below a path, in the order of their bytes on the medium: a disc is read once, from its front on."""
+    files = [node for node in coverage.nodes.values() if node.kind is Kind.FILE and is_below(node.path, path)]
+    yield from sorted(files, key=lambda node: node.data if node.data is not None else node.address)
+
+
+def faults_of(coverage: Coverage, node: Node, result: Result) -> List[str]:
+    """What is wrong with a file. Counts it."""
+    run = coverage.volume.read(node)
+    result.files += 1
+    result.bytes += node.size
+    wanted = coverage.of(node)
+    result.covered += bool(wanted)
+    result.uncovered += not wanted
+    result.by_ledger += any(one.commit is None for one in wanted)
+    result.by_manifest += any(one.commit is not None for one in wanted)
+    if run.missing:
+        return [f"block {run.missing[0]} cannot be read" + (f", nor {len(run.missing) - 1} others" if len(run.missing) > 1 else "")]
+    digest = sha256(run.data).digest()
+    sent, commit = coverage.sent(node), coverage.commit_of(node)
+    faults = []
+    if sent is not None and (sent.size, sent.moment) != (node.size, node.moment):
+        faults.append(f"its entry says {node.size} bytes, moment {node.moment}, and {sent.size} bytes, moment {sent.moment} were sent")
+    differing: Dict[bytes, List[str]] = {}
+    for one in wanted:
+        if one.sha256 == digest:
+            continue
+        if one.commit is not None and commit is not None and commit > one.commit:
+            faults.append(f"was stored again after {one.source} was written (commit {one.commit}): seal the directory again")
+        else:
+            differing.setdefault(one.sha256, []).append(one.source)
+    faults += [
+        f"has other bytes than were stored: SHA-256 {digest.hex()} is there, and {wrong.hex()} is in {' and in '.join(sources)}"
+        for wrong, sources in differing.items()
+    ]
+    return faults
+
+
+__all__ = ["Found", "Result", "check_data"]

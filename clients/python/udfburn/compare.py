@@ -1,0 +1,96 @@
+"""Local files and folders, compared with what is stored."""
+
+from __future__ import annotations
+
+from contextlib import closing
+from typing import Dict, List, Optional, Tuple
+
+from .client import Client
+from .errors import SourceError
+from .jobs import same_bytes
+from .protocol import Get, NodeKind, Path, show
+from .sources import Scan, Source, scan
+from .split import base_of, part_folders, stored_paths
+from .walk import Told, quiet, walk
+
+
+class Comparison:
+    """What a folder and a directory have in common, where they differ, by path and how, and what was left out."""
+
+    def __init__(self, differences: List[Tuple[str, str]]):
+        self.files = self.bytes = self.folders = 0
+        self.differences = differences
+        self.extra: List[str] = []
+        self.skipped: List[str] = []
+
+
+def verify_tree(
+    client: Client, local: str, path: Path, split: bool = False, skip_odd: bool = False, told: Told = quiet, escape: bool = False,
+) -> Comparison:
+    """Compares a local file or folder with what is stored: that all that is here is there, with the same bytes."""
+    found = Scan()
+    scan(local, path, True, skip_odd, found, escape)
+    result = Comparison(differences=[(fault, "cannot be stored") for fault in found.faults])
+    result.skipped = found.skipped
+    with client.held():
+        kinds = look_below(client, path, bool(found.folders))
+        wanted = {folder.path for folder in found.folders}
+        for folder in found.folders:
+            compare_kind(show(folder.path), kinds.get(folder.path), NodeKind.DIRECTORY, result)
+        there: List[Source] = []
+        for source in found.files:
+            paths = stored_paths(source.path, source.identity.size, split)
+            wanted.update(paths, part_folders(source.path, source.identity.size, split))
+            if all([compare_kind(show(part), kinds.get(part), NodeKind.FILE, result) for part in paths]):
+                there.append(source)
+        compare_files(client, there, split, result, told)
+    result.folders = len(found.folders)
+    result.extra = sorted(show(extra) for extra in kinds if extra not in wanted and len(extra) > len(path))
+    return result
+
+
+def look_below(client: Client, path: Path, folder: bool) -> Dict[Path, NodeKind]:
+    """The kinds of a path and of all below it; of a file's parts too."""
+    kinds: Dict[Path, NodeKind] = {}
+    node = client.find(path)
+    if node is not None:
+        kinds[path] = node.kind
+    if folder and node is not None and node.kind is NodeKind.DIRECTORY:
+        for at, names in walk(client, path):
+            kinds.update({at + (name.name,): name.kind for name in names})
+    elif not folder and path and client.find(path[:-1]) is not None:
+        kinds.update({path[:-1] + (name.name,): name.kind for name in client.list(path[:-1]) if name.name.startswith(path[-1] + ".")})
+        if kinds.get(base_of(path)) is NodeKind.DIRECTORY:
+            for at, names in walk(client, base_of(path)):
+                kinds.update({at + (name.name,): name.kind for name in names})
+    return kinds
+
+
+def compare_kind(path: str, kind: Optional[NodeKind], wanted: NodeKind, result: Comparison) -> bool:
+    """Whether a path has the kind that it should have; else that is a difference."""
+    if kind is wanted:
+        return True
+    words = {None: "is not there", NodeKind.FILE: "is a file there", NodeKind.DIRECTORY: "is a directory there"}
+    result.differences.append((path, words[kind]))
+    return False
+
+
+def compare_files(client: Client, sources: List[Source], split: bool, result: Comparison, told: Told) -> None:
+    """Compares the bytes of local files with those that are stored."""
+    counts = [len(stored_paths(source.path, source.identity.size, split)) for source in sources]
+    queries = (Get(part) for source in sources for part in stored_paths(source.path, source.identity.size, split))
+    with closing(client.ask_all(queries)) as answers:
+        for source, count in zip(sources, counts):
+            try:
+                same = same_bytes(source, count, answers)
+            except SourceError as error:
+                result.differences.append((show(source.path), str(error)))
+                continue
+            result.files += 1
+            result.bytes += source.identity.size
+            told("same" if same else "differs", source.path, source.identity.size, 0)
+            if not same:
+                result.differences.append((show(source.path), "has other bytes there"))
+
+
+__all__ = ["Comparison", "verify_tree"]

@@ -1,0 +1,124 @@
+"""Which digests cover the files of an image: those of manifests on the volume, and those of a ledger.
+
+    with Medium("disc.img") as medium:
+        volume = Volume(medium)
+        coverage = Coverage(volume, volume.state())
+        coverage.take_ledger(ledger, "image:/srv/disc.img")    # where there is one
+        for node in files:
+            for wanted in coverage.of(node):
+                ...                                            # wanted.sha256, wanted.source
+
+The image is read by `udfburn.reader` alone. A file's entry is written by the commit of the request that stored it and by no other, so
+a ledger's digest is found by the commit, whatever path the file has now.
+"""
+
+from __future__ import annotations
+
+from bisect import bisect_left
+from typing import Dict, List, NamedTuple, Optional, Tuple, Union
+
+from . import manifest as m
+from .digests import Files, Known
+from .ledger import Ledger
+from .ledger_records import Volume as KnownVolume
+from .protocol import Path, show
+from .reader import Kind, Node, State, Volume
+
+
+class Wanted(NamedTuple):
+    """What a file should be: its SHA-256, and where that is said. `commit` is that of the manifest; None for the ledger."""
+
+    sha256: bytes
+    source: str
+    commit: Optional[int]
+
+
+class Coverage:
+    """The digests of a state of a volume."""
+
+    def __init__(self, volume: Volume, state: State):
+        self.volume = volume
+        self.nodes: Dict[Path, Node] = {node.path: node for node in state.walk()}
+        self.broken: List[Path] = [path for path, _ in state.broken]
+        self.faults: List[Tuple[Path, str]] = []
+        """What is wrong with manifests themselves, by their paths."""
+        self.manifests: List[Path] = []
+        self.missing: List[Tuple[Path, str]] = []
+        """What manifests list and the state does not have."""
+        self._wanted: Dict[Path, List[Wanted]] = {}
+        self._sent: Dict[int, Known] = {}
+        tables = sorted((table.address, table.commit) for table in volume.chain())
+        self._ends, self._commits = [address for address, _ in tables], [commit for _, commit in tables]
+        for path in sorted(self.nodes):
+            if path and path[-1] in (m.MANIFEST, m.TAG_MANIFEST) and self.nodes[path].kind is Kind.FILE:
+                self._take_manifest(path)
+
+    def commit_of(self, node: Node) -> Optional[int]:
+        """The commit that wrote a node's entry; None where the chain does not reach so far."""
+        index = bisect_left(self._ends, node.address)
+        return self._commits[index] if index < len(self._ends) else None
+
+    def of(self, node: Node) -> List[Wanted]:
+        """What a file should be, by each source that speaks of it."""
+        wanted = list(self._wanted.get(node.path, ()))
+        sent = self._sent.get(self.commit_of(node) or 0)
+        if sent is not None:
+            wanted.append(Wanted(sent.sha256, "the ledger", None))
+        return wanted
+
+    def sent(self, node: Node) -> Optional[Known]:
+        """What the ledger sent as this file."""
+        return self._sent.get(self.commit_of(node) or 0)
+
+    # ---- manifests
+
+    def _take_manifest(self, path: Path) -> None:
+        node, above = self.nodes[path], path[:-1]
+        run = self.volume.read(node)
+        if run.missing:
+            self.faults.append((path, f"cannot be read (block {run.missing[0]})"))
+            return
+        bag = above + (m.BAG_DECLARATION,) in self.nodes
+        if path[-1] == m.TAG_MANIFEST and not bag:
+            return
+        lines, faults = m.read_manifest(run.data, bag)
+        self.manifests.append(path)
+        self.faults += [(path, fault) for fault in faults]
+        commit = self.commit_of(node)
+        for line in lines:
+            listed = above + line.path
+            if listed not in self.nodes or self.nodes[listed].kind is not Kind.FILE:
+                self.missing.append((listed, show(path)))
+            self._wanted.setdefault(listed, []).append(Wanted(line.sha256, show(path), commit))
+
+    # ---- a ledger
+
+    def take_ledger(self, ledger: Ledger, way: Union[str, bytes]) -> Optional[KnownVolume]:
+        """Takes what a ledger sent to this volume. Gives the volume of the ledger; None where it has none that this one shows to be it:
+        by its identity, and by the replies that it keeps of the ledger's client."""
+        replies = self._replies(ledger.client)
+        bound = ledger.volume(way)
+        others = [volume for volume in ledger.volumes() if bound is None or volume.id != bound.id]
+        for volume in ([bound] if bound else []) + others:
+            if self._is(ledger, volume, replies):
+                self._sent = Files(ledger, volume).by_commit
+                return volume
+        return None
+
+    def _is(self, ledger: Ledger, volume: KnownVolume, replies: Dict[int, Tuple[int, int]]) -> bool:
+        here = (self.volume.label, self.volume.moment, self.volume.capacity)
+        if volume.identity is not None and None not in here and tuple(volume.identity) != here:
+            return False
+        sent = {sent.number: (sent.code, sent.commit) for sent in ledger.sent(volume, min(replies, default=1) - 1)}
+        known = [number for number in replies if number in sent and sent[number][0] is not None]
+        return bool(known) and all(sent[number] == replies[number] for number in known)
+
+    def _replies(self, client: int) -> Dict[int, Tuple[int, int]]:
+        """Code and commit of each reply that the volume keeps of a client, by number."""
+        for record in self.volume.clients(self.volume.table()):
+            if record.client == client:
+                return {record.latest - index: (reply.code, reply.commit) for index, reply in enumerate(record.replies)}
+        return {}
+
+
+__all__ = ["Coverage", "Wanted"]

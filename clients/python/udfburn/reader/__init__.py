@@ -1,0 +1,26 @@
+"""A reader of its own: it knows docs/FORMAT.md and the standards that page names, and shares no code with what writes.
+
+    from udfburn.reader import Medium, Volume
+
+    with Medium("disc.img") as medium:
+        volume = Volume(medium)
+        print(volume.label, volume.moment, volume.capacity)
+        state = volume.state()
+        for node in state.walk():
+            print(node.path, node.kind, node.size)
+        print(volume.notes.all())           # what is not as docs/FORMAT.md has it
+
+It takes what can be read and notes what is not as it must be, so it never refuses a volume for a wrong byte. Where `notes` is
+empty after `Volume.check`, the volume is as docs/FORMAT.md has it.
+"""
+
+from .entry import Entry, Kind
+from .medium import MapError, Medium, RescueMap, Run
+from .notes import Cause, Fault, Note, Notes
+from .volume import Node, NoVolume, State, Volume
+from .table import Client, Reply, Table
+
+__all__ = [
+    "Cause", "Client", "Entry", "Fault", "Kind", "MapError", "Medium", "NoVolume", "Node", "Note", "Notes", "Reply", "RescueMap",
+    "Run", "State", "Table", "Volume",
+]

@@ -1,0 +1,201 @@
+"""Each structure of each state, looked at once: what is not as docs/FORMAT.md has it."""
+
+from __future__ import annotations
+
+from array import array
+from typing import Dict, Iterator, List, Tuple
+
+from .basics import FIRST_UNIQUE, NODES, PARTITION, UNUSED, blocks_of, is_label, read_dstring
+from .chain import Chain, Link
+from .directory import Known, read_directory
+from .entry import Kind, read_entry, read_file_set
+from .front import note_front, read_front
+from .notes import Cause, Fault
+from .table import (
+    HEAD, RECORD_SIZES, SESSIONS, Head, client_faults, lengths_agree, read_clients, read_entries, read_head,
+)
+from .volume import State
+
+CHUNK = 256
+"""The bytes of entries that are compared at once."""
+
+
+def audit(chain: Chain, index: int) -> None:
+    """Notes what is wrong with the front, and with each structure of the states up to that of a link."""
+    volume = chain.volume
+    note_front(volume.medium, read_front(volume.medium), volume.notes)
+    run = Audit(chain)
+    for place in range(len(chain.links) - 1, index - 1, -1):
+        run.look(place)
+    table = chain.links[index].table
+    if table is not None and not len(volume.notes):
+        # Where a structure is wrong, what others say of it differs as a matter of course.
+        State(volume, table).check()
+
+
+class Audit:
+    """The tables from the oldest on. What each changes is looked at, and all else was looked at before."""
+
+    def __init__(self, chain: Chain):
+        self.chain = chain
+        self.volume, self.notes, self.medium = chain.volume, chain.volume.notes, chain.volume.medium
+        self._entries = array("I")
+        self._used = 0
+        self._records = b""
+        self._is_next = False
+        self._last: Dict[int, int] = {}
+        self._known = Known()
+
+    def look(self, place: int) -> None:
+        """Looks at a table, and at the nodes that it changes."""
+        link = self.chain.links[place]
+        self._entry_of(link)
+        table = link.table
+        if table is None:
+            return
+        run = self.volume.data_of(table)
+        for at in run.missing:
+            self.notes.add(at, Cause.MISSING, "a block of the table cannot be read")
+        data, number = run.data[: table.size], link.address - PARTITION
+        head = read_head(data)
+        if head is None:
+            return
+        self._is_next = place + 1 < len(self.chain.links) and self.chain.links[place + 1].table is not None and self.chain.links[place + 1].adjacent
+        self.notes.extend(link.start, list(self._head_faults(data, head, number)))
+        if any(run.data[table.size :]):
+            # `udfburn` does not look at these bytes; docs/FORMAT.md has zeros there.
+            self.notes.add(link.start, Cause.HEADER, "a byte after the table is not zero")
+        low = self.chain.links[place + 1].address if place + 1 < len(self.chain.links) else PARTITION - 1
+        if link.adjacent or place + 1 == len(self.chain.links):
+            self._changes(link, read_entries(data, table.length), low, head)
+        else:
+            self._entries = array("I")
+            self._used = 0
+            self._changes(link, read_entries(data, table.length), PARTITION - 1, head)
+
+    def _entry_of(self, link: Link) -> None:
+        block = self.medium.block(link.address)
+        if block is None:
+            self.notes.add(link.address, Cause.MISSING, "the table's entry cannot be read")
+        else:
+            self.notes.extend(link.address, read_entry(block, link.address - PARTITION)[1])
+
+    def _head_faults(self, data: bytes, head: Head, number: int) -> Iterator[Fault]:
+        agrees = lengths_agree(head, len(data))
+        if not agrees or head.reserved:
+            yield Fault(Cause.HEADER, "the lengths of the table do not agree, or its reserved field is not zero")
+        if head.previous != UNUSED if head.commits == 0 else head.previous >= number:
+            yield Fault(Cause.HEADER, f"the table before would have its entry at block number {head.previous}")
+        label = read_dstring(head.label)
+        if not is_label(label):
+            yield Fault(Cause.LABEL, "the label of the table is none")
+        elif self.volume.label is not None and label != self.volume.label:
+            yield Fault(Cause.LABELS, "the label of the table is not that of the front")
+        if (head.read_revision, head.write_revision, head.greatest_revision) != (0x201, 0x201, 0x201):
+            yield Fault(Cause.REVISION, "a revision of UDF is not 2.01")
+        yield from self._record_faults(data, head, agrees)
+        if head.next_unique < FIRST_UNIQUE:
+            yield Fault(Cause.COUNT, f"the next unique ID is {head.next_unique}")
+
+    def _record_faults(self, data: bytes, head: Head, agrees: bool) -> Iterator[Fault]:
+        if head.identifier != SESSIONS or head.version not in RECORD_SIZES:
+            yield Fault(Cause.SESSIONS, "the sessions' identifier or version is not as it must be")
+        elif agrees:
+            size = RECORD_SIZES[head.version]
+            records = data[HEAD : head.length]
+            old, new = (texts(found, size) for found in (self._records, records))
+            changed = [index for index in range(max(len(old), len(new))) if old[index : index + 1] != new[index : index + 1]]
+            if len(changed) == 1 and len(new) > 4:
+                # Records of other clients are those of the table before.
+                text = new[changed[0]] if changed[0] < len(new) else b""
+                yield from client_faults(data[:HEAD] + text, head._replace(clients=len(text) // size))
+            else:
+                yield from client_faults(data, head)
+            if self._is_next and head.version == 2 and not is_step(old, new, changed, head.commits):
+                yield Fault(Cause.SESSIONS, "the records of clients are not those of the table before and one more reply")
+            self._records = records
+
+    def _changes(self, link: Link, entries: "array[int]", low: int, head: Head) -> None:
+        """Compares the entries with those of the table before, and looks at what they lead to anew."""
+        number, said = link.address - PARTITION, len(entries)
+        used = self._used
+        for virtual, old, new in differences(self._entries, entries):
+            used += (new != UNUSED) - (old != UNUSED)
+            self._word(link, virtual, new, low)
+        if not 2 <= said <= NODES + 1:
+            self.notes.add(link.start, Cause.COUNT, f"there are {said} virtual addresses")
+        if used != 1 + head.files + head.directories:
+            self.notes.add(link.start, Cause.COUNT, f"{used} virtual addresses are used, and the table counts {head.files} files and {head.directories} directories")
+        if 2 * link.commit + 261 > link.address or head.next_unique > FIRST_UNIQUE + link.commit:
+            self.notes.add(link.start, Cause.COUNTS, f"block number {number} or the next unique ID is not one of commit {link.commit}")
+
+    def _word(self, link: Link, virtual: int, new: int, low: int) -> None:
+        """Looks at a word of a table that is not that of the table before."""
+        if virtual >= len(self._entries):
+            self._entries.extend([UNUSED] * (virtual + 1 - len(self._entries)))
+        old = self._entries[virtual]
+        if new == UNUSED and virtual > 1:
+            self._last[virtual] = old
+        elif not low < new + PARTITION < link.start:
+            if self._last.get(virtual) != new:
+                self.notes.add(link.start, Cause.ENTRY, f"virtual address {virtual} leads to block number {new}, which the commit did not write")
+                return
+        else:
+            self._node(virtual, new)
+        self._used += (new != UNUSED) - (old != UNUSED)
+        self._entries[virtual] = new
+
+    def _node(self, virtual: int, number: int) -> None:
+        """Looks at the entry of a node, and at the data of a directory."""
+        at = number + PARTITION
+        block = self.medium.block(at)
+        if block is None:
+            self.notes.add(at, Cause.MISSING, "an entry cannot be read")
+            return
+        if virtual == 0:
+            label, moment, faults = read_file_set(block)
+            self.notes.extend(at, faults)
+            differs = self.volume.label not in (None, label) or self.volume.moment not in (None, moment)
+            if differs and not faults:
+                self.notes.add(at, Cause.LABELS, "the label or the moment of the file set is not that of the front")
+            return
+        entry, faults = read_entry(block, virtual)
+        self.notes.extend(at, faults)
+        if entry is not None and entry.kind is Kind.DIRECTORY and entry.first is not None:
+            run = self.medium.run(entry.first + PARTITION, blocks_of(entry.size))
+            for gone in run.missing:
+                self.notes.add(gone, Cause.MISSING, "a block of a directory cannot be read")
+            self.notes.extend(entry.first + PARTITION, read_directory(run.data, entry.size, entry.first, self._known)[1])
+
+
+def texts(records: bytes, size: int) -> List[bytes]:
+    """The records one by one."""
+    return [records[at : at + size] for at in range(0, len(records), size)]
+
+
+def is_step(old: List[bytes], new: List[bytes], changed: List[int], commit: int) -> bool:
+    """Whether one client more had a reply: its number is the next, and its newest reply is that of this commit."""
+    if len(changed) != 1 or len(new) < len(old):
+        return False
+    client = read_clients(bytes(HEAD) + new[changed[0]], 2, 1)[0]
+    if not client.replies or client.replies[0].commit != commit:
+        return False
+    if changed[0] >= len(old):
+        return len(client.replies) == 1
+    before = read_clients(bytes(HEAD) + old[changed[0]], 2, 1)[0]
+    return before.client == client.client and before.latest + 1 == client.latest and client.replies[1:] == before.replies[:3]
+
+
+def differences(old: "array[int]", new: "array[int]") -> "Iterator[Tuple[int, int, int]]":
+    """The virtual addresses at which two tables differ, with both words."""
+    step = CHUNK // 4
+    for begin in range(0, max(len(old), len(new)), step):
+        left, right = old[begin : begin + step], new[begin : begin + step]
+        if left != right:
+            for index in range(max(len(left), len(right))):
+                before = left[index] if index < len(left) else UNUSED
+                after = right[index] if index < len(right) else UNUSED
+                if before != after:
+                    yield begin + index, before, after
+
+

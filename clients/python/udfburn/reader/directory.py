@@ -1,0 +1,270 @@
+"""Directories: file identifiers one after another (ECMA-167 4/14.4; docs/FORMAT.md, "Directories")."""
+
+from __future__ import annotations
+
+import struct
+from typing import Dict, Iterator, List, NamedTuple, Optional, Tuple
+
+from .basics import BLOCK, DEVELOPER, DIRECTORY_NAMES, crc, expand, is_name, read_tag, spell, tag_faults, write_tag
+from .mend import mend_identifier
+from .notes import Cause, Fault, Faults
+
+FILE_IDENTIFIER = 257
+HEAD = 38
+IS_DIRECTORY, IS_PARENT = 0x02, 0x0A
+FIELDS = struct.Struct("<HBBIIHHIH")
+KEPT = 20_000
+"""The identifiers that are kept as known, at most."""
+
+
+class Identifier(NamedTuple):
+    """What a file identifier says: a name, what it is of, the virtual address and the unique ID of its entry.
+
+    `proved` says that its CRC agrees with its fields, and its tag with its place.
+    """
+
+    name: str
+    is_directory: bool
+    virtual: int
+    unique: int
+    proved: bool
+
+
+class Directory(NamedTuple):
+    """A directory's data: the virtual address of the directory above, and the names in stored order.
+
+    `complete` says that each identifier could be read, or was mended.
+    """
+
+    parent: Optional[int]
+    names: List[Identifier]
+    complete: bool
+
+
+class Piece(NamedTuple):
+    """An identifier as it stands: its place in the data, its bytes, its fields, its implementation use and its name's spelling."""
+
+    at: int
+    data: bytes
+    version: int
+    characteristics: int
+    length: int
+    virtual: int
+    partition: int
+    flags: int
+    unique: int
+    use: bytes
+    name: bytes
+
+
+def rounded(size: int) -> int:
+    """The least multiple of 4 that is no less."""
+    return (size + 3) // 4 * 4
+
+
+def plain_size(name_size: int) -> int:
+    """The bytes of an identifier that is not lengthened."""
+    return rounded(HEAD + name_size)
+
+
+def fits(size: int, room: int) -> bool:
+    """Whether an identifier of so many bytes may be put where so many are left of the block."""
+    return size == room or size + 32 <= room
+
+
+def piece_at(data: bytes, at: int, size: int) -> Optional[Piece]:
+    """The identifier at a place, by the lengths that it says; None where it passes the end of the directory or of its block."""
+    if size - at < HEAD:
+        return None
+    version, characteristics, name_size, length, virtual, partition, flags, unique, use_size = FIELDS.unpack_from(data, at + 16)
+    end = at + rounded(HEAD + use_size + name_size)
+    if end > size or (end - 1) // BLOCK != at // BLOCK:
+        return None
+    name_at = at + HEAD + use_size
+    return Piece(
+        at, data[at:end], version, characteristics, length, virtual, partition, flags, unique,
+        data[at + HEAD : name_at], data[name_at : name_at + name_size],
+    )
+
+
+def read_directory(data: bytes, size: int, first: int, known: Optional[Known] = None) -> Tuple[Directory, Faults]:
+    """The directory whose data begins at block number `first`, and all that is not as it must be.
+
+    `data` has whole blocks. Identifiers with wrong bytes are mended where their CRC leaves one reading; what makes no sense is left
+    out, and reading goes on at the next identifier whose CRC agrees.
+    """
+    reading = Reading(data, size, first, known if known is not None else Known())
+    at = 0
+    while at < size:
+        at = reading.step(at)
+    return reading.finish()
+
+
+class Known:
+    """Bodies of identifiers that were read and were as they must be, so that one that is copied is not read again."""
+
+    def __init__(self) -> None:
+        self.bodies: Dict[bytes, Tuple[Identifier, bytes, int]] = {}
+
+    def find(self, data: bytes, at: int, location: bytes) -> Optional[Tuple[Identifier, int]]:
+        """What the identifier at a place says and where it ends, where its body is known and its tag is as it must be."""
+        end = at + (41 + data[at + 19]) // 4 * 4
+        found = self.bodies.get(data[at + 16 : end])
+        if found is None or data[at : at + 4] != b"\x01\x01\x03\0" or data[at + 12 : at + 16] != location:
+            return None
+        name, middle, total = found
+        if data[at + 5 : at + 12] != middle or data[at + 4] != (total + sum(location)) % 256:
+            return None
+        return name, end
+
+    def keep(self, piece: Piece, name: Identifier) -> None:
+        """Keeps an identifier that is as it must be and is not lengthened."""
+        if len(self.bodies) >= KEPT:
+            self.bodies.clear()
+        tag = piece.data[:16]
+        self.bodies[piece.data[16:]] = (name, tag[5:12], sum(tag[:4]) + sum(tag[5:12]))
+
+
+class Reading:
+    """A directory as it is read, identifier by identifier."""
+
+    def __init__(self, data: bytes, size: int, first: int, known: Known):
+        self.data, self.size, self.first, self.known = data, size, first, known
+        self.faults: Faults = []
+        self.parent: Optional[int] = None
+        self.names: Dict[str, Identifier] = {}
+        self.complete = True
+
+    def step(self, at: int) -> int:
+        """Reads what stands at a place, and gives the next one."""
+        if self.size - at >= HEAD and at:
+            found = self.known.find(self.data, at, struct.pack("<I", self.first + at // BLOCK))
+            if found is not None and found[1] <= self.size and 0 < found[1] % BLOCK <= BLOCK - 32 and found[1] // BLOCK == at // BLOCK:
+                self._add(found[0])
+                return found[1]
+        piece = piece_at(self.data, at, self.size)
+        met = list(piece_faults(self.data, self.size, piece, at, self.first))
+        if piece is None or met:
+            self.faults += met
+            return self._mend(at, piece)
+        name = said_by(piece, self.first)
+        assert name is not None
+        if not piece.use and piece.name:
+            self.known.keep(piece, name)
+        return self._take(piece, name)
+
+    def _take(self, piece: Piece, name: Identifier) -> int:
+        if piece.characteristics == IS_PARENT:
+            self.parent = piece.virtual if self.parent is None else self.parent
+        else:
+            self._add(name)
+        return piece.at + len(piece.data)
+
+    def _add(self, name: Identifier) -> None:
+        if name.name in self.names:
+            self.faults.append(Fault(Cause.TWICE, f"the name {name.name!r} stands twice"))
+        else:
+            self.names[name.name] = name
+
+    def _mend(self, at: int, piece: Optional[Piece]) -> int:
+        """Goes on where an identifier is not as it must be."""
+        name = said_by(piece, self.first) if piece is not None else None
+        if piece is not None and name is not None and crc(piece.data[16:]) == read_tag(piece.data).crc:
+            # A tag that agrees with itself for another block was written for that one.
+            self.complete &= name.proved or not read_tag(piece.data).agrees
+            return self._take(piece, name)
+        end = next_proved(self.data, at + 4, self.size, self.first)
+        whole = mend_identifier(self.data[at:end], self.first + at // BLOCK, at == 0) if end - at <= BLOCK else None
+        mended = piece_at(whole, 0, len(whole)) if whole is not None else None
+        if whole is not None and mended is not None:
+            name = said_by(mended, self.first + at // BLOCK)
+            if name is not None:
+                self._take(mended, name)
+                return end
+        if piece is not None and name is not None and at + len(piece.data) == end:
+            return self._take(piece, name)
+        self.complete = False
+        return end
+
+    def finish(self) -> Tuple[Directory, Faults]:
+        """The directory."""
+        names = list(self.names.values())
+        if len(names) > DIRECTORY_NAMES:
+            self.faults.append(Fault(Cause.END, f"there are {len(names)} names"))
+        if any(self.data[self.size :]):
+            self.faults.append(Fault(Cause.END, "a byte after the last identifier is not zero"))
+        return Directory(self.parent, names, self.complete), self.faults
+
+
+def said_by(piece: Piece, first: int) -> Optional[Identifier]:
+    """What the identifier says, where it makes sense."""
+    tag = read_tag(piece.data)
+    whole, here = tag.crc == crc(piece.data[16:]), tag.location == first + piece.at // BLOCK
+    proved = whole and here
+    if not whole and (not here or tag.identifier != FILE_IDENTIFIER) or piece.characteristics not in (0, IS_DIRECTORY, IS_PARENT):
+        return None
+    if piece.characteristics == IS_PARENT:
+        return Identifier("", True, piece.virtual, piece.unique, proved) if not piece.name else None
+    text = expand(piece.name)
+    if text is None or not is_name(text):
+        return None
+    return Identifier(text, piece.characteristics == IS_DIRECTORY, piece.virtual, piece.unique, proved)
+
+
+def next_proved(data: bytes, at: int, size: int, first: int) -> int:
+    """The next place with an identifier that is whole; the end where there is none."""
+    while at < size:
+        if data[at : at + 4] == b"\x01\x01\x03\x00":
+            piece = piece_at(data, at, size)
+            if piece is not None and not tag_faults(piece.data, FILE_IDENTIFIER, first + at // BLOCK):
+                return at
+        at += 4
+    return size
+
+
+def piece_faults(data: bytes, size: int, piece: Optional[Piece], at: int, first: int) -> Iterator[Fault]:
+    """All that is not as it must be with the identifier at a place, in the order in which `udfburn` looks for it."""
+    if piece is None:
+        crosses = size - at >= HEAD and at + rounded(HEAD + struct.unpack_from("<H", data, at + 36)[0] + data[at + 19]) <= size
+        if crosses:
+            yield Fault(Cause.SPAN, f"the identifier at byte {at} crosses the end of its block")
+        else:
+            yield Fault(Cause.END, f"the data ends inside the identifier at byte {at}")
+        return
+    end = at + len(piece.data)
+    left = -end % BLOCK
+    if 0 < left < 32:
+        yield Fault(Cause.SPAN, f"the identifier at byte {at} leaves {left} bytes of its block")
+    for text in tag_faults(piece.data, FILE_IDENTIFIER, first + at // BLOCK):
+        yield Fault(Cause.IDENTIFIER, f"identifier at byte {at}: {text}")
+    fixed = (piece.version, piece.length, piece.partition, piece.flags) == (1, BLOCK, 1, 0)
+    if not fixed or piece.characteristics not in (0, IS_DIRECTORY, IS_PARENT):
+        yield Fault(Cause.IDENTIFIER, f"identifier at byte {at}: a field that always says the same says something else")
+    is_parent = piece.characteristics == IS_PARENT
+    if is_parent != (at == 0) or is_parent and (piece.name or piece.unique):
+        yield Fault(Cause.PARENT, f"the identifier at byte {at} is not in its place, or is not that of the directory above")
+    if not is_padded(data, size, piece):
+        yield Fault(Cause.PADDING, f"the padding or the implementation use of the identifier at byte {at} is not as it must be")
+    if not is_parent and not is_name(expand(piece.name) or None):
+        yield Fault(Cause.NAME, f"the identifier at byte {at} has no name")
+
+
+def is_padded(data: bytes, size: int, piece: Piece) -> bool:
+    """Whether the bytes after the name are zeros, and the implementation use lengthens the identifier where it has to be."""
+    use = piece.use
+    if any(piece.data[HEAD + len(use) + len(piece.name) :]):
+        return False
+    if not use:
+        return True
+    if len(use) < 32 or len(use) % 4 or use != DEVELOPER[: len(use)].ljust(len(use), b"\0"):
+        return False
+    end = piece.at + len(piece.data)
+    return end % BLOCK == 0 and size - end >= HEAD and not fits(plain_size(data[end + 19]), len(use))
+
+
+def write_identifier(name: str, characteristics: int, virtual: int, unique: int, more: int, number: int) -> bytes:
+    """An identifier as docs/FORMAT.md has it, lengthened by so many bytes, in the block of this number."""
+    spelled = spell(name)
+    body = FIELDS.pack(1, characteristics, len(spelled), BLOCK, virtual, 1, 0, unique, more) + DEVELOPER[:more].ljust(more, b"\0") + spelled
+    body = body.ljust(rounded(len(body) + 16) - 16, b"\0")
+    return write_tag(FILE_IDENTIFIER, body, number) + body

@@ -1,0 +1,234 @@
+"""File entries (ECMA-167 4/14.9) and the file set descriptor (4/14.1)."""
+
+from __future__ import annotations
+
+import struct
+from enum import IntEnum
+from typing import Iterator, List, NamedTuple, Optional, Tuple
+
+from .basics import (
+    BLOCK, CHARACTERS, DEVELOPER, FILE_BYTES, INSIDE, NUMBERS, UDF_SUFFIX, blocks_of, crc, entity, is_label, read_dstring, read_tag,
+    read_timestamp, tag_faults, write_dstring, write_tag, write_timestamp,
+)
+from .notes import Cause, Fault, Faults
+
+FILE_ENTRY, FILE_SET = 261, 256
+LONG, EMBEDDED = 1, 3
+"""The flags of an entry: its allocation descriptors are long ones, or its bytes stand in their place."""
+
+
+class Kind(IntEnum):
+    """The file type of an entry (ECMA-167 4/14.6.6; UDF 2.01 2.2.10 for the table)."""
+
+    DIRECTORY = 4
+    FILE = 5
+    TABLE = 248
+
+
+PERMISSIONS = {Kind.DIRECTORY: 0x14A5, Kind.FILE: 0x1084, Kind.TABLE: 0x1084}
+KINDS = {int(kind): kind for kind in Kind}
+
+
+class Entry(NamedTuple):
+    """What a file entry says.
+
+    `moment` is None where none can be read. `first` is the number of the first block of the bytes, None where they stand in
+    `inside` or where there are none. `location` and `check` are those of the tag: the virtual address of a node or the number of
+    a table's entry, and the CRC. `proved` says that the CRC agrees with the fields.
+    """
+
+    kind: Kind
+    moment: Optional[int]
+    links: int
+    unique: int
+    size: int
+    first: Optional[int]
+    inside: Optional[bytes]
+    location: int
+    check: int
+    proved: bool
+
+
+class Fields(NamedTuple):
+    """The fields of an entry behind its tag, as they stand."""
+
+    direct: int
+    strategy: int
+    parameter: int
+    maximum: int
+    reserved: int
+    type: int
+    parent: bytes
+    flags: int
+    user: int
+    group: int
+    permissions: int
+    links: int
+    record_format: int
+    display: int
+    record_length: int
+    size: int
+    blocks: int
+    accessed: bytes
+    modified: bytes
+    changed: bytes
+    checkpoint: int
+    attributes: bytes
+    implementation: bytes
+    unique: int
+    attributes_length: int
+    allocation_length: int
+
+
+LAYOUT = struct.Struct("<IHHHBB6sHIIIHBBIQQ12s12s12sI16s32sQII")
+EXTENT = struct.Struct("<IIHIH")
+END = 16 + LAYOUT.size
+
+
+def end_of(fields: Fields) -> int:
+    """Where the descriptor ends, by its flags and the length of its allocation descriptors."""
+    length = fields.allocation_length
+    if fields.flags == EMBEDDED:
+        return END + length if 0 < length <= INSIDE else END
+    return END + 16 if length == 16 else END
+
+
+def is_entry_like(block: bytes) -> bool:
+    """Whether the block has the first bytes of a file entry's tag."""
+    return block[:4] == b"\x05\x01\x03\x00"
+
+
+def read_entry(block: bytes, location: int) -> Tuple[Optional[Entry], Faults]:
+    """The entry that a block is at a location, and all that is not as it must be.
+
+    No entry where its fields make no sense together: its kind, its size, or the place of its bytes.
+    """
+    fields = Fields(*LAYOUT.unpack_from(block, 16))
+    entry = sensible(block, fields) if fields.type in KINDS else None
+    if entry is not None and is_exact(entry, block, location):
+        return entry, []
+    return entry, list(entry_faults(block, fields, location))
+
+
+def is_exact(entry: Entry, block: bytes, location: int) -> bool:
+    """Whether the block is that of the entry at a location, to the last byte."""
+    if entry.moment is None or entry.location != location or entry.kind is Kind.TABLE and (entry.links or entry.unique):
+        return False
+    return write_entry(entry) == block
+
+
+def sensible(block: bytes, fields: Fields) -> Optional[Entry]:
+    """The entry of these fields, where its size and the place of its bytes make sense."""
+    size, first, inside = fields.size, None, None
+    if size > FILE_BYTES:
+        return None
+    if fields.flags == EMBEDDED:
+        if not 0 < size <= INSIDE or fields.type != Kind.FILE:
+            return None
+        inside = block[END : END + size]
+    elif size:
+        first = int(struct.unpack_from("<I", block, END + 4)[0])
+        if first + blocks_of(size) > NUMBERS:
+            return None
+    elif fields.type != Kind.FILE:
+        return None
+    tag = read_tag(block)
+    stamps = (read_timestamp(stamp) for stamp in (fields.modified, fields.accessed, fields.changed))
+    moment = next((stamp for stamp in stamps if stamp is not None), None)
+    body = block[16 : end_of(fields)]
+    proved = tag.crc == crc(body)
+    return Entry(KINDS[fields.type], moment, fields.links, fields.unique, size, first, inside, tag.location, tag.crc, proved)
+
+
+def entry_faults(block: bytes, fields: Fields, location: int) -> Iterator[Fault]:
+    """All that is not as it must be, in the order in which `udfburn` looks for it."""
+    for text in tag_faults(block[: end_of(fields)], FILE_ENTRY, location):
+        yield Fault(Cause.TAG, text)
+    if (fields.strategy, fields.parameter, fields.maximum) != (4, 0, 1):
+        yield Fault(Cause.STRATEGY, "the strategy is not 4, with at most one entry")
+    if fields.type not in KINDS:
+        yield Fault(Cause.KIND, f"the file type is {fields.type}")
+        return
+    kind = KINDS[fields.type]
+    for text in fixed_faults(fields, kind):
+        yield Fault(Cause.FIXED, text)
+    yield from place_faults(block, fields, kind)
+    if any(block[end_of(fields) :]):
+        yield Fault(Cause.TAIL, "a byte after the descriptor is not zero")
+
+
+def fixed_faults(fields: Fields, kind: Kind) -> List[str]:
+    """Fields that always say the same, or that follow from others, and say something else."""
+    checks = (
+        (fields.direct == 0 and fields.reserved == 0 and not any(fields.parent), "a field of the ICB tag is not zero"),
+        (fields.user == fields.group == 0xFFFFFFFF, "the owner or the group is not none"),
+        (fields.permissions == PERMISSIONS[kind], f"the permissions are {fields.permissions:x} hex, and not {PERMISSIONS[kind]:x}"),
+        (fields.record_format == fields.display == fields.record_length == 0, "a field of records is not zero"),
+        (fields.accessed == fields.modified == fields.changed, "the three timestamps differ"),
+        (read_timestamp(fields.accessed) is not None, "a timestamp is none"),
+        (fields.checkpoint == 1, f"the checkpoint is {fields.checkpoint}, and not 1"),
+        (not any(fields.attributes) and fields.attributes_length == 0, "there are extended attributes"),
+        (fields.implementation == DEVELOPER, "the implementation is not *udfburn"),
+        (fields.flags == LONG or (fields.flags == EMBEDDED and kind is Kind.FILE), f"the flags are {fields.flags}"),
+        (kind is not Kind.TABLE or fields.links == 0 and fields.unique == 0, "a table has links or a unique ID"),
+    )
+    return [text for holds, text in checks if not holds]
+
+
+def place_faults(block: bytes, fields: Fields, kind: Kind) -> Iterator[Fault]:
+    """What is wrong with the lengths, and with the extent."""
+    size, length = fields.size, fields.allocation_length
+    if fields.flags == EMBEDDED:
+        if not 0 < size <= INSIDE or fields.blocks or length != size:
+            yield Fault(Cause.LENGTHS, f"the size {size}, the blocks {fields.blocks} and the length {length} do not agree")
+        return
+    extent, first, partition, used, last = EXTENT.unpack_from(block, END)
+    agree = size <= FILE_BYTES and fields.blocks == blocks_of(size)
+    agree = agree and (length == 16 and extent % 2**30 == size if size else length == 0 and kind is Kind.FILE)
+    if not agree:
+        yield Fault(Cause.LENGTHS, f"the size {size}, the blocks {fields.blocks}, the length {length} and the extent do not agree")
+    if size and (extent != size or partition or used or last):
+        yield Fault(Cause.EXTENT, "the extent's kind, length, partition or implementation use is not as it must be")
+    if size and first + blocks_of(size) > NUMBERS:
+        yield Fault(Cause.EXTENT, f"the extent from block number {first} on ends past the greatest partition")
+
+
+def write_entry(entry: Entry) -> bytes:
+    """The block of an entry, as docs/FORMAT.md has it. Its moment has to be known."""
+    assert entry.moment is not None
+    stamp = write_timestamp(entry.moment)
+    if entry.inside is not None:
+        flags, blocks, allocation = EMBEDDED, 0, entry.inside
+    else:
+        flags, blocks = LONG, blocks_of(entry.size)
+        allocation = b"" if entry.first is None else EXTENT.pack(entry.size, entry.first, 0, 0, 0)
+    fields = Fields(
+        0, 4, 0, 1, 0, entry.kind, bytes(6), flags, 0xFFFFFFFF, 0xFFFFFFFF, PERMISSIONS[entry.kind], entry.links, 0, 0, 0, entry.size,
+        blocks, stamp, stamp, stamp, 1, bytes(16), DEVELOPER, entry.unique, 0, len(allocation),
+    )
+    body = LAYOUT.pack(*fields) + allocation
+    return (write_tag(FILE_ENTRY, body, entry.location) + body).ljust(BLOCK, b"\0")
+
+
+# ---- the file set
+
+def write_file_set(label: str, moment: int) -> bytes:
+    """The block of the file set descriptor, at virtual address 0."""
+    body = b"".join((
+        write_timestamp(moment), struct.pack("<HHIIII", 3, 3, 1, 1, 0, 0), CHARACTERS, write_dstring(label, 128), CHARACTERS,
+        write_dstring(label, 32), bytes(64), struct.pack("<IIHIH", 2048, 1, 1, 0, 0), entity(b"*OSTA UDF Compliant", UDF_SUFFIX), bytes(64),
+    ))
+    return (write_tag(FILE_SET, body, 0) + body).ljust(BLOCK, b"\0")
+
+
+def read_file_set(block: bytes) -> Tuple[Optional[str], Optional[int], Faults]:
+    """The label and the moment of a file set descriptor, each where it can be read, and all that is not as it must be."""
+    label, moment = read_dstring(block[304:336]), read_timestamp(block[16:28])
+    if not is_label(label):
+        label = None
+    faults = [Fault(Cause.TAG, text) for text in tag_faults(block[:512], FILE_SET, 0)]
+    if label is None or moment is None or write_file_set(label, moment)[16:512] != block[16:512]:
+        faults.append(Fault(Cause.FIXED, "a field of the file set descriptor is not as it must be"))
+    if any(block[512:]):
+        faults.append(Fault(Cause.TAIL, "a byte after the descriptor is not zero"))
+    return label, moment, faults

@@ -1,0 +1,159 @@
+"""Entries and identifiers with wrong bytes, mended where their own check, or what they say twice, leaves one reading alone."""
+
+from __future__ import annotations
+
+import struct
+from itertools import product
+from typing import Iterable, Iterator, List, NamedTuple, Optional, Sequence, Tuple, TypeVar
+
+from .basics import BLOCK, FILE_BYTES, INSIDE, NUMBERS, blocks_of, crc, expand, is_name, read_tag, read_timestamp, write_tag
+from .entry import EMBEDDED, END, EXTENT, KINDS, LAYOUT, LONG, PERMISSIONS, Entry, Fields, Kind, read_entry, write_entry
+
+T = TypeVar("T")
+
+
+class Hint(NamedTuple):
+    """What is known of an entry from elsewhere: the block number at which it stands, and what a table and a directory say."""
+
+    number: int
+    location: Optional[int] = None
+    unique: Optional[int] = None
+    kind: Optional[Kind] = None
+
+
+def unlike(values: Iterable[Optional[T]]) -> List[T]:
+    """The values that are there, each once, in order."""
+    found: List[T] = []
+    for value in values:
+        if value is not None and value not in found:
+            found.append(value)
+    return found
+
+
+def mend_entry(block: bytes, hint: Hint) -> Optional[Entry]:
+    """The entry that a block was written as, `proved` where its CRC or its checksum says so.
+
+    Else what its fields say, where they make sense together; None where they do not.
+    """
+    tag = read_tag(block)
+    location = tag.location if hint.location is None else hint.location
+    plain, faults = read_entry(block, location)
+    if plain is not None and not faults:
+        return plain
+    for candidate in candidates(block, hint, location):
+        if confirms(block, write_entry(candidate)):
+            return candidate._replace(location=location if confirms_location(block, candidate, location) else tag.location)
+    return None if plain is None else plain._replace(proved=False)
+
+
+def confirms(block: bytes, written: bytes) -> bool:
+    """Whether the block is this one with wrong bytes: by its CRC; or by its checksum where only its tag differs."""
+    if block[8:10] == written[8:10]:
+        return True
+    return block[16:] == written[16:] and block[4] == written[4] and block[:8] + block[10:16] == written[:8] + written[10:16]
+
+
+def confirms_location(block: bytes, entry: Entry, location: int) -> bool:
+    """Whether the entry was written at this location: its tag says so, or its checksum where another byte of the tag is wrong."""
+    tag = read_tag(block)
+    return tag.location == location or block[4] == write_entry(entry._replace(location=location))[4] and not tag.agrees
+
+
+def candidates(block: bytes, hint: Hint, location: int) -> Iterator[Entry]:
+    """The entries that the block may have been, by each place that says a value."""
+    fields = Fields(*LAYOUT.unpack_from(block, 16))
+    extent, first = EXTENT.unpack_from(block, END)[:2]
+    moments = unlike(read_timestamp(stamp) for stamp in (fields.modified, fields.accessed, fields.changed))
+    kinds = unlike((KINDS.get(fields.type), hint.kind, Kind.DIRECTORY if fields.permissions == PERMISSIONS[Kind.DIRECTORY] else Kind.FILE))
+    uniques = unlike((fields.unique, hint.unique, 0))
+    for kind, moment, unique in product(kinds, moments, uniques):
+        for size, place, inside in places(block, fields, hint, extent, first):
+            for links in links_of(kind, fields.links):
+                yield Entry(kind, moment, links, unique, size, place, inside, location, read_tag(block).crc, True)
+
+
+def places(block: bytes, fields: Fields, hint: Hint, extent: int, first: int) -> Iterator[Tuple[int, Optional[int], Optional[bytes]]]:
+    """The sizes, and the places of the bytes, that an entry may say. Data ends where its entry stands."""
+    if fields.flags != LONG or fields.blocks == 0:
+        for size in unlike((fields.size, fields.allocation_length)):
+            if 0 < size <= INSIDE:
+                yield size, None, block[END : END + size]
+    if fields.flags != EMBEDDED or fields.blocks:
+        if fields.size == 0 or fields.allocation_length == 0:
+            yield 0, None, None
+        for size in unlike((fields.size, extent % 2**30, fields.blocks * BLOCK)):
+            for place in unlike((first, hint.number - blocks_of(size))):
+                if 0 < size <= FILE_BYTES and 0 <= place <= NUMBERS - blocks_of(size):
+                    yield size, place, None
+
+
+def links_of(kind: Kind, said: int) -> Sequence[int]:
+    """The counts of links that an entry may have."""
+    if kind is Kind.DIRECTORY:
+        return unlike((said, *(said ^ (1 << bit) for bit in range(10)), 1))
+    return unlike((said, 1 if kind is Kind.FILE else 0))
+
+
+# ---- identifiers
+
+class Words(NamedTuple):
+    """The fields of an identifier, which its bytes spell."""
+
+    characteristics: int
+    virtual: int
+    unique: int
+    use: int
+    name: bytes
+
+
+def mend_identifier(data: bytes, number: int, is_first: bool) -> Optional[bytes]:
+    """The identifier that these bytes were written as, in the block of this number; None where no one reading is left.
+
+    First what always says the same is restored, then each bit is tried.
+    """
+    if len(data) < 40:
+        return None
+    check = data[8:10]
+    found = {text for text in restored(data, number, is_first) if text[8:10] == check or is_check_alone(data, text)}
+    if not found:
+        found = {text for text in flipped(data, number) if text[8:10] == check}
+    return found.pop() if len(found) == 1 else None
+
+
+def is_check_alone(data: bytes, text: bytes) -> bool:
+    """Whether the CRC alone is wrong, by the checksum of the tag."""
+    return data[16:] == text[16:] and data[:8] + data[10:16] == text[:8] + text[10:16]
+
+
+def restored(data: bytes, number: int, is_first: bool) -> Iterator[bytes]:
+    """The identifiers of so many bytes that agree with the fields, where all else is as it always is."""
+    characteristics, length = data[18], data[19]
+    virtual, = struct.unpack_from("<I", data, 24)
+    unique, use = struct.unpack_from("<IH", data, 32)
+    plain = len(data) - 38
+    lengths: List[int] = unlike([length, *range(max(plain - 3, 0), plain + 1)])
+    kinds: List[int] = [10] if is_first else unlike([characteristics, 0, 2])
+    for kind, size, more in product(kinds, lengths, unlike((use, 0, (len(data) - 38 - length) // 4 * 4))):
+        if size < 256 and 0 <= more and (38 + more + size + 3) // 4 * 4 == len(data):
+            name = data[38 + more : 38 + more + size]
+            if kind == 10 and not name or kind in (0, 2) and is_name(expand(name) or None):
+                yield spelled(Words(kind, virtual, unique, more, name), number)
+
+
+def flipped(data: bytes, number: int) -> Iterator[bytes]:
+    """The identifiers that differ in one bit of the fields or the name."""
+    for bit in range(16 * 8, len(data) * 8):
+        changed = bytearray(data)
+        changed[bit // 8] ^= 1 << bit % 8
+        yield from restored(bytes(changed), number, changed[18] == 10)
+
+
+def spelled(words: Words, number: int) -> bytes:
+    """The bytes of an identifier."""
+    use = (b"\0*udfburn" + bytes(23))[: words.use].ljust(words.use, b"\0")
+    body = struct.pack("<HBBIIHHIH", 1, words.characteristics, len(words.name), BLOCK, words.virtual, 1, 0, words.unique, words.use) + use + words.name
+    body = body.ljust((len(body) + 3 + 16) // 4 * 4 - 16, b"\0")
+    return write_tag(257, body, number) + body
+
+
+__all__ = ["Hint", "crc", "mend_entry", "mend_identifier"]

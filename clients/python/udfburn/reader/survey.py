@@ -1,0 +1,96 @@
+"""A look at every block of a medium: tables' entries, tables' heads and nodes' entries, wherever they lie."""
+
+from __future__ import annotations
+
+from array import array
+from bisect import bisect_left
+from typing import Dict, Iterator, List, Optional, Tuple
+
+from .basics import BLOCK, PARTITION
+from .entry import Kind
+from .medium import Medium, Run
+from .mend import Hint, mend_entry
+from .table import SESSIONS
+from .volume import is_table_entry
+
+ENTRY = b"\x05\x01\x03\0"
+ICB_TAG = bytes(4) + b"\4\0\0\0\1\0\0"
+"""The bytes from 16 on of each entry: no direct entries, strategy 4, one entry at most."""
+
+HEAD_AT, TABLE_TYPE = 152, int(Kind.TABLE)
+
+
+class Survey:
+    """Where structures are, by the blocks themselves. Addresses go up.
+
+    `tables` are tables' entries that are as they must be: the writer leaves no block that is one by chance. `hurt` are blocks that
+    have something of an entry and are none, `heads` those that have the head of a table.
+    """
+
+    def __init__(self, medium: Medium):
+        self.medium = medium
+        self.tables: List[int] = []
+        self.hurt: List[int] = []
+        self.heads: List[int] = []
+        self.missing: List[int] = []
+        self._nodes: "Dict[int, array[int]]" = {}
+        for at, run in medium.pieces(PARTITION, medium.blocks):
+            self._look(at, run)
+
+    def _look(self, start: int, run: Run) -> None:
+        data = run.data
+        self.missing += run.missing
+        for offset in range(0, len(data), BLOCK):
+            if data[offset : offset + 4] == ENTRY or data[offset + 16 : offset + 27] == ICB_TAG:
+                self._entry(start + offset // BLOCK, data[offset : offset + BLOCK])
+            elif data[offset + HEAD_AT : offset + HEAD_AT + 32] == SESSIONS:
+                self.heads.append(start + offset // BLOCK)
+
+    def _entry(self, at: int, block: bytes) -> None:
+        if block[27] == TABLE_TYPE and is_table_entry(block, at - PARTITION):
+            self.tables.append(at)
+            return
+        entry = mend_entry(block, Hint(at - PARTITION))
+        if entry is None or not entry.proved or entry.kind is Kind.TABLE:
+            self.hurt.append(at)
+        else:
+            self._nodes.setdefault(entry.location, array("I")).append(at)
+
+    def nodes(self, location: int, below: int) -> Iterator[int]:
+        """The addresses of nodes' entries for a virtual address, below an address, the last one first."""
+        known = self._nodes.get(location, array("I"))
+        for index in range(bisect_left(known, below) - 1, -1, -1):
+            yield known[index]
+
+    def nodes_after(self, address: int) -> List[int]:
+        """The addresses of nodes' entries after an address."""
+        return sorted(at for known in self._nodes.values() for at in known[bisect_left(known, address) :])
+
+    def last_node(self, location: int, low: int, high: int) -> Optional[int]:
+        """The last entry for a virtual address from one address on and below another."""
+        at = next(self.nodes(location, high), None)
+        return at if at is not None and at >= low else None
+
+    def heads_below(self, address: int) -> Iterator[int]:
+        """Tables' heads below an address, the last one first."""
+        for index in range(bisect_left(self.heads, address) - 1, -1, -1):
+            yield self.heads[index]
+
+    def table_below(self, address: int) -> Optional[int]:
+        """The last table's entry below an address that is as it must be."""
+        index = bisect_left(self.tables, address)
+        return self.tables[index - 1] if index else None
+
+
+Range = Tuple[int, int]
+
+
+def ranges_of(addresses: List[int]) -> List[Range]:
+    """Addresses in order as ranges of the first and the last."""
+    found: List[Range] = []
+    for at in addresses:
+        if found and found[-1][1] + 1 == at:
+            found[-1] = (found[-1][0], at)
+        else:
+            found.append((at, at))
+    return found

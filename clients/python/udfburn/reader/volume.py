@@ -1,0 +1,377 @@
+"""A volume on a medium: its tables from the newest to the oldest, the tree behind each, and the bytes of files."""
+
+from __future__ import annotations
+
+from typing import Dict, Iterator, List, NamedTuple, Optional, Set, Tuple
+
+from .basics import BLOCK, FIRST_UNIQUE, NUMBERS, PARTITION, PATH_NAMES, UNUSED, blocks_of, read_dstring
+from .directory import Directory, Identifier, read_directory
+from .entry import Entry, Kind, entry_faults, is_entry_like, read_entry, read_file_set
+from .front import Front, note_front, read_front
+from .medium import Medium, Run
+from .notes import Cause, Notes
+from .table import Client, Head, Table, entries_at, is_sensible, previous_of, read_clients, read_entries, read_head, table_faults
+
+Path = Tuple[str, ...]
+"""The names from the root on. The root has none."""
+
+ROOT = 1
+"""The root's virtual address."""
+
+
+class NoVolume(Exception):
+    """No table's entry is on the medium, or none of the commit that was asked for."""
+
+
+class Node(NamedTuple):
+    """A file or a directory of a state.
+
+    `path` has its names, `unique` and `virtual` are its unique ID and its virtual address, `address` is that of its entry and
+    `moment` microseconds from 1970-01-01 UTC. `size` is the bytes of a file, or of a directory's data. The data is `blocks` blocks
+    from the address `data` on; `data` is None where the bytes stand inside the entry, or where there are none.
+    """
+
+    path: Path
+    kind: Kind
+    unique: int
+    virtual: int
+    address: int
+    moment: Optional[int]
+    size: int
+    data: Optional[int]
+    blocks: int
+    links: int
+    above: int
+    """The virtual address of the directory above; the root's own."""
+    check: int
+    """The CRC in its entry's tag."""
+
+
+class Volume:
+    """What a medium holds. Nothing is refused for a wrong byte: it is noted in `notes`.
+
+    `label`, `moment` (of the format) and `capacity` (in blocks) are None where neither sequence of the front says them.
+    """
+
+    def __init__(self, medium: Medium):
+        self.medium = medium
+        self.notes = Notes()
+        front: Front = read_front(medium)
+        self.label, self.moment, self.capacity = front
+        self._front = front
+        self._chain: Optional[List[Table]] = None
+
+    # ---- tables
+
+    def chain(self) -> List[Table]:
+        """The tables, the newest first, as far as the chain leads; NoVolume where there is none."""
+        if self._chain is None:
+            self._chain = list(self._links())
+        if not self._chain:
+            raise NoVolume(f"{self.medium.path}: there is no table's entry")
+        return self._chain
+
+    def table(self, commit: Optional[int] = None) -> Table:
+        """The table of a commit, or the newest; NoVolume where the chain has none of it."""
+        chain = self.chain()
+        if commit is None:
+            return chain[0]
+        for table in chain:
+            if table.commit == commit:
+                return table
+        raise NoVolume(f"{self.medium.path}: the chain has commits {chain[-1].commit} to {chain[0].commit}, and not {commit}")
+
+    def last_entry(self) -> Optional[int]:
+        """The address of the last table's entry that is as it must be."""
+        for start in range((self.medium.blocks - 1) // 512 * 512, -1, -512):
+            run = self.medium.run(start, min(512, self.medium.blocks - start))
+            for index in range(len(run.data) // BLOCK - 1, -1, -1):
+                at = start + index
+                if at >= PARTITION and is_table_entry(run.data[index * BLOCK : (index + 1) * BLOCK], at - PARTITION):
+                    return at
+        return None
+
+    def table_at(self, address: int) -> Optional[Table]:
+        """The table whose entry stands at an address; None where there is none that can be used. What is wrong is noted."""
+        block = self.medium.block(address)
+        if block is None:
+            self.notes.add(address, Cause.MISSING, "the table's entry cannot be read")
+            return None
+        number = address - PARTITION
+        entry, faults = read_entry(block, number)
+        self.notes.extend(address, faults)
+        if entry is None or entry.kind is not Kind.TABLE or entry.first is None:
+            self.notes.add(address, Cause.CHAIN, "there is no table's entry")
+            return None
+        if entry.first + blocks_of(entry.size) > number:
+            self.notes.add(address, Cause.RANGE, "the table's data does not lie below its entry")
+            return None
+        return self.table_of(address, entry)
+
+    def table_of(self, address: int, entry: Entry) -> Optional[Table]:
+        """The table of an entry; None where its head cannot be used, which is noted."""
+        assert entry.first is not None
+        start, number = entry.first + PARTITION, address - PARTITION
+        run = self.medium.run(start, 1)
+        head = read_head(run.data)
+        if run.missing or head is None or not is_sensible(head, entry.size, number):
+            self.notes.add(start, Cause.MISSING if run.missing else Cause.HEADER, "the head of the table cannot be used")
+            return None
+        label = read_dstring(head.label)
+        length = entries_at(head, entry.size)
+        return Table(
+            head.commits, address, previous_of(head, number), entry.moment, entry.check, label, head.files, head.directories,
+            head.next_unique, head.clients, head.version, entry.first, entry.size, length or head.length,
+        )
+
+    def _links(self) -> Iterator[Table]:
+        at = self.last_entry()
+        if at is None:
+            return
+        table = self.table_at(at)
+        while table is not None:
+            yield table
+            newer = table
+            if newer.previous is None:
+                break
+            table = self.table_at(newer.previous)
+            if table is not None and table.commit + 1 != newer.commit:
+                self.notes.add(newer.previous, Cause.CHAIN, f"the table before commit {newer.commit} is of commit {table.commit}")
+                break
+        else:
+            return
+        if newer.previous is None and newer.commit:
+            self.notes.add(newer.address, Cause.CHAIN, f"commit {newer.commit} has no table before it")
+
+    def data_of(self, table: Table) -> Run:
+        """The data of a table, in whole blocks."""
+        return self.medium.run(table.first + PARTITION, blocks_of(table.size))
+
+    def clients(self, table: Table) -> List[Client]:
+        """The records of clients that a table has, in order of their first commits."""
+        return read_clients(self.data_of(table).data[: table.size], table.version, table.clients)
+
+    # ---- states
+
+    def state(self, commit: Optional[int] = None) -> "State":
+        """The state after a commit, or the newest; NoVolume where the chain has none of it."""
+        return State(self, self.table(commit))
+
+    def read(self, node: Node) -> Run:
+        """The bytes of a file, with zeros where a block is missing."""
+        if node.data is None:
+            block = self.medium.block(node.address) or bytes(BLOCK)
+            return Run(block[176 : 176 + node.size] if node.size else b"", ())
+        run = self.medium.run(node.data, node.blocks)
+        return Run(run.data[: node.size], run.missing)
+
+    def check(self) -> Notes:
+        """Looks at the front, every table, and every node of every state. The notes, which are empty where all is as it must be."""
+        note_front(self.medium, self._front, self.notes)
+        seen = Seen()
+        for table in self.chain():
+            State(self, table, seen).check()
+        return self.notes
+
+
+def is_table_entry(block: bytes, number: int) -> bool:
+    """Whether the block is a table's entry at this block number, by its whole descriptor."""
+    if not is_entry_like(block) or block[27] != Kind.TABLE:
+        return False
+    entry, faults = read_entry(block, number)
+    return entry is not None and not faults
+
+
+class Seen:
+    """What was read already: entries by their addresses and locations, and directories by their data."""
+
+    def __init__(self) -> None:
+        self.entries: Dict[Tuple[int, int], Optional[Entry]] = {}
+        self.directories: Dict[Tuple[int, int], Optional[Directory]] = {}
+        self._before: Tuple[Dict[Tuple[int, int], Optional[Entry]], Dict[Tuple[int, int], Optional[Directory]]] = ({}, {})
+
+    def begin(self) -> None:
+        """Begins with another state: keeps what the last one had, and lets the one before it go."""
+        self._before = (self.entries, self.directories)
+        self.entries, self.directories = {}, {}
+
+    def entry(self, key: Tuple[int, int]) -> Tuple[bool, Optional[Entry]]:
+        """Whether an entry was read in the last state, and what it said."""
+        if key in self._before[0]:
+            self.entries[key] = self._before[0][key]
+        return key in self.entries, self.entries.get(key)
+
+    def directory(self, key: Tuple[int, int]) -> Tuple[bool, Optional[Directory]]:
+        """Whether a directory was read in the last state, and what it said."""
+        if key in self._before[1]:
+            self.directories[key] = self._before[1][key]
+        return key in self.directories, self.directories.get(key)
+
+
+class State:
+    """The tree behind a commit."""
+
+    def __init__(self, volume: Volume, table: Table, seen: Optional[Seen] = None):
+        self.volume = volume
+        self.table = table
+        self._seen = seen or Seen()
+        self._seen.begin()
+        run = volume.data_of(table)
+        self._data = run.data[: table.size]
+        self.entries = read_entries(self._data, table.length)
+        for at in run.missing:
+            volume.notes.add(at, Cause.MISSING, "a block of the table cannot be read")
+        volume.notes.extend(table.first + PARTITION, list(table_faults(self._data, table.address - PARTITION)))
+        self.broken: List[Tuple[Path, Identifier]] = []
+        """Names whose nodes could not be read in the last walk."""
+
+    @property
+    def clients(self) -> List[Client]:
+        """The records of clients, in order of their first commits."""
+        return read_clients(self._data, self.table.version, self.table.clients)
+
+    def address(self, virtual: int) -> Optional[int]:
+        """The address of what has a virtual address; None where it is unused or does not lie below the table's entry."""
+        number = self.entries[virtual] if 0 <= virtual < len(self.entries) else UNUSED
+        return number + PARTITION if number < self.table.address - PARTITION else None
+
+    def root(self) -> Optional[Node]:
+        """The root; None where its entry cannot be read."""
+        return self._node((), Identifier("", True, ROOT, 0, True), ROOT, self.table.first + PARTITION)
+
+    def names(self, node: Node) -> List[Identifier]:
+        """The names of a directory, in stored order, as far as they can be read."""
+        directory = self._directory(node)
+        return directory.names if directory is not None else []
+
+    def child(self, node: Node, name: Identifier) -> Optional[Node]:
+        """The node that a directory names; None where its entry cannot be read."""
+        return self._node(node.path + (name.name,), name, node.virtual, node.data or node.address)
+
+    def walk(self, top: Optional[Node] = None) -> Iterator[Node]:
+        """A directory (the root where none is given) and all below it, depth first and in stored order."""
+        self.broken = []
+        root = top if top is not None else self.root()
+        if root is not None:
+            reached: Set[int] = {root.virtual}
+            yield from self._below(root, reached)
+
+    def _below(self, node: Node, reached: Set[int]) -> Iterator[Node]:
+        yield node
+        if node.kind is not Kind.DIRECTORY:
+            return
+        for name in self.names(node):
+            if len(node.path) == PATH_NAMES or name.virtual in reached:
+                cause = Cause.TOO_DEEP if len(node.path) == PATH_NAMES else Cause.REACHED_TWICE
+                self.volume.notes.add(self.address(name.virtual) or node.address, cause, f"{show(node.path + (name.name,))} is reached a second time or too deep")
+                self.broken.append((node.path + (name.name,), name))
+                continue
+            reached.add(name.virtual)
+            child = self.child(node, name)
+            if child is None:
+                self.broken.append((node.path + (name.name,), name))
+            else:
+                yield from self._below(child, reached)
+
+    def find(self, path: Path) -> Optional[Node]:
+        """The node at a path; None where there is none that can be read."""
+        node = self.root()
+        for part in path:
+            if node is None or node.kind is not Kind.DIRECTORY:
+                return None
+            name = next((name for name in self.names(node) if name.name == part), None)
+            node = self.child(node, name) if name is not None else None
+        return node
+
+    def _node(self, path: Path, name: Identifier, above: int, named_at: int) -> Optional[Node]:
+        notes = self.volume.notes
+        at = self.address(name.virtual)
+        if at is None:
+            notes.add(named_at, Cause.RANGE, f"{show(path)} leads to virtual address {name.virtual}, which leads to no block below the table")
+            return None
+        entry = self._entry(at, name.virtual)
+        if entry is None:
+            return None
+        kind = Kind.DIRECTORY if name.is_directory else Kind.FILE
+        if entry.kind is not kind or entry.unique != name.unique:
+            notes.add(at, Cause.IDENTITY, f"the entry is not that of {show(path)}, by its kind or its unique ID")
+            return None
+        if kind is Kind.FILE and entry.links != 1:
+            notes.add(at, Cause.IDENTITY, f"{show(path)} has {entry.links} links, and not 1")
+        blocks = blocks_of(entry.size) if entry.first is not None else 0
+        if entry.first is not None and entry.first + blocks > self.table.address - PARTITION:
+            notes.add(at, Cause.RANGE, f"the bytes of {show(path)} do not lie below the table's entry")
+            return None
+        data = entry.first + PARTITION if entry.first is not None else None
+        return Node(path, kind, entry.unique, name.virtual, at, entry.moment, entry.size, data, blocks, entry.links, above, entry.check)
+
+    def _entry(self, at: int, virtual: int) -> Optional[Entry]:
+        known, entry = self._seen.entry((at, virtual))
+        if known:
+            return entry
+        block = self.volume.medium.block(at)
+        if block is None:
+            self.volume.notes.add(at, Cause.MISSING, "the entry cannot be read")
+        else:
+            entry, faults = read_entry(block, virtual)
+            self.volume.notes.extend(at, faults)
+        self._seen.entries[at, virtual] = entry
+        return entry
+
+    def _directory(self, node: Node) -> Optional[Directory]:
+        if node.data is None:
+            self.volume.notes.add(node.address, Cause.LENGTHS, f"the directory {show(node.path)} has no bytes")
+            return None
+        known, directory = self._seen.directory((node.data, node.size))
+        if not known:
+            run = self.volume.medium.run(node.data, node.blocks)
+            for at in run.missing:
+                self.volume.notes.add(at, Cause.MISSING, f"a block of the directory {show(node.path)} cannot be read")
+            directory, faults = read_directory(run.data, node.size, node.data - PARTITION)
+            self.volume.notes.extend(node.data, faults)
+            self._seen.directories[node.data, node.size] = directory
+        assert directory is not None
+        if directory.parent != node.above:
+            self.volume.notes.add(node.data, Cause.IDENTITY, f"the directory above {show(node.path)} is another than it says")
+        if node.links != 1 + sum(name.is_directory for name in directory.names):
+            self.volume.notes.add(node.address, Cause.IDENTITY, f"the links of {show(node.path)} are not those of its directories")
+        return directory
+
+    # ---- what structures say of one another
+
+    def check(self) -> None:
+        """Notes what does not agree: the file set, the tree, the counts and the labels."""
+        table, notes = self.table, self.volume.notes
+        start = table.first + PARTITION
+        self._check_file_set()
+        files = directories = 0
+        uniques: Set[int] = set()
+        for node in self.walk():
+            files, directories = files + (node.kind is Kind.FILE), directories + (node.kind is Kind.DIRECTORY)
+            fresh = node.unique not in uniques and (FIRST_UNIQUE <= node.unique < table.next_unique if node.path else node.unique == 0)
+            uniques.add(node.unique)
+            if not fresh:
+                notes.add(node.address, Cause.IDENTITY, f"the unique ID {node.unique} of {show(node.path)} is not its own")
+        if (files, directories) != (table.files, table.directories):
+            notes.add(start, Cause.COUNTS, f"the table counts {table.files} files and {table.directories} directories, the tree has {files} and {directories}")
+        if 2 * table.commit + 261 > table.address or table.next_unique > FIRST_UNIQUE + table.commit:
+            notes.add(start, Cause.COUNTS, "the count of commits is not that of the table's place")
+
+    def _check_file_set(self) -> None:
+        volume, notes, start = self.volume, self.volume.notes, self.table.first + PARTITION
+        at = self.address(0)
+        block = volume.medium.block(at) if at is not None else None
+        if at is None or block is None:
+            notes.add(at or start, Cause.RANGE if at is None else Cause.MISSING, "there is no file set descriptor that can be read")
+            return
+        label, moment, faults = read_file_set(block)
+        notes.extend(at, faults)
+        if volume.label is not None and self.table.label != volume.label:
+            notes.add(start, Cause.LABELS, "the label of the table is not that of the front")
+        if volume.label is not None and label != volume.label or volume.moment is not None and moment != volume.moment:
+            notes.add(at, Cause.LABELS, "the label or the moment of the file set is not that of the front")
+
+
+def show(path: Path) -> str:
+    """A path as people write it."""
+    return "/" + "/".join(path)

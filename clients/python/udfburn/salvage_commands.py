@@ -1,0 +1,198 @@
+"""The commands `salvage` and `log`: what can be had of a damaged volume, and its chain of tables."""
+
+from __future__ import annotations
+
+import argparse
+from collections import Counter
+from typing import TYPE_CHECKING, Counter as Counts, Optional
+
+from .errors import UsageError
+from .progress import Progress, plural, size
+from .protocol import shown
+from .words import add_output, commit_number
+
+if TYPE_CHECKING:
+    from .reader.chain import Link
+    from .salvage import Outcome, Salvage
+    from .words import Subs
+
+
+def add(subs: Subs) -> None:
+    """The words of these commands."""
+    text = "copy out all that can be read of a volume, also of a damaged one"
+    words = subs.add_parser(
+        "salvage", help=text,
+        description=f"{text[0].upper()}{text[1:]}. It reads an image, a device or a disc by itself, takes each file that can be read, and"
+        " names each that cannot. Nothing is written to IMAGE. The status is 0 only where each file has the digest that is kept of it.",
+    )
+    words.set_defaults(run=salvage)
+    add_image(words)
+    words.add_argument("folder", metavar="DIR", nargs="?", help="the folder that files are written into; nothing that is there is replaced")
+    words.add_argument("--list", action="store_true", help="report, and write nothing")
+    words.add_argument("--at", metavar="COMMIT", type=commit_number, help="the state after this commit, and not the newest")
+    words.add_argument("--accept-unproved", action="store_true", help="status 0 also where no digest covers a file")
+    add_output(words)
+    text = "print the commits of an image, also of a damaged one"
+    words = subs.add_parser(
+        "log", help=text,
+        description=f"{text[0].upper()}{text[1:]}: a line for each, the newest first, as 'udfburn log' prints it. What is broken is marked after it, and"
+        " the status is 1 then.",
+    )
+    words.set_defaults(run=log)
+    add_image(words)
+    add_output(words)
+
+
+def add_image(words: argparse.ArgumentParser) -> None:
+    """The words that name what is read."""
+    words.add_argument("image_path", metavar="IMAGE", help="an image, a block device or a disc (/dev/sr0)")
+    words.add_argument("--map", metavar="MAPFILE", help="the map of ddrescue: blocks that it did not read count as missing")
+
+
+def salvage(arguments: argparse.Namespace) -> int:
+    """Gives back what can be read."""
+    from .reader import MapError, Medium
+    from .salvage import Salvage
+    from .salvage_write import Output
+
+    if arguments.list == (arguments.folder is not None):
+        raise UsageError("salvage takes a DIR that files are written into, or --list")
+    try:
+        medium = Medium(arguments.image_path, arguments.map)
+    except MapError as error:
+        raise UsageError(str(error)) from error
+    with medium:
+        found = Salvage(medium, arguments.at)
+        output = Output(arguments.folder) if arguments.folder is not None else None
+        try:
+            return Report(arguments.progress, found, arguments.accept_unproved).print(output)
+        finally:
+            if output is not None:
+                output.close()
+
+
+class Report:
+    """What a salvage prints."""
+
+    def __init__(self, progress: Progress, found: "Salvage", accept: bool):
+        self.progress, self.found, self.accept = progress, found, accept
+        self.counts: Counts[str] = Counter()
+        self.bytes = self.directories = self.unwritten = 0
+
+    def print(self, output: Optional[object]) -> int:
+        """Prints all of it, and gives the status."""
+        from .salvage_write import Output
+
+        target = output if isinstance(output, Output) else None
+        for outcome in self.found.outcomes(target):
+            self._outcome(outcome, target is not None)
+        notes = self.found.notes
+        for note in notes:
+            self._told(str(note), True, did="structure", block=note.block, cause=int(note.cause), message=note.text)
+        return self._end(len(notes))
+
+    def _told(self, line: str, is_bad: bool, **fields: object) -> None:
+        if self.progress.as_json:
+            self.progress.say(line, **fields)
+            if is_bad:
+                self.progress.failures.append(line)
+        elif is_bad:
+            self.progress.fail(line)
+        else:
+            self.progress.say(line)
+
+    def _outcome(self, outcome: "Outcome", writes: bool) -> None:
+        from .reader import Kind
+        from .salvage import LOST, UNFINISHED, UNPROVED, WHOLE
+
+        is_directory = outcome.kind is Kind.DIRECTORY
+        missed = writes and outcome.written is None and outcome.state != LOST
+        self.unwritten += missed
+        if is_directory:
+            self.directories += 1
+        else:
+            self.counts[outcome.state] += 1
+            self.bytes += outcome.size if outcome.state not in (LOST, UNFINISHED) else 0
+        path = "/" + "/".join(outcome.path)
+        self._told(
+            line_of(outcome, path, writes), missed or outcome.state not in (WHOLE, UNPROVED, UNFINISHED), did="directory" if is_directory else "file",
+            path=path, state=outcome.state, bytes=outcome.size, commit=outcome.commit, ranges=[list(found) for found in outcome.ranges],
+            message=outcome.why, written=outcome.written,
+        )
+
+    def _end(self, notes: int) -> int:
+        from .salvage import STATES, UNFINISHED, UNPROVED, WHOLE
+
+        volume, link, files = self.found.volume, self.found.link, sum(self.counts[state] for state in STATES)
+        status = 0 if not (notes or self.unwritten or self.directories) and self.counts[WHOLE] + self.counts[UNPROVED] == files else 1
+        unproved = self.counts[UNPROVED]
+        if unproved and not self.accept:
+            if status == 0:
+                self._told(f"{plural(unproved, 'file is', 'files are')} unproved: no digest is kept of what was written there", True, did="unproved", files=unproved)
+            status = 1
+        words = ", ".join(f"{self.counts[state]:,} {'of earlier commits' if state == 'earlier' else state}" for state in STATES)
+        unfinished = self.counts[UNFINISHED]
+        words += f", and {plural(unfinished, 'file', 'files')} of a commit that is not finished" if unfinished else ""
+        name = f"volume {volume.label!r}" if volume.label is not None else "volume without a label"
+        self.progress.result(
+            f"{name}, commit {link.commit}: {plural(files, 'file', 'files')}, {size(self.bytes)}: {words}; {plural(notes, 'structure is', 'structures are')} not as it must be",
+            path=shown(self.found.medium.path), label=volume.label, moment=volume.moment, capacity=volume.capacity, commit=link.commit,
+            files=files, bytes=self.bytes, structures=notes, unfinished=unfinished, **{state: self.counts[state] for state in STATES},
+        )
+        return status
+
+
+def line_of(outcome: "Outcome", path: str, writes: bool) -> str:
+    """A line for people: how a file was had, its path, its missing bytes, and where it was written."""
+    words = [outcome.state, path, f"({outcome.size} bytes)"]
+    if outcome.ranges:
+        words.append("without " + ", ".join(f"{count} bytes from {begin} on" for begin, count in outcome.ranges))
+    if outcome.why:
+        words.append(f"- {outcome.why}")
+    if writes and outcome.written is not None and outcome.written != path[1:]:
+        words.append(f"- written as {outcome.written}")
+    return " ".join(words)
+
+
+# ---- log
+
+def log(arguments: argparse.Namespace) -> int:
+    """Prints the chain of tables."""
+    from .reader import MapError, Medium, Volume
+    from .reader.chain import Chain
+    from .reader.survey import Survey
+
+    progress: Progress = arguments.progress
+    try:
+        medium = Medium(arguments.image_path, arguments.map)
+    except MapError as error:
+        raise UsageError(str(error)) from error
+    with medium:
+        chain = Chain(Volume(medium), Survey(medium))
+        if not chain.links:
+            return progress.fail(f"{shown(arguments.image_path)}: no table of a volume can be read")
+        broken = lost = 0
+        for index, link in enumerate(chain.links):
+            broken += bool(link.broken)
+            tell_link(progress, link)
+            older = chain.links[index + 1].commit if index + 1 < len(chain.links) else -1
+            for commit in range(link.commit - 1, older, -1):
+                lost += 1
+                progress.say(f"{commit} ? ? ? lost", did="commit", commit=commit, address=None, files=None, directories=None, broken=["lost"])
+    progress.outcome = {"path": shown(arguments.image_path), "commits": chain.links[0].commit, "broken": broken, "lost": lost}
+    if broken or lost:
+        return progress.fail(f"{plural(broken, 'table is', 'tables are')} broken, {lost} lost")
+    return 0
+
+
+def tell_link(progress: Progress, link: "Link") -> None:
+    """Prints a commit."""
+    table = link.table
+    files, directories = (table.files, table.directories) if table is not None else (None, None)
+    line = f"{link.commit} {link.address} {'?' if files is None else files} {'?' if directories is None else directories}"
+    if link.broken:
+        line += f" broken: {'; '.join(link.broken)}"
+    progress.say(line, did="commit", commit=link.commit, address=link.address, files=files, directories=directories, broken=list(link.broken))
+
+
+__all__ = ["add", "log", "salvage"]

@@ -1,0 +1,358 @@
+"""The tree of a state as far as it can be had: nodes by their names, else by what earlier states say, else by their unique IDs."""
+
+from __future__ import annotations
+
+from typing import Dict, Iterator, List, NamedTuple, Optional, Set, Tuple
+
+from .reader.basics import BLOCK, FILE_BYTES, PARTITION, PATH_NAMES, UNUSED, blocks_of
+from .reader.chain import Chain
+from .reader.directory import IS_PARENT, Directory, Identifier, Known, piece_at, read_directory, said_by
+from .reader.entry import Entry, Kind, read_entry
+from .reader.medium import Medium
+from .reader.mend import Hint, mend_entry
+from .reader.notes import Cause
+from .reader.volume import ROOT, Path, show
+
+LOST_AND_FOUND = "lost+found"
+DEPTH = 64
+"""Names in a path at most, also where directories were damaged into a deeper tree."""
+
+
+class Version(NamedTuple):
+    """An entry of a node, its address, and the newest commit behind which it stood: None where that is the one asked for."""
+
+    entry: Entry
+    address: int
+    commit: Optional[int]
+
+
+class Item(NamedTuple):
+    """A node that is given, or is lost.
+
+    `path` has the names on the volume; of a node without names it begins with `lost+found`. `target` are the names that it is written
+    under. `commit` is that of an earlier state that its name or its entry is taken from. `version` is None where it is lost.
+    `is_unfinished` says that the commit that wrote it has no table's entry.
+    """
+
+    path: Path
+    target: Path
+    kind: Optional[Kind]
+    virtual: int
+    version: Optional[Version]
+    commit: Optional[int]
+    why: str
+    is_unfinished: bool = False
+
+    @property
+    def entry(self) -> Optional[Entry]:
+        """Its entry."""
+        return self.version.entry if self.version is not None else None
+
+
+class Tree:
+    """The nodes of the state behind the table at a place of the chain, in `items`: directories before what is in them."""
+
+    def __init__(self, chain: Chain, index: int):
+        self.chain, self.index = chain, index
+        self.volume, self.notes = chain.volume, chain.volume.notes
+        self.medium, self.survey = chain.volume.medium, chain.survey
+        self.link = chain.links[index]
+        self.entries, self.unknown = chain.entries(index)
+        self.items: List[Item] = []
+        self._known = Known()
+        self._reached: Set[int] = {0}
+        self._hurt: List[Item] = []
+        self._loose: List[Tuple[Item, Identifier]] = []
+        self._build()
+
+    def _build(self) -> None:
+        root = self.resolve(ROOT, 0, Kind.DIRECTORY)
+        item = Item((), (), Kind.DIRECTORY, ROOT, root, root.commit if root else None, "" if root else "no entry of the root can be read")
+        self._reached.add(ROOT)
+        self.items.append(item)
+        self._descend(item)
+        self._finish()
+        self._collect()
+        if self.index == 0:
+            self._add_unfinished()
+
+    def _finish(self) -> None:
+        """Takes what is less certain once all that is certain was taken: names that were not proved, then those of earlier listings."""
+        while self._loose or self._hurt:
+            while self._loose:
+                above, name = self._loose.pop(0)
+                self._take(above, self._confirmed(above, name), None)
+            if self._hurt:
+                self._recover(self._hurt.pop(0))
+
+    # ---- entries
+
+    def resolve(self, virtual: int, unique: Optional[int], kind: Optional[Kind], listed: Optional[int] = None) -> Optional[Version]:
+        """The entry of a node: that which the table leads to, else the newest one before it.
+
+        `listed` is the commit of the earlier listing that names it: a virtual address that has another node since is none then.
+        """
+        number = self.entries[virtual] if virtual < len(self.entries) else UNUSED
+        if number == UNUSED and listed is not None and virtual not in self.unknown:
+            return None
+        address = number + PARTITION if number != UNUSED else None
+        if address is not None:
+            entry = self._entry(address, virtual, unique, kind, True)
+            if entry is not None:
+                return Version(entry, address, None)
+            if listed is not None and self._entry(address, virtual, None, None) is not None:
+                return None
+        return (
+            self._by_others(virtual, unique, kind, address) or self._rebuilt(virtual, unique, kind, address)
+            or self._earlier(virtual, unique, kind, address) or self._carved(virtual, unique, kind, address)
+        )
+
+    def _entry(
+        self, address: int, virtual: int, unique: Optional[int], kind: Optional[Kind], is_told: bool = False,
+    ) -> Optional[Entry]:
+        """The entry at an address, where it is that of this node. What is wrong there is noted where a table leads to it."""
+        block = self.medium.block(address)
+        entry = mend_entry(block, Hint(address - PARTITION, virtual, unique, kind)) if block is not None else None
+        if is_told and block is None:
+            self.notes.add(address, Cause.MISSING, "an entry cannot be read")
+        elif is_told and block is not None:
+            self.notes.extend(address, read_entry(block, virtual)[1])
+        if entry is None or entry.kind is Kind.TABLE or kind is not None and entry.kind is not kind:
+            return None
+        if unique is not None and entry.unique != unique:
+            return None
+        return entry if entry.location == virtual or entry.proved and unique is not None else None
+
+    def _by_others(self, virtual: int, unique: Optional[int], kind: Optional[Kind], address: Optional[int]) -> Optional[Version]:
+        """The entry that the table has to lead to by all else that is on the volume, where its own word is wrong."""
+        if address is not None and self.chain.is_confirmed(virtual, address, self.index):
+            return None
+        other = self.chain.expected(virtual, self.index)
+        if other is None or other == address:
+            return None
+        entry = self._entry(other, virtual, unique, kind)
+        if entry is None:
+            return None
+        said = "unused" if address is None else f"block number {address - PARTITION}"
+        self.notes.add(self.link.start, Cause.ENTRY, f"virtual address {virtual} is {said}, and its entry is at block number {other - PARTITION}")
+        return Version(entry, other, None)
+
+    def _rebuilt(self, virtual: int, unique: Optional[int], kind: Optional[Kind], address: Optional[int]) -> Optional[Version]:
+        """A directory whose entry is lost, by its data, which ends where its entry stood."""
+        if kind is not Kind.DIRECTORY or unique is None or address is None or not self.chain.is_confirmed(virtual, address, self.index):
+            return None
+        found = data_before(self.medium, address - PARTITION)
+        if found is None:
+            return None
+        data, size, first = found
+        links = 1 + sum(name.is_directory for name in read_directory(data, size, first)[0].names)
+        place = self.chain.index_of(self.chain.commit_of(address) or 0)
+        table = self.chain.links[place].table if place is not None else None
+        moment = table.moment if table is not None else None
+        return Version(Entry(Kind.DIRECTORY, moment, links, unique, size, first, None, virtual, 0, True), address, None)
+
+    def _earlier(self, virtual: int, unique: Optional[int], kind: Optional[Kind], address: Optional[int]) -> Optional[Version]:
+        """The newest earlier entry of a node, where the one that the table leads to cannot be read."""
+        after = address if address is not None and self.chain.is_confirmed(virtual, address, self.index) else self.link.start
+        for at, commit in self.versions(virtual, after):
+            entry = self._entry(at, virtual, unique, kind)
+            if entry is not None and entry.proved:
+                return Version(entry, at, commit)
+        return None
+
+    def _carved(self, virtual: int, unique: Optional[int], kind: Optional[Kind], address: Optional[int]) -> Optional[Version]:
+        """A file whose entry is lost, by the blocks before it: a commit begins with them. How many bytes it has is not known."""
+        if kind is not Kind.FILE or unique is None or address is None or not self.chain.is_confirmed(virtual, address, self.index):
+            return None
+        start = self.chain.begin_of(address)
+        if start is None or not 0 < address - start <= blocks_of(FILE_BYTES):
+            return None
+        size = (address - start) * BLOCK
+        return Version(Entry(Kind.FILE, None, 1, unique, size, start - PARTITION, None, virtual, 0, False), address, None)
+
+    def versions(self, virtual: int, after: int) -> Iterator[Tuple[int, int]]:
+        """The entries that were committed for a virtual address below an address, the newest first, and until which commit each stood."""
+        for at in self.survey.nodes(virtual, min(after, self.link.start)):
+            written = self.chain.commit_of(at)
+            replaced = self.chain.commit_of(after)
+            if written is None or replaced is None or written > self.link.commit:
+                continue
+            place = self.chain.index_of(written)
+            words = self.chain.entries(place)[0] if place is not None else ()
+            if virtual < len(words) and words[virtual] + PARTITION == at:
+                yield at, max(replaced - 1, written) if replaced > written else written
+                after = at
+
+    # ---- directories
+
+    def _descend(self, item: Item) -> None:
+        """Takes the nodes that a directory names."""
+        directory = self._listing(item)
+        if directory is None:
+            return
+        for name in directory.names:
+            if name.proved:
+                self._take(item, name, None)
+            else:
+                self._loose.append((item, name))
+
+    def _listing(self, item: Item) -> Optional[Directory]:
+        """The names of a directory. Where some are lost it is among those that are hurt."""
+        directory = self._read(item.version.entry, item.path) if item.version is not None else None
+        if directory is None or not directory.complete or not self._is_listed(item, directory):
+            self._hurt.append(item)
+        return directory
+
+    def _is_listed(self, item: Item, directory: Directory) -> bool:
+        """Whether each name that was not proved leads to the node that it says."""
+        return all(name.proved or self._agrees(name) for name in directory.names)
+
+    def _agrees(self, name: Identifier) -> bool:
+        kind = Kind.DIRECTORY if name.is_directory else Kind.FILE
+        version = self.resolve(name.virtual, name.unique, kind)
+        return version is not None and version.entry.location == name.virtual
+
+    def _read(self, entry: Entry, path: Path) -> Optional[Directory]:
+        if entry.first is None:
+            return None
+        run = self.medium.run(entry.first + PARTITION, blocks_of(entry.size))
+        for at in run.missing:
+            self.notes.add(at, Cause.MISSING, f"a block of the directory {show(path)} cannot be read")
+        directory, faults = read_directory(run.data, entry.size, entry.first, self._known)
+        self.notes.extend(entry.first + PARTITION, faults)
+        return directory
+
+    def _confirmed(self, above: Item, name: Identifier) -> Identifier:
+        """A name that was not proved, as an earlier listing of the directory has it, where it differs in some bytes alone."""
+        after = above.version.address if above.version is not None else self.link.start
+        for at, _ in self.versions(above.virtual, after):
+            for old in self._names_at(at):
+                if old.proved and (old.virtual, old.unique, len(old.name)) == (name.virtual, name.unique, len(name.name)):
+                    return old
+            break
+        return name
+
+    def _take(self, above: Item, name: Identifier, listed: Optional[int]) -> None:
+        """Takes a node that a directory names, in this state or in an earlier one."""
+        path = above.path + (name.name,)
+        kind = Kind.DIRECTORY if name.is_directory else Kind.FILE
+        if name.virtual in self._reached:
+            if listed is None and name.proved:
+                self.notes.add(above.version.address if above.version else self.link.start, Cause.REACHED_TWICE, f"{show(path)} leads to a node that has a name already")
+            return
+        version = self.resolve(name.virtual, name.unique, kind, listed)
+        if version is None and (listed is not None or not name.proved or above.commit is not None):
+            return
+        if len(path) > PATH_NAMES:
+            self.notes.add(version.address if version else self.link.start, Cause.TOO_DEEP, f"{show(path)} has more than {PATH_NAMES} names")
+        if len(path) > DEPTH:
+            return
+        self._reached.add(name.virtual)
+        commit = listed if listed is not None else version.commit if version is not None else None
+        suffix = f".at-commit-{commit}" if commit is not None else ""
+        why = "no entry of it can be read" if version is None else "" if name.proved else "a byte of its name is wrong, and it may be another"
+        self._put(Item(path, above.target + (name.name + suffix,), kind, name.virtual, version, commit, why))
+
+    def _put(self, item: Item) -> None:
+        self.items.append(item)
+        if item.kind is Kind.DIRECTORY:
+            self._descend(item)
+
+    def _recover(self, item: Item) -> None:
+        """Takes the nodes that a directory lost, by the names that its newest earlier listings have."""
+        after = item.version.address if item.version is not None else self.link.start
+        for at, commit in self.versions(item.virtual, after):
+            block = self.medium.block(at)
+            entry = mend_entry(block, Hint(at - PARTITION, item.virtual)) if block is not None else None
+            if entry is None or item.entry is not None and entry.unique != item.entry.unique:
+                continue
+            directory = self._read(entry, item.path)
+            if directory is None:
+                continue
+            for name in directory.names:
+                if name.proved:
+                    self._take(item, name, commit)
+            if directory.complete:
+                return
+
+    # ---- nodes without a name
+
+    def _collect(self) -> None:
+        """Takes the nodes that the table uses and that no name leads to, by their unique IDs."""
+        lost: Dict[int, Optional[Version]] = {}
+        for virtual, number in enumerate(self.entries):
+            if number != UNUSED and virtual not in self._reached:
+                lost[virtual] = self.resolve(virtual, None, None)
+        inner: Set[int] = set()
+        for version in lost.values():
+            if version is not None and version.entry.kind is Kind.DIRECTORY:
+                directory = self._read(version.entry, (LOST_AND_FOUND, str(version.entry.unique)))
+                inner.update(name.virtual for name in directory.names) if directory is not None else None
+        for whole in (False, True):
+            # Directories that name one another in a circle come last.
+            for virtual, version in lost.items():
+                if virtual not in self._reached and (whole or virtual not in inner):
+                    self._adopt(virtual, version)
+
+    def _adopt(self, virtual: int, version: Optional[Version]) -> None:
+        self._reached.add(virtual)
+        if version is None:
+            address = self.entries[virtual] + PARTITION
+            name, kind, why = f"block-{address}", None, "no name leads to it, and its entry cannot be read"
+            self.items.append(Item((LOST_AND_FOUND, name), (LOST_AND_FOUND, name), kind, virtual, None, None, why))
+            return
+        suffix = f".at-commit-{version.commit}" if version.commit is not None else ""
+        name = str(version.entry.unique)
+        why = "no name leads to it"
+        self._put(Item((LOST_AND_FOUND, name), (LOST_AND_FOUND, name + suffix), version.entry.kind, virtual, version, version.commit, why))
+        self._finish()
+
+
+    def _add_unfinished(self) -> None:
+        """Takes the nodes of a commit that has no table's entry: it was cut, or its last block is lost."""
+        names = {name.virtual: name for at in self.survey.nodes_after(self.link.address) for name in self._names_at(at)}
+        for at in self.survey.nodes_after(self.link.address):
+            block = self.medium.block(at)
+            entry = mend_entry(block, Hint(at - PARTITION)) if block is not None else None
+            if entry is None or entry.kind is not Kind.FILE:
+                continue
+            name = names.get(entry.location)
+            called = f", and its name is {name.name}" if name is not None and name.unique == entry.unique else ""
+            path = (LOST_AND_FOUND, f"{entry.unique}.unfinished")
+            why = f"the commit that wrote it has no table's entry: it was cut, or its last block is lost{called}"
+            self.items.append(Item(path, path, Kind.FILE, entry.location, Version(entry, at, None), None, why, True))
+
+    def _names_at(self, at: int) -> Iterator[Identifier]:
+        """The names of the directory whose entry stands at an address."""
+        block = self.medium.block(at)
+        entry = mend_entry(block, Hint(at - PARTITION)) if block is not None else None
+        if entry is not None and entry.kind is Kind.DIRECTORY:
+            directory = self._read(entry, (LOST_AND_FOUND,))
+            yield from directory.names if directory is not None else ()
+
+
+def data_before(medium: Medium, number: int) -> Optional[Tuple[bytes, int, int]]:
+    """A directory's data that ends before a block number: its bytes, its size and its first block number; None where there is none."""
+    blocks: List[bytes] = []
+    for first in range(number - 1, max(number - 200, -1), -1):
+        block = medium.block(first + PARTITION)
+        piece = piece_at(block, 0, len(block)) if block is not None else None
+        name = said_by(piece, first) if piece is not None else None
+        if block is None or piece is None or name is None or not name.proved:
+            return None
+        blocks.insert(0, block)
+        if piece.characteristics == IS_PARENT:
+            data = b"".join(blocks)
+            return data, end_of(data, first), first
+    return None
+
+
+def end_of(data: bytes, first: int) -> int:
+    """The bytes of a directory's data, by its identifiers."""
+    at = 0
+    while at < len(data):
+        piece = piece_at(data, at, len(data))
+        if piece is None or said_by(piece, first) is None:
+            break
+        at += len(piece.data)
+    return at

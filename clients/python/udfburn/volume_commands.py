@@ -1,0 +1,213 @@
+"""The commands for a volume as a whole: `format` and `status`."""
+
+from __future__ import annotations
+
+import argparse
+import os
+import stat
+from typing import TYPE_CHECKING, Dict, List, Optional, Tuple
+
+from .commands import progress_of
+from .connection import check_word, find_program, run_program
+from .errors import ProgramFailed, SourceError, UsageError
+from .operations import now
+from .progress import Progress, moment, plural, size
+from .protocol import limits, shown, spelled_size
+from .words import add_output, add_volume, command
+
+if TYPE_CHECKING:
+    from .status import Status
+    from .words import Subs
+
+CAPACITY = 359_844
+"""Blocks of a volume where none are said: those of a CD-R of 80 minutes."""
+
+UNITS = {"KIB": 10, "MIB": 20, "GIB": 30, "K": 10, "M": 20, "G": 30}
+"""The units in which a capacity may be given, as powers of 2."""
+
+
+def add(subs: Subs) -> None:
+    """The words of these commands."""
+    new = command(
+        subs, "format", format_image, "make a volume on an image",
+        "The image is new or empty. Its moment tells it from all other volumes, so it is that of now unless another is given.", volume=False,
+    )
+    new.add_argument("image_path", metavar="IMAGE", help="the image's file, which is made where it is missing")
+    new.add_argument("--label", metavar="TEXT", help="the volume's name, at most 30 characters (the name of the file without its extension)")
+    new.add_argument("--capacity", metavar="N", type=capacity, default=CAPACITY, help="blocks of 2,048 bytes, from 512 to 450,000, or a size such as 700MiB (359,844 blocks, a CD-R of 80 minutes)")
+    new.add_argument("--moment", metavar="MOMENT", type=moment_of, help="the moment of the format: microseconds from 1970, or as 2026-11-26T22:00:00Z (now)")
+    state = command(
+        subs, "status", status, "say what a volume is, and what it has left",
+        "Of an image all is told. Over a socket a daemon tells the tree alone, and what cannot be known is named.", volume=False,
+    )
+    state.add_argument("where", nargs="?", metavar="IMAGE|SOCKET", help="the image, or the socket of a daemon (else --socket, --image or UDFBURN_SOCKET)")
+    add_volume(state.add_argument_group("the volume in other words"))
+
+
+# ---- format
+
+def capacity(text: str) -> int:
+    """Blocks of a word: a count, or bytes with a unit."""
+    letters = text.lstrip("0123456789")
+    digits = text[: len(text) - len(letters)]
+    power = UNITS.get(letters.upper(), 11 if not letters else None)
+    if not digits.isascii() or not digits or power is None or len(digits) > 12:
+        raise argparse.ArgumentTypeError(f"{text!r} is no capacity: one is a count of blocks, or a size such as 700MiB")
+    blocks = (int(digits) << power) // limits.BLOCK
+    least, most = limits.CAPACITY
+    if not least <= blocks <= most:
+        raise argparse.ArgumentTypeError(f"{text!r} is {blocks:,} blocks, and a volume has {least} to {most:,} ({size(most * limits.BLOCK)})")
+    return blocks
+
+
+def moment_of(text: str) -> int:
+    """Microseconds of a word: a count from 1970 on, or a date with a time."""
+    from datetime import datetime, timedelta, timezone
+
+    if text.isascii() and text.isdecimal():
+        found = int(text[:20])
+    else:
+        try:
+            when = datetime.fromisoformat(text[:-1] + "+00:00" if text.endswith(("Z", "z")) else text)
+        except ValueError:
+            raise argparse.ArgumentTypeError(f"{text!r} is no moment: one is a count of microseconds from 1970, or as 2026-11-26T22:00:00Z") from None
+        when = when if when.tzinfo else when.replace(tzinfo=timezone.utc)
+        found = (when - datetime(1970, 1, 1, tzinfo=timezone.utc)) // timedelta(microseconds=1)
+    if not 0 <= found < limits.MOMENT:
+        raise argparse.ArgumentTypeError(f"{text!r} is outside 1970 to 2099")
+    return found
+
+
+def label_of(arguments: argparse.Namespace) -> str:
+    """The label that is asked for, or the name of the image's file without its extension."""
+    given: Optional[str] = arguments.label
+    label: str = os.path.splitext(os.path.basename(arguments.image_path))[0] if given is None else given
+    fault = label_fault(label)
+    if fault:
+        raise UsageError(f"{shown(label)}: {fault}" + ("" if given is not None else " (name the volume by --label)"))
+    return label
+
+
+def label_fault(label: str) -> Optional[str]:
+    """Why a text is no label, if it is none (ECMA-167 3/10.1.4, UDF 2.01 2.1.1)."""
+    from .sources import why_not
+
+    if not label or "\0" in label:
+        return "is no label: one has a character at least, and no NUL"
+    # What cannot be spelled cannot be spelled as a name either; slashes and dots are well in a label.
+    fault = why_not("x" + label.replace("/", "x")) if spelled_size(label) <= 31 else f"takes {spelled_size(label)} bytes as it is spelled on the medium, and a label has at most 31"
+    return fault.replace("its name", "the label") if fault else None
+
+
+def format_image(arguments: argparse.Namespace) -> int:
+    """Makes a volume."""
+    image: str = arguments.image_path
+    label = label_of(arguments)
+    when = now() if arguments.moment is None else arguments.moment
+    program = find_program(arguments.program)
+    check_word(os.path.abspath(image))
+    try:
+        run_program(program, ["format", os.path.abspath(image), label, str(when), str(arguments.capacity)])
+    except ProgramFailed as error:
+        raise SourceError(why_not_formatted(image, str(error))) from error
+    progress_of(arguments).result(
+        f"formatted {shown(image)}: {label}, {moment(when)}, {arguments.capacity:,} blocks ({size(arguments.capacity * limits.BLOCK)})",
+        path=shown(image), label=label, moment=when, capacity=arguments.capacity,
+    )
+    return 0
+
+
+def why_not_formatted(image: str, line: str) -> str:
+    """What the program's line means for who formats."""
+    if "61 NotBlank" in line:
+        return (
+            f"{shown(image)}: holds something already, and stays as it is. Take another name; or, where it is what a format left that was"
+            " cut short, remove it, or give that format's own --label, --capacity and --moment"
+        )
+    if "64 Device" in line:
+        return f"{shown(image)}: cannot be made or written: its folder is missing, its disk is full or fails, or another program has it ({line})"
+    return f"{shown(image)}: {line}"
+
+
+# ---- status
+
+def where_of(arguments: argparse.Namespace) -> Tuple[Optional[str], Optional[str]]:
+    """The image and the socket that are looked at."""
+    image, path = arguments.image, arguments.socket
+    where = arguments.where
+    if where is not None:
+        if image or path:
+            raise UsageError("name the volume once: as IMAGE or SOCKET, or by --image and --socket")
+        if where.startswith(("unix:", "image:")):
+            kind, where = where.split(":", 1)
+        else:
+            kind = "unix" if stat.S_ISSOCK(os.stat(where).st_mode) else "image"
+        image, path = (where, None) if kind == "image" else (None, where)
+    elif not image and not path:
+        path = os.environ.get("UDFBURN_SOCKET")
+    if not image and not path:
+        raise UsageError("name the volume: an image or the socket of a daemon")
+    return image, path
+
+
+def status(arguments: argparse.Namespace) -> int:
+    """Says what a volume is."""
+    from .status import of_image, of_socket
+
+    image, path = where_of(arguments)
+    progress = progress_of(arguments)
+    state = of_image(image) if image else of_socket(path or "", arguments)
+    tell(state, progress)
+    for note in state.notes:
+        progress.fail(f"{state.where}: {note}")
+    return 1 if state.notes else 0
+
+
+def tell(state: Status, progress: Progress) -> None:
+    """Prints a state: a line for each thing that is known, and one for what is not."""
+    if not progress.as_json:
+        for name, text in lines_of(state):
+            progress.say(f"{name:<9} {text}")
+    fields: Dict[str, object] = dict(state._asdict())
+    progress.outcome = fields
+
+
+def lines_of(state: Status) -> List[Tuple[str, str]]:
+    """What is printed of a state: a word, and what is said of it."""
+    lines = [("volume", state.where)]
+    if state.label is not None:
+        lines.append(("label", state.label))
+    if state.moment is not None:
+        lines.append(("formatted", f"{moment(state.moment)} ({state.moment} microseconds from 1970, UUID {state.uuid})"))
+    if state.commits is not None:
+        lines.append(("commits", f"{state.commits:,}"))
+    lines += block_lines(state)
+    if state.nodes is not None:
+        lines.append(("nodes", f"{state.nodes:,} of {limits.NODES:,}: {plural(state.files or 0, 'file', 'files')}, {plural(state.directories or 0, 'directory', 'directories')}; {limits.NODES - state.nodes:,} left"))
+    if state.bytes is not None:
+        lines.append(("bytes", f"{state.bytes:,} in all files ({size(state.bytes)})"))
+    if state.clients is not None:
+        lines.append(("clients", client_words(state.clients)))
+    if state.unknown:
+        lines.append(("unknown", f"{', '.join(state.unknown)}: no answer of a daemon tells them (name the image)"))
+    return lines
+
+
+def block_lines(state: Status) -> List[Tuple[str, str]]:
+    """What is printed of the blocks."""
+    if state.capacity is None or state.written is None or state.left is None:
+        return []
+    lines = [("blocks", f"{state.written:,} of {state.capacity:,} are written, {state.left:,} are left ({size(state.left * limits.BLOCK)})")]
+    if state.loose:
+        lines.append(("loose", f"{plural(state.loose, 'block', 'blocks')} at the end of no commit: of one that was cut short, or one whose last block is damaged ('check --expect' tells)"))
+    return lines
+
+
+def client_words(clients: int) -> str:
+    """What is said of the clients."""
+    left = limits.CLIENTS - clients
+    linux = f"Linux mounts up to {limits.LINUX_CLIENTS}" + (", so it does not mount this volume" if clients > limits.LINUX_CLIENTS else f": {limits.LINUX_CLIENTS - clients} left")
+    return f"{clients} of {limits.CLIENTS}: {left} left; {linux}"
+
+
+__all__ = ["add", "format_image", "status"]

@@ -1,0 +1,234 @@
+"""The commands that change the tree."""
+
+from __future__ import annotations
+
+import argparse
+import os
+from typing import TYPE_CHECKING, List, Tuple
+
+from . import notkept
+from .client import Client
+from .commands import progress_of, writer
+from .errors import UsageError
+from .escape import encode
+from .manifest import PAYLOAD
+from .progress import plural, size
+from .protocol import NodeKind, Path, path_of, show
+from .seal_command import add_manifest_only
+from .tree import Importer, Options, Summary, remove_tree, walk
+from .words import command
+
+if TYPE_CHECKING:
+    from .words import Subs
+
+
+def add(subs: Subs) -> None:
+    """The words of these commands."""
+    add_put(subs)
+    mkdir_words = command(subs, "mkdir", mkdir, "make directories", "Each is made once, whatever is repeated.", ledger=True)
+    mkdir_words.add_argument("path", nargs="+", metavar="PATH", help="a new directory, from the root on: /a/b")
+    mkdir_words.add_argument("-p", "--parents", action="store_true", help="make missing directories above; one that is there is no error")
+    move = command(subs, "mv", mv, "rename or move a file or a directory", "What is there is never replaced.", ledger=True)
+    move.add_argument("path", metavar="FROM", help="the file or directory, which goes with all below it")
+    move.add_argument("to", metavar="TO", help="the new path; with a slash at its end the directory that FROM goes into")
+    remove = command(
+        subs, "rm", rm, "remove files and directories",
+        "The blocks stay on the medium: --as-of of 'get', 'ls' and 'verify' still reads them.", ledger=True,
+    )
+    remove.add_argument("path", nargs="+", metavar="PATH", help="a file, an empty directory, or with -r any directory")
+    remove.add_argument("-r", "--recursive", action="store_true", help="remove directories with all below them")
+    again = command(
+        subs, "resume", resume, "finish what an earlier command began",
+        "Sends again, under its number, what the ledger has without a reply; each command that changes the tree does so first.", ledger=True,
+    )
+    again.add_argument("--forget", action="store_true", help="drop what is pending, and learn this client's latest number anew")
+
+
+def add_put(subs: Subs) -> None:
+    """The words of `put`."""
+    words = command(
+        subs, "put", put, "store files and folders",
+        "Looks first whether all of it fits, and says at once what does not. Files whose bytes are there already are left alone, so the"
+        " same line finishes what was interrupted, and stores only what changed since.", ledger=True,
+    )
+    words.add_argument("local", nargs="+", metavar="LOCAL", help="a file, or with -r a folder")
+    words.add_argument("path", metavar="PATH", help="what LOCAL becomes; with a slash at its end, or several LOCALs, the directory that they go into")
+    words.add_argument("-r", "--recursive", action="store_true", help="store folders with all that is in them")
+    words.add_argument("-p", "--parents", action="store_true", help="make missing directories above")
+    words.add_argument("--split", action="store_true", help="store files above a mebibyte in parts: NAME.000, NAME.001 and on; above 400 MiB NAME.parts/00/000 and on")
+    words.add_argument("--rewrite", action="store_true", help="store files anew whose bytes are there already")
+    words.add_argument("--skip-same", action="store_true", help="leave files alone whose bytes are there already, which is the default")
+    words.add_argument("--skip-odd", action="store_true", help="leave out and name what cannot be stored: symbolic links, pipes, sockets, devices, and names that UDF cannot spell")
+    words.add_argument("--escape", action="store_true", help="store names that UDF cannot spell under another spelling, which 'get' undoes")
+    words.add_argument("--delete-source", action="store_true", help="delete a local file once its reply is in the ledger and confirmed")
+    words.add_argument("--verify", action="store_true", help="read the bytes of each file back, before it is deleted")
+    words.add_argument("--seal", action="store_true", help="seal PATH afterwards, as 'seal' does: LOCAL is stored as PATH/data, and sources are deleted last")
+    add_manifest_only(words)
+    words.add_argument("--moment", choices=("mtime", "now"), default="mtime", help="the moment that files get: when they were modified, or now")
+
+
+def targets(locals_: List[str], path: str, escape: bool) -> List[Tuple[str, Path]]:
+    """The path that each local file or folder becomes."""
+    names = path_of(path)
+    becomes_root = not names and os.path.isdir(locals_[0])
+    if len(locals_) == 1 and (becomes_root or not path.endswith("/")):
+        return [(locals_[0], names)]
+    return [(local, names + (own_name(local, escape),)) for local in locals_]
+
+
+def own_name(local: str, escape: bool) -> str:
+    """The name of a local file as it is stored."""
+    name = os.path.basename(os.path.abspath(local))
+    return path_of([encode(name if escape else path_of([name])[0])])[0]
+
+
+def put(arguments: argparse.Namespace) -> int:
+    """Stores files and folders."""
+    if arguments.verify and arguments.dry_run:
+        raise UsageError("--dry-run stores nothing that --verify could read back")
+    if arguments.manifest_only and not arguments.seal:
+        raise UsageError("--manifest-only goes with --seal")
+    if arguments.rewrite and arguments.skip_same:
+        raise UsageError("--rewrite stores anew what --skip-same leaves alone")
+    fields = ("recursive", "parents", "split", "rewrite", "skip_odd", "escape", "delete_source", "verify", "dry_run", "moment", "image")
+    options = Options(**{name: getattr(arguments, name) for name in fields}, delete_last=arguments.seal)
+    options = options._replace(parents=options.parents or arguments.seal)
+    progress = progress_of(arguments)
+    with writer(arguments) as client:
+        importer = Importer(client, options, progress.told, progress.stored)
+        planned = importer.plan(targets(arguments.local, payload_of(arguments), arguments.escape))
+        sources = [source for source, _ in planned.files] + [job.source for job in importer.same]
+        progress.begin(len(sources), sum(source.identity.size for source in sources))
+        try:
+            summary = importer.run(planned)
+            sealed = seal_stored(client, importer, arguments) if arguments.seal else ""
+        finally:
+            progress.end()
+            # Also where it ends early: what was not stored or not deleted by then is named.
+            for line in importer.summary.skipped:
+                progress.left_out(line)
+            for line in importer.summary.failures:
+                progress.fail(line)
+    if summary.not_kept:
+        progress.note(notkept.line(summary.not_kept), did="not kept", **summary.not_kept)
+    progress.result(put_words(summary, options) + sealed, **vars(summary), sealed=bool(sealed))
+    return 1 if summary.failures else 0
+
+
+def payload_of(arguments: argparse.Namespace) -> str:
+    """The path that LOCALs become or go into. Where PATH is sealed it is a directory: one folder becomes its payload, all else goes
+    into that."""
+    path: str = arguments.path
+    if not arguments.seal:
+        return path
+    payload = show(path_of(path) if arguments.manifest_only else path_of(path) + (PAYLOAD,))
+    folder = len(arguments.local) == 1 and os.path.isdir(arguments.local[0])
+    return payload if folder else payload.rstrip("/") + "/"
+
+
+def seal_stored(client: Client, importer: Importer, arguments: argparse.Namespace) -> str:
+    """Seals what was stored, and then deletes the sources where that is asked for. What was done, in words."""
+    from .seal import seal, seal_words
+
+    path, progress = path_of(arguments.path), progress_of(arguments)
+    if arguments.dry_run:
+        progress.told("would seal", path, 0, 0)
+        return ""
+    if importer.summary.failures:
+        importer.summary.failures.append(f"{show(path)}: is not sealed, since not all was stored, and no source was deleted")
+        return ""
+    words = seal_words(seal(client, path, arguments.manifest_only, told=progress.told))
+    importer.delete_kept()
+    return f"; {words}"
+
+
+def put_words(summary: Summary, options: Options) -> str:
+    """What `put` did, in a line."""
+    words = [f"{'would store' if options.dry_run else 'stored'} {plural(summary.files, 'file', 'files')}, {size(summary.bytes)}"]
+    words += [f"made {plural(summary.folders, 'directory', 'directories')}"] if summary.folders else []
+    words += [f"{summary.same} were there"] if summary.same else []
+    words += [f"read back {summary.verified}"] if options.verify else []
+    words += [f"deleted {summary.deleted}"] if options.delete_source else []
+    words += [f"{summary.blocks} of {summary.left} blocks"] if summary.blocks is not None else []
+    return ", ".join(words)
+
+
+def finish_first(client: Client, arguments: argparse.Namespace) -> None:
+    """Finishes what an earlier command began, so that it changes nothing after this one has looked."""
+    if not arguments.dry_run:
+        client.resume()
+
+
+def mkdir(arguments: argparse.Namespace) -> int:
+    """Makes directories."""
+    progress = progress_of(arguments)
+    with writer(arguments) as client, client.held():
+        finish_first(client, arguments)
+        for path in map(path_of, arguments.path):
+            if arguments.dry_run:
+                progress.told("would make", path, 0, 0)
+            elif arguments.parents:
+                for made in client.makedirs(path):
+                    progress.told("made", made, 0, 0)
+            else:
+                progress.told("made", path, 0, client.mkdir(path))
+    return 0
+
+
+def mv(arguments: argparse.Namespace) -> int:
+    """Renames."""
+    progress = progress_of(arguments)
+    path, to = path_of(arguments.path), path_of(arguments.to)
+    if arguments.to.endswith("/"):
+        to += path[-1:]
+    with writer(arguments) as client:
+        if arguments.dry_run:
+            client.stat(path)
+            progress.told(f"would move {show(path)} to", to, 0, 0)
+        else:
+            progress.told(f"moved {show(path)} to", to, 0, client.rename(path, to))
+    return 0
+
+
+def rm(arguments: argparse.Namespace) -> int:
+    """Removes."""
+    progress = progress_of(arguments)
+    with writer(arguments) as client, client.held():
+        finish_first(client, arguments)
+        for path in map(path_of, arguments.path):
+            node = client.stat(path)
+            whole = arguments.recursive and node.kind is NodeKind.DIRECTORY
+            if arguments.dry_run:
+                for at, names in walk(client, path) if whole else ():
+                    for name in names:
+                        progress.told("would remove", at + (name.name,), 0, 0)
+                progress.told("would remove", path, 0, 0)
+            elif whole:
+                remove_tree(client, path, progress.told)
+            else:
+                progress.told("removed", path, 0, client.remove(path))
+    return 0
+
+
+def resume(arguments: argparse.Namespace) -> int:
+    """Finishes what is pending."""
+    progress = progress_of(arguments)
+    with writer(arguments) as client:
+        if arguments.dry_run:
+            known = client.session().ledger.volume(client.way.key())
+            for waiting in client.session().ledger.pending(known) if known else ():
+                progress.say(f"would send number {waiting.number} again: {waiting.path}", did="would send", number=waiting.number, path=waiting.path)
+            return 0
+        if arguments.forget:
+            for gone in client.forget():
+                progress.say(f"dropped {gone}", did="dropped", path=gone)
+            return 0
+        done = client.resume()
+        for number, path, code, commit in done:
+            how = "done" if not code else f"refused: {code.name}"
+            progress.say(f"number {number}, {path}: {how}, commit {commit}", did="resumed", number=number, path=path, code=int(code), commit=commit)
+        progress.result(f"pending were {plural(len(done), 'request', 'requests')}", count=len(done))
+    return 0
+
+
+__all__ = ["add", "mkdir", "mv", "put", "resume", "rm"]

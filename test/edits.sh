@@ -1,0 +1,112 @@
+#!/bin/sh
+# The must-fail edits that the gate leaves out: the prover refuses each of them too.
+#
+# usage: test/edits.sh [CRATE..]
+#        test/edits.sh --since COMMIT
+#        test/edits.sh --count
+# Without words it tries the edits of every crate; with --since, those of the crates whose files differ from the commit.
+# --count prints how many edits each crate has in must-fail/ and here, and tries none. The last line is
+# 'edits: N passed, M failed'. It takes the Rattle kit, a POSIX shell and the tools of a base system.
+#
+# The edits are in test/edits/CRATE, and those that change a definition in test/edits/laws/CRATE. They are tried on a copy of
+# the tree in which they stand in crates/CRATE/must-fail. What rt check keeps for this tree serves the copy too.
+set -u
+
+cd "$(dirname "$0")/.." || exit 1
+
+# crates: the crates that have edits here.
+crates() {
+    for folder in test/edits/*/ test/edits/laws/*/; do
+        basename "$folder"
+    done | grep -vx laws | LC_ALL=C sort -u
+}
+
+# edits CRATE: the edits of a crate that are here.
+edits() {
+    for edit in "test/edits/$1"/*.edit "test/edits/laws/$1"/*.edit; do
+        if [ -f "$edit" ]; then echo "$edit"; fi
+    done
+}
+
+# number FOLDER: how many edits are in a folder.
+number() {
+    find "$1" -maxdepth 1 -name '*.edit' 2> /dev/null | wc -l
+}
+
+# count: the edits of each crate, in must-fail/, in test/edits and in test/edits/laws.
+count() {
+    printf '%-14s %9s %10s %5s\n' crate must-fail test/edits laws
+    for folder in crates/*/; do
+        crate=$(basename "$folder")
+        here=$(number "crates/$crate/must-fail")
+        there=$(number "test/edits/$crate")
+        laws=$(number "test/edits/laws/$crate")
+        if [ $((here + there + laws)) -gt 0 ]; then echo "$crate $here $there $laws"; fi
+    done | awk '{ printf "%-14s %9d %10d %5d\n", $1, $2, $3, $4; here += $2; there += $3; laws += $4 }
+        END { printf "%-14s %9d %10d %5d\n", "all", here, there, laws }'
+}
+
+# refuse WORD..: says what is wrong with the words, and ends.
+refuse() {
+    echo "edits: $*"
+    echo 'edits: 0 passed, 1 failed'
+    exit 1
+}
+
+# changed COMMIT: the crates that have edits here, and whose files or edits differ from the commit.
+changed() {
+    for crate in $(crates); do
+        git diff --quiet "$1" -- "crates/$crate" "test/edits/$crate" "test/edits/laws/$crate" || echo "$crate"
+    done
+}
+
+case ${1:-} in
+    --count)
+        count
+        exit 0
+        ;;
+    --since)
+        [ $# -eq 2 ] || refuse 'usage: test/edits.sh --since COMMIT'
+        git rev-parse --quiet --verify "$2^{commit}" > /dev/null || refuse "there is no commit $2"
+        tried=$(changed "$2")
+        all=$(find test/edits -name '*.edit' | wc -l)
+        left=$(for crate in $tried; do edits "$crate"; done | wc -l)
+        echo "edits: $((all - left)) of $all left out, of crates that do not differ from $2"
+        if [ -z "$tried" ]; then
+            echo 'edits: 0 passed, 0 failed'
+            exit 0
+        fi
+        ;;
+    -*) refuse "there is no option $1" ;;
+    *)
+        tried=${*:-$(crates)}
+        for crate in $tried; do
+            [ -n "$(edits "$crate")" ] || refuse "there are no edits of a crate $crate"
+        done
+        ;;
+esac
+
+room=$(mktemp -d) || exit 1
+trap 'rm -rf "$room"' EXIT
+trap 'exit 1' HUP INT PIPE TERM
+
+mkdir "$room/tree" || exit 1
+tar -cf - --exclude=out --exclude=must-fail crates crates.txt HANDLES | tar -xf - -C "$room/tree" || exit 1
+total=0
+for crate in $tried; do
+    mkdir "$room/tree/crates/$crate/must-fail" || exit 1
+    for edit in $(edits "$crate"); do
+        cp "$edit" "$room/tree/crates/$crate/must-fail/" || exit 1
+        total=$((total + 1))
+    done
+done
+
+# One line for each edit, which says that it was refused or what came instead; other lines are of the libraries below.
+# shellcheck disable=SC2086
+(cd "$room/tree" && rt must-fail $tried) > "$room/told" 2>&1
+passed=$(grep -c '^rt: must-fail .*: refused, as it must be' "$room/told")
+grep '^rt: ' "$room/told" | grep -v ': refused, as it must be'
+if [ "$passed" -eq 0 ]; then tail -n 20 "$room/told"; fi
+failed=$((total - passed))
+echo "edits: $passed passed, $failed failed"
+[ "$failed" -eq 0 ]
