@@ -166,8 +166,8 @@ class Beside(Reading):
         """A reader in the middle of a commit: at each of its writes, finds the state before it."""
         need_shim()
         request = Request("create", 7, 1, WATCHED, b"w" * 200_000)
-        for write in range(1, 12):
-            for action in ("H", "P1000K", "k"):
+        for write in range(1, 6):
+            for action in ("H", "P1000K", "P100000K", "k"):
                 with self.subTest(write=write, action=action):
                     self.fresh(capacity=4000)
                     with Daemon(self.folder, rules="pwrite:%d:%s" % (write, action)) as daemon, daemon.client() as client:
@@ -177,13 +177,13 @@ class Beside(Reading):
                         if state_of(process) not in "TZX":
                             answer = client.answer()
                             if answer is not None:
-                                # There are fewer writes.
-                                self.assertGreater(write, 4)
+                                # There are fewer writes: the bytes, what is encoded after them, and the last block.
+                                self.assertGreater(write, 3)
                                 self.assertEqual(answer, committed(0, 1))
                                 continue
                             daemon.wait()
                         commits = log_lines(self.udfburn("log", "d.img"))[0][0]
-                        self.assertLessEqual(commits, int(action == "k"))
+                        self.assertLessEqual(commits, int(action in ("k", "P100000K")))
                         expected = Ran(0, request.data, b"") if commits else Ran(1, b"", b"udfburn: 96 NotFound\n")
                         self.assertEqual(self.udfburn("get", "d.img", WATCHED), expected)
                         self.assertEqual(self.sound(), commits)

@@ -162,7 +162,7 @@ class Formats(Case):
         for number in range(50):
             # Free, both stopped where the image is made, and the one that has it stopped at a sync until the other one has ended.
             rules = ["", "open:1:H", "fsync:%d:H", "open:1:H;fsync:%d:H"][number % 4] if has_shim() else ""
-            rules = rules.replace("%d", str(1 + number % 9))
+            rules = rules.replace("%d", str(1 + number % 3))
             with during("round %d, rules '%s'" % (number, rules)):
                 self.path("d.img").unlink(missing_ok=True)
                 if number % 8 >= 4:

@@ -195,8 +195,8 @@ class Order(Case):
 
     def test_a_format_behind_a_kill(self) -> None:
         """Also where another process made the image, `formatted` waits for the folder and for all of the file."""
-        rules = ["folderopen:1:K", "foldersync:1:K", "foldersync:1:k", "fsync:1:K", "pwrite:1:K", "pwrite:1:k", "pwrite:9:k",
-                 "fsync:9:K", "stdout:1:k"]
+        rules = ["folderopen:1:K", "foldersync:1:K", "foldersync:1:k", "fsync:1:K", "pwrite:1:K", "pwrite:1:P100000K", "pwrite:1:k",
+                 "pwrite:2:k", "fsync:2:K", "fsync:3:K", "stdout:1:k"]
         for rule in rules:
             with self.subTest(rule):
                 self.path("d.img").unlink(missing_ok=True)

@@ -195,7 +195,7 @@ class Power(Case):
 
     def test_a_format_that_is_finished(self) -> None:
         """The same where another process wrote the beginning, and synced none of it."""
-        for rule in ("pwrite:4:k", "fsync:5:K"):
+        for rule in ("pwrite:1:P100000K", "pwrite:1:k", "fsync:3:K"):
             with self.subTest(rule):
                 self.path("d.img").unlink(missing_ok=True)
                 self.new_log()

@@ -1,36 +1,12 @@
 -- Blocks that go out in packets.
-use Rattle.std.proofs.Common.{◌≡◌, ℕ, Bool, true, false, zero, suc, ◌+◌, ◌-◌, ◌≤◌, ◌<◌, List, [], ◌∷◌, ◌++◌, length, take, drop, get_or, refl, sym, ◌∙◌, ap, subst, arith, append_assoc, append-nil, length-append}
+use Rattle.std.proofs.Common.{◌≡◌, ℕ, true, false, zero, suc, ◌+◌, ◌≤◌, ◌<◌, List, [], ◌∷◌, ◌++◌, length, take, drop, get_or, refl, sym, ◌∙◌, ap, subst, arith, append_assoc, append-nil, length-append}
 use Rattle.std.proofs.lemmas.List.{length-take-le, take-append-drop}
-use Rattle.std.proofs.Math.Seq.{take-add}
 use Rattle.drive.specs.Journal.{Event, written, next_of, AddsFront}
-use Rattle.drive.specs.Sending.{as_write, Sends}
+use Rattle.drive.specs.Sending.{Sends}
 use Rattle.drive.specs.Waiting.{Waiting, end_of, Takes, Stops}
 use Rattle.drive.specs.declared.Drive.{Ghosts}
 use Rattle.drive.proofs.Fronts.{front_longer, front_after, written_after, begins_after}
-use Rattle.drive.proofs.Sending.{sends_none, sends_write, sends_then, sends_longer, sends_as}
-
--- the first d, and e - d of those behind them
-take_on : (d e : ℕ) (bs : List (List ℕ)) → d ≤ e → take d bs ++ take (e - d) (drop d bs) ≡ take e bs
-take_on d e bs h = sym (take-add d (e - d) bs) ∙ ap (λ n. take n bs) (let same : d + (e - d) ≡ e = omega arith in same)
-
--- a packet that is cut leaves a front of all
-pub packet_front : (J K K' : List Event) (at d e : ℕ) (bs : List (List ℕ)) → d ≤ e → e ≤ length bs → K ≡ J ++ written at (take d bs) → AddsFront K (at + d) (take (e - d) (drop d bs)) K' → AddsFront J at bs K'
-packet_front J K K' at d e bs de h k front =
-    let upto : AddsFront J at (take d bs ++ take (e - d) (drop d bs)) K' = front_after J K K' at (at + d) (take d bs) (take (e - d) (drop d bs)) k (omega (arith, length-take-le d bs (omega arith))) front in
-    subst (λ (cs : List (List ℕ)). AddsFront J at cs K') (take-append-drop e bs) (front_longer J K' at (take e bs) (drop e bs) (subst (λ (cs : List (List ℕ)). AddsFront J at cs K') (take_on d e bs de) upto))
-
--- a packet that is whole makes a longer front
-pub packet_written : (J K K' : List Event) (at d e : ℕ) (bs : List (List ℕ)) → d ≤ e → e ≤ length bs → K ≡ J ++ written at (take d bs) → K' ≡ K ++ written (at + d) (take (e - d) (drop d bs)) → K' ≡ J ++ written at (take e bs)
-packet_written J K K' at d e bs de h k k' =
-    written_after J K K' at (at + d) (take d bs) (take (e - d) (drop d bs)) k (omega (arith, length-take-le d bs (omega arith))) k'
-    ∙ ap (λ (cs : List (List ℕ)). J ++ written at cs) (take_on d e bs de)
-
--- so are the writes that it was given to
-pub packet_sends : {D : Type 0} {drive : Ghosts D} {failed : Bool} {a b c : D} (d e : ℕ) (bs : List (List ℕ)) → d ≤ e → e ≤ length bs → Sends drive (take d bs) false a b → Sends drive (take (e - d) (drop d bs)) failed b c → Sends drive (take e bs) failed a c
-packet_sends d e bs de h p q = sends_as (take_on d e bs de) (sends_then p q)
-
-pub packet_stopped : {D : Type 0} {drive : Ghosts D} {a b c : D} (d e : ℕ) (bs : List (List ℕ)) → d ≤ e → e ≤ length bs → Sends drive (take d bs) false a b → Sends drive (take (e - d) (drop d bs)) true b c → Sends drive bs true a c
-packet_stopped d e bs de h p q = sends_as (take-append-drop e bs) (sends_longer (drop e bs) (packet_sends d e bs de h p q))
+use Rattle.drive.proofs.Sending.{sends_none, sends_then, sends_longer, sends_as}
 
 -- the next packet may begin behind what was written
 pub packet_begins : (J K : List Event) (at d : ℕ) (bs : List (List ℕ)) → at ≤ next_of J → d ≤ length bs → K ≡ J ++ written at (take d bs) → at + d ≤ next_of K
@@ -60,68 +36,39 @@ takes_waiting drive d e w w' b is at blocks = record {
   begins = λ h. omega (arith, at, h, ap (λ x. next_of (drive.journal x)) is);
 }
 
--- a block that waits alone, since the others were written
-pub takes_alone : {D : Type 0} (drive : Ghosts D) (d c e : D) (w w' : Waiting) (b : List ℕ) → e ≡ c → drive.journal c ≡ drive.journal d ++ written w.at w.blocks → drive.writes c ≡ drive.writes d ++ as_write w.blocks
-    → w'.at ≡ end_of w → w'.blocks ≡ b ∷ [] → Takes drive d w (b ∷ []) e w'
-takes_alone drive d c e w w' b same is sent at blocks = record {
+-- blocks that wait alone, since the others were written
+pub takes_alone : {D : Type 0} (drive : Ghosts D) (d e : D) (w w' : Waiting) (bs : List (List ℕ)) → drive.journal e ≡ drive.journal d ++ written w.at w.blocks → Sends drive w.blocks false d e
+    → w'.at ≡ end_of w → w'.blocks ≡ bs → Takes drive d w bs e w'
+takes_alone drive d e w w' bs is sends at blocks = record {
   sent = w.blocks;
   order = ap (λ (cs : List (List ℕ)). w.blocks ++ cs) (sym blocks);
-  journal = ap (λ x. drive.journal x) same ∙ is;
-  sends = subst (λ x. Sends drive w.blocks false d x) (sym same) (sends_write w.blocks sent);
-  place = at;
-  ends = omega (arith, at, ap length blocks);
-  begins = λ h. omega (arith, at, ap (λ x. next_of (drive.journal x)) same, ap next_of is, begins_after (drive.journal d) w.at w.blocks h);
-}
-
--- what waited is written, and none waits
-pub takes_finished : {D : Type 0} (drive : Ghosts D) (d e : D) (w w' : Waiting) → drive.journal e ≡ drive.journal d ++ written w.at w.blocks → drive.writes e ≡ drive.writes d ++ as_write w.blocks
-    → w' ≡ record { at = end_of w; blocks = [] } → Takes drive d w [] e w'
-takes_finished drive d e w w' is sent empty = record {
-  sent = w.blocks;
-  order = ap (λ (v : Waiting). w.blocks ++ v.blocks) (sym empty);
-  journal = is;
-  sends = sends_write w.blocks sent;
-  place = ap (λ (v : Waiting). v.at) empty;
-  ends = omega (arith, ap end_of empty);
-  begins = λ h. omega (arith, ap (λ (v : Waiting). v.at) empty, ap next_of is, begins_after (drive.journal d) w.at w.blocks h);
-}
-
-nothing : (bs : List (List ℕ)) → (0 < length bs → ⊥) → bs ≡ []
-nothing [] h = refl
-nothing (b ∷ bs) h = absurd (h (omega arith))
-
--- no other block waits, where only then there are some
-pub none_waits : (waiting blocks : List (List ℕ)) → (0 < length waiting → length blocks ≡ 0) → 0 < length blocks → waiting ≡ []
-none_waits waiting blocks alone some = nothing waiting (λ h. omega (arith, alone h, some))
-
--- blocks that are written as they lie, where no other waits
-pub takes_straight : {D : Type 0} (drive : Ghosts D) (d e : D) (w w' : Waiting) (blocks : List (List ℕ)) → w.blocks ≡ [] → drive.journal e ≡ drive.journal d ++ written w.at blocks → Sends drive blocks false d e
-    → w'.at ≡ w.at + length blocks → w'.blocks ≡ w.blocks → Takes drive d w blocks e w'
-takes_straight drive d e w w' blocks none is sends at same = record {
-  sent = blocks;
-  order = ap (λ (cs : List (List ℕ)). cs ++ blocks) none ∙ sym (append-nil blocks) ∙ ap (λ (cs : List (List ℕ)). blocks ++ cs) (sym (same ∙ none));
   journal = is;
   sends = sends;
   place = at;
-  ends = omega (arith, at, ap length same);
-  begins = λ h. omega (arith, at, ap next_of is, begins_after (drive.journal d) w.at blocks h);
+  ends = omega (arith, at, ap length blocks);
+  begins = λ h. omega (arith, at, ap next_of is, begins_after (drive.journal d) w.at w.blocks h);
 }
 
--- a write of them failed
-pub stops_straight : {D : Type 0} (drive : Ghosts D) (d e : D) (w : Waiting) (at : ℕ) (blocks : List (List ℕ)) → w.blocks ≡ [] → at ≡ w.at → AddsFront (drive.journal d) at blocks (drive.journal e) → Sends drive blocks true d e → Stops drive d w blocks e
-stops_straight drive d e w at blocks none place front sends =
-    let all : blocks ≡ w.blocks ++ blocks = ap (λ (cs : List (List ℕ)). cs ++ blocks) (sym none) in
-    record {
-      front = subst (λ n. AddsFront (drive.journal d) n (w.blocks ++ blocks) (drive.journal e)) place (subst (λ (cs : List (List ℕ)). AddsFront (drive.journal d) at cs (drive.journal e)) all front);
-      sends = sends_as all sends;
-    }
+-- what waited is written, and none waits
+pub takes_finished : {D : Type 0} (drive : Ghosts D) (d e : D) (w w' : Waiting) → drive.journal e ≡ drive.journal d ++ written w.at w.blocks → Sends drive w.blocks false d e
+    → w' ≡ record { at = end_of w; blocks = [] } → Takes drive d w [] e w'
+takes_finished drive d e w w' is sends empty = takes_alone drive d e w w' [] is sends (ap (λ (v : Waiting). v.at) empty) (ap (λ (v : Waiting). v.blocks) empty)
 
 -- the write of what waited failed
-pub stops_finished : {D : Type 0} (drive : Ghosts D) (d e : D) (w : Waiting) → AddsFront (drive.journal d) w.at w.blocks (drive.journal e) → drive.writes e ≡ drive.writes d ++ as_write w.blocks → Stops drive d w [] e
-stops_finished drive d e w front sent = record {
+pub stops_finished : {D : Type 0} (drive : Ghosts D) (d e : D) (w : Waiting) → AddsFront (drive.journal d) w.at w.blocks (drive.journal e) → Sends drive w.blocks true d e → Stops drive d w [] e
+stops_finished drive d e w front sends = record {
   front = front_longer (drive.journal d) (drive.journal e) w.at w.blocks [] front;
-  sends = sends_longer {failed = false} [] (sends_write w.blocks sent);
+  sends = sends_longer [] sends;
 }
+
+-- of what waited, the lent and the packet, none is there
+pub none_lent : (lent packet : List (List ℕ)) → lent ++ packet ≡ [] → lent ≡ []
+none_lent [] packet h = refl
+none_lent (b ∷ lent) packet h = absurd (omega (arith, ap length h))
+
+pub none_packed : (lent packet : List (List ℕ)) → lent ++ packet ≡ [] → packet ≡ []
+none_packed [] packet h = h
+none_packed (b ∷ lent) packet h = absurd (omega (arith, ap length h))
 
 -- some blocks, and then more
 pub takes-append : {D : Type 0} {drive : Ghosts D} (d e f : D) (w w1 w2 : Waiting) (blocks more : List (List ℕ)) → Takes drive d w blocks e w1 → Takes drive e w1 more f w2 → Takes drive d w (blocks ++ more) f w2
@@ -162,11 +109,11 @@ takes_all {drive = drive} d e f w w1 blocks t is =
     written_after (drive.journal d) (drive.journal e) (drive.journal f) w.at w1.at t.sent w1.blocks t.journal t.place is ∙ ap (λ (cs : List (List ℕ)). drive.journal d ++ written w.at cs) (sym t.order)
 
 -- or a write of it fails: a front of the blocks is
-pub takes_front : {D : Type 0} {drive : Ghosts D} (d e f : D) (w w1 : Waiting) (blocks : List (List ℕ)) → Takes drive d w blocks e w1 → AddsFront (drive.journal e) w1.at w1.blocks (drive.journal f) → drive.writes f ≡ drive.writes e ++ as_write w1.blocks → Stops drive d w blocks f
-takes_front {drive = drive} d e f w w1 blocks t front sent = record {
+pub takes_front : {D : Type 0} {drive : Ghosts D} (d e f : D) (w w1 : Waiting) (blocks : List (List ℕ)) → Takes drive d w blocks e w1 → AddsFront (drive.journal e) w1.at w1.blocks (drive.journal f) → Sends drive w1.blocks true e f → Stops drive d w blocks f
+takes_front {drive = drive} d e f w w1 blocks t front sends = record {
   front = subst (λ (cs : List (List ℕ)). AddsFront (drive.journal d) w.at cs (drive.journal f)) (sym t.order)
       (front_after (drive.journal d) (drive.journal e) (drive.journal f) w.at w1.at t.sent w1.blocks t.journal t.place front);
-  sends = sends_as (sym t.order) (sends_then t.sends (sends_write w1.blocks sent));
+  sends = sends_as (sym t.order) (sends_then t.sends sends);
 }
 
 take_more : (i : ℕ) (bs : List (List ℕ)) (d : List ℕ) → i < length bs → take i bs ++ get_or bs i d ∷ [] ≡ take (i + 1) bs

@@ -4,24 +4,16 @@ use Rattle.std.proofs.lemmas.Bool.{false≢true}
 use Rattle.std.proofs.lemmas.List.{append_cancel_right}
 use Rattle.std.proofs.Math.Seq.{take-append_seam, drop-append_seam}
 use Rattle.drive.specs.Writes.{joined}
-use Rattle.drive.specs.Sending.{as_write, Sends, SendsAlone}
+use Rattle.drive.specs.Sending.{Sends, SendsAlone}
 use Rattle.drive.specs.declared.Drive.{Ghosts}
 
 pub joined_append : (xs ys : List (List (List ℕ))) → joined (xs ++ ys) ≡ joined xs ++ joined ys
 joined_append [] ys = refl
 joined_append (x ∷ xs) ys = ap (λ (bs : List (List ℕ)). x ++ bs) (joined_append xs ys) ∙ sym (append_assoc x (joined xs) (joined ys))
 
-pub joined_one : (blocks : List (List ℕ)) → joined (as_write blocks) ≡ blocks
-joined_one [] = refl
-joined_one (block ∷ blocks) = append-nil (block ∷ blocks)
-
 -- no write
 pub sends_none : {D : Type 0} (drive : Ghosts D) (d : D) → Sends drive [] false d d
 sends_none drive d = record { added = []; rest = []; writes = sym (append-nil (drive.writes d)); order = refl; whole = λ h. refl }
-
--- one write, or none for no block
-pub sends_write : {D : Type 0} {drive : Ghosts D} {failed : Bool} {a b : D} (blocks : List (List ℕ)) → drive.writes b ≡ drive.writes a ++ as_write blocks → Sends drive blocks failed a b
-sends_write blocks is = record { added = as_write blocks; rest = []; writes = is; order = append-nil (joined (as_write blocks)) ∙ joined_one blocks; whole = λ h. refl }
 
 -- a write of these blocks, be there any or none
 pub sends_one : {D : Type 0} {drive : Ghosts D} {failed : Bool} {a b : D} (blocks : List (List ℕ)) → drive.writes b ≡ drive.writes a ++ blocks ∷ [] → Sends drive blocks failed a b

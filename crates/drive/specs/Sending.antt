@@ -1,12 +1,7 @@
 -- What the writes of a drive have been given over some calls, whatever became of them.
-use Rattle.std.specs.Prelude.{◌≡◌, ℕ, Bool, false, List, [], ◌∷◌, ◌++◌}
+use Rattle.std.specs.Prelude.{◌≡◌, ℕ, Bool, false, List, [], ◌++◌}
 use Rattle.drive.specs.Writes.{joined, LastIsAlone}
 use Rattle.drive.specs.declared.Drive.{Ghosts}
-
--- one write of these blocks, or no write where there are none
-abbrev pub as_write : List (List ℕ) → List (List (List ℕ))
-as_write [] = []
-as_write (block ∷ blocks) = (block ∷ blocks) ∷ []
 
 -- The blocks were given to writes, in order: all of them, or, where a write failed, those up to the last one that it was given.
 pub record Sends {D : Type 0} (drive : Ghosts D) (blocks : List (List ℕ)) (failed : Bool) (old new : D) : Type 0 where

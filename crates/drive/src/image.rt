@@ -14,11 +14,10 @@
 ghost use Rattle.limits.specs.declared.TheConstants.{BLOCK_BYTES};
 ghost use Rattle.std.specs.Prelude.{◌+◌, ◌<◌, ◌^◌, length, IfOk};
 
+use crate::descriptor::{Descriptor, Found};
 use crate::{Block, DriveFault};
-use std::fs::{File, Files, Metadata, OpenOptions};
+use std::fs::{File, Files, OpenOptions};
 use std::io::ErrorKind;
-use std::os::fd::AsRawFd;
-use std::os::unix::fs::{FileExt, MetadataExt};
 use std::{fs, io};
 
 const BLOCK_BYTES: u64 = limits::BLOCK_BYTES as u64;
@@ -34,7 +33,7 @@ enum Access {
 /// each call.
 #[derive(Drop)]
 pub(crate) struct Image {
-    file: File,
+    file: Descriptor,
     access: Access,
     /// A write failed, and what it may have left is not cut off yet.
     is_torn: bool,
@@ -43,12 +42,10 @@ pub(crate) struct Image {
 impl Image {
     /// A file that is open for reading and writing, to write it. It is locked until it is dropped, synced, and
     /// read anew from the disk. One that another has locked is a fault.
-    pub(crate) fn to_write(file: File) -> Result<Image, DriveFault> {
-        if file.try_lock().is_err() {
-            return Err(DriveFault);
-        }
-        fault_of(file.sync_all())?;
-        forget_cached(&file)?;
+    pub(crate) fn to_write(file: Descriptor) -> Result<Image, DriveFault> {
+        file.try_lock()?;
+        file.sync_all()?;
+        file.forget_cached()?;
         Ok(Image {
             file,
             access: Access::Write,
@@ -56,7 +53,7 @@ impl Image {
         })
     }
 
-    pub(crate) fn to_read(file: File) -> Image {
+    pub(crate) fn to_read(file: Descriptor) -> Image {
         Image {
             file,
             access: Access::Read,
@@ -66,8 +63,8 @@ impl Image {
 
     /// How many whole blocks the file has. One that is no regular file is a fault.
     pub(crate) fn count(&self) -> Result<u32, DriveFault> {
-        let found = fault_of(self.file.metadata())?;
-        if found.is_file() {
+        let found = self.file.found()?;
+        if found.is_file {
             whole_blocks(&found)
         } else {
             Err(DriveFault)
@@ -77,41 +74,53 @@ impl Image {
     /// Whether the file has these blocks. One that is written has no other whole block, and a name.
     pub(crate) fn has(&mut self, count: u32) -> Result<bool, DriveFault> {
         self.cut_back(count)?;
-        let found = fault_of(self.file.metadata())?;
+        let found = self.file.found()?;
         let shown = whole_blocks(&found)?;
         Ok(match self.access {
             Access::Read => shown >= count,
-            Access::Write => shown == count && has_name(&found),
+            Access::Write => shown == count && found.has_name,
         })
     }
 
     /// The block at an address.
     pub(crate) fn read(&mut self, count: u32, at: u32, into: &mut Block) -> Result<(), DriveFault> {
         self.cut_back(count)?;
-        fault_of(self.file.read_exact_at(into, offset(at)))
+        self.file.read_exact_at(into, offset(at))
+    }
+
+    /// Has the system begin to read these blocks. It may not, and no call fails for it.
+    pub(crate) fn read_soon(&self, at: u32, count: u32) {
+        self.file
+            .read_soon(offset(at), u64::from(count) * BLOCK_BYTES);
     }
 
     /// The bytes behind the last whole block, at the front of `into`: how many they are, at most 2,047.
     pub(crate) fn part(&self, into: &mut Block) -> Result<usize, DriveFault>
         ensures { IfOk result (λ n. n < BLOCK_BYTES) }
     {
-        let found = fault_of(self.file.metadata())?;
-        let len = (found.len() % BLOCK_BYTES) as usize;
-        let end = found.len() - found.len() % BLOCK_BYTES;
-        fault_of(self.file.read_exact_at(&mut into[..len], end))?;
+        let found = self.file.found()?;
+        let len = (found.len % BLOCK_BYTES) as usize;
+        let end = found.len - found.len % BLOCK_BYTES;
+        self.file.read_exact_at(&mut into[..len], end)?;
         Ok(len)
     }
 
-    /// Writes blocks behind those that count, and waits until the disk has them. Blocks for another address
-    /// are a fault, so that none is written twice.
-    pub(crate) fn append(&mut self, count: u32, at: u32, blocks: &[Block]) -> Result<(), DriveFault>
-        requires { at + length blocks.now < 2 ^ 32 }
+    /// Writes the blocks of both slices, the second behind the first, behind those that count, and waits until the
+    /// disk has them all. Blocks for another address are a fault, so that none is written twice.
+    pub(crate) fn append(
+        &mut self,
+        count: u32,
+        at: u32,
+        first: &[Block],
+        second: &[Block],
+    ) -> Result<(), DriveFault>
+        requires { at + (length first.now + length second.now) < 2 ^ 32 }
     {
         self.cut_back(count)?;
         if self.access == Access::Read || at != count {
             return Err(DriveFault);
         }
-        if is_written(&self.file, at, blocks) {
+        if is_written(&self.file, at, first, second) {
             return Ok(());
         }
         self.is_torn = true;
@@ -126,40 +135,33 @@ impl Image {
         if !self.is_torn {
             return Ok(());
         }
-        let found = fault_of(self.file.metadata())?;
-        if found.len() < offset(count) {
+        let found = self.file.found()?;
+        if found.len < offset(count) {
             return Err(DriveFault);
         }
-        fault_of(self.file.set_len(offset(count)))?;
-        fault_of(self.file.sync_all())?;
+        self.file.set_len(offset(count))?;
+        self.file.sync_all()?;
         self.is_torn = false;
         Ok(())
     }
 }
 
-/// Has the system forget what it keeps of a synced file in memory. It takes the pages of a sync that failed for
-/// written, and so keeps what the disk does not have.
-fn forget_cached(file: &File) -> Result<(), DriveFault> {
-    // The length 0 reaches to the end.
-    match libc::posix_fadvise(file.as_raw_fd(), 0, 0, libc::POSIX_FADV_DONTNEED) {
-        0 => Ok(()),
-        _ => Err(DriveFault),
-    }
-}
-
-/// Whether the blocks were written and synced, and lie at the end of a file that could still be found then.
-fn is_written(file: &File, at: u32, blocks: &[Block]) -> bool
-    requires { at + length blocks.now < 2 ^ 32 }
+/// Whether the blocks of both slices were written and then synced once, and lie at the end of a file that could
+/// still be found then.
+fn is_written(file: &Descriptor, at: u32, first: &[Block], second: &[Block]) -> bool
+    requires { at + (length first.now + length second.now) < 2 ^ 32 }
 {
-    if file
-        .write_all_at(blocks.as_flattened(), offset(at))
-        .is_err()
+    let middle = at + first.len() as u32;
+    if file.write_all_at(first.as_flattened(), offset(at)).is_err()
+        || file
+            .write_all_at(second.as_flattened(), offset(middle))
+            .is_err()
         || file.sync_all().is_err()
     {
         return false;
     }
-    match file.metadata() {
-        Ok(found) => { whole_blocks(&found) == Ok(at + blocks.len() as u32) && has_name(&found) }
+    match file.found() {
+        Ok(found) => { whole_blocks(&found) == Ok(middle + second.len() as u32) && found.has_name }
         Err(_) => false,
     }
 }
@@ -217,11 +219,6 @@ fn offset(at: u32) -> u64 {
 }
 
 /// How many whole blocks a file's length shows.
-fn whole_blocks(found: &Metadata) -> Result<u32, DriveFault> {
-    u32::try_from(found.len() / BLOCK_BYTES).map_err(|_| DriveFault)
-}
-
-/// Whether the file can be found: it was neither removed nor replaced by another.
-fn has_name(found: &Metadata) -> bool {
-    found.nlink() > 0
+fn whole_blocks(found: &Found) -> Result<u32, DriveFault> {
+    u32::try_from(found.len / BLOCK_BYTES).map_err(|_| DriveFault)
 }

@@ -1,9 +1,9 @@
 //! Blocks on their way to a drive, in packets that one write may be given.
-ghost use Rattle.std.specs.Prelude.{◌≡◌, ◌+◌, ◌*◌, ◌/◌, ◌==◌, ◌<◌, ◌≤◌, if◌then◌else◌, ℕ, List, ◌∷◌, ◌++◌, [], length, vec_len, is_err, IfOk, OnOk, OnErr};
+ghost use Rattle.std.specs.Prelude.{◌≡◌, ◌+◌, ◌*◌, ◌/◌, ◌==◌, ◌<◌, ◌≤◌, if◌then◌else◌, ℕ, List, ◌∷◌, ◌++◌, [], length, take, drop, vec_len, is_err, IfOk, OnOk, OnErr};
 ghost use Rattle.std.specs.Vec.{vec_capacity};
 ghost use Rattle.drive.specs.Journal.{written, next_of, AddsFront};
 ghost use Rattle.drive.specs.Reads.{Writes};
-ghost use Rattle.drive.specs.Sending.{as_write, Sends, SendsAlone};
+ghost use Rattle.drive.specs.Sending.{Sends, SendsAlone};
 ghost use Rattle.drive.specs.Waiting.{Waiting, end_of, Takes, Stops};
 
 use crate::{Block, Drive, DriveFault, PACKET};
@@ -11,30 +11,23 @@ use std::alloc::{AllocError, Global};
 use std::marker::Model;
 use std::slice;
 
-/// Writes the blocks from this address on, in packets. What is left is as if they had been one write.
-pub fn write_packets<D: Drive>(drive: &mut D, at: u32, blocks: &[Block]) -> Result<(), DriveFault>
-    requires begins { at ≤ next_of (D.journal drive.old) }
-    requires fits { at + length blocks.now ≤ D.capacity drive.old }
-    ensures ok { OnOk result (D.journal drive.new ≡ D.journal drive.old ++ written at blocks.now) }
-    ensures err { OnErr result (AddsFront (D.journal drive.old) at blocks.now (D.journal drive.new)) }
-    ensures sends { Sends D.Drive blocks.now (is_err result) drive.old drive.new }
-    ensures writes { Writes D.Drive (is_err result) drive.old drive.new }
+/// The next packet of the blocks of both slices behind so many of them: at most 32, of one slice.
+pub(crate) fn packet_of<'b>(first: &'b [Block], second: &'b [Block], done: usize) -> &'b [Block]
+    requires { done < length first.now + length second.now }
+    ensures blocks { result.now ≡ take (length result.now) (drop done (first.now ++ second.now)) }
+    ensures some { 0 < length result.now }
+    ensures few { length result.now ≤ PACKET }
+    ensures within { done + length result.now ≤ length first.now + length second.now }
 {
-    // Asked so that the proof has the range of a capacity.
-    let _capacity = drive.capacity();
-    let mut done = 0;
-    while done < blocks.len() {
-        let end = blocks.len().min(done + PACKET);
-        match drive.write(at + done as u32, &blocks[done..end]) {
-            Ok(()) => done = end,
-            Err(fault) => return Err(fault),
-        }
+    if done < first.len() {
+        return &first[done..first.len().min(done + PACKET)];
     }
-    Ok(())
+    let begun = done - first.len();
+    &second[begun..second.len().min(begun + PACKET)]
 }
 
-/// Writes the blocks from this address on, in packets, and the last of them in a write of its own, behind the
-/// finished writes of all others. So whatever part of a write a loss of power leaves, the last block stands
+/// Writes the blocks from this address on: all but the last in one run, and the last in a write of its own, behind
+/// the finished writes of all others. So whatever part of a write a loss of power leaves, the last block stands
 /// only where the others do.
 pub fn write_last_alone<D: Drive>(
     drive: &mut D,
@@ -55,47 +48,49 @@ pub fn write_last_alone<D: Drive>(
     // Asked so that the proof has the range of a capacity.
     let _capacity = drive.capacity();
     let (before, last) = blocks.split_at(blocks.len() - 1);
-    write_packets(drive, at, before)?;
+    drive.write_run(at, before, &before[..0])?;
     drive.write(at + before.len() as u32, last)?;
     Ok(())
 }
 
-/// Takes blocks one by one, for addresses that follow each other, and writes them in full packets. To a
-/// caller it is the blocks that wait and the address of the first of them.
+/// Takes blocks for addresses that follow each other, and writes them in runs: blocks that it was lent, as they
+/// lie, and behind them a packet of those that it was given one by one. To a caller it is the blocks that wait
+/// and the address of the first of them.
 #[derive(Drop)]
-pub struct PacketWriter {
+pub struct PacketWriter<'b> {
+    lent: &'b [Block],
     packet: Vec<Block>,
     at: u32,
 }
 
-impl Model for PacketWriter {
+impl<'b> Model for PacketWriter<'b> {
     ghost Value = { Waiting };
 
-    ghost view = { λ w. record { at = w.at; blocks = w.packet.items } };
+    ghost view = { λ w. record { at = w.at; blocks = w.lent.now ++ w.packet.items } };
 
     ghost invariant = { λ w. (vec_len w.packet ≤ 32) × (32 ≤ vec_capacity w.packet) };
 }
 
-impl PacketWriter {
+impl<'b> PacketWriter<'b> {
     /// A writer of blocks from this address on. No later call takes memory.
-    pub fn new(alloc: Global, at: u32) -> Result<PacketWriter, AllocError>
+    pub fn new(alloc: Global, at: u32) -> Result<PacketWriter<'b>, AllocError>
         ensures { IfOk result (λ w. w ≡ record { at = at; blocks = [] }) }
     {
         Ok(PacketWriter {
+            lent: &[],
             packet: Vec::with_capacity(alloc, PACKET)?,
             at,
         })
     }
 
-    /// How many blocks wait, from 0 to 32.
+    /// How many blocks wait in the packet, from 0 to 32.
     pub fn waiting(&self) -> usize
-        ensures count { result ≡ length self.now.blocks }
-        ensures few { result ≤ PACKET }
+        ensures { result ≤ PACKET }
     {
         self.packet.len()
     }
 
-    /// Takes a block, which waits. Where a whole packet waits already, it is written first.
+    /// Takes a block, which waits. Where a whole packet waits already, what waits is written first.
     pub fn put<D: Drive>(&mut self, drive: &mut D, block: &Block) -> Result<(), DriveFault>
         requires begins { self.old.at ≤ next_of (D.journal drive.old) }
         requires fits { end_of self.old < D.capacity drive.old }
@@ -104,69 +99,35 @@ impl PacketWriter {
         ensures err { OnErr result (Stops D.Drive drive.old self.old [] drive.new) }
         ensures writes { Writes D.Drive (is_err result) drive.old drive.new }
     {
-        if self.waiting() == PACKET {
-            match self.finish(drive) {
-                Ok(()) => {}
-                Err(fault) => return Err(fault),
-            }
+        if self.packet.len() == PACKET {
+            return self.put_first(drive, block);
         }
         let one = slice::from_ref(block);
         self.packet.extend_from_slice(one).unwrap();
         Ok(())
     }
 
-    /// Takes the blocks one after another. Where none waits, whole packets of them go out as they lie, and are not copied.
-    pub fn put_all<D: Drive>(&mut self, drive: &mut D, blocks: &[Block]) -> Result<(), DriveFault>
+    /// Writes what waits, and takes a block, which waits alone.
+    fn put_first<D: Drive>(&mut self, drive: &mut D, block: &Block) -> Result<(), DriveFault>
         requires begins { self.old.at ≤ next_of (D.journal drive.old) }
-        requires fits { end_of self.old + length blocks.now ≤ D.capacity drive.old }
-        ensures ok { OnOk result (Takes D.Drive drive.old self.old blocks.now drive.new self.new) }
-        ensures err { OnErr result (Stops D.Drive drive.old self.old blocks.now drive.new) }
+        requires fits { end_of self.old < D.capacity drive.old }
+        ensures ok { OnOk result (Takes D.Drive drive.old self.old (block.now ∷ []) drive.new self.new) }
+        ensures waits { OnOk result (0 < length self.new.blocks) }
+        ensures err { OnErr result (Stops D.Drive drive.old self.old [] drive.new) }
         ensures writes { Writes D.Drive (is_err result) drive.old drive.new }
     {
-        let (packets, rest) = blocks.split_at(self.straight(blocks.len()));
-        self.put_packets(drive, packets)?;
-        self.put_each(drive, rest)?;
-        Ok(())
-    }
-
-    /// How many of so many blocks go out as they lie: those of whole packets, where no block waits.
-    pub fn straight(&self, count: usize) -> usize
-        ensures value { result ≡ (if length self.now.blocks == 0 then count / 32 * 32 else 0) }
-        ensures few { result ≤ count }
-        ensures alone { 0 < length self.now.blocks → result ≡ 0 }
-    {
-        if self.packet.is_empty() {
-            count / PACKET * PACKET
-        } else {
-            0
-        }
-    }
-
-    /// Writes blocks as they lie. Where there are any, no other waits.
-    fn put_packets<D: Drive>(&mut self, drive: &mut D, blocks: &[Block]) -> Result<(), DriveFault>
-        requires alone { 0 < length self.old.blocks → length blocks.now ≡ 0 }
-        requires begins { self.old.at ≤ next_of (D.journal drive.old) }
-        requires fits { end_of self.old + length blocks.now ≤ D.capacity drive.old }
-        ensures ok { OnOk result (Takes D.Drive drive.old self.old blocks.now drive.new self.new) }
-        ensures err { OnErr result (Stops D.Drive drive.old self.old blocks.now drive.new) }
-        ensures writes { Writes D.Drive (is_err result) drive.old drive.new }
-    {
-        // Asked so that the proof has the range of a capacity.
-        let _capacity = drive.capacity();
-        if blocks.is_empty() {
-            return Ok(());
-        }
-        match write_packets(drive, self.at, blocks) {
+        match self.finish(drive) {
             Ok(()) => {
-                self.at += blocks.len() as u32;
+                let alone = slice::from_ref(block);
+                self.packet.extend_from_slice(alone).unwrap();
                 Ok(())
             }
             Err(fault) => Err(fault),
         }
     }
 
-    /// Takes each of the blocks into the packet that waits.
-    fn put_each<D: Drive>(&mut self, drive: &mut D, blocks: &[Block]) -> Result<(), DriveFault>
+    /// Takes the blocks one after another.
+    pub fn put_all<D: Drive>(&mut self, drive: &mut D, blocks: &[Block]) -> Result<(), DriveFault>
         requires begins { self.old.at ≤ next_of (D.journal drive.old) }
         requires fits { end_of self.old + length blocks.now ≤ D.capacity drive.old }
         ensures ok { OnOk result (Takes D.Drive drive.old self.old blocks.now drive.new self.new) }
@@ -179,28 +140,82 @@ impl PacketWriter {
         Ok(())
     }
 
-    /// Writes the blocks that wait.
+    /// Takes blocks that go out as they lie, and are not copied. What waits before them is written first.
+    pub fn lend<D: Drive>(&mut self, drive: &mut D, blocks: &'b [Block]) -> Result<(), DriveFault>
+        requires begins { self.old.at ≤ next_of (D.journal drive.old) }
+        requires fits { end_of self.old + length blocks.now ≤ D.capacity drive.old }
+        ensures ok { OnOk result (Takes D.Drive drive.old self.old blocks.now drive.new self.new) }
+        ensures err { OnErr result (Stops D.Drive drive.old self.old blocks.now drive.new) }
+        ensures writes { Writes D.Drive (is_err result) drive.old drive.new }
+    {
+        match self.finish(drive) {
+            Ok(()) => {
+                self.lent = blocks;
+                Ok(())
+            }
+            Err(fault) => Err(fault),
+        }
+    }
+
+    /// Writes the blocks that wait, as one run.
     pub fn finish<D: Drive>(&mut self, drive: &mut D) -> Result<(), DriveFault>
         requires begins { self.old.at ≤ next_of (D.journal drive.old) }
         requires fits { end_of self.old ≤ D.capacity drive.old }
         ensures ok { OnOk result (D.journal drive.new ≡ D.journal drive.old ++ written self.old.at self.old.blocks) }
         ensures empty { OnOk result (self.new ≡ record { at = end_of self.old; blocks = [] }) }
         ensures err { OnErr result (AddsFront (D.journal drive.old) self.old.at self.old.blocks (D.journal drive.new)) }
-        ensures sent { D.writes drive.new ≡ D.writes drive.old ++ as_write self.old.blocks }
+        ensures sends { Sends D.Drive self.old.blocks (is_err result) drive.old drive.new }
         ensures writes { Writes D.Drive (is_err result) drive.old drive.new }
     {
         // Asked so that the proof has the range of a capacity.
         let _capacity = drive.capacity();
-        if self.packet.is_empty() {
+        if self.lent.is_empty() && self.packet.is_empty() {
             return Ok(());
         }
-        match drive.write(self.at, &self.packet) {
+        match drive.write_run(self.at, self.lent, &self.packet) {
             Ok(()) => {
-                self.at += self.packet.len() as u32;
+                self.at += (self.lent.len() + self.packet.len()) as u32;
+                self.lent = &self.lent[..0];
                 self.packet.clear();
                 Ok(())
             }
             Err(fault) => Err(fault),
+        }
+    }
+
+    /// Writes the one block that waits, in a write of its own.
+    pub fn finish_alone<D: Drive>(&mut self, drive: &mut D) -> Result<(), DriveFault>
+        requires one { length self.old.blocks ≡ 1 }
+        requires begins { self.old.at ≤ next_of (D.journal drive.old) }
+        requires fits { end_of self.old ≤ D.capacity drive.old }
+        ensures ok { OnOk result (D.journal drive.new ≡ D.journal drive.old ++ written self.old.at self.old.blocks) }
+        ensures empty { OnOk result (self.new ≡ record { at = end_of self.old; blocks = [] }) }
+        ensures err { OnErr result (AddsFront (D.journal drive.old) self.old.at self.old.blocks (D.journal drive.new)) }
+        ensures sent { D.writes drive.new ≡ D.writes drive.old ++ self.old.blocks ∷ [] }
+        ensures writes { Writes D.Drive (is_err result) drive.old drive.new }
+    {
+        // Asked so that the proof has the range of a capacity.
+        let _capacity = drive.capacity();
+        match drive.write(self.at, self.one()) {
+            Ok(()) => {
+                self.at += 1;
+                self.lent = &self.lent[..0];
+                self.packet.clear();
+                Ok(())
+            }
+            Err(fault) => Err(fault),
+        }
+    }
+
+    /// The one block that waits.
+    fn one(&self) -> &[Block]
+        requires { length self.now.blocks ≡ 1 }
+        ensures { result.now ≡ self.now.blocks }
+    {
+        if self.packet.is_empty() {
+            self.lent
+        } else {
+            &self.packet
         }
     }
 }

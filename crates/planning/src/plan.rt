@@ -58,7 +58,7 @@ pub struct Plan<'r> {
     pub file: Option<PlacedFile<'r>>,
     pub directories: Vec<PlacedDirectory>,
     pub table: PlacedTable,
-    pub(crate) writer: Writer,
+    pub(crate) writer: Writer<'r>,
 }
 
 impl Plan<'_> {
@@ -80,7 +80,7 @@ impl Plan<'_> {
         write_file(&mut self.writer, drive, &self.file)?;
         write_directories(&mut self.writer, drive, &self.directories)?;
         write_table(&mut self.writer, drive, &self.table)?;
-        self.writer.finish(drive)?;
+        self.writer.finish_alone(drive)?;
         Ok(())
     }
 
@@ -99,10 +99,10 @@ impl Plan<'_> {
 }
 
 /// A file's bytes, where they are outside its entry, and the entry. No file takes no block.
-fn write_file<D: Drive>(
-    writer: &mut Writer,
+fn write_file<'r, D: Drive>(
+    writer: &mut Writer<'r>,
     drive: &mut D,
-    file: &Option<PlacedFile<'_>>,
+    file: &Option<PlacedFile<'r>>,
 ) -> Result<(), DriveFault>
     requires begins { writer.old.packets.at ≤ next_of (D.journal drive.old) }
     requires fits { end_of writer.old.packets + length (file_list file.now) ≤ D.capacity drive.old }
@@ -114,14 +114,14 @@ fn write_file<D: Drive>(
         return Ok(());
     };
     let bytes = placed.file.bytes.as_slice();
-    writer.put_bytes(drive, placed.gap, outside_of(bytes))?;
+    writer.lend_bytes(drive, placed.gap, outside_of(bytes))?;
     writer.put_entry(drive, &placed.entry)?;
     Ok(())
 }
 
 /// A directory's data, and its entry.
 fn write_directory<D: Drive>(
-    writer: &mut Writer,
+    writer: &mut Writer<'_>,
     drive: &mut D,
     placed: &PlacedDirectory,
 ) -> Result<(), DriveFault>
@@ -139,7 +139,7 @@ fn write_directory<D: Drive>(
 
 /// The directories in order.
 fn write_directories<D: Drive>(
-    writer: &mut Writer,
+    writer: &mut Writer<'_>,
     drive: &mut D,
     directories: &[PlacedDirectory],
 ) -> Result<(), DriveFault>
@@ -158,7 +158,7 @@ fn write_directories<D: Drive>(
 /// The table's bytes, and its entry, with which the commit takes effect. The entry waits for a write of its own, behind the
 /// finished writes of all else: whatever part of a write a loss of power leaves, it stands only where all that it leads to does.
 fn write_table<D: Drive>(
-    writer: &mut Writer,
+    writer: &mut Writer<'_>,
     drive: &mut D,
     table: &PlacedTable,
 ) -> Result<(), DriveFault>

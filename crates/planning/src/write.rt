@@ -5,7 +5,7 @@ ghost use Rattle.std.specs.Prelude.{◌≡◌, ◌+◌, ◌<◌, ◌≤◌, ◌^
 ghost use Rattle.std.specs.Int.{div_ceil};
 ghost use Rattle.drive.specs.Journal.{next_of, written, AddsFront};
 ghost use Rattle.drive.specs.Reads.{Writes};
-ghost use Rattle.drive.specs.Sending.{as_write};
+ghost use Rattle.drive.specs.Sending.{Sends};
 ghost use Rattle.drive.specs.Waiting.{end_of, Takes, Stops};
 ghost use Rattle.dir.specs.Directory.{directory_blocks};
 ghost use Rattle.ecma.specs.Descriptor.{padded};
@@ -24,16 +24,16 @@ const ZEROS: Block = [0; BLOCK_SIZE];
 
 /// Takes blocks one by one, and counts those that are held at once.
 #[derive(Drop)]
-pub(crate) struct Writer {
-    packets: PacketWriter,
+pub(crate) struct Writer<'b> {
+    packets: PacketWriter<'b>,
     /// The blocks beside these that are held all the while.
     held: usize,
     most_held: usize,
 }
 
-impl Writer {
+impl<'b> Writer<'b> {
     /// A writer of blocks from this address on. No later call takes memory.
-    pub(crate) fn new(alloc: Global, at: u32) -> Result<Writer, AllocError>
+    pub(crate) fn new(alloc: Global, at: u32) -> Result<Writer<'b>, AllocError>
         ensures { IfOk result (λ w. w.packets ≡ record { at = at; blocks = [] }) }
     {
         Ok(Writer {
@@ -102,7 +102,7 @@ impl Writer {
         Ok(())
     }
 
-    /// The blocks in order. Where no other waits, whole packets of them are not copied, and not held.
+    /// The blocks in order.
     fn put_all<D: Drive>(&mut self, drive: &mut D, blocks: &[Block]) -> Result<(), DriveFault>
         requires begins { self.old.packets.at ≤ next_of (D.journal drive.old) }
         requires fits { end_of self.old.packets + length blocks.now ≤ D.capacity drive.old }
@@ -110,11 +110,21 @@ impl Writer {
         ensures err { OnErr result (Stops D.Drive drive.old self.old.packets blocks.now drive.new) }
         ensures writes { Writes D.Drive (is_err result) drive.old drive.new }
     {
-        let left = blocks.len() - self.packets.straight(blocks.len());
-        let waiting = self.packets.waiting().saturating_add(left);
+        let waiting = self.packets.waiting().saturating_add(blocks.len());
         let held = self.held.saturating_add(PACKET.min(waiting));
         self.most_held = self.most_held.max(held);
         self.packets.put_all(drive, blocks)
+    }
+
+    /// The blocks in order, which go out as they lie: they are not copied, and not held.
+    fn lend<D: Drive>(&mut self, drive: &mut D, blocks: &'b [Block]) -> Result<(), DriveFault>
+        requires begins { self.old.packets.at ≤ next_of (D.journal drive.old) }
+        requires fits { end_of self.old.packets + length blocks.now ≤ D.capacity drive.old }
+        ensures ok { OnOk result (Takes D.Drive drive.old self.old.packets blocks.now drive.new self.new.packets) }
+        ensures err { OnErr result (Stops D.Drive drive.old self.old.packets blocks.now drive.new) }
+        ensures writes { Writes D.Drive (is_err result) drive.old drive.new }
+    {
+        self.packets.lend(drive, blocks)
     }
 
     /// Bytes, with zeros behind them in the last block.
@@ -128,6 +138,21 @@ impl Writer {
     {
         let (blocks, text) = bytes.as_chunks::<BLOCK_SIZE>();
         self.put_all(drive, blocks)?;
+        self.put_text(drive, text)?;
+        Ok(())
+    }
+
+    /// Bytes, with zeros behind them in the last block. Their whole blocks are lent.
+    fn lend_data<D: Drive>(&mut self, drive: &mut D, bytes: &'b [u8]) -> Result<(), DriveFault>
+        requires begins { self.old.packets.at ≤ next_of (D.journal drive.old) }
+        requires size { length bytes.now < 2 ^ 32 }
+        requires fits { end_of self.old.packets + div_ceil (length bytes.now) BLOCK_BYTES ≤ D.capacity drive.old }
+        ensures ok { OnOk result (Takes D.Drive drive.old self.old.packets (packed bytes.now) drive.new self.new.packets) }
+        ensures err { OnErr result (Stops D.Drive drive.old self.old.packets (packed bytes.now) drive.new) }
+        ensures writes { Writes D.Drive (is_err result) drive.old drive.new }
+    {
+        let (blocks, text) = bytes.as_chunks::<BLOCK_SIZE>();
+        self.lend(drive, blocks)?;
         self.put_text(drive, text)?;
         Ok(())
     }
@@ -166,6 +191,25 @@ impl Writer {
         Ok(())
     }
 
+    /// Blocks of zeros, and then bytes whose whole blocks are lent.
+    pub(crate) fn lend_bytes<D: Drive>(
+        &mut self,
+        drive: &mut D,
+        gap: u32,
+        bytes: &'b [u8],
+    ) -> Result<(), DriveFault>
+        requires begins { self.old.packets.at ≤ next_of (D.journal drive.old) }
+        requires size { length bytes.now < 2 ^ 32 }
+        requires fits { end_of self.old.packets + (gap + div_ceil (length bytes.now) BLOCK_BYTES) ≤ D.capacity drive.old }
+        ensures ok { OnOk result (Takes D.Drive drive.old self.old.packets (replicate gap zeros ++ packed bytes.now) drive.new self.new.packets) }
+        ensures err { OnErr result (Stops D.Drive drive.old self.old.packets (replicate gap zeros ++ packed bytes.now) drive.new) }
+        ensures writes { Writes D.Drive (is_err result) drive.old drive.new }
+    {
+        self.put_zeros(drive, gap)?;
+        self.lend_data(drive, bytes)?;
+        Ok(())
+    }
+
     /// The data of a directory, from a block number on.
     pub(crate) fn put_directory<D: Drive>(
         &mut self,
@@ -188,17 +232,30 @@ impl Writer {
         Ok(())
     }
 
-    /// Writes the blocks that wait. None waits then, and the next block begins a write of its own.
+    /// Writes the blocks that wait, as one run. None waits then, and the next block begins a write of its own.
     pub(crate) fn finish<D: Drive>(&mut self, drive: &mut D) -> Result<(), DriveFault>
         requires begins { self.old.packets.at ≤ next_of (D.journal drive.old) }
         requires fits { end_of self.old.packets ≤ D.capacity drive.old }
         ensures ok { OnOk result (D.journal drive.new ≡ D.journal drive.old ++ written self.old.packets.at self.old.packets.blocks) }
         ensures empty { OnOk result (self.new.packets ≡ record { at = end_of self.old.packets; blocks = [] }) }
         ensures err { OnErr result (AddsFront (D.journal drive.old) self.old.packets.at self.old.packets.blocks (D.journal drive.new)) }
-        ensures sent { D.writes drive.new ≡ D.writes drive.old ++ as_write self.old.packets.blocks }
+        ensures sends { Sends D.Drive self.old.packets.blocks (is_err result) drive.old drive.new }
         ensures writes { Writes D.Drive (is_err result) drive.old drive.new }
     {
         self.packets.finish(drive)
+    }
+
+    /// Writes the one block that waits, in a write of its own.
+    pub(crate) fn finish_alone<D: Drive>(&mut self, drive: &mut D) -> Result<(), DriveFault>
+        requires one { length self.old.packets.blocks ≡ 1 }
+        requires begins { self.old.packets.at ≤ next_of (D.journal drive.old) }
+        requires fits { end_of self.old.packets ≤ D.capacity drive.old }
+        ensures ok { OnOk result (D.journal drive.new ≡ D.journal drive.old ++ written self.old.packets.at self.old.packets.blocks) }
+        ensures err { OnErr result (AddsFront (D.journal drive.old) self.old.packets.at self.old.packets.blocks (D.journal drive.new)) }
+        ensures sent { D.writes drive.new ≡ D.writes drive.old ++ self.old.packets.blocks ∷ [] }
+        ensures writes { Writes D.Drive (is_err result) drive.old drive.new }
+    {
+        self.packets.finish_alone(drive)
     }
 }
 

@@ -65,6 +65,11 @@ impl Known {
         }
     }
 
+    /// Whether the nodes that are read are kept.
+    pub(crate) fn keeps_nodes(&self) -> bool {
+        self.keeps_nodes
+    }
+
     /// Goes on to the next state: of the directories, those of the state that was looked at last are kept.
     pub(crate) fn begin(&mut self)
         ensures { (medium : List (List ℕ)) → IsKnown medium self.old → IsKnown medium self.new }

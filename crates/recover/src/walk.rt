@@ -21,7 +21,7 @@ use crate::marks::Marks;
 use crate::reading::{PARTITION_START, block_count};
 use crate::seen::{SeenFile, SeenFiles};
 use crate::table::{address_below, lies_below};
-use dir::{Entry, Kind};
+use dir::{Dir, Entry, Kind};
 use drive::Drive;
 use std::alloc::Global;
 
@@ -30,6 +30,9 @@ pub const PATH_NAMES: u32 = limits::PATH_NAMES;
 
 /// The virtual address of the root directory.
 pub const ROOT_ADDRESS: u32 = 1;
+
+/// How many entries the drive is told of before they are read.
+const AHEAD: usize = 32;
 
 /// The least unique ID of a node but the root.
 pub const FIRST_UNIQUE: u32 = limits::FIRST_UNIQUE;
@@ -200,7 +203,10 @@ impl<'a> Walk<'a> {
         } = names;
         let count = dir.entries.len();
         let mut index = self.visit_seen(&files, 0, node.depth);
+        let is_once = !known.keeps_nodes();
+        self.announce(drive, is_once, &dir, index, AHEAD);
         while index < count {
+            self.announce(drive, is_once, &dir, index.saturating_add(AHEAD), 1);
             let (_, entry) = dir.entries.get_index(index).unwrap();
             let child = node.child(entry, extent.first + PARTITION_START);
             self.visit(alloc, drive, known, &child)?;
@@ -209,6 +215,31 @@ impl<'a> Walk<'a> {
         }
         known.keep_directory(extent, Names { dir, links, files });
         Ok(())
+    }
+
+    /// Tells the drive that the entries under so many names from this place on are read soon. Only a walk of one state
+    /// does so: states that follow one another lead to blocks all over the medium, which a system reads ahead better.
+    fn announce<D: Drive>(&self, drive: &D, is_once: bool, dir: &Dir, from: usize, count: usize)
+        requires { PARTITION_START ≤ self.now.at }
+    {
+        if !is_once {
+            return;
+        }
+        for index in from..from.saturating_add(count) {
+            self.announce_entry(drive, dir, index);
+        }
+    }
+
+    /// Tells the drive that the entry under the name at this place is read soon, if there is one.
+    fn announce_entry<D: Drive>(&self, drive: &D, dir: &Dir, index: usize)
+        requires { PARTITION_START ≤ self.now.at }
+    {
+        let Some((_, entry)) = dir.entries.get_index(index) else {
+            return;
+        };
+        if let Some(at) = address_below(self.entries, entry.icb, self.at) {
+            drive.read_soon(at, 1);
+        }
     }
 
     /// Looks at the files under the names from this place on, up to the first that was not found there or that the table

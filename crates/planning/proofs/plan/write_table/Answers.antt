@@ -19,7 +19,7 @@ pub put_entry-requires-clause-begins : goal.put_entry-requires-clause-begins
 put_entry-requires-clause-begins g c =
     let J1 = c.put_bytes.new.drive in
     let J2 = c.finish.new.drive in
-    let rest = takes_finished g.D.Drive J1 J2 c.put_bytes.new.self.packets c.finish.new.self.packets c.in_ok-finish.ensures.ok c.finish.ensures.sent c.in_ok-finish.ensures.empty in
+    let rest = takes_finished g.D.Drive J1 J2 c.put_bytes.new.self.packets c.finish.new.self.packets c.in_ok-finish.ensures.ok c.in_ok-finish.ensures.sends c.in_ok-finish.ensures.empty in
     rest.begins (c.in_ok-put_bytes.ensures.ok.begins c.requires.begins)
 
 pub returns-in_err-put_bytes-clause-err : goal.returns-in_err-put_bytes-clause-err
@@ -39,7 +39,7 @@ returns-in_err-finish-clause-err g c =
     let blocks = replicate t.gap zeros ++ packed c.deref.result.now in
     let same = ap (λ (bs : List ℕ). replicate t.gap zeros ++ packed bs) c.deref.ensures.value in
     rw q.1 (stops_same J J2 c.args.writer.now.packets blocks (table_data t) same
-    (takes_front J J1 J2 c.args.writer.now.packets c.put_bytes.new.self.packets blocks c.in_ok-put_bytes.ensures.ok c.in_err-finish.ensures.err c.finish.ensures.sent))
+    (takes_front J J1 J2 c.args.writer.now.packets c.put_bytes.new.self.packets blocks c.in_ok-put_bytes.ensures.ok c.in_err-finish.ensures.err c.in_err-finish.ensures.sends))
 
 pub returns-in_err-put_entry-clause-err : goal.returns-in_err-put_entry-clause-err
 returns-in_err-put_entry-clause-err g c =
@@ -52,7 +52,7 @@ returns-in_err-put_entry-clause-err g c =
     let w2 = c.finish.new.self.packets in
     let blocks = replicate t.gap zeros ++ packed c.deref.result.now in
     let same = ap (λ (bs : List ℕ). replicate t.gap zeros ++ packed bs) c.deref.ensures.value in
-    let taken = takes_both J J1 J2 c.args.writer.now.packets w1 w2 blocks [] blocks (append-nil blocks) c.in_ok-put_bytes.ensures.ok (takes_finished g.D.Drive J1 J2 w1 w2 c.in_ok-finish.ensures.ok c.finish.ensures.sent c.in_ok-finish.ensures.empty) in
+    let taken = takes_both J J1 J2 c.args.writer.now.packets w1 w2 blocks [] blocks (append-nil blocks) c.in_ok-put_bytes.ensures.ok (takes_finished g.D.Drive J1 J2 w1 w2 c.in_ok-finish.ensures.ok c.in_ok-finish.ensures.sends c.in_ok-finish.ensures.empty) in
     rw q.1 (stops_second J J2 c.put_entry.new.drive c.args.writer.now.packets w2 blocks [] (table_data t) (append-nil blocks ∙ same) taken c.in_err-put_entry.ensures.err)
 
 pub returns-clause-waits : goal.returns-clause-waits
@@ -71,5 +71,5 @@ returns-clause-ok g c =
     let w2 = c.finish.new.self.packets in
     let blocks = replicate t.gap zeros ++ packed c.deref.result.now in
     let whole = ap (λ (bs : List ℕ). (replicate t.gap zeros ++ packed bs) ++ t.entry ∷ []) c.deref.ensures.value in
-    let taken = takes_both J J1 J2 c.args.writer.now.packets w1 w2 blocks [] blocks (append-nil blocks) c.in_ok-put_bytes.ensures.ok (takes_finished g.D.Drive J1 J2 w1 w2 c.in_ok-finish.ensures.ok c.finish.ensures.sent c.in_ok-finish.ensures.empty) in
+    let taken = takes_both J J1 J2 c.args.writer.now.packets w1 w2 blocks [] blocks (append-nil blocks) c.in_ok-put_bytes.ensures.ok (takes_finished g.D.Drive J1 J2 w1 w2 c.in_ok-finish.ensures.ok c.in_ok-finish.ensures.sends c.in_ok-finish.ensures.empty) in
     takes_both J J2 c.put_entry.new.drive c.args.writer.now.packets w2 c.put_entry.new.self.packets blocks (t.entry ∷ []) (table_data t ++ t.entry ∷ []) whole taken c.in_ok-put_entry.ensures.ok

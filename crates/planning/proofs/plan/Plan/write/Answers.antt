@@ -69,12 +69,15 @@ write_table-requires-clause-fits g c =
       c.write_directories.ensures.writes.capacity,
     )
 
-pub finish-requires-clause-begins : goal.finish-requires-clause-begins
-finish-requires-clause-begins g c =
+pub finish_alone-requires-clause-one : goal.finish_alone-requires-clause-one
+finish_alone-requires-clause-one g c = ap length c.in_ok-write_table.ensures.waits
+
+pub finish_alone-requires-clause-begins : goal.finish_alone-requires-clause-begins
+finish_alone-requires-clause-begins g c =
     c.in_ok-write_table.ensures.ok.begins (c.in_ok-write_directories.ensures.ok.begins (c.in_ok-write_file.ensures.ok.begins (omega (arith, ap (λ (w : Waiting). w.at) (c.hold.ensures ∙ c.requires.plan.begins)))))
 
-pub finish-requires-clause-fits : goal.finish-requires-clause-fits
-finish-requires-clause-fits g c =
+pub finish_alone-requires-clause-fits : goal.finish_alone-requires-clause-fits
+finish_alone-requires-clause-fits g c =
     let p = c.args.self.now in
     let next = next_of (g.D.Drive.journal c.args.drive.now) in
     let table = table_data p.table ++ p.table.entry ∷ [] in
@@ -141,9 +144,9 @@ returns-in_err-write_table-clause-err g c =
     rw q.1 (stops_front J J3 (next_of (g.D.Drive.journal J)) w (plan_blocks p) (c.hold.ensures ∙ c.requires.plan.begins)
     (stops_second J J2 J3 w w2 (node_list p) t (plan_blocks p) refl both (stops_longer J2 J3 w2 (table_data p.table) (p.table.entry ∷ []) c.in_err-write_table.ensures.err)))
 
-pub returns-in_err-finish-clause-err : goal.returns-in_err-finish-clause-err
-returns-in_err-finish-clause-err g c =
-    let q = err_from_is_err_and c.from_residual-in_err-finish.result c.from_residual-in_err-finish.ensures.1 in
+pub returns-in_err-finish_alone-clause-err : goal.returns-in_err-finish_alone-clause-err
+returns-in_err-finish_alone-clause-err g c =
+    let q = err_from_is_err_and c.from_residual-in_err-finish_alone.result c.from_residual-in_err-finish_alone.ensures.1 in
     let p = c.args.self.now in
     let J = c.args.drive.now in
     let J1 = c.write_file.new.drive in
@@ -158,7 +161,7 @@ returns-in_err-finish-clause-err g c =
     let nodes = ap (λ (es : List PlacedDirectory). f ++ directories_list es) c.deref.ensures.value in
     let both = takes_both J J1 J2 w c.write_file.new.writer.packets w2 f (directories_list ds) (node_list p) nodes c.in_ok-write_file.ensures.ok c.in_ok-write_directories.ensures.ok in
     let all = takes_both J J2 J3 w w2 w3 (node_list p) t (plan_blocks p) refl both c.in_ok-write_table.ensures.ok in
-    rw q.1 (takes_fronted J J3 c.finish.new.drive (next_of (g.D.Drive.journal J)) w w3 (plan_blocks p) (c.hold.ensures ∙ c.requires.plan.begins) all c.in_err-finish.ensures.err c.finish.ensures.sent)
+    rw q.1 (takes_fronted J J3 c.finish_alone.new.drive (next_of (g.D.Drive.journal J)) w w3 (plan_blocks p) (c.hold.ensures ∙ c.requires.plan.begins) all c.in_err-finish_alone.ensures.err c.finish_alone.ensures.sent)
 
 pub returns-clause-ok : goal.returns-clause-ok
 returns-clause-ok g c =
@@ -176,7 +179,7 @@ returns-clause-ok g c =
     let nodes = ap (λ (es : List PlacedDirectory). f ++ directories_list es) c.deref.ensures.value in
     let both = takes_both J J1 J2 w c.write_file.new.writer.packets w2 f (directories_list ds) (node_list p) nodes c.in_ok-write_file.ensures.ok c.in_ok-write_directories.ensures.ok in
     let all = takes_both J J2 J3 w w2 w3 (node_list p) t (plan_blocks p) refl both c.in_ok-write_table.ensures.ok in
-    takes_written J J3 c.finish.new.drive (next_of (g.D.Drive.journal J)) w w3 (plan_blocks p) (c.hold.ensures ∙ c.requires.plan.begins) all c.in_ok-finish.ensures.ok
+    takes_written J J3 c.finish_alone.new.drive (next_of (g.D.Drive.journal J)) w w3 (plan_blocks p) (c.hold.ensures ∙ c.requires.plan.begins) all c.in_ok-finish_alone.ensures.ok
 
 pub returns-in_err-write_file-clause-alone : goal.returns-in_err-write_file-clause-alone
 returns-in_err-write_file-clause-alone g c =
@@ -225,9 +228,9 @@ returns-in_err-write_table-clause-alone g c =
     rw q.1 (alone_before J J3 (next_of (g.D.Drive.journal J)) w (node_list p ++ t) p.table.entry (c.hold.ensures ∙ c.requires.plan.begins)
     (stops_second J J2 J3 w w2 (node_list p) t (node_list p ++ t) refl both c.in_err-write_table.ensures.err))
 
-pub returns-in_err-finish-clause-alone : goal.returns-in_err-finish-clause-alone
-returns-in_err-finish-clause-alone g c =
-    let q = err_from_is_err_and c.from_residual-in_err-finish.result c.from_residual-in_err-finish.ensures.1 in
+pub returns-in_err-finish_alone-clause-alone : goal.returns-in_err-finish_alone-clause-alone
+returns-in_err-finish_alone-clause-alone g c =
+    let q = err_from_is_err_and c.from_residual-in_err-finish_alone.result c.from_residual-in_err-finish_alone.ensures.1 in
     let p = c.args.self.now in
     let J = c.args.drive.now in
     let J1 = c.write_file.new.drive in
@@ -243,7 +246,7 @@ returns-in_err-finish-clause-alone g c =
     let w3 = c.write_table.new.writer.packets in
     let e = p.table.entry in
     let all = takes_both J J2 J3 w w2 w3 (node_list p) (t ++ e ∷ []) ((node_list p ++ t) ++ e ∷ []) (sym (append_assoc (node_list p) t (e ∷ []))) both c.in_ok-write_table.ensures.ok in
-    rw q.1 (alone_behind J J3 c.finish.new.drive (next_of (g.D.Drive.journal J)) w w3 (node_list p ++ t) e (c.hold.ensures ∙ c.requires.plan.begins) all c.in_ok-write_table.ensures.waits c.finish.ensures.sent)
+    rw q.1 (alone_behind J J3 c.finish_alone.new.drive (next_of (g.D.Drive.journal J)) w w3 (node_list p ++ t) e (c.hold.ensures ∙ c.requires.plan.begins) all c.in_ok-write_table.ensures.waits c.finish_alone.ensures.sent)
 
 pub returns-clause-alone : goal.returns-clause-alone
 returns-clause-alone g c =
@@ -262,4 +265,4 @@ returns-clause-alone g c =
     let w3 = c.write_table.new.writer.packets in
     let e = p.table.entry in
     let all = takes_both J J2 J3 w w2 w3 (node_list p) (t ++ e ∷ []) ((node_list p ++ t) ++ e ∷ []) (sym (append_assoc (node_list p) t (e ∷ []))) both c.in_ok-write_table.ensures.ok in
-    alone_behind J J3 c.finish.new.drive (next_of (g.D.Drive.journal J)) w w3 (node_list p ++ t) e (c.hold.ensures ∙ c.requires.plan.begins) all c.in_ok-write_table.ensures.waits c.finish.ensures.sent
+    alone_behind J J3 c.finish_alone.new.drive (next_of (g.D.Drive.journal J)) w w3 (node_list p ++ t) e (c.hold.ensures ∙ c.requires.plan.begins) all c.in_ok-write_table.ensures.waits c.finish_alone.ensures.sent

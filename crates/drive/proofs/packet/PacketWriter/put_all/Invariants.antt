@@ -1,7 +1,7 @@
 use Rattle.std.proofs.Common.{false, take}
 use Rattle.drive.specs.Reads.{Writes}
 use Rattle.drive.specs.Waiting.{Takes}
-use Rattle.drive.proofs.packet.PacketWriter.put_each.Given as goal
+use Rattle.drive.proofs.packet.PacketWriter.put_all.Given as goal
 
 -- the blocks so far were taken
 abbrev pub invariant-loop-block : goal.invariant-loop-block

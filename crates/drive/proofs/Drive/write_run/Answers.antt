@@ -1,0 +1,61 @@
+use Rattle.std.proofs.Common.{◌++◌, ◌+◌, ◌≤◌, length, sym, subst, ap, ◌∙◌, arith, append-nil, length-append, take_all, refl}
+use Rattle.drive.specs.Journal.{AddsFront, written}
+use Rattle.drive.proofs.Fronts.{front_whole}
+use Rattle.drive.proofs.Packing.{packet_begins}
+use Rattle.drive.proofs.Running.{runs_none, runs_one, runs_as, runs_front, packet_runs, packet_broken, packet_written}
+use Rattle.drive.proofs.Drive.write_run.Goals as goal
+
+pub write-requires-clause-begins : goal.write-requires-clause-begins
+write-requires-clause-begins g c =
+    let all = c.args.first.now ++ c.args.second.now in
+    packet_begins (g.Self.Drive.journal c.args.self.now) (g.Self.Drive.journal c.loop-done.self) c.args.at c.loop-done.done all c.requires.begins (omega (arith, c.loop-done.invariant.in_range, length-append c.args.first.now c.args.second.now)) c.loop-done.invariant.journal
+
+pub loop-done-preserved : goal.loop-done-preserved
+loop-done-preserved g c =
+    let all = c.args.first.now ++ c.args.second.now in
+    let packet = c.packet_of-packet.result.now in
+    let J1 = g.Self.Drive.journal c.loop-done.self in
+    let at = c.args.at + c.loop-done.done in
+    let le : c.loop-done.done + length packet ≤ length all = omega (arith, c.packet_of-packet.ensures.within, length-append c.args.first.now c.args.second.now) in
+    record {
+      in_range = c.packet_of-packet.ensures.within;
+      journal = packet_written c.args.at c.loop-done.done all packet le c.packet_of-packet.ensures.blocks (g.Self.Drive.journal c.args.self.now) J1 (g.Self.Drive.journal c.write.new.self) c.loop-done.invariant.journal c.in-Ok.ensures.ok;
+      runs = packet_runs c.args.at c.loop-done.done all packet le c.packet_of-packet.ensures.blocks c.loop-done.invariant.journal c.loop-done.invariant.runs
+          (runs_one packet (subst (λ J. AddsFront J1 at packet J) (sym c.in-Ok.ensures.ok) (front_whole J1 at packet)) c.write.ensures.writes);
+      capacity = c.write.ensures.capacity ∙ c.loop-done.invariant.capacity;
+      failures = c.in-Ok.ensures.failures ∙ c.loop-done.invariant.failures;
+      misreads = c.write.ensures.misreads ∙ c.loop-done.invariant.misreads;
+      honest = c.write.ensures.honest ∙ c.loop-done.invariant.honest;
+    }
+
+pub loop-done-init : goal.loop-done-init
+loop-done-init g c = record {
+  in_range = omega arith;
+  journal = sym (append-nil (g.Self.Drive.journal c.args.self.now));
+  runs = runs_none c.args.at (g.Self.Drive.journal c.args.self.now) (g.Self.Drive.writes c.args.self.now);
+  capacity = refl;
+  failures = refl;
+  misreads = refl;
+  honest = refl;
+}
+
+pub returns-in-Err-clause-runs : goal.returns-in-Err-clause-runs
+returns-in-Err-clause-runs g c =
+    let all = c.args.first.now ++ c.args.second.now in
+    let packet = c.packet_of-packet.result.now in
+    let le : c.loop-done.done + length packet ≤ length all = omega (arith, c.packet_of-packet.ensures.within, length-append c.args.first.now c.args.second.now) in
+    packet_broken c.args.at c.loop-done.done all packet le c.packet_of-packet.ensures.blocks c.loop-done.invariant.journal c.loop-done.invariant.runs (runs_one packet c.in-Err.ensures.err c.write.ensures.writes)
+
+pub returns-in-Err-clause-err : goal.returns-in-Err-clause-err
+returns-in-Err-clause-err g c = runs_front (returns-in-Err-clause-runs g c)
+
+pub returns-clause-runs : goal.returns-clause-runs
+returns-clause-runs g c =
+    let all = c.args.first.now ++ c.args.second.now in
+    runs_as (take_all c.loop-done.done all (omega (arith, c.loop-done-test.false, length-append c.args.first.now c.args.second.now))) c.loop-done.invariant.runs
+
+pub returns-clause-ok : goal.returns-clause-ok
+returns-clause-ok g c =
+    let all = c.args.first.now ++ c.args.second.now in
+    let J = g.Self.Drive.journal c.args.self.now in
+    c.loop-done.invariant.journal ∙ ap (λ (bs : _). J ++ written c.args.at bs) (take_all c.loop-done.done all (omega (arith, c.loop-done-test.false, length-append c.args.first.now c.args.second.now)))

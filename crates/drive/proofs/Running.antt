@@ -1,0 +1,107 @@
+-- Runs of blocks: one behind another, and what they are to the writes of a drive.
+use Rattle.std.proofs.Common.{◌≡◌, ℕ, zero, suc, Bool, true, false, ◌+◌, ◌-◌, ◌≤◌, List, [], ◌∷◌, ◌++◌, length, take, drop, refl, sym, ◌∙◌, ap, subst, arith, append_assoc, append-nil}
+use Rattle.std.proofs.lemmas.Bool.{false≢true}
+use Rattle.std.proofs.lemmas.List.{length-take-le, take-append-drop}
+use Rattle.std.proofs.Math.Seq.{take-add}
+use Rattle.drive.specs.Journal.{Event, written, AddsFront}
+use Rattle.drive.specs.Note.{longer}
+use Rattle.drive.specs.Writes.{joined, Runs}
+use Rattle.drive.specs.Sending.{Sends}
+use Rattle.drive.specs.declared.Drive.{Ghosts}
+use Rattle.drive.proofs.Fronts.{front_longer, front_after, written_after}
+use Rattle.drive.proofs.Sending.{joined_append}
+
+-- it is what the drive sends
+pub runs_send : {D : Type 0} {drive : Ghosts D} {at : ℕ} {blocks : List (List ℕ)} {failed : Bool} {a b : D} → Runs at blocks failed (drive.journal a) (drive.writes a) (drive.journal b) (drive.writes b) → Sends drive blocks failed a b
+runs_send p = record { added = p.added; rest = p.rest; writes = p.writes_are; order = p.order; whole = p.whole }
+
+-- what was added is a front of all its blocks
+pub runs_front : {at : ℕ} {blocks : List (List ℕ)} {failed : Bool} {J J' : List Event} {W W' : List (List (List ℕ))} → Runs at blocks failed J W J' W' → AddsFront J at blocks J'
+runs_front {at = at} {J = J} {J' = J'} p = subst (λ (bs : List (List ℕ)). AddsFront J at bs J') p.order (front_longer J J' at (joined p.added) p.rest p.front)
+
+-- no block
+pub runs_none : (at : ℕ) (J : List Event) (W : List (List (List ℕ))) → Runs at [] false J W J W
+runs_none at J W = record { added = []; rest = []; writes_are = sym (append-nil W); order = refl; whole = λ h. refl; front = (0, omega arith, sym (append-nil J)) }
+
+-- one write of all its blocks
+pub runs_one : {at : ℕ} {failed : Bool} {J J' : List Event} {W W' : List (List (List ℕ))} (blocks : List (List ℕ)) → AddsFront J at blocks J' → W' ≡ W ++ blocks ∷ [] → Runs at blocks failed J W J' W'
+runs_one {at = at} {J = J} {J' = J'} blocks front is = record {
+  added = blocks ∷ [];
+  rest = [];
+  writes_are = is;
+  order = append-nil (blocks ++ []) ∙ append-nil blocks;
+  whole = λ h. refl;
+  front = subst (λ (bs : List (List ℕ)). AddsFront J at bs J') (sym (append-nil blocks)) front;
+}
+
+all_given : (added : List (List (List ℕ))) (rest blocks : List (List ℕ)) → joined added ++ rest ≡ blocks → rest ≡ [] → joined added ≡ blocks
+all_given added rest blocks order none = sym (append-nil (joined added)) ∙ ap (λ (bs : List (List ℕ)). joined added ++ bs) (sym none) ∙ order
+
+-- blocks behind others that were all written
+pub runs_then : {failed : Bool} {J J1 J2 : List Event} {W W1 W2 : List (List (List ℕ))} {at next : ℕ} {bs cs : List (List ℕ)} → J1 ≡ J ++ written at bs → next ≡ at + length bs → Runs at bs false J W J1 W1 → Runs next cs failed J1 W1 J2 W2 → Runs at (bs ++ cs) failed J W J2 W2
+runs_then {J = J} {J1 = J1} {J2 = J2} {W = W} {at = at} {next = next} {bs = bs} {cs = cs} is place p q =
+    let all : joined p.added ≡ bs = all_given p.added p.rest bs p.order (p.whole refl) in
+    record {
+      added = p.added ++ q.added;
+      rest = q.rest;
+      writes_are = q.writes_are ∙ ap (λ (ws : List (List (List ℕ))). ws ++ q.added) p.writes_are ∙ append_assoc W p.added q.added;
+      order = ap (λ (ds : List (List ℕ)). ds ++ q.rest) (joined_append p.added q.added) ∙ append_assoc (joined p.added) (joined q.added) q.rest
+          ∙ ap (λ (ds : List (List ℕ)). joined p.added ++ ds) q.order ∙ ap (λ (ds : List (List ℕ)). ds ++ cs) all;
+      whole = q.whole;
+      front = subst (λ (ds : List (List ℕ)). AddsFront J at ds J2) (ap (λ (ds : List (List ℕ)). ds ++ joined q.added) (sym all) ∙ sym (joined_append p.added q.added))
+          (front_after J J1 J2 at next bs (joined q.added) is place q.front);
+    }
+
+-- a failure among some blocks is one among these and more
+pub runs_longer : {failed : Bool} {J J' : List Event} {W W' : List (List (List ℕ))} {at : ℕ} {bs : List (List ℕ)} (cs : List (List ℕ)) → Runs at bs failed J W J' W' → Runs at (bs ++ cs) true J W J' W'
+runs_longer cs p = record {
+  added = p.added;
+  rest = p.rest ++ cs;
+  writes_are = p.writes_are;
+  order = sym (append_assoc (joined p.added) p.rest cs) ∙ ap (λ (ds : List (List ℕ)). ds ++ cs) p.order;
+  whole = λ h. absurd (false≢true (sym h));
+  front = p.front;
+}
+
+pub runs_as : {failed : Bool} {J J' : List Event} {W W' : List (List (List ℕ))} {at : ℕ} {bs cs : List (List ℕ)} → bs ≡ cs → Runs at bs failed J W J' W' → Runs at cs failed J W J' W'
+runs_as {failed = failed} {J = J} {J' = J'} {W = W} {W' = W'} {at = at} same p = subst (λ (ds : List (List ℕ)). Runs at ds failed J W J' W') same p
+
+-- In a loop over packets: one more is the front of what is left.
+module _ (at d : ℕ) (all p : List (List ℕ)) (le : d + length p ≤ length all) (is : p ≡ take (length p) (drop d all)) where
+  longer_front : take d all ++ p ≡ take (d + length p) all
+  longer_front = ap (λ (bs : List (List ℕ)). take d all ++ bs) is ∙ sym (take-add d (length p) all)
+
+  begun : at + d ≡ at + length (take d all)
+  begun = omega (arith, length-take-le d all (omega (arith, le)))
+
+  pub packet_written : (J J1 J2 : List Event) → J1 ≡ J ++ written at (take d all) → J2 ≡ J1 ++ written (at + d) p → J2 ≡ J ++ written at (take (d + length p) all)
+  packet_written J J1 J2 k k' = written_after J J1 J2 at (at + d) (take d all) p k begun k' ∙ ap (λ (bs : List (List ℕ)). J ++ written at bs) longer_front
+
+  pub packet_runs : {failed : Bool} {J J1 J2 : List Event} {W W1 W2 : List (List (List ℕ))} → J1 ≡ J ++ written at (take d all) → Runs at (take d all) false J W J1 W1 → Runs (at + d) p failed J1 W1 J2 W2 → Runs at (take (d + length p) all) failed J W J2 W2
+  packet_runs k r q = runs_as longer_front (runs_then k begun r q)
+
+  -- or it failed
+  pub packet_broken : {J J1 J2 : List Event} {W W1 W2 : List (List (List ℕ))} → J1 ≡ J ++ written at (take d all) → Runs at (take d all) false J W J1 W1 → Runs (at + d) p true J1 W1 J2 W2 → Runs at all true J W J2 W2
+  packet_broken k r q = runs_as (take-append-drop (d + length p) all) (runs_longer (drop (d + length p) all) (packet_runs k r q))
+
+-- what is left of two lists behind the first
+drop_behind : (first second : List (List ℕ)) (d : ℕ) → length first ≤ d → drop d (first ++ second) ≡ drop (d - length first) second
+drop_behind [] second d h = ap (λ n. drop n second) (let same : d ≡ d - 0 = omega arith in same)
+drop_behind (b ∷ first) second zero h = absurd (omega (arith, h))
+drop_behind (b ∷ first) second (suc d) h = drop_behind first second d (omega (arith, h)) ∙ ap (λ n. drop n second) (let same : d - length first ≡ suc d - length (b ∷ first) = omega arith in same)
+
+take_own : (n : ℕ) (bs : List (List ℕ)) → take n bs ≡ take (length (take n bs)) bs
+take_own zero bs = refl
+take_own (suc n) [] = refl
+take_own (suc n) (b ∷ bs) = ap (λ (cs : List (List ℕ)). b ∷ cs) (take_own n bs)
+
+-- a packet of the second list
+pub packet_behind : (first second : List (List ℕ)) (d n : ℕ) → length first ≤ d → take n (drop (d - length first) second) ≡ take (length (take n (drop (d - length first) second))) (drop d (first ++ second))
+packet_behind first second d n h =
+    take_own n (drop (d - length first) second) ∙ ap (λ (bs : List (List ℕ)). take (length (take n (drop (d - length first) second))) bs) (sym (drop_behind first second d h))
+
+-- the last write has more
+pub longer_last : (writes : List (List (List ℕ))) (write more : List (List ℕ)) → longer (writes ++ write ∷ []) more ≡ writes ++ (write ++ more) ∷ []
+longer_last [] write more = refl
+longer_last (x ∷ []) write more = refl
+longer_last (x ∷ y ∷ writes) write more = ap (λ (ws : List (List (List ℕ))). x ∷ ws) (longer_last (y ∷ writes) write more)
