@@ -2,7 +2,6 @@
 
 use crate::answers::told;
 use crate::beside::{Beside, sessions_text};
-use crate::bytes::show_bytes;
 use crate::machine::Machine;
 use crate::steps::{BesideStep, Look, MediumStep, Step, Stream};
 use crate::streams::{Pieces, Room};
@@ -12,6 +11,7 @@ use engine::Delivery;
 use std::alloc::Global;
 use std::fmt::Write;
 use store::Snapshot;
+use words::show_bytes;
 
 /// A medium that is kept under a name.
 #[derive(Drop)]
@@ -187,7 +187,8 @@ impl Player {
             .ok_or(Trouble::Line("no such block"))?;
         let (_, behind) = bytes.split_at(from.min(2048));
         let (shown, _) = behind.split_at(count.min(behind.len()));
-        show_bytes(shown, text)
+        show_bytes(shown, text)?;
+        Ok(())
     }
 
     /// The check of some blocks.
