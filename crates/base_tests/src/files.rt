@@ -4,6 +4,7 @@ use crate::drives::block;
 use drive::{Drive, DriveFault, FileDrive, create_image, open_image};
 use std::fs;
 use std::fs::File;
+use std::os::fd::IntoRawFd;
 use std::os::unix::fs::symlink;
 use std::test::Fail;
 
@@ -30,6 +31,61 @@ fn a_file_keeps_blocks(rt: HostRuntime) -> Result<(), Fail> {
     let mut into = block(0);
     again.read(1, &mut into)?;
     assert_eq!(rt; into[0], 8);
+    fs::remove_file(&rt, path)?;
+    Ok(())
+}
+
+/// The second slice of a run lies after the first, and a run that does not begin at the next address is a fault.
+#[test]
+fn a_run_lies_in_one_piece(rt: HostRuntime) -> Result<(), Fail> {
+    let path = "run.img";
+    let _ = fs::remove_file(&rt, path);
+    let mut drive = FileDrive::create(&rt, path, 100)?;
+    let capacity = drive.capacity();
+    assert_eq!(rt; capacity, 100);
+    assert_eq!(rt; drive.next(), Ok(0));
+    drive.write_run(0, &[block(7); 40], &[block(8), block(9)])?;
+    assert_eq!(rt; drive.next(), Ok(42));
+    let found = fs::read(&rt, path)?;
+    assert_eq!(rt; found.len(), 42 * 2048);
+    assert_eq!(rt;
+        (found[39 * 2048], found[40 * 2048], found[41 * 2048]),
+        (7, 8, 9)
+    );
+    assert_eq!(rt; drive.write_run(41, &[block(1)], &[]), Err(DriveFault));
+    assert_eq!(rt; drive.next(), Ok(42));
+    fs::remove_file(&rt, path)?;
+    Ok(())
+}
+
+/// An image by the number of a descriptor is held like another. One that cannot be written is refused, and is not
+/// changed.
+#[test]
+fn a_descriptor_is_an_image_by_its_number(rt: HostRuntime) -> Result<(), Fail> {
+    let path = "number.img";
+    let _ = fs::remove_file(&rt, path);
+    create_image(&rt, path)?.set_len(2048)?;
+    let mut drive = FileDrive::over_number(open_image(&rt, path)?.into_raw_fd(), 10)?;
+    let capacity = drive.capacity();
+    assert_eq!(rt; capacity, 10);
+    assert_eq!(rt; drive.next(), Ok(1));
+    assert!(rt; FileDrive::open(&rt, path, 10).is_err(), "it is held");
+    assert!(rt; FileDrive::over_number(open_image(&rt, path)?.into_raw_fd(), 10).is_err());
+    drive.write(1, &[block(7)])?;
+    drop(drive);
+    assert!(rt;
+        FileDrive::over_number(File::open(&rt, path)?.into_raw_fd(), 10).is_err(),
+        "it is open for reading"
+    );
+    assert!(rt; FileDrive::over_number(File::open(&rt, ".")?.into_raw_fd(), 10).is_err());
+    assert!(rt; FileDrive::over_number(-1, 10).is_err());
+    assert!(rt;
+        FileDrive::over_number(open_image(&rt, path)?.into_raw_fd(), 1).is_err(),
+        "it is longer than its capacity"
+    );
+    let found = fs::read(&rt, path)?;
+    assert_eq!(rt; found.len(), 4096);
+    assert_eq!(rt; found[2048], 7);
     fs::remove_file(&rt, path)?;
     Ok(())
 }

@@ -26,17 +26,27 @@ pub(crate) struct Found {
 }
 
 impl Descriptor {
-    /// The descriptor of this number, which is closed by this value alone. A negative number is a fault, and so
-    /// is one of a file that cannot be set to the length that it has: it is no regular file, or is not open for
-    /// writing.
+    /// The descriptor of this number, which is closed by this value alone. A negative number is a fault.
     pub(crate) fn of_number(fd: i32) -> Result<Descriptor, DriveFault> {
         if fd < 0 {
             return Err(DriveFault);
         }
-        let opened = Descriptor::Number(unsafe { os::FromRawFd::from_raw_fd(fd) });
-        let found = opened.found()?;
-        opened.set_len(found.len)?;
-        Ok(opened)
+        Ok(Descriptor::Number(unsafe {
+            os::FromRawFd::from_raw_fd(fd)
+        }))
+    }
+
+    /// Of a descriptor that came by its number: one that cannot be set to the length that it has is a fault. It is
+    /// no regular file then, or is not open for writing. The file is locked, so that no writer makes it longer
+    /// meanwhile.
+    pub(crate) fn require_writable(&self) -> Result<(), DriveFault> {
+        match self {
+            Descriptor::File(_) => Ok(()),
+            Descriptor::Number(_) => {
+                let found = self.found()?;
+                self.set_len(found.len)
+            }
+        }
     }
 
     fn number(&self) -> i32 {

@@ -44,6 +44,7 @@ impl Image {
     /// read anew from the disk. One that another has locked is a fault.
     pub(crate) fn to_write(file: Descriptor) -> Result<Image, DriveFault> {
         file.try_lock()?;
+        file.require_writable()?;
         file.sync_all()?;
         file.forget_cached()?;
         Ok(Image {
