@@ -153,6 +153,16 @@ class Which(WithPrograms):
     def refused_as_one_identity(self) -> None:
         self.refused(e.CopyWentOn, "a copy that went on by itself, or another volume.* Expected: commit 1 .* Found: commit 1 ")
 
+    def test_another_volume_that_the_ledger_has_elsewhere(self) -> None:
+        """It is said which one that is; with more requests it is no other ledger's."""
+        elsewhere = self.format_as(self.named("elsewhere.img"))
+        with self.on_image(image=elsewhere) as client:
+            for name in "abc":
+                client.create("/" + name, b"")
+        self.store("/z")
+        self.place(elsewhere)
+        self.refused(e.OtherVolume, f"but the one that it has at image:{self.named('elsewhere.img')}")
+
     # ---- an empty volume
 
     def test_an_empty_volume(self) -> None:
