@@ -331,6 +331,20 @@ class Images(WithPrograms):
         finally:
             connection.close()
 
+    def test_a_block_that_changed(self) -> None:
+        """Of the last commit: nothing is written after it, and the error says where to look."""
+        data = os.urandom(5000)
+        with self.on_image() as client:
+            client.create("/a", data)
+        with open(self.image, "r+b") as file:
+            at = file.read().index(data) + 3000
+            file.seek(at)
+            file.write(bytes([data[3000] ^ 1]))
+        self.assertEqual(self.udfburn("check", self.image), b"sound 1\n")
+        with self.on_image() as client, self.assertRaisesRegex(e.CopyWentOn, "or a block of this commit has changed .*check --data"):
+            client.create("/b", b"")
+        self.assertIn("/a: has other bytes than were stored", self.run_command("check", "--data", self.image, where=[], status=1))
+
     def test_an_older_copy_at_a_way_that_is_not_known(self) -> None:
         with self.on_image() as client:
             client.create("/a", b"")

@@ -104,9 +104,12 @@ class Recognizer:
             what = "an older copy" if self.image.commit else "an empty volume"
             return self.error(kind, what, str(volume.mark), f"commit {self.image.commit} as the last one")
         found = self.image.at(volume.mark.commit)
-        if found != volume.mark:
-            return self.error(CopyWentOn, "a copy that went on by itself, or another volume", str(volume.mark), str(found or "none"))
-        return None
+        if found == volume.mark:
+            return None
+        what = "a copy that went on by itself, or another volume"
+        if found is not None and found.address == volume.mark.address:
+            what += ", or a block of this commit has changed ('udfburn-client check --data' finds it)"
+        return self.error(CopyWentOn, what, str(volume.mark), str(found or "none"))
 
     def _proved(self, volume: Volume) -> bool:
         """Whether the image has the last commit that the ledger knows, block by block. Then other clients changed what is different."""
