@@ -99,7 +99,8 @@ class ByCommand(WithPrograms):
         where = ["--image", self.image]
         self.write("\U0001F600/\udcff", b"hello")
         local = os.path.join(self.room, "\U0001F600")
-        self.run_command("put", "-r", local, "/d/", "-p", where=where, status=2)
+        told = self.run_command("put", "-r", local, "/d/", "-p", where=where, status=2)
+        self.assertIn("its name has U+1F600, which has no spelling in compressed Unicode (--escape stores it under another spelling)", told)
         self.run_command("put", "-r", "--escape", local, "/d/", "-p", where=where)
         self.assertEqual(self.run_command("ls", "-R", "/d", where=where), "/d:\nd ␛F0␛9F␛98␛80\n/d/␛F0␛9F␛98␛80:\nf ␛FF\n")
         back = os.path.join(self.room, "back")

@@ -189,6 +189,30 @@ class Goes(Local):
             self.assertIn(what, failure)
         self.assertEqual(list(self.there()), ["d/c"])
 
+    def test_a_file_in_the_place_of_a_folder(self) -> None:
+        os.makedirs(self.back)
+        with open(os.path.join(self.back, "d"), "wb"):
+            pass
+        for force in (False, True):
+            with self.assertRaisesRegex(e.SourceError, "back/d: is there already, and is no folder"):
+                self.fetched(force)
+
+    def test_a_file_that_cannot_be_read(self) -> None:
+        """It counts as another one, and the others are copied all the same."""
+        self.fetched()
+        os.unlink(os.path.join(self.back, "b"))
+        real = os.open
+
+        def opened(path: str, *rest: int) -> int:
+            if path == os.path.join(self.back, "a"):
+                raise PermissionError(13, "Permission denied")
+            return real(path, *rest)
+
+        with mock.patch("udfburn.sources.os.open", opened):
+            summary = self.fetched()
+        self.assertEqual((summary.files, summary.same, len(summary.failures)), (1, 1, 1))
+        self.assertEqual(sorted(self.there()), ["a", "b", "d/c"])
+
     def test_a_system_that_tells_of_no_failed_writes(self) -> None:
         """There each file is synchronised by itself."""
         synced: List[int] = []

@@ -342,9 +342,9 @@ class Ledgers(WithServer):
         self.server.volume.clients[client.session().ledger.client] = (9, [p.Committed(p.Code.DONE, 9)])
         with self.assertRaises(e.NumberUsedElsewhere):
             client.create("/c", b"")
-        # Nor is the first one forgotten: it is known again when the user names it.
+        # Nor is the first one forgotten: it is known again, and taken when the user says so.
         self.server.volume = first
-        with self.assertRaises(e.NumberUsedElsewhere):
+        with self.assertRaisesRegex(e.OtherVolume, "not the volume that the ledger has here, but one that it had elsewhere .*Found: requests up to 2"):
             client.create("/c", b"")
         client.forget()
         self.assertEqual(client.create("/c", b""), 3)

@@ -135,8 +135,11 @@ class Migration(WithServer):
         with closing(sqlite3.connect(self.ledger)) as base, base:
             base.execute("INSERT INTO request SELECT 2, number + 1, path, code, commit_number + 1, 1 FROM request WHERE volume = 1 AND number < 6")
             base.execute("INSERT INTO request SELECT 2, number, path, code, commit_number, 1 FROM request WHERE volume = 3")
-        with self.by(self.link) as client, self.assertRaises(e.NumberUsedElsewhere):
-            client.resume()
+        two = Server(os.path.join(self.room, "two"), self.one.volume)
+        self.addCleanup(two.close)
+        for path in (self.link, two.path):
+            with self.by(path) as client, self.assertRaises(e.NumberUsedElsewhere):
+                client.resume()
 
     def test_another_volume_by_the_way_that_was_behind(self) -> None:
         """With more requests than the ledger has by either way: it is none of them."""

@@ -121,12 +121,12 @@ class Folders(Local):
             paths = split.stored_paths(("x", "big"), len(data), True)
             before = {path: self.client().stat(path).moment for path in paths}
             commits = self.volume.commits
-            data[5] ^= 1
+            data[(count - 1) * MEBIBYTE + 5] ^= 1
             os.utime(self.write("big", data), (1_100_000_000, 1_100_000_000))
             self.assertEqual(self.put(split=True, verify=True).verified, 1)
             self.assertEqual(self.volume.commits, commits + 2)
             after = {path: self.client().stat(path).moment for path in paths}
-            self.assertEqual([path for path in paths if before[path] != after[path]], [paths[0], paths[-1]])
+            self.assertEqual([path for path in paths if before[path] != after[path]], [paths[-2], paths[-1]])
             back = os.path.join(self.room, f"changed{count}")
             fetch.get_tree(self.client(), ("x",), back, True)
             with open(os.path.join(back, "big"), "rb") as file:

@@ -17,7 +17,7 @@ from unittest import mock
 from udfburn.protocol import Create, MakeDir, Message, Path, Remove, Rename, Replace
 from udfburn.reader import Kind, Medium, Volume
 from udfburn.salvage import DAMAGED, EARLIER, LOST, NAMELESS, UNFINISHED, UNPROVED, WHOLE, NothingToSalvage, Outcome, Salvage
-from udfburn.salvage_digests import Digests, Manifest, add_manifests, lines_of
+from udfburn.salvage_digests import Digests, Manifest, add_manifests, folder_of, lines_of
 from udfburn.salvage_write import Output, fitting
 
 from .model import Volume as Model
@@ -462,13 +462,22 @@ class Manifests(unittest.TestCase):
         plain = f"\\{digest}  a\\nb\\\\\n{digest.upper()}  ./d/e%25\u2028f\n".encode()
         self.assertEqual(list(lines_of((), plain, False)), [(("a\nb\\",), digest), (("d", "e%25\u2028f"), digest)])
 
+    def test_a_manifest_without_a_name(self) -> None:
+        """It is that of the folder in which its files are."""
+        lines = "".join(f"{'ab' * 32}  d/{name}\n" for name in "xyz").encode()
+        paths: Dict[Path, None] = {("a", "d", name): None for name in "xy"}
+        self.assertEqual(folder_of(lines, {**paths, ("d", "x"): None}), ("a",))
+        self.assertIsNone(folder_of(lines, {("d", "x"): None}))
+        self.assertIsNone(folder_of(lines + b"something else\n", paths))
+        self.assertIsNone(folder_of(b"", paths))
+
     def test_a_manifest_that_is_doubted(self) -> None:
         """Where a manifest is not as another has it, that a file differs from it says nothing."""
         digests, mine, other = Digests(), "ab" * 32, "cd" * 32
         line = f"{mine}  file\n".encode()
         found = [
-            Manifest(("manifest-sha256.txt",), line, "ef" * 32, False, 500),
-            Manifest(("tagmanifest-sha256.txt",), f"{'00' * 32}  manifest-sha256.txt\n".encode(), "11" * 32, False, 502),
+            Manifest(("manifest-sha256.txt",), (), line, "ef" * 32, False, 500),
+            Manifest(("tagmanifest-sha256.txt",), (), f"{'00' * 32}  manifest-sha256.txt\n".encode(), "11" * 32, False, 502),
         ]
         add_manifests(digests, found, set())
         self.assertEqual([digests.agrees(("file",), digest, 400) for digest in (mine, other)], [True, None])

@@ -153,6 +153,16 @@ class Which(WithPrograms):
     def refused_as_one_identity(self) -> None:
         self.refused(e.CopyWentOn, "a copy that went on by itself, or another volume.* Expected: commit 1 .* Found: commit 1 ")
 
+    def test_another_volume_that_the_ledger_has_elsewhere(self) -> None:
+        """It is said which one that is; with more requests it is no other ledger's."""
+        elsewhere = self.format_as(self.named("elsewhere.img"))
+        with self.on_image(image=elsewhere) as client:
+            for name in "abc":
+                client.create("/" + name, b"")
+        self.store("/z")
+        self.place(elsewhere)
+        self.refused(e.OtherVolume, f"but the one that it has at image:{self.named('elsewhere.img')}")
+
     # ---- an empty volume
 
     def test_an_empty_volume(self) -> None:
@@ -320,6 +330,20 @@ class Images(WithPrograms):
                 opened_path(connection, self.image)
         finally:
             connection.close()
+
+    def test_a_block_that_changed(self) -> None:
+        """Of the last commit: nothing is written after it, and the error says where to look."""
+        data = os.urandom(5000)
+        with self.on_image() as client:
+            client.create("/a", data)
+        with open(self.image, "r+b") as file:
+            at = file.read().index(data) + 3000
+            file.seek(at)
+            file.write(bytes([data[3000] ^ 1]))
+        self.assertEqual(self.udfburn("check", self.image), b"sound 1\n")
+        with self.on_image() as client, self.assertRaisesRegex(e.CopyWentOn, "or a block of this commit has changed .*check --data"):
+            client.create("/b", b"")
+        self.assertIn("/a: has other bytes than were stored", self.run_command("check", "--data", self.image, where=[], status=1))
 
     def test_an_older_copy_at_a_way_that_is_not_known(self) -> None:
         with self.on_image() as client:

@@ -69,12 +69,12 @@ def faults_of(coverage: Coverage, node: Node, result: Result) -> List[str]:
     wanted = coverage.of(node)
     result.covered += bool(wanted)
     result.uncovered += not wanted
-    result.by_ledger += any(one.commit is None for one in wanted)
-    result.by_manifest += any(one.commit is not None for one in wanted)
+    result.by_ledger += any(one.address is None for one in wanted)
+    result.by_manifest += any(one.address is not None for one in wanted)
     if run.missing:
         return [f"block {run.missing[0]} cannot be read" + (f", nor {len(run.missing) - 1} others" if len(run.missing) > 1 else "")]
     digest = sha256(run.data).digest()
-    sent, commit = coverage.sent(node), coverage.commit_of(node)
+    sent = coverage.sent(node)
     faults = []
     if sent is not None and (sent.size, sent.moment) != (node.size, node.moment):
         faults.append(f"its entry says {node.size} bytes, moment {node.moment}, and {sent.size} bytes, moment {sent.moment} were sent")
@@ -82,12 +82,12 @@ def faults_of(coverage: Coverage, node: Node, result: Result) -> List[str]:
     for one in wanted:
         if one.sha256 == digest:
             continue
-        if one.commit is not None and commit is not None and commit > one.commit:
-            faults.append(f"was stored again after {one.source} was written (commit {one.commit}): seal the directory again")
+        if one.address is not None and node.address > one.address:
+            faults.append(f"was stored again after {one.source} was written: seal the directory again")
         else:
             hurt = " (which is itself not as it was stored)" if one.source in coverage.hurt else ""
             differing.setdefault(one.sha256, []).append(one.source + hurt)
-    proved = any(one.commit is None and one.sha256 == digest for one in wanted)
+    proved = any(one.address is None and one.sha256 == digest for one in wanted)
     what = "is as the ledger sent it, and a manifest says other bytes" if proved else "has other bytes than were stored"
     faults += [
         f"{what}: SHA-256 {digest.hex()} is there, and {wrong.hex()} is in {' and in '.join(sources)}" for wrong, sources in differing.items()

@@ -66,7 +66,7 @@ def look(arguments: argparse.Namespace, progress: Progress) -> Checked:
             volume = Volume(medium)
             coverage = Coverage(volume, volume.state())
         except NoVolume as error:
-            raise Damaged(str(error)) from error
+            raise Damaged(f"{error}: 'udfburn-client salvage' gives back what can be read") from error
         acknowledged = expected_of(coverage, ledger, image, progress) if ledger is not None else None
         result = data_of(coverage, arguments, progress) if arguments.data else None
         return Checked(result, volume.table().commit, acknowledged)

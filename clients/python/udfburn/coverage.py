@@ -27,11 +27,12 @@ from .reader import Kind, Node, State, Volume
 
 
 class Wanted(NamedTuple):
-    """What a file should be: its SHA-256, and where that is said. `commit` is that of the manifest; None for the ledger."""
+    """What a file should be: its SHA-256, and where that is said. `address` is that of the manifest's entry; None where the ledger
+    has it, and no manifest."""
 
     sha256: bytes
     source: str
-    commit: Optional[int]
+    address: Optional[int]
 
 
 class Coverage:
@@ -50,8 +51,8 @@ class Coverage:
         """What manifests list and the state does not have."""
         self._wanted: Dict[Path, List[Wanted]] = {}
         self._sent: Dict[int, Known] = {}
-        tables = sorted((table.address, table.commit) for table in volume.chain())
-        self._ends, self._commits = [address for address, _ in tables], [commit for _, commit in tables]
+        self._tables = sorted(volume.chain(), key=lambda table: table.address)
+        self._ends = [table.address for table in self._tables]
         for path in sorted(self.nodes):
             if path and path[-1] in (m.MANIFEST, m.TAG_MANIFEST) and self.nodes[path].kind is Kind.FILE:
                 self._take_manifest(path)
@@ -59,7 +60,12 @@ class Coverage:
     def commit_of(self, node: Node) -> Optional[int]:
         """The commit that wrote a node's entry; None where the chain does not reach so far."""
         index = bisect_left(self._ends, node.address)
-        return self._commits[index] if index < len(self._ends) else None
+        if index == len(self._tables):
+            return None
+        table = self._tables[index]
+        # Where the chain is broken below this table, an older node is of a commit that is not known.
+        begin = table.previous if table.previous is not None else -1 if table.commit == 0 else table.address
+        return table.commit if begin < node.address else None
 
     def of(self, node: Node) -> List[Wanted]:
         """What a file should be, by each source that speaks of it."""
@@ -87,12 +93,11 @@ class Coverage:
         lines, faults = m.read_manifest(run.data, bag)
         self.manifests.append(path)
         self.faults += [(path, fault) for fault in faults]
-        commit = self.commit_of(node)
         for line in lines:
             listed = above + line.path
             if listed not in self.nodes or self.nodes[listed].kind is not Kind.FILE:
                 self.missing.append((listed, show(path)))
-            self._wanted.setdefault(listed, []).append(Wanted(line.sha256, show(path), commit))
+            self._wanted.setdefault(listed, []).append(Wanted(line.sha256, show(path), node.address))
 
     def look_at_manifests(self) -> None:
         """Finds the manifests that are not as other manifests or the ledger have them: what they say of files is doubtful."""

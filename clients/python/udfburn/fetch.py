@@ -152,13 +152,17 @@ def same_size(target: Target) -> bool:
 
 
 def has_bytes(local: str, parts: Iterator[bytes]) -> bool:
-    """Whether a local file has these bytes. All are taken."""
+    """Whether a local file has these bytes. All are taken. One that cannot be read has others."""
     same = True
-    descriptor = open_to_read(local)
-    with open(descriptor, "rb", buffering=0) as file:
-        for part in parts:
-            same = same and exactly(file, len(part)) == part
-        return same and not file.read(1)
+    try:
+        with open(open_to_read(local), "rb", buffering=0) as file:
+            for part in parts:
+                same = same and exactly(file, len(part)) == part
+            return same and not file.read(1)
+    except OSError:
+        for _ in parts:
+            pass
+        return False
 
 
 def exactly(file: "object", count: int) -> bytes:
@@ -199,6 +203,8 @@ def make_folder(folder: str) -> List[str]:
         raise SourceError(f"{shown(folder)}: is a symbolic link")
     if os.path.isdir(folder):
         return []
+    if os.path.lexists(folder):
+        raise SourceError(f"{shown(folder)}: is there already, and is no folder")
     above = os.path.dirname(os.path.abspath(folder))
     changed = make_folder(above) if not os.path.isdir(above) else []
     os.makedirs(folder, exist_ok=True)

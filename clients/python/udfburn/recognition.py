@@ -98,15 +98,18 @@ class Recognizer:
         if self.image is None or volume.identity is None or volume.mark is None:
             return None
         if self.image.identity != volume.identity:
-            return self._error(OtherVolume, "another volume", str(volume.identity), str(self.image.identity))
+            return self.error(OtherVolume, "another volume", str(volume.identity), str(self.image.identity))
         if self.image.commit < volume.mark.commit:
             kind = VolumeBehind if self.image.commit else EmptyVolume
             what = "an older copy" if self.image.commit else "an empty volume"
-            return self._error(kind, what, str(volume.mark), f"commit {self.image.commit} as the last one")
+            return self.error(kind, what, str(volume.mark), f"commit {self.image.commit} as the last one")
         found = self.image.at(volume.mark.commit)
-        if found != volume.mark:
-            return self._error(CopyWentOn, "a copy that went on by itself, or another volume", str(volume.mark), str(found or "none"))
-        return None
+        if found == volume.mark:
+            return None
+        what = "a copy that went on by itself, or another volume"
+        if found is not None and found.address == volume.mark.address:
+            what += ", or a block of this commit has changed ('udfburn-client check --data' finds it)"
+        return self.error(CopyWentOn, what, str(volume.mark), str(found or "none"))
 
     def _proved(self, volume: Volume) -> bool:
         """Whether the image has the last commit that the ledger knows, block by block. Then other clients changed what is different."""
@@ -128,11 +131,11 @@ class Recognizer:
             return None
         expected = f"requests up to {volume.latest} of this client, which were acknowledged"
         if latest:
-            return self._error(VolumeBehind, "another volume, or an older copy of it", expected, f"requests up to {latest}")
+            return self.error(VolumeBehind, "another volume, or an older copy of it", expected, f"requests up to {latest}")
         (root,) = exchange(self.connection, [Stat(())])
         empty = isinstance(root, Node) and not root.size
         what = "an empty volume in the place of a full one" if empty else "another volume, or a copy from before its first request"
-        return self._error(EmptyVolume if empty else OtherVolume, what, expected, "none")
+        return self.error(EmptyVolume if empty else OtherVolume, what, expected, "none")
 
     def _known_replies(self, volume: Volume) -> Dict[int, Tuple[int, int]]:
         """Code and commit of each reply that the ledger has and the volume keeps."""
@@ -149,7 +152,7 @@ class Recognizer:
             return None
         kind = CopyWentOn if len(wrong) < len(known) else OtherVolume
         what = "a copy that went on by itself" if kind is CopyWentOn else "another volume, or a copy that went on by itself"
-        return self._error(kind, what, told(known, wrong), told(found, wrong))
+        return self.error(kind, what, told(known, wrong), told(found, wrong))
 
     def _last(self, volume: Volume) -> List[Sent]:
         """The requests of the ledger whose replies the volume may keep."""
@@ -180,7 +183,7 @@ class Recognizer:
         expected = "; ".join(f"{show(path)}: {wanted[path].text()}" for path, _ in wrong)
         found = "; ".join(f"{show(path)}: {node_text(answer)}" for path, answer in wrong)
         what = "another volume or a copy that went on by itself, or another client has changed these paths since (then say --shared)"
-        return self._error(OtherVolume if len(wrong) == len(wanted) else CopyWentOn, what, expected, found)
+        return self.error(OtherVolume if len(wrong) == len(wanted) else CopyWentOn, what, expected, found)
 
     def _wanted(self, volume: Volume) -> Dict[Path, Expected]:
         """What the tree must have after the requests whose replies are kept. Of one that was not confirmed nothing is known."""
@@ -193,7 +196,8 @@ class Recognizer:
                 deeds.append((sent.facts.deed, Code(sent.code) if sent.confirmed and sent.code is not None else None))
         return after_all(deeds)
 
-    def _error(self, kind: "type[LedgerError]", what: str, expected: str, found: str) -> LedgerError:
+    def error(self, kind: "type[LedgerError]", what: str, expected: str, found: str) -> LedgerError:
+        """An error that says what this is, what was expected and what was found."""
         return kind(f"this is {what} ({self.where}). Expected: {expected}. Found: {found}. Nothing was sent to it. {FORGET}")
 
 
@@ -235,7 +239,7 @@ class Meeting:
             return self._identified(self._by_another_way())
         if known.unsettled and isinstance(fault, NumberUsedElsewhere):
             return self._identified(self._settled(known, fault))
-        raise fault
+        raise self._as_another(known, fault)
 
     def anew(self) -> Volume:
         """The volume that a user says is meant, whatever the ledger has here: one that is known, or a new one."""
@@ -286,6 +290,21 @@ class Meeting:
             f"the volume has requests up to {self.seen.latest} of this client, and this ledger did not send them to it, nor to any volume"
             f" that has just these ({self.by.where}): it is an older copy of one, or another ledger with the same client was used, or other"
             f" clients have changed what this one stored (then say --shared). Nothing was sent to it. {FORGET}"
+        )
+
+    def _as_another(self, known: Volume, fault: LedgerError) -> LedgerError:
+        """The fault of the volume that the ledger has here; where another one of the ledger is here, what says so."""
+        # Of those that a ledger of version 1 had, one may be the front of another.
+        agreeing = [volume for volume in self._agreeing(known) if not volume.unsettled]
+        if len(agreeing) != 1:
+            return fault
+        ways = ways_text(self.ledger, agreeing[0])
+        which = f"the one that it has at {ways}" if ways else "one that it had elsewhere"
+        if not isinstance(fault, NumberUsedElsewhere):
+            return OtherVolume(f"not the volume that the ledger has here is here, but {which}: {fault}")
+        return self.by.error(
+            OtherVolume, f"not the volume that the ledger has here, but {which}", f"requests up to {known.latest} of this client",
+            f"requests up to {self.seen.latest}",
         )
 
     def _settled(self, known: Volume, fault: LedgerError) -> Volume:

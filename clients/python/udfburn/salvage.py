@@ -15,7 +15,7 @@ from .reader.notes import Cause
 from .reader.survey import Survey
 from .reader.volume import Path
 from .salvage_carve import Carver
-from .salvage_digests import DECLARATION, Digests, Manifest, add_manifests, is_manifest
+from .salvage_digests import DECLARATION, Digests, Manifest, add_manifests, folder_of, is_manifest
 from .salvage_ledger import Commits, commits_of
 from .salvage_tree import Item, Tree
 from .salvage_write import Output, Written
@@ -105,15 +105,15 @@ class Salvage:
 
     def _add_manifests(self) -> None:
         found: List[Manifest] = []
-        bags: Set[Path] = set()
-        for item in self.tree.items:
-            if item.kind is not Kind.FILE or item.version is None:
-                continue
-            if item.path[-1] == DECLARATION:
-                bags.add(item.path[:-1])
-            elif is_manifest(item.path[-1]):
+        files = {item.path: item for item in self.tree.items if item.kind is Kind.FILE and item.version is not None}
+        bags = {path[:-1] for path in files if path[-1] == DECLARATION}
+        for path, item in files.items():
+            is_nameless = path[0] == LOST_AND_FOUND and bool(item.why)
+            if (is_nameless or is_manifest(path[-1])) and item.version is not None:
                 read, digest = self.bytes_of(item.version.entry), hashlib.sha256
-                found.append(Manifest(item.path, read.data, digest(read.data).hexdigest(), bool(read.why), item.version.address))
+                folder = folder_of(read.data, files) if is_nameless else path[:-1]
+                if folder is not None:
+                    found.append(Manifest(path, folder, read.data, digest(read.data).hexdigest(), bool(read.why), item.version.address))
         self._manifests = add_manifests(self.digests, found, bags)
 
     def _seen(self) -> Iterator[Tuple[int, int, Optional[int]]]:

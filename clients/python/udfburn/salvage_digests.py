@@ -3,7 +3,7 @@
 from __future__ import annotations
 
 import re
-from typing import Dict, FrozenSet, Iterator, List, NamedTuple, Optional, Set
+from typing import Collection, Dict, FrozenSet, Iterator, List, NamedTuple, Optional, Set, Tuple
 
 from .reader.volume import Path
 
@@ -94,10 +94,11 @@ class Digests:
 
 
 class Manifest(NamedTuple):
-    """A manifest that is on the volume: where, its bytes, its own digest, whether some of its bytes are missing, and the address of its
-    entry."""
+    """A manifest that is on the volume: where it is had, the folder that it is of, its bytes, its own digest, whether some of its bytes
+    are missing, and the address of its entry."""
 
     path: Path
+    folder: Path
     data: bytes
     digest: str
     hurt: bool
@@ -109,7 +110,7 @@ def add_manifests(digests: Digests, found: List[Manifest], bags: Set[Path]) -> D
 
     `bags` are the folders with a `bagit.txt`. A manifest that is not as another has it is doubted.
     """
-    lines = [(manifest, list(lines_of(manifest.path[:-1], manifest.data, manifest.path[:-1] in bags))) for manifest in found]
+    lines = [(manifest, list(lines_of(manifest.folder, manifest.data, manifest.folder in bags))) for manifest in found]
     own: Dict[Path, Set[str]] = {}
     for _, listed in lines:
         for path, digest in listed:
@@ -120,7 +121,7 @@ def add_manifests(digests: Digests, found: List[Manifest], bags: Set[Path]) -> D
         doubted = manifest.hurt or known is not None and manifest.digest not in known
         for path, digest in listed:
             digests.add(path, Kept(digest, manifest.address, doubted))
-        count = len(split_lines(manifest.data, manifest.path[:-1] in bags))
+        count = len(split_lines(manifest.data, manifest.folder in bags))
         is_read = len(listed) == count and not manifest.hurt
         paths[manifest.path] = frozenset([path for path, _ in listed] + ([] if is_read and listed else [None]))
     return paths
@@ -129,3 +130,15 @@ def add_manifests(digests: Digests, found: List[Manifest], bags: Set[Path]) -> D
 def is_manifest(name: str) -> bool:
     """Whether a file of this name is a manifest."""
     return name in (MANIFEST, TAG_MANIFEST)
+
+
+def folder_of(data: bytes, paths: Collection[Path]) -> Optional[Path]:
+    """The folder of a manifest whose name is lost: the one in which most of its files are. None where the bytes are no manifest."""
+    listed = list(lines_of((), data, False))
+    if not listed or len(listed) < len(split_lines(data, False)):
+        return None
+    first = [line.path for line in listed[:20]]
+    folders = {path[: len(path) - len(end)] for end in first for path in paths if path[len(path) - len(end) :] == end}
+    there = {folder: sum(folder + line.path in paths for line in listed) for folder in folders}
+    best = max(there, key=lambda folder: there[folder], default=())
+    return best if 2 * there.get(best, 0) > len(listed) else None

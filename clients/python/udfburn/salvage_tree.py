@@ -176,6 +176,9 @@ class Tree:
         if kind is not Kind.FILE or unique is None or address is None or not self.chain.is_confirmed(virtual, address, self.index):
             return None
         start = self.chain.floor(address)
+        if self._entry(address, virtual, None, None) is not None:
+            # It is not lost: it is that of another node.
+            return None
         if not 0 < address - start <= blocks_of(FILE_BYTES):
             return None
         size = (address - start) * BLOCK

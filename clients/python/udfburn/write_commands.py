@@ -15,7 +15,7 @@ from .manifest import MANIFEST, PAYLOAD
 from .progress import Progress, plural, size
 from .protocol import NodeKind, Path, path_of, show, shown
 from .seal_command import add_manifest_only
-from .sources import Source
+from .sources import Source, why_not
 from .stored import find_file
 from .tree import Importer, Options, Summary
 from .walk import remove_paths, walk
@@ -83,7 +83,11 @@ def targets(locals_: List[str], path: str, escape: bool) -> List[Tuple[str, Path
 def own_name(local: str, escape: bool) -> str:
     """The name of a local file as it is stored."""
     name = os.path.basename(os.path.abspath(local))
-    return path_of([encode(name if escape else path_of([name])[0])])[0]
+    spelling = encode(name)
+    fault = (None if escape else why_not(name)) or why_not(spelling)
+    if fault:
+        raise UsageError(f"{shown(local)}: {fault}" + (" (--escape stores it under another spelling)" if why_not(spelling) is None else ""))
+    return spelling
 
 
 def put(arguments: argparse.Namespace) -> int:

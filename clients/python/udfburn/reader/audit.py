@@ -49,7 +49,7 @@ class Audit:
     def look(self, place: int) -> None:
         """Looks at a table, and at the nodes that it changes."""
         link = self.chain.links[place]
-        self._entry_of(link)
+        self._entry_of(link, place > 0)
         table = link.table
         if table is None:
             return
@@ -73,12 +73,15 @@ class Audit:
             self._used = 0
             self._changes(link, read_entries(data, table.length), PARTITION - 1, head)
 
-    def _entry_of(self, link: Link) -> None:
+    def _entry_of(self, link: Link, is_linked: bool) -> None:
         block = self.medium.block(link.address)
         if block is None:
             self.notes.add(link.address, Cause.MISSING, "the table's entry cannot be read")
-        else:
-            self.notes.extend(link.address, read_entry(block, link.address - PARTITION)[1])
+            return
+        faults = read_entry(block, link.address - PARTITION)[1]
+        self.notes.extend(link.address, faults)
+        if faults and is_linked:
+            self.notes.add(link.address, Cause.CHAIN, "the table after it leads here, and its entry is not as it must be")
 
     def _head_faults(self, data: bytes, head: Head, number: int) -> Iterator[Fault]:
         agrees = lengths_agree(head, len(data))

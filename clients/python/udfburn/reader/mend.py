@@ -6,7 +6,7 @@ import struct
 from itertools import product
 from typing import Iterable, Iterator, List, NamedTuple, Optional, Sequence, Tuple, TypeVar
 
-from .basics import BLOCK, FILE_BYTES, INSIDE, NUMBERS, blocks_of, crc, expand, is_name, read_tag, read_timestamp, write_tag
+from .basics import BLOCK, FILE_BYTES, GREATEST_CAPACITY, INSIDE, NODES, NUMBERS, blocks_of, crc, expand, is_name, read_tag, read_timestamp, write_tag
 from .entry import EMBEDDED, END, EXTENT, KINDS, LAYOUT, LONG, PERMISSIONS, Entry, Fields, Kind, read_entry, write_entry
 
 T = TypeVar("T")
@@ -115,8 +115,8 @@ def mend_identifier(data: bytes, number: int, is_first: bool) -> Optional[bytes]
         return None
     check = data[8:10]
     found = {text for text in restored(data, number, is_first) if text[8:10] == check or is_check_alone(data, text)}
-    if not found:
-        found = {text for text in flipped(data, number) if text[8:10] == check}
+    for tried in (flipped, with_other_bytes):
+        found = found or {text for text in tried(data, number) if text[8:10] == check}
     return found.pop() if len(found) == 1 else None
 
 
@@ -130,6 +130,9 @@ def restored(data: bytes, number: int, is_first: bool) -> Iterator[bytes]:
     characteristics, length = data[18], data[19]
     virtual, = struct.unpack_from("<I", data, 24)
     unique, use = struct.unpack_from("<IH", data, 32)
+    if virtual > NODES or unique > GREATEST_CAPACITY:
+        # There is one unique ID for each commit at most, and 261 blocks before the first.
+        return
     plain = len(data) - 38
     lengths: List[int] = unlike([length, *range(max(plain - 3, 0), plain + 1)])
     kinds: List[int] = [10] if is_first else unlike([characteristics, 0, 2])
@@ -146,6 +149,13 @@ def flipped(data: bytes, number: int) -> Iterator[bytes]:
         changed = bytearray(data)
         changed[bit // 8] ^= 1 << bit % 8
         yield from restored(bytes(changed), number, changed[18] == 10)
+
+
+def with_other_bytes(data: bytes, number: int) -> Iterator[bytes]:
+    """The identifiers that differ in one byte of the virtual address or the unique ID."""
+    for at in (*range(24, 28), *range(32, 36)):
+        for byte in range(256):
+            yield from restored(data[:at] + bytes([byte]) + data[at + 1 :], number, data[18] == 10)
 
 
 def spelled(words: Words, number: int) -> bytes:
