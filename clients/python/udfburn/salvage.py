@@ -17,7 +17,7 @@ from .reader.volume import Path
 from .salvage_carve import Carver
 from .salvage_digests import DECLARATION, Digests, Manifest, add_manifests, folder_of, is_manifest
 from .salvage_ledger import Commits, commits_of
-from .salvage_tree import Item, Tree
+from .salvage_tree import LOST_AND_FOUND, Item, Tree
 from .salvage_write import Output, Written
 
 WHOLE, UNPROVED, EARLIER, NAMELESS, DAMAGED, LOST = "whole", "unproved", "earlier", "nameless", "damaged", "lost"
