@@ -30,9 +30,8 @@ use Rattle.udf.specs.Said.{said_record}
 use Rattle.store.specs.declared.store.Store.{Store}
 use Rattle.store.specs.Asked.{said_request, said_query}
 use Rattle.store.specs.Calls.{Knows, StillKnows, Applies, IsDone, IsFailed, IsLeftBehind, Gets, Lists, Stats}
-use Rattle.engine.specs.Situation.{Situation, IsOpen}
+use Rattle.engine.specs.Situation.{Situation, IsOpen, with_store}
 use Rattle.engine.specs.Answered.{due_of}
-use Rattle.engine.specs.Delivered.{with_store}
 use Rattle.engine.specs.Said.{said_message, said_answer}
 use Rattle.engine.specs.Steps.{HoldsState, IsStep}
 use Rattle.engine.specs.Called.{failed, refused, applied, got, listed, shown, get_refused, list_refused, stat_refused, IsShort, Uses, IsDealt, IsQueried, Calls, CallsAreSteps, RestartsAreSteps}

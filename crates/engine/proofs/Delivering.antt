@@ -47,7 +47,7 @@ counted : (d : Delivery) (s t : Situation) (told : Option Answer) → Delivers d
 counted Restart s t None h most = omega (arith, ap (λ (x : Situation). x.failures) h)
 counted Restart s t (Some a) h most = absurd h
 counted (Frame payload) s t None h most = absurd h
-counted (Frame payload) s t (Some a) h most = let one = h.2.failures most in omega (arith, one)
+counted (Frame payload) s t (Some a) h most = let one = h.2.answered.failures most in omega (arith, one)
 
 pub all_counted : (deliveries : List Delivery) (s : Situation) (answers : List Answer) (t : Situation) → AllDelivered deliveries s answers t → Counts (sum_by faults answers) s.failures t.failures
 all_counted [] s answers t h most = rw h.0 (omega (arith, ap (λ (x : Situation). x.failures) h.1))

@@ -1,6 +1,7 @@
 -- Runs that are cut off by losses of power, one after another.
-use Rattle.std.proofs.Common.{◌≡◌, ◌⊎◌, inl, inr, ℕ, zero, suc, ◌+◌, ◌-◌, ◌<◌, ◌≤◌, List, [], ◌∷◌, ◌++◌, length, take, refl, sym, ap, ◌∙◌, subst, arith, append-nil, length-append}
-use Rattle.std.proofs.lemmas.List.{append_cancel_left, take_all, take-append-le}
+use Rattle.std.proofs.Common.{◌≡◌, ◌⊎◌, inl, inr, ℕ, zero, suc, ◌+◌, ◌-◌, ◌<◌, ◌≤◌, List, [], ◌∷◌, ◌++◌, length, take, Some, refl, sym, ap, ◌∙◌, subst, arith, append_assoc, append-nil, length-append}
+use Rattle.std.specs.Option.{option_to_list}
+use Rattle.std.proofs.lemmas.List.{append_cancel_left, map-append, take_all, take-append-le}
 use Rattle.drive.specs.Journal.{Event, held, Once}
 use Rattle.drive.specs.Writes.{IsLeft}
 use Rattle.model.specs.Session.{State, Request, due, after, after_one}
@@ -13,54 +14,106 @@ use Rattle.durability.specs.Volume.{Stands, Past}
 use Rattle.durability.specs.Commit.{need}
 use Rattle.durability.specs.Journal.{Advances, HoldsOnJournal}
 use Rattle.durability.specs.Runs.{Delivery, Answer}
+use Rattle.durability.specs.Runs.Delivery.{Delivered}
 use Rattle.durability.proofs.History.{past_now}
 use Rattle.durability.proofs.Lists.{side, take_past}
 use Rattle.udf.specs.Udf.{udf, spelled}
-use Rattle.engine.specs.Headline.{said_answers}
-use Rattle.engine.specs.Served.{brought}
-use Rattle.engine.specs.Withstanding.{AsksFor, BringsAt, Withstands}
-use Rattle.engine.specs.Losses.{Life, IsCut, AreCut, Survives, IsLost, RunsReach, LossesReach, ServedReach}
+use Rattle.request.specs.declared.answer.Answer as told
+use Rattle.request.specs.declared.message.Message.{Message}
+use Rattle.engine.specs.declared.runs.Delivery as delivered
+use Rattle.engine.specs.Answered.{faults}
+use Rattle.engine.specs.Situation.{Situation, with_store}
+use Rattle.engine.specs.Said.{AllSaid, said_answer, said_answers, said_message, said_told}
+use Rattle.engine.specs.Steps.{AllSteps, HoldsState}
+use Rattle.engine.specs.Delivered.{AllDelivered, faults_told}
+use Rattle.engine.specs.Headline.{AllWithstand}
+use Rattle.engine.specs.Served.{AllAnswered, EachWithstands, brought}
+use Rattle.engine.specs.Withstanding.{AsksFor, Brings, Withstands}
+use Rattle.engine.specs.Losses.{Life, IsCut, AreCut, Survives, IsLost, IsRunCut, IsStreamCut, LosesRun, LosesStream, RunsReach, LossesReach, ServedReach}
 use Rattle.engine.proofs.Calling.{front_grows}
-use Rattle.engine.proofs.Holding.{front_on}
-use Rattle.engine.proofs.Withstanding.{held_stands}
+use Rattle.engine.proofs.Holding.{front_on, steps_hold}
+use Rattle.engine.proofs.Running.{all_said_more, at_end, said_more, steps_more}
+use Rattle.engine.proofs.Withstanding.{held_ended, held_stands}
 
 -- ---- one run
 
 -- a loss of power cuts a run off
-cut_here : (capacity volume : ℕ) (S : State) (before : List Event) (said : List Delivery) (answers : List Answer) (during : List Event) (asked : Request → Type 0) (between next : List (List Block)) (lost : List Event)
-    (run : HoldsOnJournal udf (need spelled) capacity volume S before during said answers) → Withstands capacity volume during (after S run.holds.committed) asked between next → IsLost during between next lost
-    → (under : List Request) × IsCut capacity volume S before (record { said = said; answers = answers; under = under }) lost × ((under ≡ []) ⊎ ((request : Request) × (under ≡ request ∷ []) × asked request))
-cut_here capacity volume S before said answers during asked between next lost run w l =
+cut_here : (volume : ℕ) (S : State) (before : Situation) (said : List Delivery) (answers : List Answer) (T : State) (during next : Situation) (asked : Request → Type 0) (failed : ℕ) (lost : List Event) → HoldsState volume S before
+    → AllSteps volume said S before answers T during → during.capacity ≡ before.capacity → Withstands volume T asked failed during next → IsLost during next lost
+    → (under : List Request) × IsCut before.capacity volume S before.journal (record { said = said; answers = answers; under = under }) lost × ((under ≡ []) ⊎ ((request : Request) × (under ≡ request ∷ []) × asked request))
+cut_here volume S before said answers T during next asked failed lost at steps size w l =
+    let run : HoldsOnJournal udf (need spelled) before.capacity volume S before.journal during.journal said answers = steps_hold volume said S before answers T during at steps in
+    let there : HoldsState volume T during = at_end volume said S before answers T during at steps in
+    let stood : Stands udf before.capacity volume (held during.journal) T = subst (λ (c : ℕ). Stands udf c volume (held during.journal) T) size there.stands in
+    let state : T ≡ after S run.holds.committed = held_ended volume before.capacity said S before.journal during.journal answers T run stood in
     let committed = run.holds.committed in
-    let same : w.added ≡ l.added = append_cancel_left between w.added l.added (sym w.writes_are ∙ l.are) in
-    elim (w.torn l.left lost (subst (λ (ws : List (List Block)). IsLeft ws l.left) (sym same) l.is_left) l.behind_is) [
+    let same : w.added ≡ l.added = append_cancel_left during.writes w.added l.added (sym w.writes_are ∙ l.are) in
+    let back : (U : State) → Advances udf during.capacity volume during.journal T lost U → Advances udf before.capacity volume during.journal (after S committed) lost U =
+    λ U h. subst (λ (V : State). Advances udf before.capacity volume during.journal V lost U) state (subst (λ (c : ℕ). Advances udf c volume during.journal T lost U) size h) in
+    elim (w.torn l.left lost (subst (λ (ws : List (List Block)). IsLeft ws l.left) (sym same) l.is_left) l.lost_is) [
       | inl stays ↦ (
         [],
         record {
-          during = during;
+          during = during.journal;
           run = run;
           few = inl refl;
-          advances = subst (λ (D : List Request). Advances udf capacity volume during (after S committed) lost (after S D)) (sym (append-nil committed)) stays;
+          advances = subst (λ (U : State). Advances udf before.capacity volume during.journal (after S committed) lost U) (state ∙ ap (λ (D : List Request). after S D) (sym (append-nil committed))) (back T stays);
         },
         inl refl,
       )
       | inr done ↦ (
         done.0 ∷ [],
         record {
-          during = during;
+          during = during.journal;
           run = run;
-          few = inr (done.0, refl, done.2);
-          advances = subst (λ (T : State). Advances udf capacity volume during (after S committed) lost T) (sym (after-append committed (done.0 ∷ []) S)) done.3;
+          few = inr (done.0, refl, subst (λ (U : State). due U done.0.client done.0.number ≡ New) state done.2);
+          advances = subst (λ (U : State). Advances udf before.capacity volume during.journal (after S committed) lost U) (ap (λ (U : State). after_one U done.0) state ∙ sym (after-append committed (done.0 ∷ []) S))
+              (back (after_one T done.0) done.3);
         },
         inr (done.0, refl, done.1),
       )
     ]
 
+module _ (volume : ℕ) (S : State) (before : Situation) (at : HoldsState volume S before) where
+  -- in a run, behind the deliveries that were answered
+  cut_along : (done : List delivered.Delivery) (said : List Delivery) (given : List told.Answer) (T : State) (during : Situation) → AllSaid done said → AllSteps volume said S before (said_answers given) T during → during.capacity ≡ before.capacity
+      → (deliveries : List delivered.Delivery) (answers : List told.Answer) (behind : Situation) (all : AllDelivered deliveries during answers behind) (S' : State) → AllWithstand volume deliveries T during answers behind all S'
+      → (lost : List Event) → LosesRun deliveries during answers behind all lost → IsRunCut before.capacity volume S before.journal (done ++ deliveries) (given ++ answers) lost
+  cut_along done said given T during are steps size [] answers behind all S' each lost none = absurd none
+  cut_along done said given T during are steps size (d ∷ deliveries) answers behind (a, next, rest, delivers, order, more) S' (one, is, U, step, withstands, later) lost (inl here) =
+      let c = cut_here volume S before said (said_answers given) T during next (Brings d) (faults_told a) lost at steps size withstands here in
+      record { done = done; now = d; later = deliveries; order = refl; given = given; others = answers; answers_are = refl; said = said; are_said = are; under = c.0; cut = c.1; brought = c.2 }
+  cut_along done said given T during are steps size (d ∷ deliveries) answers behind (a, next, rest, delivers, order, more) S' (one, is, U, step, withstands, later) lost (inr there) =
+      let so : AllSteps volume (said ++ one ∷ []) S before (said_answers (given ++ option_to_list a)) U next =
+      subst (λ (xs : List Answer). AllSteps volume (said ++ one ∷ []) S before xs U next) (said_more given a) (steps_more volume said S before (said_answers given) T during one (said_told a) U next steps step) in
+      let c = cut_along (done ++ d ∷ []) (said ++ one ∷ []) (given ++ option_to_list a) U next (all_said_more done said d one are is) so (step.capacity ∙ size) deliveries rest behind more S' later lost there in
+      subst (λ (ds : List delivered.Delivery). IsRunCut before.capacity volume S before.journal ds (given ++ answers) lost) (append_assoc done (d ∷ []) deliveries)
+      (subst (λ (xs : List told.Answer). IsRunCut before.capacity volume S before.journal ((done ++ d ∷ []) ++ deliveries) xs lost) (append_assoc given (option_to_list a) rest ∙ ap (λ (xs : List told.Answer). given ++ xs) (sym order)) c)
+
+  -- in a stream, behind the messages that were answered
+  cut_among : (done : List Message) (given : List told.Answer) (T : State) (during : Situation) → AllSteps volume (brought done) S before (said_answers given) T during → during.capacity ≡ before.capacity
+      → (messages : List Message) (answers : List told.Answer) (behind : Situation) (all : AllAnswered messages during answers behind) (S' : State) → EachWithstands volume messages T during answers behind all S'
+      → (lost : List Event) → LosesStream messages during answers behind all lost → IsStreamCut before.capacity volume S before.journal (done ++ messages) (given ++ answers) lost
+  cut_among done given T during steps size [] answers behind all S' each lost none = absurd none
+  cut_among done given T during steps size (m ∷ messages) [] behind all S' each lost none = absurd none
+  cut_among done given T during steps size (m ∷ messages) (a ∷ answers) behind (next, one, rest) S' (U, step, withstands, later) lost (inl here) =
+      let c = cut_here volume S before (brought done) (said_answers given) T during next (AsksFor m) (faults a) lost at steps size withstands here in
+      record { done = done; now = m; later = messages; order = refl; given = given; others = a ∷ answers; answers_are = refl; under = c.0; cut = c.1; asked = c.2 }
+  cut_among done given T during steps size (m ∷ messages) (a ∷ answers) behind (next, one, rest) S' (U, step, withstands, later) lost (inr there) =
+      let more = steps_more volume (brought done) S before (said_answers given) T during (Delivered (said_message m)) (Some (said_answer a)) U next steps step in
+      let so : AllSteps volume (brought (done ++ m ∷ [])) S before (said_answers (given ++ a ∷ [])) U next =
+      subst (λ (xs : List Answer). AllSteps volume (brought (done ++ m ∷ [])) S before xs U next) (said_more given (Some a))
+      (subst (λ (ds : List Delivery). AllSteps volume ds S before (said_answers given ++ said_answer a ∷ []) U next) (sym (map-append (λ n. Delivered (said_message n)) done (m ∷ []))) more) in
+      let c = cut_among (done ++ m ∷ []) (given ++ a ∷ []) U next so (step.capacity ∙ size) messages answers behind rest S' later lost there in
+      subst (λ (ms : List Message). IsStreamCut before.capacity volume S before.journal ms (given ++ a ∷ answers) lost) (append_assoc done (m ∷ []) messages)
+      (subst (λ (xs : List told.Answer). IsStreamCut before.capacity volume S before.journal ((done ++ m ∷ []) ++ messages) xs lost) (append_assoc given (a ∷ []) answers) c)
+
 pub runs_reach : RunsReach
-runs_reach volume capacity deliveries S before n answers during between next lost run w l = cut_here capacity volume S before run.said (said_answers answers) during (BringsAt deliveries n) between next lost run.holds w l
+runs_reach volume deliveries S before answers behind at run lost loses =
+    cut_along volume S before at [] [] [] S before tt (refl, refl, refl) refl deliveries answers (with_store run.kept behind) run.delivered run.state run.each lost loses
 
 pub served_reach : ServedReach
-served_reach volume capacity S before done m answers during between next lost run w l = cut_here capacity volume S before (brought done) (said_answers answers) during (AsksFor m) between next lost run w l
+served_reach volume messages S before answers behind at all S' each lost loses = cut_among volume S before at [] [] S before (refl, refl, refl) refl messages answers behind all S' each lost loses
 
 -- ---- runs one after another
 

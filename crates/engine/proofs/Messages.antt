@@ -15,7 +15,8 @@ use Rattle.engine.specs.declared.serving.ServeFault.{ServeFault}
 use Rattle.engine.specs.declared.serving.ServeFault.TheVariants as faults
 use Rattle.engine.specs.Situation.{Situation}
 use Rattle.engine.specs.Streams.{LeavesBy, PutsFront, PutsUntil, TakesPiece}
-use Rattle.engine.specs.Served.{AllAnswered, AllTold, IsAnswered, AllTaken, LastUntold, LeftAt, LeftBy, frames_of, Answering, AnswersSome, Serving, ServesUntil, ServesAll}
+use Rattle.engine.specs.Delivered.{IsAnswered}
+use Rattle.engine.specs.Served.{AllAnswered, AllTold, AllTaken, LastUntold, LeftAt, LeftBy, frames_of, Answering, AnswersSome, Serving, ServesUntil, ServesAll}
 use Rattle.engine.proofs.Served.{answered_more, served_holds, served_withstand}
 
 -- and then others

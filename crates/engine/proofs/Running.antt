@@ -1,31 +1,22 @@
 -- A run on an honest drive, one delivery more at a time.
-use Rattle.std.proofs.Common.{◌≡◌, ℕ, ◌+◌, ◌<◌, ◌≤◌, Bool, IsTrue, List, [], ◌∷◌, ◌++◌, length, take, get_or, Option, Some, None, refl, sym, ap, ◌∙◌, subst, append_assoc, append-nil}
+use Rattle.std.proofs.Common.{◌≡◌, ℕ, IsTrue, List, [], ◌∷◌, ◌++◌, Option, Some, None, refl, sym, ap, ◌∙◌, subst, append_assoc, append-nil}
 use Rattle.std.specs.Option.{option_to_list}
-use Rattle.std.proofs.lemmas.List.{take_all, take_more}
-use Rattle.drive.specs.Journal.{Event, held, Once}
 use Rattle.request.specs.declared.answer.Answer.{Answer}
 use Rattle.model.specs.Session.{State}
-use Rattle.durability.specs.Volume.{Stands}
 use Rattle.durability.specs.Runs.{Delivery}
 use Rattle.durability.specs.Runs as medium
-use Rattle.udf.specs.Udf.{udf}
-use Rattle.store.specs.declared.store.Store.{Store}
 use Rattle.engine.specs.declared.runs.Delivery as delivered
 use Rattle.engine.specs.declared.runs.Delivery.TheVariants.{Frame, Restart}
 use Rattle.engine.specs.Situation.{Situation, situation}
-use Rattle.engine.specs.Delivered.{Delivers}
-use Rattle.engine.specs.Said.{IsDeliverySaid, AllSaid, said_answer, said_message}
+use Rattle.engine.specs.Delivered.{AllDelivered, Delivers}
+use Rattle.engine.specs.Said.{IsDeliverySaid, AllSaid, said_answer, said_answers, said_message, said_told}
 use Rattle.engine.specs.Steps.{HoldsState, IsStep, AllSteps}
-use Rattle.engine.specs.Headline.{DeliversBy, IsRun, RunHolds, said_answers, RunsBegin, RunsGoOn, RunsAreHeld}
+use Rattle.engine.specs.Headline.{DeliversBy, RunsBegin, RunsGoOn, RunsAreHeld}
 use Rattle.engine.proofs.Calling.{none_knows, calls_are_steps, restarts_are_steps}
 use Rattle.engine.proofs.Holding.{steps_hold}
 
-abbrev said_told : Option Answer → Option medium.Answer
-said_told None = None
-said_told (Some a) = Some (said_answer a)
-
 -- a delivery by its calls is a step
-delivers_step : (volume : ℕ) (d : delivered.Delivery) (S : State) (before : Situation) (told : Option Answer) (behind : Situation) → HoldsState volume S before → DeliversBy volume d S before told behind
+pub delivers_step : (volume : ℕ) (d : delivered.Delivery) (S : State) (before : Situation) (told : Option Answer) (behind : Situation) → HoldsState volume S before → DeliversBy volume d S before told behind
     → (said : Delivery) × IsDeliverySaid d said × (S' : State) × IsStep volume said S before (said_told told) S' behind
 delivers_step volume Restart S before None behind at is =
     (medium.Delivery.Restart, refl, S, subst (λ (s : Situation). IsStep volume medium.Delivery.Restart S before None S s) (sym is) (restarts_are_steps volume S before at))
@@ -41,7 +32,7 @@ module _ (volume : ℕ) where
   at_end [] S before answers T behind at (none, state, same) = subst (λ (U : State). HoldsState volume U behind) (sym state) (subst (λ (s : Situation). HoldsState volume S s) (sym same) at)
   at_end (d ∷ ds) S before answers T behind at (a, U, during, rest, step, told, steps) = at_end ds U during rest T behind step.at steps
 
-  steps_more : (ds : List Delivery) (S : State) (before : Situation) (answers : List medium.Answer) (T : State) (during : Situation) (d : Delivery) (a : Option medium.Answer) (S' : State) (behind : Situation)
+  pub steps_more : (ds : List Delivery) (S : State) (before : Situation) (answers : List medium.Answer) (T : State) (during : Situation) (d : Delivery) (a : Option medium.Answer) (S' : State) (behind : Situation)
       → AllSteps volume ds S before answers T during → IsStep volume d T during a S' behind → AllSteps volume (ds ++ d ∷ []) S before (answers ++ option_to_list a) S' behind
   steps_more [] S before answers T during d a S' behind (none, state, same) step = (
     a,
@@ -62,12 +53,12 @@ module _ (volume : ℕ) where
     steps_more ds U mid rest T during d a S' behind steps step,
   )
 
-said_more : (answers : List Answer) (told : Option Answer) → said_answers answers ++ option_to_list (said_told told) ≡ said_answers (answers ++ option_to_list told)
+pub said_more : (answers : List Answer) (told : Option Answer) → said_answers answers ++ option_to_list (said_told told) ≡ said_answers (answers ++ option_to_list told)
 said_more [] None = refl
 said_more [] (Some a) = refl
 said_more (b ∷ answers) told = ap (λ (xs : List medium.Answer). said_answer b ∷ xs) (said_more answers told)
 
-all_said_more : (deliveries : List delivered.Delivery) (ds : List Delivery) (one : delivered.Delivery) (d : Delivery) → AllSaid deliveries ds → IsDeliverySaid one d → AllSaid (deliveries ++ one ∷ []) (ds ++ d ∷ [])
+pub all_said_more : (deliveries : List delivered.Delivery) (ds : List Delivery) (one : delivered.Delivery) (d : Delivery) → AllSaid deliveries ds → IsDeliverySaid one d → AllSaid (deliveries ++ one ∷ []) (ds ++ d ∷ [])
 all_said_more [] [] one d all is = (is, tt)
 all_said_more [] (e ∷ ds) one d all is = absurd all
 all_said_more (x ∷ deliveries) [] one d all is = absurd all
@@ -94,44 +85,28 @@ pub runs_are_held : RunsAreHeld
 runs_are_held volume deliveries S before answers behind at run =
     record { said = run.said; are_said = run.are_said; holds = steps_hold volume run.said S before (said_answers answers) run.state behind at run.steps }
 
--- ---- a list's deliveries, one after another
+-- ---- deliveries, one after another
 
--- what is honest behind a delivery was so before
-pub delivers_honest : (d : delivered.Delivery) (before : Situation) (told : Option Answer) (behind : Situation) → Delivers d before told behind → IsTrue behind.honest → IsTrue before.honest
+-- what is honest after a delivery was so before
+delivers_honest : (d : delivered.Delivery) (before : Situation) (told : Option Answer) (behind : Situation) → Delivers d before told behind → IsTrue behind.honest → IsTrue before.honest
 delivers_honest Restart before None behind is honest = subst (λ (s : Situation). IsTrue s.honest) is honest
 delivers_honest Restart before (Some a) behind is honest = absurd is
 delivers_honest (Frame payload) before None behind is honest = absurd is
-delivers_honest (Frame payload) before (Some a) behind (m, tells, answered, nothing) honest = answered.follows.honest honest
+delivers_honest (Frame payload) before (Some a) behind (m, tells, one) honest = one.answered.follows.honest honest
 
--- no delivery was made yet
-pub begun_run : (volume : ℕ) (S : State) (journal : List Event) (failures capacity : ℕ) (honest : Bool) (writes : List (List (List ℕ))) (store : Option Store) (answers : List Answer) → Once journal → Stands udf capacity volume (held journal) S
-    → store ≡ None → answers ≡ [] → IsRun volume [] S (situation None journal failures capacity honest writes) answers (situation store journal failures capacity honest writes)
-begun_run volume S journal failures capacity honest writes store answers once stands none no_answer =
-    let before : Situation = situation None journal failures capacity honest writes in
-    let begun : IsRun volume [] S before [] before = (runs_begin volume S journal failures capacity honest writes once stands).1 in
-    subst (λ (o : Option Store). IsRun volume [] S before answers (situation o journal failures capacity honest writes)) (sym none) (subst (λ (xs : List Answer). IsRun volume [] S before xs before) (sym no_answer) begun)
+pub delivered_honest : (deliveries : List delivered.Delivery) (before : Situation) (answers : List Answer) (behind : Situation) → AllDelivered deliveries before answers behind → IsTrue behind.honest → IsTrue before.honest
+delivered_honest [] before answers behind all honest = subst (λ (s : Situation). IsTrue s.honest) all.1 honest
+delivered_honest (d ∷ deliveries) before answers behind (told, during, rest, delivers, order, more) honest = delivers_honest d before told during delivers (delivered_honest deliveries during rest behind more honest)
 
--- and then the next of them
-pub next_run : (volume : ℕ) (deliveries : List delivered.Delivery) (i : ℕ) (d : delivered.Delivery) (S : State) (journal : List Event) (failures capacity : ℕ) (honest : Bool) (writes : List (List (List ℕ))) (answers later : List Answer)
-    (during : Situation) (told : Option Answer) (behind : Situation) → i < length deliveries → d ≡ get_or deliveries i d → Delivers d during told behind → later ≡ answers ++ option_to_list told
-    → (IsTrue during.honest → Once journal → Stands udf capacity volume (held journal) S → IsRun volume (take i deliveries) S (situation None journal failures capacity honest writes) answers during)
-    → ((T : State) → IsTrue behind.honest → HoldsState volume T during → DeliversBy volume d T during told behind)
-    → IsTrue behind.honest → Once journal → Stands udf capacity volume (held journal) S → IsRun volume (take (i + 1) deliveries) S (situation None journal failures capacity honest writes) later behind
-next_run volume deliveries i d S journal failures capacity honest writes answers later during told behind lt is delivers e before by so once stands =
-    let start : Situation = situation None journal failures capacity honest writes in
-    let at : HoldsState volume S start = (runs_begin volume S journal failures capacity honest writes once stands).0 in
-    let run : IsRun volume (take i deliveries) S start answers during = before (delivers_honest d during told behind delivers so) once stands in
-    let one : take (i + 1) deliveries ≡ take i deliveries ++ d ∷ [] =
-    take_more deliveries i d lt ∙ ap (λ (x : delivered.Delivery). take i deliveries ++ x ∷ []) (sym is) in
-    let next = runs_go_on volume (take i deliveries) S start answers during at run d told behind (by run.state so (at_end volume run.said S start (said_answers answers) run.state during at run.steps)) in
-    subst (λ (ds : List delivered.Delivery). IsRun volume ds S start later behind) (sym one)
-    (subst (λ (xs : List Answer). IsRun volume (take i deliveries ++ d ∷ []) S start xs behind) (sym e) next)
+-- a delivery, by the calls that it makes
+pub delivers_by : (volume : ℕ) (d : delivered.Delivery) (S : State) (before : Situation) (told : Option Answer) (behind : Situation) → Delivers d before told behind → IsTrue behind.honest → HoldsState volume S before
+    → DeliversBy volume d S before told behind
+delivers_by volume Restart S before None behind is honest at = is
+delivers_by volume Restart S before (Some a) behind is honest at = absurd is
+delivers_by volume (Frame payload) S before None behind is honest at = absurd is
+delivers_by volume (Frame payload) S before (Some a) behind (m, tells, one) honest at = (m, tells, one.calls volume S honest at)
 
--- until all are made
-pub ended_run : (volume : ℕ) (deliveries : List delivered.Delivery) (i : ℕ) (S : State) (journal : List Event) (failures capacity : ℕ) (honest : Bool) (writes : List (List (List ℕ))) (answers : List Answer) (behind : Situation)
-    → length deliveries ≤ i → Once journal → Stands udf capacity volume (held journal) S → IsRun volume (take i deliveries) S (situation None journal failures capacity honest writes) answers behind
-    → RunHolds volume capacity deliveries S journal answers behind.journal
-ended_run volume deliveries i S journal failures capacity honest writes answers behind all once stands run =
-    let start : Situation = situation None journal failures capacity honest writes in
-    runs_are_held volume deliveries S start answers behind (runs_begin volume S journal failures capacity honest writes once stands).0
-    (subst (λ (ds : List delivered.Delivery). IsRun volume ds S start answers behind) (take_all i deliveries all) run)
+-- its answer, and those of the others
+pub said_rest : (told : Option Answer) (rest : List Answer) → said_answers (option_to_list told ++ rest) ≡ option_to_list (said_told told) ++ said_answers rest
+said_rest None rest = refl
+said_rest (Some a) rest = refl

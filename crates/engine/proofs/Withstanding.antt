@@ -1,8 +1,9 @@
 -- What a loss of power leaves, one call more at a time.
-use Rattle.std.proofs.Common.{◌≡◌, inl, inr, ℕ, suc, ◌+◌, ◌<◌, Bool, true, IsTrue, List, [], ◌++◌, length, take, get_or, Option, Some, None, sym, ap, ◌∙◌, subst, arith, append-nil}
-use Rattle.std.specs.Option.{option_to_list}
+use Rattle.std.proofs.Common.{◌≡◌, inl, inr, ℕ, ◌≤◌, Bool, true, IsTrue, List, [], ◌∷◌, ◌++◌, length, take, Option, Some, None, refl, sym, ap, ◌∙◌, subst, arith, append-nil}
 use Rattle.std.proofs.Math.Seq.{take-length}
-use Rattle.drive.specs.Journal.{Event, held, written, Once}
+use Rattle.std.proofs.lemmas.List.{take_all}
+use Rattle.drive.specs.Journal.{AddsFront, Event, held, written, Once}
+use Rattle.drive.specs.Writes.{joined}
 use Rattle.request.specs.declared.answer.Answer.{Answer}
 use Rattle.model.specs.Session.{State, Request, due, after, after_one}
 use Rattle.model.specs.Session.Due.{New}
@@ -15,55 +16,77 @@ use Rattle.udf.specs.Udf.{udf, spelled}
 use Rattle.store.specs.Calls as store
 use Rattle.store.specs.Calls.{Knows}
 use Rattle.store.specs.declared.store.Store.{Store}
-use Rattle.engine.specs.Answered.{due_of}
+use Rattle.engine.specs.Answered.{due_of, faults}
 use Rattle.engine.specs.declared.runs.Delivery.{Delivery}
-use Rattle.engine.specs.Situation.{Situation, situation}
+use Rattle.engine.specs.declared.runs.Delivery.TheVariants.{Frame, Restart}
+use Rattle.engine.specs.Situation.{Situation, situation, with_store}
+use Rattle.engine.specs.Said.{said_answers, said_told}
 use Rattle.engine.specs.Steps.{HoldsState}
-use Rattle.engine.specs.Headline.{IsRun, RunHolds, said_answers}
-use Rattle.engine.proofs.Running.{at_end, runs_begin, runs_are_held}
-use Rattle.engine.specs.Withstanding.{Withstands, Brings, BringsAt, AllWithstand}
+use Rattle.engine.specs.Delivered.{AllDelivered, Delivers, faults_told}
+use Rattle.engine.specs.Headline.{AllWithstand, IsRun, RunHolds, RunWithstands}
+use Rattle.engine.proofs.Running.{delivered_honest, delivers_by, delivers_step, runs_begin, runs_are_held, said_rest}
+use Rattle.engine.specs.Withstanding.{AsksFor, Withstands, Brings}
 use Rattle.durability.proofs.One.{stands_one}
 use Rattle.udf.proofs.Formats.{exact}
 use Rattle.drive.proofs.Once.{held_once, length-blocks_of}
 use Rattle.engine.proofs.Calling.{front_grows, same_due, stay}
 
 -- nothing was written
-pub unwritten : (capacity volume : ℕ) (J : List Event) (S : State) (asked : Request → Type 0) (W W' : List (List Block)) → Once J → Stands udf capacity volume (held J) S → W' ≡ W → Withstands capacity volume J S asked W W'
-unwritten capacity volume J S asked W W' once stands same = record {
-  added = [];
-  writes_are = same ∙ sym (append-nil W);
-  torn = λ left behind none there.
-      inl (subst (λ (K : List Event). Advances udf capacity volume J S K S) (sym (there ∙ ap (λ (bs : List Block). J ++ written (length J) bs) none ∙ append-nil J)) (stay capacity volume J S once stands));
-}
+pub unwritten : (volume : ℕ) (S : State) (asked : Request → Type 0) (failed : ℕ) (before behind : Situation) → Once before.journal → Stands udf before.capacity volume (held before.journal) S
+    → behind.journal ≡ before.journal → behind.writes ≡ before.writes → Withstands volume S asked failed before behind
+unwritten volume S asked failed before behind once stands journal writes =
+    let J : List Event = before.journal in
+    record {
+      added = [];
+      others = [];
+      writes_are = writes ∙ sym (append-nil before.writes);
+      front = (0, omega arith, journal ∙ sym (append-nil J));
+      whole = λ ok. journal ∙ sym (append-nil J);
+      torn = λ left lost none there.
+          inl (subst (λ (K : List Event). Advances udf before.capacity volume J S K S) (sym (there ∙ ap (λ (bs : List Block). J ++ written (length J) bs) none ∙ append-nil J)) (stay before.capacity volume J S once stands));
+    }
 
 -- what withstands asks for no less
-pub withstands_more : (capacity volume : ℕ) (J : List Event) (S : State) (asked more : Request → Type 0) (W W' : List (List Block)) → ((r : Request) → asked r → more r) → Withstands capacity volume J S asked W W' → Withstands capacity volume J S more W W'
-withstands_more capacity volume J S asked more W W' f w = record {
+pub withstands_more : (volume : ℕ) (S : State) (asked more : Request → Type 0) (failed : ℕ) (before behind : Situation) → ((r : Request) → asked r → more r) → Withstands volume S asked failed before behind → Withstands volume S more failed before behind
+withstands_more volume S asked more failed before behind f w = record {
   added = w.added;
+  others = w.others;
   writes_are = w.writes_are;
-  torn = λ left behind cut there. elim (w.torn left behind cut there) [ inl stood ↦ inl stood | inr done ↦ inr (done.0, f done.0 done.1, done.2, done.3) ];
+  front = w.front;
+  whole = w.whole;
+  torn = λ left lost cut there. elim (w.torn left lost cut there) [ inl stood ↦ inl stood | inr done ↦ inr (done.0, f done.0 done.1, done.2, done.3) ];
 }
 
 -- what is due by the store that knows the state is due by the state
 pub new_there : (capacity volume : ℕ) (J : List Event) (S : State) (store : Store) (client number : ℕ) → Knows capacity volume J S store → New ≡ due_of store client number → due S client number ≡ New
 new_there capacity volume J S store client number knows new = sym (new ∙ same_due volume S (situation (Some store) J 0 capacity true []) store client number knows)
 
--- a store's commit, from where nothing was written since
-pub applied_withstands : (capacity capacity' volume : ℕ) (J K : List Event) (S : State) (r : Request) (asked : Request → Type 0) (W V W' : List (List Block)) → capacity' ≡ capacity → K ≡ J → V ≡ W → asked r → due S r.client r.number ≡ New
-    → store.Withstands capacity' volume K S r V W' → Withstands capacity volume J S asked W W'
-applied_withstands capacity capacity' volume J K S r asked W V W' size journal writes asks new w = record {
+-- a store's commit
+pub applied_withstands : (volume : ℕ) (S : State) (r : Request) (asked : Request → Type 0) (failed : ℕ) (before behind : Situation) → asked r → due S r.client r.number ≡ New
+    → store.Withstands before.capacity volume before.journal S r before.writes failed behind.journal behind.writes → Withstands volume S asked failed before behind
+applied_withstands volume S r asked failed before behind asks new w = record {
   added = w.added;
-  writes_are = w.writes_are ∙ ap (λ (ws : List (List Block)). ws ++ w.added) writes;
-  torn = λ left behind cut there.
-      let back : (T : State) → Advances udf capacity' volume K S behind T → Advances udf capacity volume J S behind T =
-      λ T h. subst (λ (c : ℕ). Advances udf c volume J S behind T) size (subst (λ (L : List Event). Advances udf capacity' volume L S behind T) journal h) in
-      elim (w.torn left behind cut (there ∙ ap (λ (L : List Event). L ++ written (length L) left) (sym journal))) [ inl stood ↦ inl (back S stood) | inr done ↦ inr (r, asks, new, back (after_one S r) done) ];
+  others = w.others;
+  writes_are = w.writes_are;
+  front = w.front;
+  whole = w.whole;
+  torn = λ left lost cut there. elim (w.torn left lost cut there) [ inl stood ↦ inl stood | inr done ↦ inr (r, asks, new, done) ];
 }
 
 -- from where nothing was written since
-pub withstands_from : (capacity capacity' volume : ℕ) (J K : List Event) (S : State) (asked : Request → Type 0) (W V W' : List (List Block)) → capacity' ≡ capacity → K ≡ J → V ≡ W → Withstands capacity' volume K S asked V W' → Withstands capacity volume J S asked W W'
-withstands_from capacity capacity' volume J K S asked W V W' size journal writes w =
-    subst (λ (c : ℕ). Withstands c volume J S asked W W') size (subst (λ (L : List Event). Withstands capacity' volume L S asked W W') journal (subst (λ (X : List (List Block)). Withstands capacity' volume K S asked X W') writes w))
+pub withstands_from : (volume : ℕ) (S : State) (asked : Request → Type 0) (failed : ℕ) (before during behind : Situation) → during.journal ≡ before.journal → during.capacity ≡ before.capacity → during.writes ≡ before.writes
+    → Withstands volume S asked failed during behind → Withstands volume S asked failed before behind
+withstands_from volume S asked failed before during behind journal size writes w = record {
+  added = w.added;
+  others = w.others;
+  writes_are = w.writes_are ∙ ap (λ (ws : List (List Block)). ws ++ w.added) writes;
+  front = subst (λ (L : List Event). AddsFront L (length L) (joined (w.added ++ w.others)) behind.journal) journal w.front;
+  whole = λ ok. w.whole ok ∙ ap (λ (L : List Event). L ++ written (length L) (joined w.added)) journal;
+  torn = λ left lost cut there.
+      let back : (T : State) → Advances udf during.capacity volume during.journal S lost T → Advances udf before.capacity volume before.journal S lost T =
+      λ T h. subst (λ (c : ℕ). Advances udf c volume before.journal S lost T) size (subst (λ (L : List Event). Advances udf during.capacity volume L S lost T) journal h) in
+      elim (w.torn left lost cut (there ∙ ap (λ (L : List Event). L ++ written (length L) left) (sym journal))) [ inl stood ↦ inl (back S stood) | inr done ↦ inr (done.0, done.1, done.2, back (after_one S done.0) done.3) ];
+}
 
 -- where a run ended the state after all its commits stands
 pub held_stands : (volume capacity : ℕ) (deliveries : List medium.Delivery) (S : State) (before behind : List Event) (answers : List medium.Answer)
@@ -83,32 +106,49 @@ pub held_ended : (volume capacity : ℕ) (deliveries : List medium.Delivery) (S 
 held_ended volume capacity deliveries S before behind answers T run stands =
     stands_one udf exact capacity volume capacity volume (held behind) T (after S run.holds.committed) stands (held_stands volume capacity deliveries S before behind answers run)
 
--- in a list's deliveries, one more
-pub withstand_run : (volume : ℕ) (deliveries : List Delivery) (i : ℕ) (d : Delivery) (S : State) (journal : List Event) (failures capacity : ℕ) (honest : Bool) (answers more : List Answer) (during : Situation) (told : Option Answer)
-    (writes between : List (List Block)) (behind : List Event) (later : List (List Block)) → i < length deliveries → d ≡ get_or deliveries i d → more ≡ answers ++ option_to_list told → IsTrue during.honest → Once journal
-    → Stands udf capacity volume (held journal) S → during.capacity ≡ capacity
-    → (IsTrue during.honest → Once journal → Stands udf capacity volume (held journal) S → IsRun volume (take i deliveries) S (situation None journal failures capacity honest writes) answers during)
-    → (IsTrue during.honest → Once journal → Stands udf capacity volume (held journal) S → AllWithstand volume capacity deliveries S journal writes i answers during.journal between)
-    → ((T : State) → HoldsState volume T during → Withstands during.capacity volume during.journal T (Brings d) between later)
-    → AllWithstand volume capacity deliveries S journal writes (i + 1) more behind later
-withstand_run volume deliveries i d S journal failures capacity honest answers more during told writes between behind later lt is answered so once stands size run all one =
+-- ---- along a run
+
+-- what a delivery's writes leave
+pub delivers_withstand : (volume : ℕ) (d : Delivery) (S : State) (before : Situation) (told : Option Answer) (behind : Situation) → Delivers d before told behind → IsTrue behind.honest → HoldsState volume S before
+    → Withstands volume S (Brings d) (faults_told told) before behind
+delivers_withstand volume Restart S before None behind is honest at = unwritten volume S (Brings Restart) 0 before behind at.once at.stands (ap (λ (s : Situation). s.journal) is) (ap (λ (s : Situation). s.writes) is)
+delivers_withstand volume Restart S before (Some a) behind is honest at = absurd is
+delivers_withstand volume (Frame payload) S before None behind is honest at = absurd is
+delivers_withstand volume (Frame payload) S before (Some a) behind (m, tells, one) honest at =
+    withstands_more volume S (AsksFor m) (Brings (Frame payload)) (faults a) before behind (λ r asks. (m, tells, asks)) (one.withstands volume S honest at)
+
+-- each delivery in turn is a step, and withstands
+pub all_withstand : (volume : ℕ) (deliveries : List Delivery) (S : State) (before : Situation) (answers : List Answer) (behind : Situation) (all : AllDelivered deliveries before answers behind) → IsTrue behind.honest → HoldsState volume S before
+    → (S' : State) × AllWithstand volume deliveries S before answers behind all S'
+all_withstand volume [] S before answers behind all honest at = (S, refl)
+all_withstand volume (d ∷ deliveries) S before answers behind (told, during, rest, delivers, order, more) honest at =
+    let so : IsTrue during.honest = delivered_honest deliveries during rest behind more honest in
+    let step = delivers_step volume d S before told during at (delivers_by volume d S before told during delivers so at) in
+    let later = all_withstand volume deliveries step.2 during rest behind more honest step.3.at in
+    (later.0, (step.0, step.1, step.2, step.3, delivers_withstand volume d S before told during delivers so at, later.1))
+
+-- so they are a run
+pub run_of : (volume : ℕ) (deliveries : List Delivery) (S : State) (before : Situation) (answers : List Answer) (behind : Situation) (all : AllDelivered deliveries before answers behind) (S' : State)
+    → AllWithstand volume deliveries S before answers behind all S' → IsRun volume deliveries S before answers behind
+run_of volume [] S before answers behind all S' same = record { said = []; are_said = tt; state = S'; steps = (ap said_answers all.0, same, all.1) }
+run_of volume (d ∷ deliveries) S before answers behind (told, during, rest, delivers, order, more) S' (said, is, T, step, withstands, later) =
+    let run = run_of volume deliveries T during rest behind more S' later in
+    record { said = said ∷ run.said; are_said = (is, run.are_said); state = run.state; steps = (said_told told, T, during, said_answers rest, step, ap said_answers order ∙ said_rest told rest, run.steps) }
+
+-- a list's deliveries, until all are made, from where no store is kept
+pub ended_run : (volume : ℕ) (deliveries : List Delivery) (i : ℕ) (S : State) (journal : List Event) (failures capacity : ℕ) (honest : Bool) (writes : List (List Block)) (answers : List Answer) (kept : Option Store) (behind : Situation)
+    → length deliveries ≤ i → Once journal → Stands udf capacity volume (held journal) S → IsTrue behind.honest
+    → AllDelivered (take i deliveries) (situation None journal failures capacity honest writes) answers (with_store kept behind) → RunWithstands volume deliveries S (situation None journal failures capacity honest writes) answers behind
+ended_run volume deliveries i S journal failures capacity honest writes answers kept behind all once stands so delivered =
     let start : Situation = situation None journal failures capacity honest writes in
     let at : HoldsState volume S start = (runs_begin volume S journal failures capacity honest writes once stands).0 in
-    let sofar : IsRun volume (take i deliveries) S start answers during = run so once stands in
-    let there : HoldsState volume sofar.state during = at_end volume sofar.said S start (said_answers answers) sofar.state during at sofar.steps in
-    let stood : Stands udf capacity volume (held during.journal) sofar.state = subst (λ (c : ℕ). Stands udf c volume (held during.journal) sofar.state) size there.stands in
-    let holds : RunHolds volume capacity (take i deliveries) S journal answers during.journal = runs_are_held volume (take i deliveries) S start answers during at sofar in
-    let state : sofar.state ≡ after S holds.holds.holds.committed = held_ended volume capacity holds.said S journal during.journal (said_answers answers) sofar.state holds.holds stood in
-    let asks : Withstands during.capacity volume during.journal sofar.state (BringsAt deliveries i) between later =
-    withstands_more during.capacity volume during.journal sofar.state (Brings d) (BringsAt deliveries i) between later (λ r brings. (d, lt, sym is, brings)) (one sofar.state there) in
-    let now : Withstands capacity volume during.journal (after S holds.holds.holds.committed) (BringsAt deliveries i) between later =
-    subst (λ (T : State). Withstands capacity volume during.journal T (BringsAt deliveries i) between later) state
-    (subst (λ (c : ℕ). Withstands c volume during.journal sofar.state (BringsAt deliveries i) between later) size asks) in
-    let next : suc i ≡ i + 1 = omega arith in
-    subst (λ (n : ℕ). AllWithstand volume capacity deliveries S journal writes n more behind later) next
-    (answers, option_to_list told, during.journal, between, all so once stands, answered, holds, now)
+    let every : AllDelivered deliveries start answers (with_store kept behind) = subst (λ (ds : List Delivery). AllDelivered ds start answers (with_store kept behind)) (take_all i deliveries all) delivered in
+    let each = all_withstand volume deliveries S start answers (with_store kept behind) every so at in
+    record { kept = kept; delivered = every; state = each.0; each = each.1 }
 
--- until all are made
-pub withstand_all : (volume capacity : ℕ) (deliveries : List Delivery) (S : State) (i : ℕ) (before : List Event) (answers : List Answer) (behind : List Event) (writes later : List (List Block)) → i ≡ length deliveries
-    → AllWithstand volume capacity deliveries S before writes i answers behind later → AllWithstand volume capacity deliveries S before writes (length deliveries) answers behind later
-withstand_all volume capacity deliveries S i before answers behind writes later end all = subst (λ (n : ℕ). AllWithstand volume capacity deliveries S before writes n answers behind later) end all
+pub ended_holds : (volume : ℕ) (deliveries : List Delivery) (S : State) (journal : List Event) (failures capacity : ℕ) (honest : Bool) (writes : List (List Block)) (answers : List Answer) (behind : Situation) → Once journal → Stands udf capacity volume (held journal) S
+    → RunWithstands volume deliveries S (situation None journal failures capacity honest writes) answers behind → RunHolds volume capacity deliveries S journal answers behind.journal
+ended_holds volume deliveries S journal failures capacity honest writes answers behind once stands run =
+    let start : Situation = situation None journal failures capacity honest writes in
+    runs_are_held volume deliveries S start answers (with_store run.kept behind) (runs_begin volume S journal failures capacity honest writes once stands).0
+    (run_of volume deliveries S start answers (with_store run.kept behind) run.delivered run.state run.each)

@@ -1,5 +1,5 @@
 -- Which answer a message gets, and what it leaves.
-use Rattle.std.specs.Prelude.{◌≡◌, ◌⊎◌, ⊤, ℕ, false, List, length, map, None, IfSome}
+use Rattle.std.specs.Prelude.{◌≡◌, ◌⊎◌, ⊤, ℕ, false, List, length, map, Option, Some, None}
 use Rattle.model.specs.Session.{Due, due_by, record_of}
 use Rattle.model.specs.Session.Due.{Repeat, Stale, Gap, ClientsFull, New}
 use Rattle.drive.specs.Reads.{Counts}
@@ -15,7 +15,7 @@ use Rattle.request.specs.declared.message.Query.TheVariants as query
 use Rattle.store.specs.declared.store.Store.{Store}
 use Rattle.store.specs.Sessions.{reply_said}
 use Rattle.udf.specs.Said.{said_record}
-use Rattle.engine.specs.Situation.{Situation, IsOpen, AddsBlocks}
+use Rattle.engine.specs.Situation.{Situation, IsOpen, IsReady, AddsBlocks}
 
 -- how many failures of the drive an answer stands for
 abbrev pub faults : Answer → ℕ
@@ -45,11 +45,14 @@ CanBeTold (query.Get path) a = ((bytes : List ℕ) × (a ≡ answer.Data bytes))
 CanBeTold (query.List path) a = ((names : List Listed) × (a ≡ answer.Names names)) ⊎ ((a ≡ answer.NotFound) ⊎ ((a ≡ answer.NotDirectory) ⊎ FailsOrIsDamaged a))
 CanBeTold (query.Stat path) a = ((status : NodeStatus) × (a ≡ answer.Node status)) ⊎ ((a ≡ answer.NotFound) ⊎ FailsOrIsDamaged a)
 
--- A new request is committed, or it is told why it may not be. Unless the store stopped, nothing was written then, nor was
--- the drive given a write.
+-- Nothing was written, and the drive was given no write, where no store is kept, or one that did not stop.
+abbrev pub IsUnwritten : Option Store → Situation → Situation → Type 0
+IsUnwritten None before after = (after.journal ≡ before.journal) × (after.writes ≡ before.writes)
+IsUnwritten (Some store) before after = store.is_stopped ≡ false → (after.journal ≡ before.journal) × (after.writes ≡ before.writes)
+
+-- A new request is committed, or the answer says why not. Then nothing was written, unless the store stopped.
 abbrev pub IsCommitted : Situation → Answer → Situation → Type 0
-IsCommitted before a after = ((reply : Reply) × (a ≡ answer.Reply reply))
-    ⊎ (((a ≡ answer.Full) ⊎ FailsOrIsDamaged a) × IfSome after.store (λ store. store.is_stopped ≡ false → (after.journal ≡ before.journal) × (after.writes ≡ before.writes)))
+IsCommitted before a after = ((reply : Reply) × (a ≡ answer.Reply reply)) ⊎ (((a ≡ answer.Full) ⊎ FailsOrIsDamaged a) × IsUnwritten after.store before after)
 
 -- what is due for a number of a client, by the sessions that a store keeps
 abbrev pub due_of : Store → ℕ → ℕ → Due
@@ -63,9 +66,10 @@ IsDue (Gap latest) before a after = (a ≡ answer.Gap latest) × (after ≡ befo
 IsDue ClientsFull before a after = (a ≡ answer.ClientsFull) × (after ≡ before)
 IsDue New before a after = IsCommitted before a after
 
--- The store is open, or is opened, by which nothing is written, and the drive is given no write.
+-- The store is open, or is opened, by which nothing is written, and the drive is given no write. It agrees with the drive.
 pub record OpensStore (before during : Situation) (store : Store) : Type 0 where
   pub opened : IsOpen during store
+  pub ready : IsReady during
   pub journal : during.journal ≡ before.journal
   pub writes : during.writes ≡ before.writes
   pub stays : (kept : Store) → IsOpen before kept → during ≡ before

@@ -21,9 +21,8 @@ use Rattle.store.specs.declared.store.Store.{Store}
 use Rattle.store.specs.Asked.{said_request}
 use Rattle.store.specs.Calls.{Knows, StillKnows, Applies, Gets, Lists, Stats}
 use Rattle.store.specs.Sessions.{reply_said}
-use Rattle.engine.specs.Situation.{Situation, IsOpen}
+use Rattle.engine.specs.Situation.{Situation, IsOpen, with_store}
 use Rattle.engine.specs.Answered.{due_of}
-use Rattle.engine.specs.Delivered.{with_store}
 use Rattle.engine.specs.Said.{said_message, said_answer}
 use Rattle.engine.specs.Steps.{HoldsState, IsStep}
 

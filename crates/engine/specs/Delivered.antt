@@ -1,27 +1,34 @@
--- What became of a list of deliveries, one after another.
-use Rattle.std.specs.Prelude.{◌≡◌, List, [], ◌∷◌, ◌++◌, Option, Some, None, IsTrue}
+-- What became of messages and of deliveries, one after another.
+use Rattle.std.specs.Prelude.{◌≡◌, ℕ, List, [], ◌∷◌, ◌++◌, Option, Some, None, IsTrue}
 use Rattle.std.specs.Option.{option_to_list}
 use Rattle.request.specs.declared.answer.Answer.{Answer}
 use Rattle.request.specs.declared.message.Message.{Message}
 use Rattle.request.specs.Payload.{TellsPayload}
+use Rattle.model.specs.Session.{State}
 use Rattle.store.specs.declared.store.Store.{Store}
 use Rattle.engine.specs.declared.runs.Delivery.{Delivery}
 use Rattle.engine.specs.declared.runs.Delivery.TheVariants.{Frame, Restart}
-use Rattle.engine.specs.Situation.{Situation, HoldsNothing}
-use Rattle.engine.specs.Answered.{Answered, IsNothingThere}
+use Rattle.engine.specs.Situation.{Situation, HoldsNothing, with_store}
+use Rattle.engine.specs.Answered.{Answered, IsNothingThere, faults}
+use Rattle.engine.specs.Called.{Calls}
+use Rattle.engine.specs.Steps.{HoldsState}
+use Rattle.engine.specs.Withstanding.{AsksFor, Withstands}
 
--- the same medium beside an engine that keeps this store
-abbrev pub with_store : Option Store → Situation → Situation
-with_store store s = record s { store = store }
+-- A message got its answer. On an honest drive where a state stands that an open store knows, it got it by that store's calls,
+-- and whatever a loss of power leaves of what was written for it, that state stands or the one after the request. On an honest
+-- drive where nothing stands, the answer says so.
+pub record IsAnswered (asked : Message) (before : Situation) (a : Answer) (behind : Situation) : Type 0 where
+  pub answered : Answered asked before a behind
+  pub calls : (volume : ℕ) (S : State) → IsTrue behind.honest → HoldsState volume S before → Calls volume asked S before a behind
+  pub withstands : (volume : ℕ) (S : State) → IsTrue behind.honest → HoldsState volume S before → Withstands volume S (AsksFor asked) (faults a) before behind
+  pub nothing : IsTrue behind.honest → HoldsNothing before → IsNothingThere asked before a behind
 
--- a frame gets the answer to the message of its payload, which on an honest drive where nothing stands tells so; at a restart
--- all is forgotten that is not on the medium
+-- a frame gets the answer to the message of its payload; at a restart all is forgotten that is not on the medium
 abbrev pub Delivers : Delivery → Situation → Option Answer → Situation → Type 0
 Delivers Restart before None after = after ≡ with_store None before
 Delivers Restart before (Some a) after = ⊥
 Delivers (Frame payload) before None after = ⊥
-Delivers (Frame payload) before (Some a) after = (m : Message) × TellsPayload m payload.items × Answered m before a after
-    × (IsTrue after.honest → HoldsNothing before → IsNothingThere m before a after)
+Delivers (Frame payload) before (Some a) after = (m : Message) × TellsPayload m payload.items × IsAnswered m before a after
 
 -- each delivery in turn, with the answers to those that get one
 abbrev pub AllDelivered : List Delivery → Situation → List Answer → Situation → Type 0
@@ -33,3 +40,8 @@ AllDelivered (d ∷ deliveries) before answers after =
 -- a run from one medium to another
 abbrev pub RunsDeliveries : List Delivery → List Answer → Situation → Situation → Type 0
 RunsDeliveries deliveries answers before after = (kept : Option Store) × AllDelivered deliveries before answers (with_store kept after)
+
+-- how many failures of the drive a delivery's answer stands for
+abbrev pub faults_told : Option Answer → ℕ
+faults_told None = 0
+faults_told (Some a) = faults a

@@ -1,5 +1,5 @@
 -- A whole run on an honest drive: what its deliveries were, and what stands at each front of what it wrote.
-use Rattle.std.specs.Prelude.{◌≡◌, ℕ, List, [], ◌∷◌, ◌++◌, map, Bool, Option, Some, None}
+use Rattle.std.specs.Prelude.{◌≡◌, ℕ, List, [], ◌∷◌, ◌++◌, Bool, Option, Some, None}
 use Rattle.std.specs.Option.{option_to_list}
 use Rattle.drive.specs.Journal.{Event, held, Once}
 use Rattle.request.specs.declared.message.Message.{Message}
@@ -10,15 +10,16 @@ use Rattle.durability.specs.Volume.{Stands}
 use Rattle.durability.specs.Commit.{need}
 use Rattle.durability.specs.Journal.{HoldsOnJournal}
 use Rattle.durability.specs.Runs.{Delivery}
-use Rattle.durability.specs.Runs as medium
 use Rattle.udf.specs.Udf.{udf, spelled}
 use Rattle.engine.specs.declared.runs.Delivery as delivered
 use Rattle.engine.specs.declared.runs.Delivery.TheVariants.{Frame, Restart}
-use Rattle.engine.specs.Situation.{Situation, situation}
-use Rattle.engine.specs.Delivered.{with_store}
-use Rattle.engine.specs.Said.{AllSaid, said_answer}
-use Rattle.engine.specs.Steps.{HoldsState, AllSteps}
+use Rattle.store.specs.declared.store.Store.{Store}
+use Rattle.engine.specs.Situation.{Situation, situation, with_store}
+use Rattle.engine.specs.Said.{AllSaid, IsDeliverySaid, said_answers, said_told}
+use Rattle.engine.specs.Steps.{HoldsState, AllSteps, IsStep}
 use Rattle.engine.specs.Called.{Calls}
+use Rattle.engine.specs.Delivered.{AllDelivered, faults_told}
+use Rattle.engine.specs.Withstanding.{Brings, Withstands}
 
 -- a delivery, by the calls that it makes
 abbrev pub DeliversBy : ℕ → delivered.Delivery → State → Situation → Option Answer → Situation → Type 0
@@ -26,9 +27,6 @@ DeliversBy volume Restart S before None behind = behind ≡ with_store None befo
 DeliversBy volume Restart S before (Some a) behind = ⊥
 DeliversBy volume (Frame payload) S before None behind = ⊥
 DeliversBy volume (Frame payload) S before (Some a) behind = (m : Message) × TellsPayload m payload.items × Calls volume m S before a behind
-
-abbrev pub said_answers : List Answer → List medium.Answer
-said_answers answers = map said_answer answers
 
 -- These deliveries got these answers, in steps that the medium's runs allow, up to a state that stands.
 pub record IsRun (volume : ℕ) (deliveries : List delivered.Delivery) (S : State) (before : Situation) (answers : List Answer) (behind : Situation) : Type 0 where
@@ -61,3 +59,21 @@ abbrev pub RunsAreHeld : Type 0
 RunsAreHeld =
     (volume : ℕ) (deliveries : List delivered.Delivery) (S : State) (before : Situation) (answers : List Answer) (behind : Situation) → HoldsState volume S before
     → IsRun volume deliveries S before answers behind → RunHolds volume before.capacity deliveries S before.journal answers behind.journal
+
+-- Of the deliveries of a run, from the state that stands where the first of them begins. Each is a step that the medium's runs
+-- allow, from the state that the one before it left and the journal as it was when the delivery began: that journal's length
+-- is the mark of its row. And whatever a loss of power leaves of the writes for it, that state stands, or the one after the
+-- new request that it brought.
+abbrev pub AllWithstand : ℕ → (deliveries : List delivered.Delivery) → State → (before : Situation) → (answers : List Answer) → (behind : Situation) → AllDelivered deliveries before answers behind → State → Type 0
+AllWithstand volume [] S before answers behind all S' = S' ≡ S
+AllWithstand volume (d ∷ deliveries) S before answers behind all S' =
+    (said : Delivery) × IsDeliverySaid d said × (T : State) × IsStep volume said S before (said_told all.0) T all.1
+    × Withstands volume S (Brings d) (faults_told all.0) before all.1
+    × AllWithstand volume deliveries T all.1 all.2 behind all.5 S'
+
+-- So it is of a whole run: the deliveries one after another, each from where the one before it left engine and drive.
+pub record RunWithstands (volume : ℕ) (deliveries : List delivered.Delivery) (S : State) (before : Situation) (answers : List Answer) (behind : Situation) : Type 0 where
+  pub kept : Option Store
+  pub delivered : AllDelivered deliveries before answers (with_store kept behind)
+  pub state : State
+  pub each : AllWithstand volume deliveries S before answers (with_store kept behind) delivered state

@@ -1,11 +1,11 @@
 pub mod Situation
 pub mod Answered
 pub mod Streams
-pub mod Delivered
 pub mod Said
 pub mod Steps
 pub mod Called
-pub mod Headline
 pub mod Withstanding
+pub mod Delivered
+pub mod Headline
 pub mod Served
 pub mod Losses

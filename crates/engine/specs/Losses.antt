@@ -14,9 +14,13 @@ use Rattle.durability.specs.Journal.{Advances, HoldsOnJournal}
 use Rattle.durability.specs.Runs.{Delivery, Answer}
 use Rattle.udf.specs.Udf.{udf, spelled}
 use Rattle.engine.specs.declared.runs.Delivery as delivered
-use Rattle.engine.specs.Headline.{RunHolds, said_answers}
-use Rattle.engine.specs.Served.{brought}
-use Rattle.engine.specs.Withstanding.{AsksFor, BringsAt, Withstands}
+use Rattle.engine.specs.Situation.{Situation, with_store}
+use Rattle.engine.specs.Said.{AllSaid, said_answers}
+use Rattle.engine.specs.Steps.{HoldsState}
+use Rattle.engine.specs.Delivered.{AllDelivered}
+use Rattle.engine.specs.Headline.{RunWithstands}
+use Rattle.engine.specs.Served.{AllAnswered, EachWithstands, brought}
+use Rattle.engine.specs.Withstanding.{AsksFor, Brings}
 
 -- What came to a run and was answered before a loss of power, and the request under way, where the disk kept all of its commit.
 pub record Life : Type 0 where
@@ -50,30 +54,67 @@ pub record Survives (capacity volume : ℕ) (S : State) (before : List Event) (d
   pub past : (commits : ℕ) (T : State) → Past udf capacity volume (held before) commits T → Past udf capacity volume (held behind) commits T
   pub later : (j : ℕ) → j ≤ length done → Past udf capacity volume (held behind) (S.commits + j) (after S (take j done))
 
--- What is left of the writes that are made for a delivery.
-pub record IsLost (before : List Event) (writes later : List (List Block)) (behind : List Event) : Type 0 where
+-- The power was lost on the way from one situation to the next: the disk kept what is left of the writes that were made.
+pub record IsLost (before next : Situation) (lost : List Event) : Type 0 where
   pub added : List (List Block)
-  pub are : later ≡ writes ++ added
+  pub are : next.writes ≡ before.writes ++ added
   pub left : List Block
   pub is_left : IsLeft added left
-  pub behind_is : behind ≡ before ++ written (length before) left
+  pub lost_is : lost ≡ before.journal ++ written (length before.journal) left
 
--- What `run` says of each delivery (`AllWithstand`): whatever a loss of power leaves of the writes for it, the run is cut off so.
--- What was under way then is the request that the delivery brings.
+-- it was lost while one of these deliveries was under way
+abbrev pub LosesRun : (deliveries : List delivered.Delivery) → (before : Situation) → (answers : List told.Answer) → (behind : Situation) → AllDelivered deliveries before answers behind → List Event → Type 0
+LosesRun [] before answers behind all lost = ⊥
+LosesRun (d ∷ deliveries) before answers behind all lost = IsLost before all.1 lost ⊎ LosesRun deliveries all.1 all.2 behind all.5 lost
+
+-- So a run is cut off: the deliveries that were answered, then the one that was under way. What is left is what they committed,
+-- and perhaps the request that this one brought.
+pub record IsRunCut (capacity volume : ℕ) (S : State) (before : List Event) (deliveries : List delivered.Delivery) (answers : List told.Answer) (lost : List Event) : Type 0 where
+  pub done : List delivered.Delivery
+  pub now : delivered.Delivery
+  pub later : List delivered.Delivery
+  pub order : deliveries ≡ done ++ now ∷ later
+  pub given : List told.Answer
+  pub others : List told.Answer
+  pub answers_are : answers ≡ given ++ others
+  pub said : List Delivery
+  pub are_said : AllSaid done said
+  pub under : List Request
+  pub cut : IsCut capacity volume S before (record { said = said; answers = said_answers given; under = under }) lost
+  pub brought : (under ≡ []) ⊎ ((request : Request) × (under ≡ request ∷ []) × Brings now request)
+
+-- By what `run` says of its deliveries, a loss of power in any of them cuts the run off so.
 abbrev pub RunsReach : Type 0
 RunsReach =
-    (volume capacity : ℕ) (deliveries : List delivered.Delivery) (S : State) (before : List Event) (n : ℕ) (answers : List told.Answer) (during : List Event) (between next : List (List Block)) (lost : List Event)
-    (run : RunHolds volume capacity (take n deliveries) S before answers during) → Withstands capacity volume during (after S run.holds.holds.committed) (BringsAt deliveries n) between next → IsLost during between next lost
-    → (under : List Request) × IsCut capacity volume S before (record { said = run.said; answers = said_answers answers; under = under }) lost
-    × ((under ≡ []) ⊎ ((request : Request) × (under ≡ request ∷ []) × BringsAt deliveries n request))
+    (volume : ℕ) (deliveries : List delivered.Delivery) (S : State) (before : Situation) (answers : List told.Answer) (behind : Situation) → HoldsState volume S before
+    → (run : RunWithstands volume deliveries S before answers behind) (lost : List Event) → LosesRun deliveries before answers (with_store run.kept behind) run.delivered lost
+    → IsRunCut before.capacity volume S before.journal deliveries answers lost
 
--- the same of what `serve` says of each message of a stream (`EachWithstands`)
+-- it was lost while one of these messages was under way
+abbrev pub LosesStream : (messages : List Message) → (before : Situation) → (answers : List told.Answer) → (behind : Situation) → AllAnswered messages before answers behind → List Event → Type 0
+LosesStream [] before answers behind all lost = ⊥
+LosesStream (m ∷ messages) before [] behind all lost = ⊥
+LosesStream (m ∷ messages) before (a ∷ answers) behind all lost = IsLost before all.0 lost ⊎ LosesStream messages all.0 answers behind all.2 lost
+
+-- so a stream is cut off
+pub record IsStreamCut (capacity volume : ℕ) (S : State) (before : List Event) (messages : List Message) (answers : List told.Answer) (lost : List Event) : Type 0 where
+  pub done : List Message
+  pub now : Message
+  pub later : List Message
+  pub order : messages ≡ done ++ now ∷ later
+  pub given : List told.Answer
+  pub others : List told.Answer
+  pub answers_are : answers ≡ given ++ others
+  pub under : List Request
+  pub cut : IsCut capacity volume S before (record { said = brought done; answers = said_answers given; under = under }) lost
+  pub asked : (under ≡ []) ⊎ ((request : Request) × (under ≡ request ∷ []) × AsksFor now request)
+
+-- by what `serve` says of the messages that it took
 abbrev pub ServedReach : Type 0
 ServedReach =
-    (volume capacity : ℕ) (S : State) (before : List Event) (done : List Message) (m : Message) (answers : List told.Answer) (during : List Event) (between next : List (List Block)) (lost : List Event)
-    (run : HoldsOnJournal udf (need spelled) capacity volume S before during (brought done) (said_answers answers)) → Withstands capacity volume during (after S run.holds.committed) (AsksFor m) between next → IsLost during between next lost
-    → (under : List Request) × IsCut capacity volume S before (record { said = brought done; answers = said_answers answers; under = under }) lost
-    × ((under ≡ []) ⊎ ((request : Request) × (under ≡ request ∷ []) × AsksFor m request))
+    (volume : ℕ) (messages : List Message) (S : State) (before : Situation) (answers : List told.Answer) (behind : Situation) → HoldsState volume S before
+    → (all : AllAnswered messages before answers behind) (S' : State) → EachWithstands volume messages S before answers behind all S'
+    → (lost : List Event) → LosesStream messages before answers behind all lost → IsStreamCut before.capacity volume S before.journal messages answers lost
 
 -- Runs that are cut off so leave the state after all that was committed, whatever came and however often the power was lost.
 -- The next run finds what it needs: that this state stands, and each address was written once.

@@ -1,5 +1,5 @@
 -- What comes to an engine and what it answers, in the words of the medium.
-use Rattle.std.specs.Prelude.{◌≡◌, List, [], ◌∷◌}
+use Rattle.std.specs.Prelude.{◌≡◌, List, [], ◌∷◌, map, Option, Some, None}
 use Rattle.request.specs.declared.message.Message as asked
 use Rattle.request.specs.declared.message.Message.TheVariants as message
 use Rattle.request.specs.declared.answer.Answer as told
@@ -36,6 +36,14 @@ said_answer answer.NotDirectory = medium.Answer.NotDirectory
 said_answer (answer.Data bytes) = medium.Answer.Data bytes
 said_answer (answer.Names names) = medium.Answer.Names (said_names names)
 said_answer (answer.Node status) = medium.Answer.NodeIs (is_directory status.kind) status.moment status.size
+
+abbrev pub said_answers : List told.Answer → List Answer
+said_answers answers = map said_answer answers
+
+-- none at a restart
+abbrev pub said_told : Option told.Answer → Option Answer
+said_told None = None
+said_told (Some a) = Some (said_answer a)
 
 -- a frame brings the message that its payload tells
 abbrev pub IsDeliverySaid : delivered.Delivery → Delivery → Type 0

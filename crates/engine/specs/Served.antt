@@ -6,31 +6,21 @@ use Rattle.request.specs.declared.answer.Answer.{Answer}
 use Rattle.request.specs.declared.message.Message.{Message}
 use Rattle.request.specs.Answers.{answer_frame}
 use Rattle.request.specs.Frames.{Takes, IsIdle, IsPartial, MessagesAre, fed}
-use Rattle.model.specs.Session.{State, after}
+use Rattle.model.specs.Session.{State}
 use Rattle.durability.specs.Commit.{need}
 use Rattle.durability.specs.Journal.{HoldsOnJournal}
 use Rattle.durability.specs.Runs.{Delivery}
 use Rattle.durability.specs.Runs.Delivery.{Delivered}
 use Rattle.udf.specs.Udf.{udf, spelled}
-use Rattle.engine.specs.Situation.{Situation, HoldsNothing}
+use Rattle.engine.specs.Situation.{Situation}
 use Rattle.engine.specs.declared.serving.ServeFault.{ServeFault}
 use Rattle.engine.specs.declared.serving.ServeFault.TheVariants as faults
-use Rattle.engine.specs.Answered.{Answered, IsNothingThere}
-use Rattle.engine.specs.Called.{Calls}
-use Rattle.engine.specs.Headline.{said_answers}
-use Rattle.engine.specs.Said.{said_message}
-use Rattle.engine.specs.Steps.{HoldsState}
+use Rattle.engine.specs.Answered.{faults}
+use Rattle.engine.specs.Delivered.{IsAnswered}
+use Rattle.engine.specs.Said.{said_answer, said_answers, said_message}
+use Rattle.engine.specs.Steps.{HoldsState, IsStep}
 use Rattle.engine.specs.Streams.{PutsFront}
 use Rattle.engine.specs.Withstanding.{AsksFor, Withstands}
-
--- A message got its answer: on an honest drive, where a state stands that an open store knows, by that store's calls, and
--- whatever a loss of power leaves of what was written for it, that state stands or the one after the request. Where nothing
--- stands on one, it is told so.
-pub record IsAnswered (asked : Message) (before : Situation) (a : Answer) (behind : Situation) : Type 0 where
-  pub answered : Answered asked before a behind
-  pub calls : (volume : ℕ) (S : State) → IsTrue behind.honest → HoldsState volume S before → Calls volume asked S before a behind
-  pub withstands : (volume : ℕ) (S : State) → IsTrue behind.honest → HoldsState volume S before → Withstands before.capacity volume before.journal S (AsksFor asked) before.writes behind.writes
-  pub nothing : IsTrue behind.honest → HoldsNothing before → IsNothingThere asked before a behind
 
 -- each message got its answer, in order
 abbrev pub AllAnswered : List Message → Situation → List Answer → Situation → Type 0
@@ -49,22 +39,22 @@ ServedHolds messages before answers behind =
     (volume : ℕ) (S : State) → IsTrue behind.honest → HoldsState volume S before
     → HoldsOnJournal udf (need spelled) before.capacity volume S before.journal behind.journal (brought messages) (said_answers answers)
 
--- The messages that were answered so far, and then the others, one after another. As each of these comes, those before it
--- have been a run that holds its commits, with the answers that they got; and whatever a loss of power leaves of the writes
--- that are made for it, the state after all these commits stands, or the one after the new request that it asks for.
-abbrev pub EachWithstands : ℕ → State → Situation → List Message → List Answer → Situation → List Message → List Answer → Situation → Type 0
-EachWithstands volume S before done told during [] [] behind = behind ≡ during
-EachWithstands volume S before done told during [] (a ∷ answers) behind = ⊥
-EachWithstands volume S before done told during (m ∷ messages) [] behind = ⊥
-EachWithstands volume S before done told during (m ∷ messages) (a ∷ answers) behind =
-    (next : Situation) × (run : HoldsOnJournal udf (need spelled) before.capacity volume S before.journal during.journal (brought done) (said_answers told))
-    × Withstands before.capacity volume during.journal (after S run.holds.committed) (AsksFor m) during.writes next.writes
-    × EachWithstands volume S before (done ++ m ∷ []) (told ++ a ∷ []) next messages answers behind
+-- Of messages, one after another, from the state that stands where the first of them comes. Each is a step that the medium's
+-- runs allow, from the state that the one before it left and the journal as it was when the message came. And whatever a loss
+-- of power leaves of the writes for it, that state stands, or the one after the new request that it asks for.
+abbrev pub EachWithstands : ℕ → (messages : List Message) → State → (before : Situation) → (answers : List Answer) → (behind : Situation) → AllAnswered messages before answers behind → State → Type 0
+EachWithstands volume [] S before [] behind all S' = S' ≡ S
+EachWithstands volume [] S before (a ∷ answers) behind all S' = ⊥
+EachWithstands volume (m ∷ messages) S before [] behind all S' = ⊥
+EachWithstands volume (m ∷ messages) S before (a ∷ answers) behind all S' =
+    (T : State) × IsStep volume (Delivered (said_message m)) S before (Some (said_answer a)) T all.0
+    × Withstands volume S (AsksFor m) (faults a) before all.0
+    × EachWithstands volume messages T all.0 answers behind all.2 S'
 
--- so it is of all messages, on an honest drive, where a state stands that an open store knows
-abbrev pub ServedWithstands : List Message → Situation → List Answer → Situation → Type 0
-ServedWithstands messages before answers behind =
-    (volume : ℕ) (S : State) → IsTrue behind.honest → HoldsState volume S before → EachWithstands volume S before [] [] before messages answers behind
+-- so it is of these, as they were answered, on an honest drive where a state stands that an open store knows
+abbrev pub ServedWithstands : (messages : List Message) → (before : Situation) → (answers : List Answer) → (behind : Situation) → AllAnswered messages before answers behind → Type 0
+ServedWithstands messages before answers behind all =
+    (volume : ℕ) (S : State) → IsTrue behind.honest → HoldsState volume S before → (S' : State) × EachWithstands volume messages S before answers behind all S'
 
 -- a reader of frames gave these messages, in order
 abbrev pub AllTaken : Option (List ℕ) → List Message → Option (List ℕ) → Type 0
@@ -147,7 +137,7 @@ pub record ServesAll (before behind : Situation) (input left output written : Op
   pub reader : Option (List ℕ)
   pub serving : Serving reader before behind input left output written
   pub holds : ServedHolds serving.messages before serving.answers behind
-  pub withstands : ServedWithstands serving.messages before serving.answers behind
+  pub withstands : ServedWithstands serving.messages before serving.answers behind serving.answered
   pub idle : IsIdle reader
   pub ends : IsAtEnd left ⊎ IsCutOff serving.bytes reader
 
@@ -161,7 +151,7 @@ pub record ServesSome (before behind : Situation) (input left output written : O
   pub messages_are : MessagesAre bytes messages reader
   pub answered : AllAnswered messages before answers behind
   pub holds : ServedHolds messages before answers behind
-  pub withstands : ServedWithstands messages before answers behind
+  pub withstands : ServedWithstands messages before answers behind answered
   pub front : PutsFront output written (frames_of answers)
 
 -- The same, up to where this fault came.

@@ -42,6 +42,10 @@ situation_on drive store d = situation store (drive.journal d) (drive.failures d
 abbrev pub seen_on : {D : Type 0} → Ghosts D → Engine → D → Situation
 seen_on drive engine d = situation_on drive engine.store d
 
+-- the same medium beside an engine that keeps this store
+abbrev pub with_store : Option Store → Situation → Situation
+with_store store s = record s { store = store }
+
 -- No state stands on the drive's journal, and no store is open.
 pub record HoldsNothing (s : Situation) : Type 0 where
   pub once : Once s.journal

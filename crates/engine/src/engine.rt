@@ -42,8 +42,9 @@ impl Engine {
         ensures answered { Answered message.entry (seen_on D.Drive self.old drive.old) result (seen_on D.Drive self.new drive.new) }
         // On an honest drive, where a state stands that an open store knows.
         ensures calls { (volume : ℕ) (S : State) → IsTrue (D.honest drive.new) → HoldsState volume S (seen_on D.Drive self.old drive.old) → Calls volume message.entry S (seen_on D.Drive self.old drive.old) result (seen_on D.Drive self.new drive.new) }
-        // Whatever part of its writes a loss of power leaves, where a disk keeps any choice of the blocks of the last one that it was given.
-        ensures withstands { (volume : ℕ) (S : State) → IsTrue (D.honest drive.new) → HoldsState volume S (seen_on D.Drive self.old drive.old) → Withstands (D.capacity drive.old) volume (D.journal drive.old) S (AsksFor message.entry) (D.writes drive.old) (D.writes drive.new) }
+        // What its writes leave on the journal; and what a loss of power leaves of them, where a disk keeps any choice of the blocks
+        // of the last one that it was given.
+        ensures withstands { (volume : ℕ) (S : State) → IsTrue (D.honest drive.new) → HoldsState volume S (seen_on D.Drive self.old drive.old) → Withstands volume S (AsksFor message.entry) (faults result) (seen_on D.Drive self.old drive.old) (seen_on D.Drive self.new drive.new) }
         // On an honest drive where nothing stands.
         ensures nothing { IsTrue (D.honest drive.new) → HoldsNothing (seen_on D.Drive self.old drive.old) → IsNothingThere message.entry (seen_on D.Drive self.old drive.old) result (seen_on D.Drive self.new drive.new) }
         ensures lent { drives.Follows D.Drive (faults result) drive.old drive.new }
@@ -101,7 +102,7 @@ fn answer_request<D: Drive>(
     ensures due { IsDue (due_of store.old request.now.client request.now.number) (situation_on D.Drive (Some store.old) drive.old) result (situation_on D.Drive (Some store.new) drive.new) }
     ensures follows { AddsBlocks (situation_on D.Drive (Some store.old) drive.old) (situation_on D.Drive (Some store.new) drive.new) }
     ensures dealt { (volume : ℕ) (S : State) → IsTrue (D.honest drive.new) → Knows (D.capacity drive.old) volume (D.journal drive.old) S store.old → store.old.is_stopped ≡ false → IsDealt (due_of store.old request.now.client request.now.number) volume S request.now (situation_on D.Drive (Some store.old) drive.old) store.old result (situation_on D.Drive (Some store.new) drive.new) }
-    ensures withstands { (volume : ℕ) (S : State) → IsTrue (D.honest drive.new) → Knows (D.capacity drive.old) volume (D.journal drive.old) S store.old → Withstands (D.capacity drive.old) volume (D.journal drive.old) S (AsksFor (messages.Request request.now)) (D.writes drive.old) (D.writes drive.new) }
+    ensures withstands { (volume : ℕ) (S : State) → IsTrue (D.honest drive.new) → Knows (D.capacity drive.old) volume (D.journal drive.old) S store.old → Withstands volume S (AsksFor (messages.Request request.now)) (faults result) (situation_on D.Drive (Some store.old) drive.old) (situation_on D.Drive (Some store.new) drive.new) }
     ensures lent { drives.Follows D.Drive (faults result) drive.old drive.new }
 {
     match store.due(request.client, request.number) {

@@ -1,6 +1,6 @@
 //! A whole run, as a list.
 
-ghost use Rattle.std.specs.Prelude.{◌≡◌, ◌≤◌, ℕ, None, IsTrue, IfOk, OnErr, length, sum_by};
+ghost use Rattle.std.specs.Prelude.{◌≡◌, ◌≤◌, ℕ, None, IsTrue, IfOk, OnErr, sum_by};
 ghost use Rattle.drive.specs.Journal.{held, Once};
 ghost use Rattle.durability.specs.Volume.{Stands};
 ghost use Rattle.model.specs.Session.{State};
@@ -9,9 +9,7 @@ ghost use Rattle.udf.specs.Udf.{udf};
 ghost use Rattle.engine.specs.Answered.{faults};
 ghost use Rattle.engine.specs.Situation.{IsReady, seen_on, situation_on};
 ghost use Rattle.engine.specs.Delivered.{Delivers, RunsDeliveries};
-ghost use Rattle.engine.specs.Headline.{DeliversBy, RunHolds};
-ghost use Rattle.engine.specs.Steps.{HoldsState};
-ghost use Rattle.engine.specs.Withstanding.{Withstands, Brings, AllWithstand};
+ghost use Rattle.engine.specs.Headline.{RunHolds, RunWithstands};
 
 use crate::engine::Engine;
 use drive::Drive;
@@ -38,9 +36,10 @@ pub fn run<D: Drive>(
     // On an honest drive where a state stands: what stands at each front of what was written.
     ensures holds { (volume : ℕ) (S : State) → IsTrue (D.honest drive.new) → Once (D.journal drive.old) → Stands udf (D.capacity drive.old) volume (held (D.journal drive.old)) S
         → IfOk result (λ answers. RunHolds volume (D.capacity drive.old) deliveries.now S (D.journal drive.old) answers.items (D.journal drive.new)) }
-    // The same at every moment of the run, whatever part of the write that had not returned a loss of power leaves.
+    // The same of every delivery, from the journal as it was when that delivery began, whatever part of the write that had not
+    // returned a loss of power leaves.
     ensures withstands { (volume : ℕ) (S : State) → IsTrue (D.honest drive.new) → Once (D.journal drive.old) → Stands udf (D.capacity drive.old) volume (held (D.journal drive.old)) S
-        → IfOk result (λ answers. AllWithstand volume (D.capacity drive.old) deliveries.now S (D.journal drive.old) (D.writes drive.old) (length deliveries.now) answers.items (D.journal drive.new) (D.writes drive.new)) }
+        → IfOk result (λ answers. RunWithstands volume deliveries.now S (situation_on D.Drive None drive.old) answers.items (situation_on D.Drive None drive.new)) }
     // No more answers tell of a failing drive than failures were counted.
     ensures failures { IfOk result (λ answers. Counts (sum_by faults answers.items) (D.failures drive.old) (D.failures drive.new)) }
     ensures err { OnErr result (situation_on D.Drive None drive.new ≡ situation_on D.Drive None drive.old) }
@@ -65,9 +64,6 @@ fn deliver<D: Drive>(
 ) -> Option<Answer>
     requires { IsReady (seen_on D.Drive engine.old drive.old) }
     ensures delivers { Delivers delivery.now (seen_on D.Drive engine.old drive.old) result (seen_on D.Drive engine.new drive.new) }
-    ensures by { (volume : ℕ) (S : State) → IsTrue (D.honest drive.new) → HoldsState volume S (seen_on D.Drive engine.old drive.old)
-        → DeliversBy volume delivery.now S (seen_on D.Drive engine.old drive.old) result (seen_on D.Drive engine.new drive.new) }
-    ensures withstands { (volume : ℕ) (S : State) → IsTrue (D.honest drive.new) → HoldsState volume S (seen_on D.Drive engine.old drive.old) → Withstands (D.capacity drive.old) volume (D.journal drive.old) S (Brings delivery.now) (D.writes drive.old) (D.writes drive.new) }
     ensures ready { IsReady (seen_on D.Drive engine.new drive.new) }
     ensures lent { Follows D.Drive 0 drive.old drive.new }
 {

@@ -18,10 +18,9 @@ use Rattle.recover.specs.declared.fault.StoreFault.TheVariants as stores
 use Rattle.formatting.specs.NewVolume.{words_on, IsFormatted, IsFormatRefused}
 use Rattle.formatting.proofs.NewVolumes.{format_long}
 use Rattle.store.specs.declared.store.Store.{Store}
-use Rattle.engine.specs.Situation.{Situation, situation}
-use Rattle.engine.specs.Delivered.{with_store}
+use Rattle.engine.specs.Situation.{Situation, situation, with_store}
 use Rattle.engine.specs.Steps.{HoldsState}
-use Rattle.engine.specs.Headline.{said_answers}
+use Rattle.engine.specs.Said.{said_answers}
 use Rattle.engine.specs.Served.{ServedHolds, ServesAll, ServesUntil, brought}
 use Rattle.engine.specs.declared.serving.ServeFault.{ServeFault}
 use Rattle.engine.proofs.Running.{runs_begin}

@@ -7,11 +7,10 @@ use Rattle.std.proofs.Math.Seq.{take-append-add}
 use Rattle.drive.specs.Journal.{Event}
 use Rattle.request.specs.Answers.{answer_frame}
 use Rattle.request.specs.declared.answer.Answer.{Answer}
-use Rattle.engine.specs.Delivered.{with_store}
 use Rattle.engine.specs.Served.{LastUntold, LeftAt, LeftBy, ServesAll, ServesUntil, frames_of}
 use Rattle.engine.specs.declared.serving.ServeFault.{ServeFault}
 use Rattle.engine.specs.declared.serving.ServeFault.TheVariants as streams
-use Rattle.engine.specs.Situation.{Situation}
+use Rattle.engine.specs.Situation.{Situation, with_store}
 use Rattle.engine.specs.Streams.{PutsFront}
 use Rattle.engine.proofs.Messages.{nothing_more}
 use Rattle.engine.proofs.Pieces.{keeps_on}

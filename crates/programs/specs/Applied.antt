@@ -17,10 +17,9 @@ use Rattle.formatting.specs.NewVolume.{IsFormatOf, words_on}
 use Rattle.recover.specs.declared.fault.StoreFault.{StoreFault}
 use Rattle.recover.specs.declared.fault.StoreFault.TheVariants as stores
 use Rattle.store.specs.declared.store.Store.{Store}
-use Rattle.engine.specs.Situation.{Situation}
+use Rattle.engine.specs.Situation.{Situation, with_store}
 use Rattle.engine.specs.Streams.{PutsFront}
-use Rattle.engine.specs.Delivered.{with_store}
-use Rattle.engine.specs.Headline.{said_answers}
+use Rattle.engine.specs.Said.{said_answers}
 use Rattle.engine.specs.Served.{IsCutOff, LeftBy, ServesAll, ServesUntil, brought, frames_of}
 use Rattle.engine.specs.declared.serving.ServeFault.{ServeFault}
 use Rattle.programs.specs.declared.fault.Fault.{Fault}

@@ -3,8 +3,7 @@ use Rattle.std.specs.Prelude.{◌≡◌, ◌⊎◌, ⊤, ℕ, List, Option}
 use Rattle.request.specs.declared.answer.Answer.{Answer}
 use Rattle.request.specs.declared.message.Message.{Message}
 use Rattle.store.specs.declared.store.Store.{Store}
-use Rattle.engine.specs.Situation.{Situation}
-use Rattle.engine.specs.Delivered.{with_store}
+use Rattle.engine.specs.Situation.{Situation, with_store}
 use Rattle.engine.specs.Served.{AllAnswered, ServedHolds, ServedWithstands, ServesAll, ServesUntil}
 use Rattle.engine.specs.declared.serving.ServeFault.{ServeFault}
 use Rattle.engine.specs.declared.serving.ServeFault.TheVariants as streams
@@ -21,7 +20,7 @@ pub record GoesOn (before behind : Situation) : Type 0 where
   pub answers : List Answer
   pub answered : AllAnswered messages before answers behind
   pub holds : ServedHolds messages before answers behind
-  pub withstands : ServedWithstands messages before answers behind
+  pub withstands : ServedWithstands messages before answers behind answered
 
 -- which store is open behind the last is not told
 abbrev pub AreOneRun : Situation → Situation → Type 0

@@ -1,11 +1,12 @@
 -- What becomes of a new request, by where its commit ends.
-use Rattle.std.proofs.Common.{◌≡◌, ◌⊎◌, inl, inr, ℕ, Bool, ◌+◌, ◌<◌, ◌≤◌, true, List, [], ◌∷◌, ◌++◌, length, refl, sym, ap, subst, ◌∙◌, arith, append_assoc, append-nil}
+use Rattle.std.proofs.Common.{◌≡◌, ◌⊎◌, inl, inr, ℕ, Bool, ◌+◌, ◌<◌, ◌≤◌, true, false, List, [], ◌∷◌, ◌++◌, length, refl, sym, ap, subst, subst₂, ◌∙◌, arith, append_assoc, append-nil}
 use Rattle.std.specs.Prelude.{Result, Ok, Err, IfOk, IfErr, OnOk, OnErr, is_err}
 use Rattle.std.proofs.lemmas.Bool.{false≢true}
 use Rattle.std.proofs.lemmas.List.{take_all}
 use Rattle.drive.specs.Journal.{AddsFront, Event, held, next_of, written}
-use Rattle.drive.proofs.Fronts.{held_write}
+use Rattle.drive.proofs.Fronts.{front_whole, held_write}
 use Rattle.drive.specs.Sending.{SendsAlone}
+use Rattle.drive.specs.Writes.{joined}
 use Rattle.drive.specs.declared.Drive.{Ghosts}
 use Rattle.model.specs.Addresses.{free_address}
 use Rattle.model.specs.Session.{State, after_one, reply_to}
@@ -15,9 +16,9 @@ use Rattle.durability.specs.Journal.{Advances}
 use Rattle.durability.specs.Plan.{IsPlanned}
 use Rattle.durability.specs.Volume.{Medium, Stands}
 use Rattle.durability.proofs.OnJournals.{torn_advances}
-use Rattle.durability.proofs.Writes.{left_more}
+use Rattle.durability.proofs.Writes.{joined_writes, left_more}
 use Rattle.udf.proofs.Formats.{exact, bounded, distinct}
-use Rattle.recover.specs.Faults.{IsShortage}
+use Rattle.recover.specs.Faults.{IsShortage, devices, failures_of}
 use Rattle.recover.specs.declared.fault.StoreFault.{StoreFault}
 use Rattle.recover.specs.declared.fault.StoreFault.TheVariants as fault
 use Rattle.request.specs.Numbers.{code_number}
@@ -58,10 +59,13 @@ module _ (capacity volume : ℕ) (J : List Event) (S : State) (store : Store) (k
   }
 
   -- so nothing can be torn
-  pub unwritten : (r : asking.Request) (W W' : List (List Block)) → W' ≡ W → Withstands capacity volume J S (said_request r) W W'
-  unwritten r W W' same = record {
+  pub unwritten : (r : asking.Request) (W : List (List Block)) (failed : ℕ) (J' : List Event) (W' : List (List Block)) → J' ≡ J → W' ≡ W → Withstands capacity volume J S (said_request r) W failed J' W'
+  unwritten r W failed J' W' same kept = record {
     added = [];
-    writes_are = same ∙ sym (append-nil W);
+    others = [];
+    writes_are = kept ∙ sym (append-nil W);
+    front = (0, omega arith, same ∙ sym (append-nil J));
+    whole = λ ok. same ∙ sym (append-nil J);
     torn = λ left behind none there. inl (subst (λ (K : List Event). Advances udf capacity volume J S K S) (sym (there ∙ ap (λ (bs : List Block). J ++ written (length J) bs) none ∙ append-nil J)) stays);
   }
 
@@ -124,16 +128,39 @@ module _ (capacity volume : ℕ) (J : List Event) (S : State) (store : Store) (k
             knows = λ going. absurd (false≢true (sym going ∙ stops));
           }
 
-      -- whatever a loss of power leaves of what is written
-      pub withstands : {D : Type 0} {drive : Ghosts D} {failed : Bool} {d e : D} (W : List (List Block)) → drive.writes d ≡ W → SendsAlone drive (node_list plan ++ table_data plan.table) plan.table.entry failed d e
-          → Withstands capacity volume J S (said_request r) W (drive.writes e)
-      withstands W kept sends = record {
+      -- what its writes leave, and what a loss of power leaves of them
+      pub withstands : {D : Type 0} {drive : Ghosts D} (result : Result told.Reply StoreFault) (d e : D) (W : List (List Block)) → drive.writes d ≡ W → SendsAlone drive (node_list plan ++ table_data plan.table) plan.table.entry (is_err result) d e
+          → drive.journal d ≡ J → OnOk result (drive.journal e ≡ drive.journal d ++ written (next_of (drive.journal d)) (plan_blocks plan))
+          → OnErr result (AddsFront (drive.journal d) (next_of (drive.journal d)) (plan_blocks plan) (drive.journal e)) → IfErr result (λ refusal. refusal ≡ fault.Device)
+          → Withstands capacity volume J S (said_request r) W (devices result) (drive.journal e) (drive.writes e)
+      withstands {D} {drive} result d e W kept sends same all some device = record {
         added = sends.added;
+        others = sends.others;
         writes_are = sends.writes ∙ ap (λ (ws : List (List Block)). ws ++ sends.added) kept;
+        front = front_of result (subst₂ (λ (L : List Event) (bs : List Block). OnOk result (drive.journal e ≡ L ++ written (next_of L) bs)) same planned_is all)
+            (subst₂ (λ (L : List Event) (bs : List Block). OnErr result (AddsFront L (next_of L) bs (drive.journal e))) same planned_is some);
+        whole = λ ok. whole_of result ok device sends.whole (subst (λ (L : List Event). OnOk result (drive.journal e ≡ L ++ written (next_of L) (plan_blocks plan))) same all);
         torn = λ left behind cut there.
             elim (torn_advances udf capacity volume exact bounded distinct J behind S (said_request r) blocks plan.table.entry knows.once knows.stands plans (sends.added ++ sends.others) left sends.alone
             (left_more sends.added sends.others left cut) there) [ inl stood ↦ inl stood | inr done ↦ inr done.1 ];
       }
+        where
+          planned_is : plan_blocks plan ≡ joined (sends.added ++ sends.others)
+          planned_is = all_is ∙ sym (joined_writes blocks plan.table.entry (sends.added ++ sends.others) sends.alone)
+
+          front_of : (answer : Result told.Reply StoreFault) → OnOk answer (drive.journal e ≡ J ++ written (next_of J) (joined (sends.added ++ sends.others)))
+              → OnErr answer (AddsFront J (next_of J) (joined (sends.added ++ sends.others)) (drive.journal e)) → AddsFront J (length J) (joined (sends.added ++ sends.others)) (drive.journal e)
+          front_of (Ok reply) done part =
+              subst (λ (L : List Event). AddsFront J (length J) (joined (sends.added ++ sends.others)) L) (sym (done ∙ ap (λ (n : ℕ). J ++ written n (joined (sends.added ++ sends.others))) next))
+              (front_whole J (length J) (joined (sends.added ++ sends.others)))
+          front_of (Err refusal) done part = subst (λ (n : ℕ). AddsFront J n (joined (sends.added ++ sends.others)) (drive.journal e)) next part
+
+          whole_of : (answer : Result told.Reply StoreFault) → devices answer ≡ 0 → IfErr answer (λ refusal. refusal ≡ fault.Device) → (is_err answer ≡ false → sends.others ≡ [])
+              → OnOk answer (drive.journal e ≡ J ++ written (next_of J) (plan_blocks plan)) → drive.journal e ≡ J ++ written (length J) (joined sends.added)
+          whole_of (Ok reply) ok failed none done =
+              let every : plan_blocks plan ≡ joined sends.added = planned_is ∙ ap (λ (ws : List (List Block)). joined (sends.added ++ ws)) (none refl) ∙ ap joined (append-nil sends.added) in
+              done ∙ (λ i. J ++ written (next i) (every i))
+          whole_of (Err refusal) ok failed none done = let bad : 1 ≡ 0 = ap failures_of (sym failed) ∙ ok in absurd (omega (arith, bad))
 
       -- all is written
       module _ (J' : List Event) (whole_is : J' ≡ J ++ written (next_of J) (plan_blocks plan)) where

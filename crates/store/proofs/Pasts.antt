@@ -86,6 +86,7 @@ module _ (capacity volume : ℕ) (J : List Event) (T : model.State) (store : Sto
             root = shown.tells.identities.root;
             within = high;
             records = ap (λ (t : Table_). t.records) (sym shown.table) ∙ shown.tells.records;
+            next = ap (λ (t : Table_). t.next_identity) (sym shown.table) ∙ shown.tells.next_identity;
             commits_are = ap (λ (t : Table_). t.commits) same ∙ found.commits_are;
           },
         )

@@ -1,7 +1,7 @@
 -- What the calls of a store say on a drive that is honest, of the state that stands on its journal.
 use Rattle.std.specs.Prelude.{◌≡◌, ◌⊎◌, ℕ, ◌+◌, ◌<◌, ◌≤◌, false, List, [], ◌∷◌, ◌++◌, length, Result, Ok, Err}
-use Rattle.drive.specs.Journal.{Event, held, written, Once}
-use Rattle.drive.specs.Writes.{IsLeft}
+use Rattle.drive.specs.Journal.{AddsFront, Event, held, written, Once}
+use Rattle.drive.specs.Writes.{IsLeft, joined}
 use Rattle.request.specs.declared.answer.Reply as told
 use Rattle.request.specs.declared.answer.Listed.{Listed}
 use Rattle.request.specs.declared.answer.NodeStatus.{NodeStatus}
@@ -81,10 +81,15 @@ abbrev pub Applies : (capacity volume : ℕ) → List Event → State → Reques
 Applies capacity volume before S request (Ok reply) behind store = IsDone capacity volume before S request reply behind store
 Applies capacity volume before S request (Err refusal) behind store = Refuses capacity volume before S request refusal behind store
 
--- The writes that a call added. Whatever a loss of power leaves of them behind what was there, the state stands as before, or the state after the request does.
-pub record Withstands (capacity volume : ℕ) (before : List Event) (S : State) (request : Request) (writes behind : List (List (List ℕ))) : Type 0 where
+-- The writes that a call made, and those that it would still have made had none failed. The journal goes on by a front of
+-- their blocks, and by all blocks of the writes that were made where none failed. Whatever a loss of power leaves of the
+-- writes that were made, the state before the call stands, or the one after the request.
+pub record Withstands (capacity volume : ℕ) (before : List Event) (S : State) (request : Request) (writes : List (List (List ℕ))) (failed : ℕ) (behind : List Event) (later : List (List (List ℕ))) : Type 0 where
   pub added : List (List (List ℕ))
-  pub writes_are : behind ≡ writes ++ added
+  pub others : List (List (List ℕ))
+  pub writes_are : later ≡ writes ++ added
+  pub front : AddsFront before (length before) (joined (added ++ others)) behind
+  pub whole : failed ≡ 0 → behind ≡ before ++ written (length before) (joined added)
   pub torn : (left : List (List ℕ)) (journal : List Event) → IsLeft added left → journal ≡ before ++ written (length before) left
       → Advances udf capacity volume before S journal S ⊎ Advances udf capacity volume before S journal (after_one S request)
 

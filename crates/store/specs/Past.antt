@@ -23,6 +23,7 @@ pub record IsPast (capacity volume : ℕ) (journal : List Event) (commits : ℕ)
   pub root : identity_at S.tree [] ≡ 0
   pub within : at < next_of journal
   pub records : (said_table (view vat)).records ≡ S.records
+  pub next : vat.sessions.next_unique ≡ S.next_identity
   pub commits_are : vat.sessions.commits ≡ commits
 
 -- why the state after so many commits, of as many as there are now, is not shown: the drive failed, memory was short,

@@ -37,8 +37,9 @@ impl Store {
         requires next { IsNext request.now.client request.now.number self.old.vat.sessions.records.items }
         // What becomes of the request on an honest drive, where a state stands that the store knows.
         ensures applies { (volume : ℕ) (S : State) → IsTrue (D.honest drive.new) → Knows (D.capacity drive.old) volume (D.journal drive.old) S self.old → self.old.is_stopped ≡ false → Applies (D.capacity drive.old) volume (D.journal drive.old) S (said_request request.now) result (D.journal drive.new) self.new }
-        // Whatever part of its writes a loss of power leaves, where a disk keeps any choice of the blocks of the last one that it was given.
-        ensures withstands { (volume : ℕ) (S : State) → IsTrue (D.honest drive.new) → Knows (D.capacity drive.old) volume (D.journal drive.old) S self.old → Withstands (D.capacity drive.old) volume (D.journal drive.old) S (said_request request.now) (D.writes drive.old) (D.writes drive.new) }
+        // What its writes leave on the journal; and what a loss of power leaves of them, where a disk keeps any choice of the blocks
+        // of the last one that it was given.
+        ensures withstands { (volume : ℕ) (S : State) → IsTrue (D.honest drive.new) → Knows (D.capacity drive.old) volume (D.journal drive.old) S self.old → Withstands (D.capacity drive.old) volume (D.journal drive.old) S (said_request request.now) (D.writes drive.old) (devices result) (D.journal drive.new) (D.writes drive.new) }
         ensures agrees { Agrees (D.journal drive.new) (D.capacity drive.new) self.new }
         ensures commit { IfOk result (λ reply. reply.commit ≡ self.old.vat.sessions.commits + 1) }
         ensures written { IfOk result (λ reply. WritesPlan self.old request.now (D.capacity drive.old) (D.journal drive.old) (D.journal drive.new) self.new reply) }

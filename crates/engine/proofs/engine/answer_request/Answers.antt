@@ -39,21 +39,21 @@ returns-in-Err g c = record {
     applies = c.in-Err.ensures.applies volume S honest knows going;
     capacity = c.in-Err.ensures.follows.capacity;
   });
-  withstands = λ volume S honest knows. applied_withstands _ _ volume _ _ S _ _ _ _ _ refl refl refl refl (new_there _ volume _ S c.args.store.now c.args.request.now.client c.args.request.now.number knows c.in-New.ensures) (c.in-Err.ensures.withstands volume S honest knows);
+  withstands = λ volume S honest knows. rw c.refusal.ensures.device (applied_withstands volume S _ _ _ _ _ refl (new_there _ volume _ S c.args.store.now c.args.request.now.client c.args.request.now.number knows c.in-New.ensures) (c.in-Err.ensures.withstands volume S honest knows));
   lent = rw c.refusal.ensures.device c.in-Err.ensures.follows;
 }
 
 pub returns-in-Ok-clause-withstands : goal.returns-in-Ok-clause-withstands
-returns-in-Ok-clause-withstands g c volume S honest knows = applied_withstands _ _ volume _ _ S _ _ _ _ _ refl refl refl refl (new_there _ volume _ S c.args.store.now c.args.request.now.client c.args.request.now.number knows c.in-New.ensures) (c.in-Ok.ensures.withstands volume S honest knows)
+returns-in-Ok-clause-withstands g c volume S honest knows = applied_withstands volume S _ _ _ _ _ refl (new_there _ volume _ S c.args.store.now c.args.request.now.client c.args.request.now.number knows c.in-New.ensures) (c.in-Ok.ensures.withstands volume S honest knows)
 
 pub returns-in-Repeat-clause-withstands : goal.returns-in-Repeat-clause-withstands
-returns-in-Repeat-clause-withstands g c volume S honest knows = unwritten _ volume _ S _ _ _ knows.once knows.stands refl
+returns-in-Repeat-clause-withstands g c volume S honest knows = unwritten volume S _ _ _ _ knows.once knows.stands refl refl
 
 pub returns-in-Stale-clause-withstands : goal.returns-in-Stale-clause-withstands
-returns-in-Stale-clause-withstands g c volume S honest knows = unwritten _ volume _ S _ _ _ knows.once knows.stands refl
+returns-in-Stale-clause-withstands g c volume S honest knows = unwritten volume S _ _ _ _ knows.once knows.stands refl refl
 
 pub returns-in-Gap-clause-withstands : goal.returns-in-Gap-clause-withstands
-returns-in-Gap-clause-withstands g c volume S honest knows = unwritten _ volume _ S _ _ _ knows.once knows.stands refl
+returns-in-Gap-clause-withstands g c volume S honest knows = unwritten volume S _ _ _ _ knows.once knows.stands refl refl
 
 pub returns-in-ClientsFull-clause-withstands : goal.returns-in-ClientsFull-clause-withstands
-returns-in-ClientsFull-clause-withstands g c volume S honest knows = unwritten _ volume _ S _ _ _ knows.once knows.stands refl
+returns-in-ClientsFull-clause-withstands g c volume S honest knows = unwritten volume S _ _ _ _ knows.once knows.stands refl refl

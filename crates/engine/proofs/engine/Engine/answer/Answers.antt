@@ -16,6 +16,7 @@ returns-in-Ok-clause-answered g c =
     (record {
       opens = record {
         opened = (refl, c.in-Ok.ensures.open);
+        ready = c.in-Ok.ensures.agrees;
         journal = c.in-Ok.ensures.reads.journal;
         writes = c.in-Ok.ensures.reads.writes;
         stays = λ kept o.
@@ -119,20 +120,21 @@ returns-in-Ok-clause-withstands g c volume S honest at =
     let opened = c.in-Ok.ensures in
     let known = opened.knows volume S (c.answer_request-answer.ensures.follows.honest honest) at in
     let knows = knows_there (d.capacity first) (d.capacity drive) volume (d.journal first) (d.journal drive) S store opened.reads.capacity opened.reads.journal known in
-    rw c.in-Request.is (withstands_from (d.capacity first) (d.capacity drive) volume (d.journal first) (d.journal drive) S _ (d.writes first) (d.writes drive) (d.writes c.answer_request-answer.new.drive)
-    opened.reads.capacity opened.reads.journal opened.reads.writes (c.answer_request-answer.ensures.withstands volume S honest knows))
+    let during : Situation = situation_on d (Some store) drive in
+    rw c.in-Request.is (withstands_from volume S _ _ _ during _ opened.reads.journal opened.reads.capacity opened.reads.writes (c.answer_request-answer.ensures.withstands volume S honest knows))
 
 pub returns-in-Ok-take_open-clause-withstands : goal.returns-in-Ok-take_open-clause-withstands
-returns-in-Ok-take_open-clause-withstands g c volume S honest at = unwritten _ volume _ S _ _ _ at.once at.stands (c.answer_query-answer.ensures.reads.writes ∙ c.in-Ok-take_open.ensures.reads.writes)
+returns-in-Ok-take_open-clause-withstands g c volume S honest at = unwritten volume S _ _ _ _ at.once at.stands (c.answer_query-answer.ensures.reads.journal ∙ c.in-Ok-take_open.ensures.reads.journal)
+    (c.answer_query-answer.ensures.reads.writes ∙ c.in-Ok-take_open.ensures.reads.writes)
 
 pub returns-in-Request-clause-withstands : goal.returns-in-Request-clause-withstands
-returns-in-Request-clause-withstands g c volume S honest at = unwritten _ volume _ S _ _ _ at.once at.stands c.in-Err.ensures.reads.writes
+returns-in-Request-clause-withstands g c volume S honest at = unwritten volume S _ _ _ _ at.once at.stands c.in-Err.ensures.reads.journal c.in-Err.ensures.reads.writes
 
 pub returns-clause-withstands : goal.returns-clause-withstands
-returns-clause-withstands g c volume S honest at = unwritten _ volume _ S _ _ _ at.once at.stands c.in-Err-take_open.ensures.reads.writes
+returns-clause-withstands g c volume S honest at = unwritten volume S _ _ _ _ at.once at.stands c.in-Err-take_open.ensures.reads.journal c.in-Err-take_open.ensures.reads.writes
 
 pub returns-in-Malformed-clause-withstands : goal.returns-in-Malformed-clause-withstands
-returns-in-Malformed-clause-withstands g c volume S honest at = unwritten _ volume _ S _ _ _ at.once at.stands refl
+returns-in-Malformed-clause-withstands g c volume S honest at = unwritten volume S _ _ _ _ at.once at.stands refl refl
 
 pub returns-in-NoMemory-clause-withstands : goal.returns-in-NoMemory-clause-withstands
-returns-in-NoMemory-clause-withstands g c volume S honest at = unwritten _ volume _ S _ _ _ at.once at.stands refl
+returns-in-NoMemory-clause-withstands g c volume S honest at = unwritten volume S _ _ _ _ at.once at.stands refl refl

@@ -181,17 +181,18 @@ returns-clause-withstands g c volume S honest knows =
     let is : IsPlan (next_of J) capacity plan = plan_is J (g.D.Drive.journal c.change.new.drive) capacity (g.D.Drive.capacity c.change.new.drive) plan c.change.ensures.reads.journal c.change.ensures.reads.capacity c.in_ok-plan.ensures.plan in
     let makes : Makes c.args.self.now c.args.request.now change plan = makes_plan c.args.self.now c.args.request.now change plan c.unwrap-moment.result of_moment c.in_ok-plan.ensures.moment c.in_ok-plan.ensures.code c.in_ok-plan.ensures.commit c.in_ok-plan.ensures.writings c.in_ok-plan.ensures.table in
     let room = subst (λ (L : List Event). next_of L + change_need c.in_ok-change.change (begun c.args.self.now.at c.args.request.now.client c.args.request.now.number (code_number c.in_ok-change.change.code) c.in_ok-change.change.made (view c.args.self.now.vat)) ≤ c.args.self.now.capacity) c.change.ensures.reads.journal c.in_ok-plan.ensures.room in
-    withstands capacity volume J S store knows r change does plan makes is room (g.D.Drive.writes c.args.drive.now) (c.plan.ensures.reads.writes ∙ c.change.ensures.reads.writes) c.commit.ensures.alone
+    withstands capacity volume J S store knows r change does plan makes is room {drive = g.D.Drive} c.commit.result c.plan.new.drive c.commit.new.drive (g.D.Drive.writes c.args.drive.now) (c.plan.ensures.reads.writes ∙ c.change.ensures.reads.writes)
+    c.commit.ensures.alone (c.plan.ensures.reads.journal ∙ c.change.ensures.reads.journal) c.commit.ensures.written c.commit.ensures.front c.commit.ensures.device
 
 pub returns-then-self-clause-withstands : goal.returns-then-self-clause-withstands
 returns-then-self-clause-withstands g c volume S honest knows =
-    unwritten (g.D.Drive.capacity c.args.drive.now) volume (g.D.Drive.journal c.args.drive.now) S c.args.self.now knows c.args.request.now (g.D.Drive.writes c.args.drive.now) (g.D.Drive.writes c.args.drive.now) refl
+    unwritten (g.D.Drive.capacity c.args.drive.now) volume (g.D.Drive.journal c.args.drive.now) S c.args.self.now knows c.args.request.now (g.D.Drive.writes c.args.drive.now) _ _ _ refl refl
 
 pub returns-in_err-change-clause-withstands : goal.returns-in_err-change-clause-withstands
 returns-in_err-change-clause-withstands g c volume S honest knows =
-    unwritten (g.D.Drive.capacity c.args.drive.now) volume (g.D.Drive.journal c.args.drive.now) S c.args.self.now knows c.args.request.now (g.D.Drive.writes c.args.drive.now) (g.D.Drive.writes c.change.new.drive) c.change.ensures.reads.writes
+    unwritten (g.D.Drive.capacity c.args.drive.now) volume (g.D.Drive.journal c.args.drive.now) S c.args.self.now knows c.args.request.now (g.D.Drive.writes c.args.drive.now) _ _ _ c.change.ensures.reads.journal c.change.ensures.reads.writes
 
 pub returns-in_err-plan-clause-withstands : goal.returns-in_err-plan-clause-withstands
 returns-in_err-plan-clause-withstands g c volume S honest knows =
-    unwritten (g.D.Drive.capacity c.args.drive.now) volume (g.D.Drive.journal c.args.drive.now) S c.args.self.now knows c.args.request.now (g.D.Drive.writes c.args.drive.now) (g.D.Drive.writes c.plan.new.drive)
-    (c.plan.ensures.reads.writes ∙ c.change.ensures.reads.writes)
+    unwritten (g.D.Drive.capacity c.args.drive.now) volume (g.D.Drive.journal c.args.drive.now) S c.args.self.now knows c.args.request.now (g.D.Drive.writes c.args.drive.now) _ _ _
+    (c.plan.ensures.reads.journal ∙ c.change.ensures.reads.journal) (c.plan.ensures.reads.writes ∙ c.change.ensures.reads.writes)
