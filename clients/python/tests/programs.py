@@ -25,10 +25,11 @@ PATIENCE = 300.0
 class Daemon:
     """A daemon that can be killed and started again, as by a supervisor."""
 
-    def __init__(self, image: str, path: str):
+    def __init__(self, image: str, path: str, start: bool = True):
         self.image, self.path = image, path
         self.process: Optional[subprocess.Popen] = None  # type: ignore[type-arg]
-        self.start()
+        if start:
+            self.start()
 
     def start(self) -> None:
         if os.path.lexists(self.path):

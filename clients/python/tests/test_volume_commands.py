@@ -192,6 +192,8 @@ class Output(Volumes):
             self.assertEqual((done.returncode, done.stderr.count("\n")), (1, 1), done.stderr)
             self.assertIn("the standard output is closed", done.stderr)
         self.assertEqual(self.commits(), 0)
+        done = self.closed("ls", "--help")
+        self.assertEqual((done.returncode, done.stderr), (1, "udfburn-client: the standard output is closed\n"))
         self.assertEqual(self.closed("put", "--quiet", local, "/a", "--image", self.image).returncode, 0)
         self.assertEqual(self.closed("get", "--quiet", "/a", "-", "--image", self.image).returncode, 1)
         self.assertEqual(self.on_image().get("/a"), b"hello")

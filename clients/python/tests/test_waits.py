@@ -3,7 +3,9 @@
 from __future__ import annotations
 
 import os
+import resource
 import signal
+import socket
 import subprocess
 import sys
 import time
@@ -14,9 +16,9 @@ from unittest import mock
 
 from udfburn import Client, errors as e
 from udfburn import protocol as p
-from udfburn.connection import ImageConnection
+from udfburn.connection import ImageConnection, UnixConnection
 
-from .programs import WithPrograms
+from .programs import UDFBURND, Daemon, WithPrograms
 from .server import request_of
 from .test_local import Local
 
@@ -148,6 +150,38 @@ class FullDisks(Local):
                     client.create("/a", b"")
         with self.client(patience=0.1) as client, self.assertRaisesRegex(e.DriveFailed, "or its disk is full"):
             client.create("/a", b"")
+
+
+class FullDaemon(WithPrograms):
+    def test_of_the_image_of_a_daemon(self) -> None:
+        """The image is named, wherever the daemon was started; the drive is made to fail by a limit of the file size."""
+        def limited() -> None:
+            signal.signal(signal.SIGXFSZ, signal.SIG_IGN)
+            resource.setrlimit(resource.RLIMIT_FSIZE, (os.path.getsize(self.image) + 2048, resource.RLIM_INFINITY))
+
+        for image in (self.image, os.path.basename(self.image)):
+            with suppress(FileNotFoundError):
+                os.unlink(self.path)
+            daemon = Daemon(self.image, self.path, start=False)
+            daemon.process = subprocess.Popen([UDFBURND, image, self.path], cwd=self.room, stderr=subprocess.DEVNULL, preexec_fn=limited)
+            self.addCleanup(daemon.kill)
+            daemon.await_socket()
+            for left, kind in ((1000, e.DiskFull), (10**9, e.DriveFailed)):
+                with self.client(patience=0.3) as client, mock.patch("udfburn.line.room_left", lambda path, left=left: left):
+                    with self.assertRaisesRegex(kind, self.image):
+                        client.create("/a", bytes(5000))
+                with suppress(FileNotFoundError):
+                    os.unlink(self.ledger)
+            daemon.kill()
+
+    def test_of_another_program(self) -> None:
+        """What is no daemon of ours has no image that is known."""
+        with socket.socket(socket.AF_UNIX) as listener:
+            listener.bind(self.path)
+            listener.listen()
+            connection = UnixConnection(self.path)
+            self.assertIsNone(connection.served_image())
+            connection.close()
 
 
 FULL = """

@@ -47,13 +47,24 @@ def main(words: Optional[List[str]] = None) -> int:
     """Runs a command, and gives its status."""
     closed = take_descriptors()
     try:
-        arguments = parser().parse_args(words)
+        arguments = parsed(words, closed)
         progress = arguments.progress = Progress(arguments.quiet, arguments.json, closed=closed)
         return printed(arguments, progress)
     except KeyboardInterrupt:
         # Before the command began, or after it.
         print(f"udfburn-client: {INTERRUPTED}", file=sys.stderr)
         return 130
+
+
+def parsed(words: Optional[List[str]], closed: bool) -> argparse.Namespace:
+    """The words of a command. What is printed in place of one, as its help, goes nowhere where the output is closed."""
+    try:
+        return parser().parse_args(words)
+    except SystemExit as end:
+        if closed and not end.code:
+            print("udfburn-client: the standard output is closed", file=sys.stderr)
+            end.code = 1
+        raise
 
 
 def printed(arguments: argparse.Namespace, progress: Progress) -> int:

@@ -6,6 +6,7 @@ import errno
 import os
 import select
 import socket
+import struct
 import time
 from contextlib import suppress
 from typing import IO, List, Optional, Union
@@ -81,6 +82,10 @@ class Connection:
         """Ends the conversation."""
         raise NotImplementedError
 
+    def served_image(self) -> Optional[str]:
+        """The image at the other end, where it is known."""
+        return None
+
     def _feed(self) -> None:
         self._take(self._read(PIECE))
 
@@ -145,6 +150,19 @@ class UnixConnection(Connection):
 
     def close(self) -> None:
         self.socket.close()
+
+    def served_image(self) -> Optional[str]:
+        """The image of the daemon at the other end, as it was started with it; None where that cannot be seen."""
+        try:
+            process = struct.unpack("3i", self.socket.getsockopt(socket.SOL_SOCKET, socket.SO_PEERCRED, 12))[0]
+            with open(f"/proc/{process}/cmdline", "rb") as words:
+                program, image = words.read().split(b"\0")[:2]
+            if os.path.basename(program) != b"udfburnd":
+                return None
+            folder = b"" if image.startswith(b"/") else os.readlink(f"/proc/{process}/cwd".encode())
+        except (OSError, ValueError):
+            return None
+        return os.fsdecode(os.path.join(folder, image))
 
     def _descriptors(self) -> "tuple[int, int]":
         return self.socket.fileno(), self.socket.fileno()

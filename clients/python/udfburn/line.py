@@ -134,6 +134,8 @@ class Line:
         """Pauses where an answer says that the program is troubled: then what was asked is to be asked again."""
         if answer not in (FAULT, MEMORY):
             return False
+        if self.image is None and self._connection is not None:
+            self.image = self._connection.served_image()
         self.drop()
         if answer == FAULT:
             kind, why = self._why_fault()

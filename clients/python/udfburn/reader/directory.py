@@ -106,16 +106,23 @@ class Known:
     def __init__(self) -> None:
         self.bodies: Dict[bytes, Tuple[Identifier, bytes, int]] = {}
 
-    def find(self, data: bytes, at: int, location: bytes) -> Optional[Tuple[Identifier, int]]:
-        """What the identifier at a place says and where it ends, where its body is known and its tag is as it must be."""
-        end = at + (41 + data[at + 19]) // 4 * 4
-        found = self.bodies.get(data[at + 16 : end])
-        if found is None or data[at : at + 4] != b"\x01\x01\x03\0" or data[at + 12 : at + 16] != location:
-            return None
-        name, middle, total = found
-        if data[at + 5 : at + 12] != middle or data[at + 4] != (total + sum(location)) % 256:
-            return None
-        return name, end
+    def run(self, data: bytes, at: int, size: int, first: int, names: Dict[str, Identifier]) -> int:
+        """Takes the identifiers in a row whose bodies are known and whose tags are as they must be, and gives the place after them."""
+        bodies, end_of_block, location, total = self.bodies, -1, b"", 0
+        while size - at >= HEAD:
+            if at >= end_of_block:
+                location = struct.pack("<I", first + at // BLOCK)
+                total, end_of_block = sum(location), (at // BLOCK + 1) * BLOCK
+            end = at + (41 + data[at + 19]) // 4 * 4
+            found = bodies.get(data[at + 16 : end])
+            if found is None or end > size or end > end_of_block - 32:
+                break
+            name, middle, sum_of_rest = found
+            if data[at : at + 16] != b"\x01\x01\x03\0%c%b%b" % ((sum_of_rest + total) % 256, middle, location) or name.name in names:
+                break
+            names[name.name] = name
+            at = end
+        return at
 
     def keep(self, piece: Piece, name: Identifier) -> None:
         """Keeps an identifier that is as it must be and is not lengthened."""
@@ -137,11 +144,10 @@ class Reading:
 
     def step(self, at: int) -> int:
         """Reads what stands at a place, and gives the next one."""
-        if self.size - at >= HEAD and at:
-            found = self.known.find(self.data, at, struct.pack("<I", self.first + at // BLOCK))
-            if found is not None and found[1] <= self.size and 0 < found[1] % BLOCK <= BLOCK - 32 and found[1] // BLOCK == at // BLOCK:
-                self._add(found[0])
-                return found[1]
+        if at:
+            after = self.known.run(self.data, at, self.size, self.first, self.names)
+            if after > at:
+                return after
         piece = piece_at(self.data, at, self.size)
         met = list(piece_faults(self.data, self.size, piece, at, self.first))
         if piece is None or met:
