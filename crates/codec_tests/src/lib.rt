@@ -1,22 +1,14 @@
-//! Tests of the codecs, by topic: values from outside, each fault, and limits. They stand in a crate of their own, so that
-//! the codecs are proved once; they use what is public.
+//! Tests of the codecs and of what is read back of a medium, of what no vector says: `vectors` has all others. They stand in a
+//! crate of their own, so that what they test is proved once; they use what is public.
 #![tactic(auto)]
 
 #[cfg(test)]
-mod blocks;
-#[cfg(test)]
 mod directories;
-#[cfg(test)]
-mod entries;
-#[cfg(test)]
-mod first_faults;
-#[cfg(test)]
-mod front;
 #[cfg(test)]
 mod kept;
 #[cfg(test)]
-mod structures;
+mod media;
 #[cfg(test)]
-mod table;
+mod reads;
 #[cfg(test)]
-mod texts;
+mod values;

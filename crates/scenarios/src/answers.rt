@@ -1,9 +1,9 @@
 //! Answers as words, read from the bytes of their frames.
 
-use crate::bytes::show_bytes;
 use crate::trouble::Trouble;
 use std::alloc::Global;
 use std::fmt::Write;
+use words::show_bytes;
 
 /// The answers in the bytes of a stream, parted by a semicolon, and what is left behind the last whole one as bytes.
 pub fn told(alloc: Global, stream: &[u8]) -> Result<String, Trouble> {

@@ -4,7 +4,6 @@ ghost use Rattle.std.specs.Prelude.{ℕ};
 ghost use Rattle.model.specs.PlainState.{IsWholeState};
 
 use crate::answers::{node_text, told};
-use crate::bytes::show_bytes;
 use crate::changes::{Asked, Change, query};
 use crate::die::Die;
 use crate::machine::Machine;
@@ -16,6 +15,7 @@ use std::alloc::Global;
 use std::fmt::Write;
 use std::marker::Model;
 use store::Snapshot;
+use words::show_bytes;
 
 /// What is told where machine and plain program agree.
 const SAME: &str = "same";

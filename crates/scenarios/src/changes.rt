@@ -1,9 +1,10 @@
 //! Requests and queries by their words, as payloads and as the plain program has them.
 
-use crate::bytes::{number, read_bytes};
+use crate::bytes::read_bytes;
 use crate::trouble::Trouble;
 use model::plain::{Operation, Request};
 use std::alloc::Global;
+use words::number;
 
 /// What a request does.
 #[derive(Clone, Copy, PartialEq, Eq)]

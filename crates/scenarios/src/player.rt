@@ -2,7 +2,6 @@
 
 use crate::answers::told;
 use crate::beside::{Beside, sessions_text};
-use crate::bytes::show_bytes;
 use crate::machine::Machine;
 use crate::steps::{BesideStep, Look, MediumStep, Step, Stream};
 use crate::streams::{Pieces, Room};
@@ -12,6 +11,7 @@ use engine::Delivery;
 use std::alloc::Global;
 use std::fmt::Write;
 use store::Snapshot;
+use words::show_bytes;
 
 /// A medium that is kept under a name.
 #[derive(Drop)]

@@ -1,6 +1,6 @@
 //! A scenario on its way: which line is next, and what names stand for.
 
-use crate::bytes::{number, read_bytes, show_bytes};
+use crate::bytes::read_bytes;
 use crate::player::Player;
 use crate::script::Script;
 use crate::steps::read_step;
@@ -8,6 +8,7 @@ use crate::trouble::Trouble;
 use std::alloc::Global;
 use std::fmt;
 use std::fmt::Write;
+use words::{number, show_bytes};
 
 /// How many blocks may be open within one another.
 const DEPTH: usize = 64;

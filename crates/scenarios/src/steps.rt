@@ -1,10 +1,11 @@
 //! The steps of a script by their words.
 
-use crate::bytes::{number, read_bytes};
+use crate::bytes::read_bytes;
 use crate::changes::{Action, Asked, Change, read_query};
 use crate::trouble::Trouble;
 use drive::{Block, Fault};
 use std::alloc::Global;
+use words::number;
 
 /// A step.
 #[derive(Drop)]

@@ -4,6 +4,7 @@ use drive::DriveFault;
 use std::alloc::{AllocError, AllocFailed};
 use std::fmt;
 use store::StoreFault;
+use words::WordsFault;
 
 /// Why a step did not go.
 #[derive(Debug, Drop)]
@@ -56,5 +57,14 @@ impl From<StoreFault> for Trouble {
 impl From<DriveFault> for Trouble {
     fn from(_fault: DriveFault) -> Trouble {
         Trouble::Refused(StoreFault::Device)
+    }
+}
+
+impl From<WordsFault> for Trouble {
+    fn from(fault: WordsFault) -> Trouble {
+        match fault {
+            WordsFault::Unknown(why) => Trouble::Line(why),
+            WordsFault::Memory => Trouble::Memory,
+        }
     }
 }

@@ -1,0 +1,77 @@
+//! The reads that a state takes: what is told where each fails in turn, and what is not read again.
+
+ghost use Rattle.drive.specs.Journal.{held};
+ghost use Rattle.drive.specs.MemDrive.{journal_of};
+ghost use Rattle.recover.specs.Known.{IsKnown};
+
+use crate::media::{chain, created, state_of, volume_after};
+use drive::{Drive, Fault, MemDrive};
+use recover::{Known, PARTITION_START, StoreFault, last, state_sharing};
+use std::alloc::Global;
+use std::test::Fail;
+
+#[test]
+fn a_failed_read_is_told(rt: HostRuntime) -> Result<(), Fail> {
+    let alloc = rt.alloc();
+    let mut drive = volume_after(&rt, alloc, &created(&rt, alloc)?)?;
+    // One of the table's entry, two and then all of the front, the table's data, the file set, the root and the file.
+    for read in 1..=265 {
+        drive.arm(Fault::Read(read));
+        let refused = state_of(alloc, &mut drive, 266)?.err();
+        assert!(rt; refused == Some(StoreFault::Device));
+        assert!(rt; drive.failures() == read);
+    }
+    drive.arm(Fault::Read(266));
+    assert!(rt; state_of(alloc, &mut drive, 266)?.is_ok());
+    drive.arm(Fault::Next(1));
+    assert!(rt; last(&mut drive) == Err(StoreFault::Device));
+    Ok(())
+}
+
+/// Why the state at an address that must be there is refused, with what is known.
+fn shared_state(
+    alloc: Global,
+    drive: &mut MemDrive,
+    known: &mut Known,
+    at: u32,
+) -> Result<Result<(), StoreFault>, Fail>
+    requires { IsKnown (held (journal_of drive.old)) known.old }
+    ensures known { IsKnown (held (journal_of drive.new)) known.new }
+{
+    let next = drive.next()?;
+    if at < PARTITION_START || next <= at {
+        return Err(Fail::from("no such block"));
+    }
+    match state_sharing(alloc, drive, known, at) {
+        Ok(_) => Ok(Ok(())),
+        Err(fault) => Ok(Err(fault)),
+    }
+}
+
+/// How many reads a state takes behind another one, as the first read that is not missed where it fails tells.
+fn reads_behind(alloc: Global, drive: &mut MemDrive, before: u32, at: u32) -> Result<u64, Fail> {
+    for reads in 0..300u64 {
+        let mut known = Known::new(alloc);
+        let _ = shared_state(alloc, drive, &mut known, before)?;
+        drive.arm(Fault::Read(reads + 1));
+        match shared_state(alloc, drive, &mut known, at)? {
+            Ok(()) => return Ok(reads),
+            Err(StoreFault::Device) => {}
+            Err(other) => return Err(Fail::from(other)),
+        }
+    }
+    Err(Fail::from("more reads"))
+}
+
+#[test]
+fn what_two_states_share_is_read_once(rt: HostRuntime) -> Result<(), Fail> {
+    let alloc = rt.alloc();
+    let mut drive = chain(&rt, alloc, 2)?;
+    // The table's entry, its data and the file set.
+    assert!(rt; reads_behind(alloc, &mut drive, 268, 266)? == 3);
+    // Beside these the root that they do not share, its entry and its data.
+    assert!(rt; reads_behind(alloc, &mut drive, 266, 261)? == 5);
+    // And the file, which comes behind the format.
+    assert!(rt; reads_behind(alloc, &mut drive, 261, 266)? == 6);
+    Ok(())
+}

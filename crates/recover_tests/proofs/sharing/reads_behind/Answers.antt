@@ -1,4 +1,0 @@
-use Rattle.recover_tests.proofs.sharing.reads_behind.Goals as goal
-
-pub shared_state-requires : goal.shared_state-requires
-shared_state-requires c = c.new-known.ensures _

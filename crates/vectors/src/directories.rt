@@ -1,0 +1,135 @@
+//! Directories (ECMA-167 4/14.4).
+
+use crate::compare::{blocks_of, words_of};
+use crate::texts::show_text;
+use crate::trouble::Trouble;
+use dir::{DataSize, Dir, Entry, Kind, Lay, MAX_BLOCKS, MAX_NAMES, lay, read_dir};
+use ecma::{Block, crc};
+use indexmap::IndexMap;
+use osta::Name;
+use std::alloc::Global;
+use std::fmt::Write;
+
+/// What the directory says whose data of so many bytes begins at a block number.
+pub fn directory(alloc: Global, bytes: &[u8], first: u32, size: u32) -> Result<String, Trouble> {
+    let blocks = blocks_of(alloc, bytes)?;
+    let dir = match read(alloc, &blocks, first, size)? {
+        Ok(dir) => dir,
+        Err(fault) => return Ok(format!(in alloc; "fault {fault}")?),
+    };
+    if size_of(&dir) != Some(size) || !lays(alloc, &dir, first, &blocks)? {
+        return words_of(alloc, "laid otherwise");
+    }
+    let mut text = format!(in alloc; "parent {}", dir.parent)?;
+    for (name, entry) in &dir.entries {
+        let kind = match entry.kind {
+            Kind::File => "file",
+            Kind::Directory => "directory",
+        };
+        write!(text, " {kind} {} {} ", entry.icb, entry.unique)?;
+        show_text(name.as_str(), &mut text)?;
+    }
+    Ok(text)
+}
+
+/// The directory, or the number of its fault.
+fn read(
+    alloc: Global,
+    blocks: &[Block],
+    first: u32,
+    size: u32,
+) -> Result<Result<Dir, u8>, Trouble> {
+    if size == 0 || first > MAX_BLOCKS || blocks.len() != (size as usize + 2047) / 2048 {
+        return Err(Trouble::Line("no data of a directory is so long"));
+    }
+    match read_dir(alloc, blocks, size, first) {
+        Ok(dir) => Ok(Ok(dir)),
+        Err(fault) => Ok(Err(fault.number())),
+    }
+}
+
+/// How many bytes the data of a directory has, by its names alone.
+fn size_of(dir: &Dir) -> Option<u32> {
+    let mut sum = DataSize::new();
+    for (name, _) in &dir.entries {
+        if sum.bytes() > 1_000_000 || name.compressed().len() > 255 {
+            return None;
+        }
+        sum.add(name.compressed().len());
+    }
+    u32::try_from(sum.bytes()).ok()
+}
+
+/// Whether a directory is laid as these blocks, whole and block by block.
+fn lays(alloc: Global, dir: &Dir, first: u32, blocks: &[Block]) -> Result<bool, Trouble> {
+    if dir.entries.len() > MAX_NAMES || first > MAX_BLOCKS {
+        return Ok(false);
+    }
+    let laid = lay(alloc, dir, first)?;
+    let mut left = Lay::new(dir, first);
+    for block in blocks {
+        if left.next_block() != Some(*block) {
+            return Ok(false);
+        }
+    }
+    Ok(laid.as_slice() == blocks && left.next_block().is_none())
+}
+
+/// The size of the data of a directory of files and the check of its blocks. It has so many names of so many letters at least,
+/// each the letter `x` and then the name's number, from 0 on.
+pub fn numbered(alloc: Global, count: u32, letters: usize, first: u32) -> Result<String, Trouble> {
+    let dir = files(alloc, count, letters)?;
+    if dir.entries.len() > MAX_NAMES || first > MAX_BLOCKS {
+        return Err(Trouble::Line("no such directory"));
+    }
+    let blocks = lay(alloc, &dir, first)?;
+    let Some(size) = size_of(&dir) else {
+        return words_of(alloc, "no size");
+    };
+    if !lays(alloc, &dir, first, &blocks)? {
+        return words_of(alloc, "laid otherwise");
+    }
+    match read(alloc, &blocks, first, size)? {
+        Ok(again) if are_alike(&again, &dir) => {}
+        _ => return words_of(alloc, "read otherwise"),
+    }
+    let check = crc(blocks.as_flattened());
+    Ok(format!(in alloc; "size {size} crc {check:04X}")?)
+}
+
+fn files(alloc: Global, count: u32, letters: usize) -> Result<Dir, Trouble> {
+    let mut dir = Dir {
+        parent: 1,
+        entries: IndexMap::new(alloc),
+    };
+    let entry = Entry {
+        kind: Kind::File,
+        icb: 2,
+        unique: 16,
+    };
+    for number in 0..count.min(512) {
+        let digits = format!(in alloc; "{number}")?;
+        let mut text = String::new(alloc);
+        for _ in digits.len()..letters {
+            text.push('x')?;
+        }
+        text.push_str(&digits)?;
+        match Name::read(alloc, &text) {
+            Ok(name) => dir.entries.insert(name, entry)?,
+            Err(_) => return Err(Trouble::Line("no such name")),
+        };
+    }
+    Ok(dir)
+}
+
+fn are_alike(one: &Dir, other: &Dir) -> bool {
+    if one.parent != other.parent || one.entries.len() != other.entries.len() {
+        return false;
+    }
+    for (left, right) in one.entries.iter().zip(other.entries.iter()) {
+        if left.0 != right.0 || left.1 != right.1 {
+            return false;
+        }
+    }
+    true
+}

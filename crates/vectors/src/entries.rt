@@ -1,0 +1,72 @@
+//! File entries and file set descriptors (ECMA-167 4/14.9 and 4/14.1).
+
+use crate::compare::{block_of, words_of};
+use crate::trouble::Trouble;
+use ecma::Block;
+use icb::{FileEntry, Kind, Place, decode_fe, decode_fsd, encode_fe, encode_fsd};
+use std::alloc::Global;
+use std::fmt::Write;
+use words::show_bytes;
+
+/// The block that the bytes are, where they are no more.
+fn only_block(bytes: &[u8]) -> Result<Block, Trouble> {
+    if bytes.len() > 2048 {
+        return Err(Trouble::Line("more than a block"));
+    }
+    Ok(block_of(bytes))
+}
+
+/// What the file entry at a location says.
+pub fn entry(alloc: Global, bytes: &[u8], location: u32) -> Result<String, Trouble> {
+    let block = only_block(bytes)?;
+    let entry = match decode_fe(&block, location) {
+        Ok(entry) => entry,
+        Err(fault) => return Ok(format!(in alloc; "fault {}", fault.number())?),
+    };
+    if encode_fe(&entry, location) != block {
+        return words_of(alloc, "written otherwise");
+    }
+    let mut text = String::new(alloc);
+    tell_entry(&entry, &mut text)?;
+    Ok(text)
+}
+
+fn tell_entry(entry: &FileEntry<'_>, out: &mut String) -> Result<(), Trouble> {
+    let kind = match entry.kind {
+        Kind::Directory => "directory",
+        Kind::File => "file",
+        Kind::Vat => "table",
+    };
+    let moment = entry.moment.moment();
+    write!(
+        out,
+        "{kind} links {} unique {} moment {moment} size {} ",
+        entry.links, entry.unique, entry.size
+    )?;
+    match entry.place {
+        Place::None => out.push_str("nowhere")?,
+        Place::Extent(first) => write!(out, "extent {first}")?,
+        Place::Inside(bytes) => {
+            out.push_str("inside ")?;
+            show_bytes(bytes, out)?;
+        }
+    }
+    Ok(())
+}
+
+/// What the file set descriptor says.
+pub fn file_set(alloc: Global, bytes: &[u8]) -> Result<String, Trouble> {
+    let block = only_block(bytes)?;
+    let set = match decode_fsd(&block) {
+        Ok(set) => set,
+        Err(fault) => return Ok(format!(in alloc; "fault {}", fault.number())?),
+    };
+    if encode_fsd(&set) != block {
+        return words_of(alloc, "written otherwise");
+    }
+    let mut text = String::new(alloc);
+    text.push_str("label ")?;
+    show_bytes(set.label.text(alloc)?.as_bytes(), &mut text)?;
+    write!(text, " moment {}", set.moment.moment())?;
+    Ok(text)
+}

@@ -1,0 +1,188 @@
+//! Texts on the medium: spellings, dstrings, names and labels (UDF 2.01 2.1.1 to 2.1.3, ECMA-167 1/7.2.12).
+
+use crate::compare::words_of;
+use crate::trouble::Trouble;
+use osta::{Label, Name, NameFault, check_spelling, compress, dstring_read, dstring_write, expand};
+use std::alloc::Global;
+use std::str;
+use words::{number, read_bytes, show_bytes};
+
+/// What is answered of a text. Where the question has a text of its own it is written, else the bytes are read.
+pub fn answer(alloc: Global, bytes: &[u8], question: &[&str]) -> Result<String, Trouble> {
+    match question {
+        ["spelling"] => spelling(alloc, bytes),
+        ["dstring"] => dstring(alloc, bytes),
+        ["name"] => name(alloc, bytes),
+        ["label"] => label(alloc, bytes),
+        ["set-identifier"] => set_identifier(alloc, bytes),
+        ["spelling", words @ ..] => spelled(alloc, &text_of(alloc, words)?),
+        ["name", words @ ..] => named(alloc, &text_of(alloc, words)?),
+        ["label", words @ ..] => labelled(alloc, &text_of(alloc, words)?),
+        ["dstring", room, words @ ..] => {
+            in_dstring(alloc, number(room)?, &text_of(alloc, words)?)
+        }
+        _ => Err(Trouble::Line("no such question")),
+    }
+}
+
+/// The text whose UTF-8 the words say; `empty` is the one without a character.
+fn text_of(alloc: Global, words: &[&str]) -> Result<String, Trouble> {
+    let mut bytes = Vec::new(alloc);
+    if words != ["empty"].as_slice() {
+        read_bytes(words, &mut bytes)?;
+    }
+    match str::from_utf8(&bytes) {
+        Ok(text) => Ok(String::from_str(alloc, text)?),
+        Err(_) => Err(Trouble::Line("no text")),
+    }
+}
+
+/// A text by its UTF-8.
+pub fn show_text(text: &str, out: &mut String) -> Result<(), Trouble> {
+    if text.is_empty() {
+        out.push_str("empty")?;
+        return Ok(());
+    }
+    show_bytes(text.as_bytes(), out)?;
+    Ok(())
+}
+
+fn shown(alloc: Global, bytes: &[u8]) -> Result<String, Trouble> {
+    let mut out = String::new(alloc);
+    show_bytes(bytes, &mut out)?;
+    Ok(out)
+}
+
+fn told(alloc: Global, text: &str) -> Result<String, Trouble> {
+    let mut out = String::new(alloc);
+    show_text(text, &mut out)?;
+    Ok(out)
+}
+
+fn fault(alloc: Global, number: u8) -> Result<String, Trouble> {
+    Ok(format!(in alloc; "fault {number}")?)
+}
+
+/// The text of a spelling.
+fn spelling(alloc: Global, bytes: &[u8]) -> Result<String, Trouble> {
+    let text = match expand(alloc, bytes) {
+        Ok(text) => text,
+        Err(found) if check_spelling(bytes) == Err(found) => return fault(alloc, found.number()),
+        Err(_) => return words_of(alloc, "two faults"),
+    };
+    let mut again = Vec::new(alloc);
+    if compress(&text, &mut again).is_err() || again.as_slice() != bytes {
+        return words_of(alloc, "spelled otherwise");
+    }
+    told(alloc, &text)
+}
+
+/// The spelling of a text, behind a byte that stays.
+fn spelled(alloc: Global, text: &str) -> Result<String, Trouble> {
+    let mut out = vec![in alloc; 7u8]?;
+    match compress(text, &mut out) {
+        Ok(()) => shown(alloc, out.get(1..).unwrap_or(&[])),
+        Err(found) if out.as_slice() == [7].as_slice() => fault(alloc, found.number()),
+        Err(_) => words_of(alloc, "something is left"),
+    }
+}
+
+/// The text of a dstring.
+fn dstring(alloc: Global, bytes: &[u8]) -> Result<String, Trouble> {
+    if bytes.is_empty() || bytes.len() > 256 {
+        return Err(Trouble::Line("no dstring is so long"));
+    }
+    let text = match dstring_read(alloc, bytes) {
+        Ok(text) => text,
+        Err(found) => return fault(alloc, found.number()),
+    };
+    let mut again = vec![in alloc; 0xFFu8; bytes.len()]?;
+    if again.len() != bytes.len() {
+        return Err(Trouble::Memory);
+    }
+    match dstring_write(&text, &mut again) {
+        Ok(()) if again.as_slice() == bytes => told(alloc, &text),
+        _ => words_of(alloc, "written otherwise"),
+    }
+}
+
+/// A text in a dstring of so many bytes, which stays as it was where the text is refused.
+fn in_dstring(alloc: Global, room: usize, text: &str) -> Result<String, Trouble> {
+    let mut field = [7u8; 256];
+    let size = room.min(256).max(1);
+    let written = dstring_write(text, &mut field[..size]);
+    match written {
+        Ok(()) => shown(alloc, &field[..size]),
+        Err(found) if field.iter().all(|byte| *byte == 7) => fault(alloc, found.number()),
+        Err(_) => words_of(alloc, "something is left"),
+    }
+}
+
+/// The name that is spelled so.
+fn name(alloc: Global, bytes: &[u8]) -> Result<String, Trouble> {
+    let Some(name) = Name::of(alloc, bytes)? else {
+        return words_of(alloc, "none");
+    };
+    match Name::read(alloc, name.as_str()) {
+        Ok(again) if again == name && again.compressed() == bytes => told(alloc, name.as_str()),
+        _ => words_of(alloc, "read otherwise"),
+    }
+}
+
+/// The spelling of a name.
+fn named(alloc: Global, text: &str) -> Result<String, Trouble> {
+    let checked = Name::check(text);
+    match Name::read(alloc, text) {
+        Ok(name) if checked.is_ok() => shown(alloc, name.compressed()),
+        Err(found) if checked == Err(found) => fault(alloc, found.number()),
+        _ => words_of(alloc, "checked otherwise"),
+    }
+}
+
+/// The label of a dstring.
+fn label(alloc: Global, bytes: &[u8]) -> Result<String, Trouble> {
+    let Some(label) = Label::of(bytes) else {
+        return words_of(alloc, "none");
+    };
+    let text = label.text(alloc)?;
+    let again = match bytes.len() {
+        32 => label.dstring_32().as_slice() == bytes,
+        _ => label.dstring_128().as_slice() == bytes,
+    };
+    if !again || Label::read(&text) != Ok(label) {
+        return words_of(alloc, "written otherwise");
+    }
+    told(alloc, &text)
+}
+
+/// The dstring of 32 bytes of a label.
+fn labelled(alloc: Global, text: &str) -> Result<String, Trouble> {
+    match Label::read(text) {
+        Ok(label) => shown(alloc, &label.dstring_32()),
+        Err(NameFault::Memory) => Err(Trouble::Memory),
+        Err(found) => fault(alloc, found.number()),
+    }
+}
+
+/// The label behind the sixteen digits of a volume set identifier (UDF 2.01 2.2.2.5), behind these.
+fn set_identifier(alloc: Global, bytes: &[u8]) -> Result<String, Trouble> {
+    if bytes.is_empty() || bytes.len() > 256 {
+        return Err(Trouble::Line("no dstring is so long"));
+    }
+    let text = match dstring_read(alloc, bytes) {
+        Ok(text) => text,
+        Err(found) => return fault(alloc, found.number()),
+    };
+    let Some((digits, text)) = text.as_str().split_at_checked(16) else {
+        return words_of(alloc, "none");
+    };
+    if digits != "0123456789abcdef" {
+        return words_of(alloc, "other digits");
+    }
+    match Label::read(text) {
+        Ok(label) if label.dstring_128_behind(b"0123456789abcdef").as_slice() == bytes => {
+            told(alloc, text)
+        }
+        _ => words_of(alloc, "written otherwise"),
+    }
+}

@@ -1,0 +1,53 @@
+//! Why a line of a case does not go as it says.
+
+use std::alloc::{AllocError, AllocFailed};
+use std::fmt;
+use words::WordsFault;
+
+/// Why a line of a case does not go as it says.
+#[derive(Debug, Drop)]
+pub enum Trouble {
+    /// The line says nothing that is known, for this reason.
+    Line(&'static str),
+    /// Another answer than the line has.
+    Differs(String),
+    /// Memory was refused.
+    Memory,
+}
+
+impl fmt::Display for Trouble {
+    fn fmt<W: fmt::Write>(&self, f: &mut fmt::Formatter<W>) -> fmt::Result {
+        match self {
+            Trouble::Line(why) => write!(f, "{why}"),
+            Trouble::Differs(got) => write!(f, "got {got}"),
+            Trouble::Memory => write!(f, "no memory"),
+        }
+    }
+}
+
+impl From<AllocError> for Trouble {
+    fn from(_error: AllocError) -> Trouble {
+        Trouble::Memory
+    }
+}
+
+impl<T: Drop> From<AllocFailed<T>> for Trouble {
+    fn from(_error: AllocFailed<T>) -> Trouble {
+        Trouble::Memory
+    }
+}
+
+impl From<fmt::Error> for Trouble {
+    fn from(_error: fmt::Error) -> Trouble {
+        Trouble::Memory
+    }
+}
+
+impl From<WordsFault> for Trouble {
+    fn from(fault: WordsFault) -> Trouble {
+        match fault {
+            WordsFault::Unknown(why) => Trouble::Line(why),
+            WordsFault::Memory => Trouble::Memory,
+        }
+    }
+}

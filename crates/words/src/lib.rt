@@ -1,0 +1,12 @@
+//! The reader of text files that say what a test does: lines of words, and bytes and numbers as words write them.
+//!
+//! `scenarios` reads its scripts by it, and `vectors` its cases.
+#![tactic(auto)]
+
+mod bytes;
+mod fault;
+mod lines;
+
+pub use bytes::{number, read_bytes, read_word, show_bytes};
+pub use fault::WordsFault;
+pub use lines::{Line, read_lines};

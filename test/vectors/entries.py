@@ -1,0 +1,222 @@
+"""File entries and file set descriptors (entry.txt)."""
+
+import layouts
+from layouts import ENTRY, FILE_SET, changed, file_entry, seal
+from writing import Vectors, digits, padded
+
+OLD = "codec_tests::entries::"
+FIRST = "codec_tests::first_faults::"
+LATER = "recover_tests::entries::"
+
+Changes = "list[tuple[int, int]]"
+
+FILE = file_entry("file", 1, 16, 5, b"hello", 2)
+ROOT = file_entry("directory", 1, 0, 80, 6, 1)
+TABLE = file_entry("table", 0, 0, 256, 8, 9)
+SET = layouts.file_set()
+
+# The faults of an entry, as `67 Damaged` shows them.
+TAG, STRATEGY, KIND, FIXED, LENGTHS, EXTENT, TAIL = range(21, 28)
+
+
+def resealed(block: bytes, changes: Changes, end: int, location: int, identifier: int = ENTRY) -> bytes:
+    """The block with some bytes changed and its descriptor, which ends there, sealed again."""
+    data = changed(block, changes)
+    return seal(identifier, location, data[:end]) + data[end:]
+
+
+def entries() -> Vectors:
+    v = Vectors("entry.txt", "File entries (ECMA-167 4/14.9) and file set descriptors (4/14.1), each a block. `entry LOCATION` reads the "
+                "entry for a virtual address, or for a table's block number. Faults: 21 the tag, 22 the strategy, 23 the kind, 24 a field "
+                "that is fixed, 25 lengths, 26 the extent, 27 bytes behind the descriptor.")
+    _sound(v)
+    _sizes(v)
+    _faults(v)
+    _order(v)
+    _sets(v)
+    return v
+
+
+def _entry(v: Vectors, name: str, of: str, block: bytes, location: int, answer: str, check: "int | None" = None) -> None:
+    lines = [f"crc -> {check:04X}"] if check is not None else []
+    v.case(name, of, "bytes " + padded(block), *lines, f"entry {location} -> {answer}")
+
+
+def _sound(v: Vectors) -> None:
+    v.about("The entries of the example of docs/PROTOCOL.md: the file `a` of five bytes, the root, and the table behind them; and those "
+            "of a new volume. The CRC is that of the whole block.")
+    of = OLD + "an_entry_holds_a_small_file " + OLD + "nothing_is_wrong_with_the_vectors"
+    _entry(v, "a-small-file", of, FILE, 2, 'file links 1 unique 16 moment 0 size 5 inside "hello"', 0xEF3D)
+    of = OLD + "an_entry_leads_to_a_directory " + OLD + "nothing_is_wrong_with_the_vectors " + FIRST + "of_an_entry"
+    _entry(v, "a-directory", of, ROOT, 1, "directory links 1 unique 0 moment 0 size 80 extent 6", 0x5229)
+    of = OLD + "an_entry_leads_to_a_table " + OLD + "nothing_is_wrong_with_the_vectors"
+    _entry(v, "a-table", of, TABLE, 9, "table links 0 unique 0 moment 0 size 256 extent 8", 0x6BD6)
+    _entry(v, "a-table-for-another-block", OLD + "an_entry_leads_to_a_table", TABLE, 10, "fault 21")
+    of = OLD + "entries_of_a_format"
+    _entry(v, "the-root-of-a-new-volume", of, file_entry("directory", 1, 0, 40, 1, 1), 1,
+           "directory links 1 unique 0 moment 0 size 40 extent 1", 0xF51D)
+    _entry(v, "the-table-of-a-new-volume", of, file_entry("table", 0, 0, 204, 3, 4), 4,
+           "table links 0 unique 0 moment 0 size 204 extent 3", 0x7F86)
+    block = file_entry("file", 1, 16, 0, None, 2)
+    assert block[34] == 1 and block[10] == 160 and block[172] == 0
+    _entry(v, "an-empty-file", OLD + "an_empty_file_is_nowhere", block, 2, "file links 1 unique 16 moment 0 size 0 nowhere")
+
+
+def _sizes(v: Vectors) -> None:
+    v.about("Files inside their entries have 1 to 1,872 bytes, and flags 3; the CRC covers 160 bytes and these.")
+    for size, length in [(1, 161), (5, 165), (1_871, 2_031), (1_872, 2_032)]:
+        block = file_entry("file", 1, 16, size, b"\x07" * size, 2)
+        assert block[34:36] == b"\x03\0" and int.from_bytes(block[10:12], "little") == length
+        of = OLD + "files_of_each_size_inside" + (f" {OLD}the_greatest_file_inside" if size == 1_872 else "")
+        text = "07*%d" % size if size >= 8 else "07" * size
+        _entry(v, f"inside-{size}", of, block, 2, f"file links 1 unique 16 moment 0 size {size} inside {text}")
+    v.about("Files in one extent: the blocks that are recorded.")
+    for size, blocks in [(1, 1), (1_872, 1), (1_873, 1), (2_048, 1), (2_049, 2), (1_048_576, 512)]:
+        block = file_entry("file", 1, 16, size, 5, 2)
+        assert int.from_bytes(block[64:72], "little") == blocks and block[10:12] == b"\xB0\0" and block[172] == 16
+        _entry(v, f"in-an-extent-{size}", OLD + "files_of_each_size_in_extents", block, 2,
+               f"file links 1 unique 16 moment 0 size {size} extent 5")
+
+
+def _fault(v: Vectors, name: str, of: str, fault: int, block: bytes, location: int) -> None:
+    _entry(v, name, of, block, location, f"fault {fault}")
+
+
+def _faults(v: Vectors) -> None:
+    v.about("What the tag is of: another address, a descriptor that the CRC does not cover to its end, or covers past it. An entry "
+            "with another length of its descriptors ends with its fields.")
+    of = OLD + "a_tag_covers_the_descriptor"
+    _fault(v, "tag-of-another-address", of, TAG, FILE, 3)
+    _fault(v, "tag-over-a-byte-less", of, TAG, resealed(FILE, [], 180, 2), 2)
+    _fault(v, "tag-over-the-fields-of-a-directory", of, TAG, resealed(ROOT, [], 176, 1), 1)
+    _fault(v, "tag-past-the-fields", of, TAG, resealed(FILE, [(172, 0)], 181, 2), 2)
+    _fault(v, "a-byte-that-the-tag-covers", of, TAG, changed(TABLE, [(160, 1)]), 9)
+    for name, identifier, location, end in [("address", ENTRY, 2, 192), ("descriptor", 260, 1, 192), ("end", ENTRY, 1, 176)]:
+        _fault(v, f"root-of-another-{name}", LATER + "an_entry_for_another_address_is_told", TAG,
+               resealed(ROOT, [], end, location, identifier), 1)
+    v.about("Faults of the fields of a file's entry, whose CRC is made good: the byte that is changed, and to what.")
+    _of_a_file(v)
+    v.about("Faults of the fields of the root's entry.")
+    for fault, of, changes, end in ROOT_FAULTS:
+        _fault(v, "root-" + _name(changes, end, 192), of, fault, resealed(ROOT, changes, end, 1), 1)
+    v.about("An extent may end with the last block of the largest partition, 449,742.")
+    last = [(180, 0xCE), (181, 0xDC), (182, 6)]
+    _entry(v, "root-at-the-last-block", OLD + "extents", resealed(ROOT, last, 192, 1), 1,
+           "directory links 1 unique 0 moment 0 size 80 extent 449742")
+    v.about("A table has no link, no unique ID, and is not empty. An entry with one of these faults is none of a table.")
+    for fault, of, changes, end in TABLE_FAULTS:
+        _fault(v, "table-" + _name(changes, end, 192), of, fault, resealed(TABLE, changes, end, 9), 9)
+
+
+def _name(changes: Changes, end: int, usual: int) -> str:
+    said = "-".join(f"{at}-{byte:02x}" for at, byte in changes) or "as-it-is"
+    return said if end == usual else f"{said}-up-to-{end}"
+
+
+def _of_a_file(v: Vectors) -> None:
+    named = {"strategy_and_kind": [(STRATEGY, [(20, 5)]), (STRATEGY, [(22, 1)]), (STRATEGY, [(24, 2)]), (KIND, [(27, 6)])],
+             "lengths": [(LENGTHS, [(56, 6)]), (LENGTHS, [(64, 1)])], "tails": [(TAIL, [(181, 1)])],
+             "fixed_fields": [(FIXED, [(at, 0x11)]) for at in (16, 26, 28, 33, 36, 44, 50, 55, 72, 84, 96, 108, 112, 128, 129, 159, 168)]
+             + [(FIXED, [(27, 4), (44, 0xA5), (45, 0x14)])]}
+    for test, rows in named.items():
+        for fault, changes in rows:
+            _fault(v, "file-" + _name(changes, 181, 181), OLD + test, fault, resealed(FILE, changes, 181, 2), 2)
+    for fault, of, changes in [
+        (FIXED, OLD + "fixed_fields", [(34, 2)]), (LENGTHS, OLD + "lengths", [(172, 0)]),
+        (LENGTHS, OLD + "lengths", [(56, 0x51), (57, 7), (172, 0x51), (173, 7)]),
+    ]:
+        _fault(v, "file-" + _name(changes, 176, 181), of, fault, resealed(FILE, changes, 176, 2), 2)
+    of = LATER + "faults_of_the_entry_of_a_file"
+    for fault, end, changes in [(STRATEGY, 181, [(20, 0)]), (KIND, 181, [(27, 7)]), (FIXED, 181, [(44, 0xA5), (45, 0x14)]),
+                                (FIXED, 181, [(159, 1)]), (LENGTHS, 176, [(56, 0), (172, 0)]), (TAIL, 181, [(2047, 1)]), (TAG, 176, [])]:
+        _fault(v, "file-" + _name(changes, end, 181), of, fault, resealed(FILE, changes, end, 2), 2)
+
+
+EMPTY_ROOT = [(56, 0), (64, 0), (172, 0), (176, 0), (180, 0)]
+LONG_ROOT = [(56, 1), (58, 0x10), (64, 1), (65, 2), (176, 1), (178, 0x10)]
+PAST_THE_PARTITION = [(180, 0xCF), (181, 0xDC), (182, 6)]
+_R = LATER + "faults_of_the_entry_of_a_directory"
+_B = LATER + "lengths_and_ends_of_an_entry"
+ROOT_FAULTS: "list[tuple[int, str, Changes, int]]" = [
+    (fault, _R + (" " + OLD + more if more else ""), changes, 192)
+    for fault, more, changes in [
+        (STRATEGY, "", [(20, 3)]), (STRATEGY, "", [(22, 1)]), (STRATEGY, "", [(24, 2)]), (KIND, "", [(27, 0)]), (KIND, "", [(27, 6)]),
+        (FIXED, "", [(16, 1)]), (FIXED, "", [(26, 1)]), (FIXED, "", [(28, 1)]), (FIXED, "", [(34, 0)]), (FIXED, "", [(34, 3)]),
+        (FIXED, "", [(36, 0)]), (FIXED, "", [(44, 0x84), (45, 0x10)]), (FIXED, "", [(50, 1)]), (FIXED, "", [(108, 2)]),
+        (FIXED, "", [(89, 2)]), (FIXED, "", [(76, 13), (88, 13), (100, 13)]), (FIXED, "", [(129, 0)]), (FIXED, "", [(168, 4)]),
+        (LENGTHS, "", [(56, 81)]), (LENGTHS, "lengths", [(64, 2)]), (LENGTHS, "lengths", [(176, 81)]),
+        (EXTENT, "extents", [(179, 0x40)]), (EXTENT, "extents", [(184, 1)]), (EXTENT, "extents", PAST_THE_PARTITION),
+    ]
+] + [
+    (EXTENT, OLD + "extents", [(186, 1)], 192), (EXTENT, OLD + "extents", [(191, 1)], 192),
+    (LENGTHS, f"{_B} {OLD}lengths", [(172, 8)], 176), (LENGTHS, _B, EMPTY_ROOT, 176), (LENGTHS, f"{_B} {OLD}lengths", LONG_ROOT, 192),
+    (TAIL, _B, [(192, 1)], 192), (TAIL, f"{_B} {OLD}tails", [(2047, 1)], 192),
+]
+_T = LATER + "a_faulty_entry_is_no_tables"
+TABLE_FAULTS: "list[tuple[int, str, Changes, int]]" = [
+    (STRATEGY, _T, [(20, 3)], 192), (KIND, _T, [(27, 0)], 192), (KIND, _T, [(27, 249)], 192), (FIXED, _T, [(36, 0)], 192),
+    (FIXED, f"{_T} {OLD}fixed_fields", [(48, 1)], 192), (FIXED, f"{_T} {OLD}fixed_fields", [(160, 1)], 192), (LENGTHS, _T, [(64, 2)], 192),
+    (EXTENT, _T, [(184, 1)], 192), (EXTENT, _T, PAST_THE_PARTITION, 192), (TAIL, _T, [(192, 1)], 192),
+    (LENGTHS, OLD + "lengths", [(56, 0), (57, 0), (64, 0), (172, 0), (176, 0), (177, 0), (180, 0)], 176),
+]
+
+
+def _order(v: Vectors) -> None:
+    v.about("The first of several faults of the root's entry: each with the next one, and each with all behind it.")
+    rows = [(TAG, [(12, 2)]), (STRATEGY, [(20, 5)]), (KIND, [(27, 6)]), (FIXED, [(36, 0x11)]), (LENGTHS, [(64, 2)]), (EXTENT, [(184, 1)]),
+            (TAIL, [(2047, 1)])]
+    of = FIRST + "of_an_entry"
+    for fault, changes in rows:
+        _fault(v, f"one-fault-{fault}", of, fault, _damaged(ROOT, changes), 1)
+    for (fault, one), (other, more) in zip(rows, rows[1:]):
+        _fault(v, f"faults-{fault}-and-{other}", of, fault, _damaged(ROOT, one + more), 1)
+    rows = [(STRATEGY, [(20, 3)]), (KIND, [(27, 6)]), (FIXED, [(36, 0)]), (LENGTHS, [(64, 2)]), (EXTENT, [(184, 1)]), (TAIL, [(2047, 1)])]
+    of = LATER + "the_first_fault_of_an_entry_is_told"
+    for kept in range(len(rows)):
+        changes = [change for _, changes in rows[kept:] for change in changes]
+        fault = rows[kept][0]
+        _fault(v, f"faults-from-{fault}-on", of, fault, resealed(ROOT, changes, 192, 1), 1)
+        if kept < 5:
+            _fault(v, f"faults-from-{fault}-on-unsealed", of, TAG, changed(ROOT, changes), 1)
+
+
+def _damaged(block: bytes, changes: Changes, end: int = 192, location: int = 1, identifier: int = ENTRY) -> bytes:
+    """The block with these changes, sealed again behind those that are not in the tag."""
+    data = resealed(block, [change for change in changes if change[0] >= 16], end, location, identifier)
+    return changed(data, [change for change in changes if change[0] < 16])
+
+
+def _set(v: Vectors, name: str, of: str, block: bytes, answer: str, check: "int | None" = None) -> None:
+    lines = [f"crc -> {check:04X}"] if check is not None else []
+    v.case(name, of, "bytes " + padded(block), *lines, f"file-set -> {answer}")
+
+
+def _sets(v: Vectors) -> None:
+    v.about("The file set descriptor at the virtual address 0: it has the label twice, and the moment of the format.")
+    assert SET[:4] == b"\0\x01\x03\0" and SET[10:16] == b"\xF0\x01\0\0\0\0" and SET[304:309] == b"\x08DISC"
+    sealed = resealed(SET, [], 512, 0, FILE_SET)
+    assert sealed == SET
+    of = " ".join([OLD + "a_file_set_has_a_label_and_a_moment", OLD + "faults_of_a_file_set", FIRST + "of_a_file_set",
+                   LATER + "faults_of_a_file_set"])
+    _set(v, "file-set", of, SET, 'label "DISC" moment 0', 0x3F8E)
+    old, later = OLD + "faults_of_a_file_set", LATER + "faults_of_a_file_set"
+    _set(v, "file-set-for-another-address", old, resealed(SET, [], 512, 1, FILE_SET), "fault 21")
+    _set(v, "file-set-of-another-descriptor", old, resealed(SET, [], 512, 0, 257), "fault 21")
+    for at in (18, 27, 28, 49, 113, 239, 241, 305, 309, 335, 336, 404, 417, 440, 448, 511):
+        _set(v, f"file-set-{at}-7f", old, resealed(SET, [(at, 0x7F)], 512, 0, FILE_SET), "fault 24")
+    _set(v, "file-set-512-01", f"{old} {later} {FIRST}of_a_file_set", changed(SET, [(512, 1)]), "fault 27")
+    for at, byte in [(20, 13), (28, 2), (32, 2), (40, 1), (48, 1), (116, 75), (240, 1), (304, 7), (336, 1), (404, 2), (408, 0), (440, 2),
+                     (448, 1), (511, 1)]:
+        _set(v, f"file-set-{at}-{byte:02x}", later, resealed(SET, [(at, byte)], 512, 0, FILE_SET), "fault 24")
+    both = [(28, 2), (512, 1)]
+    _set(v, "file-set-28-02-512-01", later, resealed(SET, both, 512, 0, FILE_SET), "fault 24")
+    _set(v, "file-set-2047-01", later, changed(SET, [(2047, 1)]), "fault 27")
+    for name, identifier, location, end in [("address", FILE_SET, 1, 512), ("end", FILE_SET, 0, 480), ("descriptor", 257, 0, 512)]:
+        _set(v, f"file-set-of-another-{name}-and-others", later, resealed(SET, both, end, location, identifier), "fault 21")
+    v.about("The first of two faults of a file set descriptor.")
+    rows = [(TAG, [(12, 1)]), (FIXED, [(28, 9)]), (TAIL, [(512, 1)])]
+    for fault, changes in rows[:2]:
+        _set(v, f"file-set-fault-{fault}", FIRST + "of_a_file_set", _damaged(SET, changes, 512, 0, FILE_SET), f"fault {fault}")
+    for (fault, one), (other, more) in zip(rows, rows[1:]):
+        _set(v, f"file-set-faults-{fault}-and-{other}", FIRST + "of_a_file_set", _damaged(SET, one + more, 512, 0, FILE_SET),
+             f"fault {fault}")
