@@ -80,7 +80,8 @@ fn tell_data(body: &[u8], out: &mut String) -> Result<(), Trouble> {
     if little(length) != bytes.len() as u64 {
         out.push_str("of another length ")?;
     }
-    show_bytes(bytes, out)
+    show_bytes(bytes, out)?;
+    Ok(())
 }
 
 /// The names in a directory, each behind a letter for its kind.

@@ -187,7 +187,8 @@ impl Player {
             .ok_or(Trouble::Line("no such block"))?;
         let (_, behind) = bytes.split_at(from.min(2048));
         let (shown, _) = behind.split_at(count.min(behind.len()));
-        show_bytes(shown, text)
+        show_bytes(shown, text)?;
+        Ok(())
     }
 
     /// The check of some blocks.
