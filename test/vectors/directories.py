@@ -3,14 +3,12 @@
 import string
 
 import layouts
-from layouts import BLOCK, IDENTIFIER, changed, fill, identifier, lay, parent, seal, spelling
+from layouts import Changes, BLOCK, IDENTIFIER, changed, fill, identifier, lay, parent, seal, spelling
 from writing import Vectors, digits, padded, shown
 
 OLD = "codec_tests::directories::"
 FIRST = "codec_tests::first_faults::"
 LATER = "recover_tests::directories::"
-
-Changes = "list[tuple[int, int]]"
 
 # The faults of a directory, as `67 Damaged` shows them.
 TAG, PARENT, NAME, TWICE, SPAN, PAD, END = range(31, 38)
@@ -290,7 +288,8 @@ def _identifiers(v: Vectors) -> None:
     assert len(long) == 2_020
     fault(v, "second-past-the-data", of, long, END, 2_016)
     fault(v, "second-past-its-block", of, long, SPAN, 2_020)
-    for cause, characteristics, changes in [(TAG, 10, [padding, version]), (PARENT, 10, [padding]), (PAD, 0, [padding]), (NAME, 0, [])]:
+    rows: "list[tuple[int, int, Changes]]" = [(TAG, 10, [padding, version]), (PARENT, 10, [padding]), (PAD, 0, [padding]), (NAME, 0, [])]
+    for cause, characteristics, changes in rows:
         second = a(b"\x08", characteristics=characteristics, changes=changes)
         fault(v, f"second-{cause}-and-a-name-twice", of, parent() + second + a() + a(), cause)
         fault(v, f"second-{cause}-and-a-version", of, parent() + second + a(changes=[version]), cause)

@@ -1,14 +1,12 @@
 """File entries and file set descriptors (entry.txt)."""
 
 import layouts
-from layouts import ENTRY, FILE_SET, changed, file_entry, seal
-from writing import Vectors, digits, padded
+from layouts import Changes, ENTRY, FILE_SET, changed, file_entry, seal
+from writing import Vectors, padded
 
 OLD = "codec_tests::entries::"
 FIRST = "codec_tests::first_faults::"
 LATER = "recover_tests::entries::"
-
-Changes = "list[tuple[int, int]]"
 
 FILE = file_entry("file", 1, 16, 5, b"hello", 2)
 ROOT = file_entry("directory", 1, 0, 80, 6, 1)
@@ -114,7 +112,7 @@ def _name(changes: Changes, end: int, usual: int) -> str:
 
 
 def _of_a_file(v: Vectors) -> None:
-    named = {"strategy_and_kind": [(STRATEGY, [(20, 5)]), (STRATEGY, [(22, 1)]), (STRATEGY, [(24, 2)]), (KIND, [(27, 6)])],
+    named: "dict[str, list[tuple[int, Changes]]]" = {"strategy_and_kind": [(STRATEGY, [(20, 5)]), (STRATEGY, [(22, 1)]), (STRATEGY, [(24, 2)]), (KIND, [(27, 6)])],
              "lengths": [(LENGTHS, [(56, 6)]), (LENGTHS, [(64, 1)])], "tails": [(TAIL, [(181, 1)])],
              "fixed_fields": [(FIXED, [(at, 0x11)]) for at in (16, 26, 28, 33, 36, 44, 50, 55, 72, 84, 96, 108, 112, 128, 129, 159, 168)]
              + [(FIXED, [(27, 4), (44, 0xA5), (45, 0x14)])]}
@@ -127,8 +125,9 @@ def _of_a_file(v: Vectors) -> None:
     ]:
         _fault(v, "file-" + _name(changes, 176, 181), of, fault, resealed(FILE, changes, 176, 2), 2)
     of = LATER + "faults_of_the_entry_of_a_file"
-    for fault, end, changes in [(STRATEGY, 181, [(20, 0)]), (KIND, 181, [(27, 7)]), (FIXED, 181, [(44, 0xA5), (45, 0x14)]),
-                                (FIXED, 181, [(159, 1)]), (LENGTHS, 176, [(56, 0), (172, 0)]), (TAIL, 181, [(2047, 1)]), (TAG, 176, [])]:
+    later: "list[tuple[int, int, Changes]]" = [(STRATEGY, 181, [(20, 0)]), (KIND, 181, [(27, 7)]), (FIXED, 181, [(44, 0xA5), (45, 0x14)]),
+                                (FIXED, 181, [(159, 1)]), (LENGTHS, 176, [(56, 0), (172, 0)]), (TAIL, 181, [(2047, 1)]), (TAG, 176, [])]
+    for fault, end, changes in later:
         _fault(v, "file-" + _name(changes, end, 181), of, fault, resealed(FILE, changes, end, 2), 2)
 
 
@@ -163,7 +162,7 @@ TABLE_FAULTS: "list[tuple[int, str, Changes, int]]" = [
 
 def _order(v: Vectors) -> None:
     v.about("The first of several faults of the root's entry: each with the next one, and each with all behind it.")
-    rows = [(TAG, [(12, 2)]), (STRATEGY, [(20, 5)]), (KIND, [(27, 6)]), (FIXED, [(36, 0x11)]), (LENGTHS, [(64, 2)]), (EXTENT, [(184, 1)]),
+    rows: "list[tuple[int, Changes]]" = [(TAG, [(12, 2)]), (STRATEGY, [(20, 5)]), (KIND, [(27, 6)]), (FIXED, [(36, 0x11)]), (LENGTHS, [(64, 2)]), (EXTENT, [(184, 1)]),
             (TAIL, [(2047, 1)])]
     of = FIRST + "of_an_entry"
     for fault, changes in rows:

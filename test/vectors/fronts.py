@@ -1,14 +1,13 @@
 """Fronts of volumes (front.txt)."""
 
 import layouts
-from layouts import PARTITION_START, changed, front, front_block, seal
+from layouts import Changes, PARTITION_START, changed, front, front_block, seal
 from writing import Vectors, padded
 
 OLD = "codec_tests::front::"
 FIRST = "codec_tests::first_faults::"
 LATER = "recover_tests::relations::"
 
-Changes = "list[tuple[int, int]]"
 PRIMARY, PARTITION = 1, 5
 
 CHECKS = [(16, 0x7770), (32, 0x2224), (33, 0xB46D), (34, 0x1F53), (35, 0xF879), (36, 0x8784), (37, 0xFDC1), (64, 0x457C), (256, 0x15CA)]
@@ -74,10 +73,10 @@ def _faults(v: Vectors) -> None:
     _front(v, "a-block-in-the-place-of-its-copy", of, [_put(49, front_block(33, "DISC", 0, 3_000))], "fault block 49 byte 4")
     _front(v, "a-block-of-zeros", of, ["put 33 00"], "fault block 33 byte 0")
     for number, place in [(0, 0), (16, 2047), (32, 30), (34, 192), (64, 80), (256, 16)]:
-        block = bytearray(front_block(number, "DISC", 0, 3_000))
-        block[place] ^= 1
+        flipped = bytearray(front_block(number, "DISC", 0, 3_000))
+        flipped[place] ^= 1
         at = 0 if number in (32, 34) else place
-        _front(v, f"bit-{number}-{place}", LATER + "the_front_is_held_byte_by_byte", [_put(number, bytes(block))], f"fault block {number} byte {at}")
+        _front(v, f"bit-{number}-{place}", LATER + "the_front_is_held_byte_by_byte", [_put(number, bytes(flipped))], f"fault block {number} byte {at}")
     v.about("Descriptors with other words, whose CRC is made good: no month, another label than in the set's identifier, no label; capacities that "
             "the other copy does not have.")
     of = LATER + "the_front_has_one_label_moment_and_capacity"

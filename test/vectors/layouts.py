@@ -5,6 +5,10 @@ little endian; a block has 2,048 bytes.
 """
 
 import struct
+from typing import List, Tuple
+
+Changes = List[Tuple[int, int]]
+"""Bytes that are changed, each at a place and to a value."""
 
 BLOCK = 2048
 PARTITION_START = 257
@@ -45,7 +49,7 @@ def block(data: bytes) -> bytes:
     return fill(data, BLOCK)
 
 
-def changed(data: bytes, changes: "list[tuple[int, int]]") -> bytes:
+def changed(data: bytes, changes: Changes) -> bytes:
     """The bytes with some of them changed, each at a place and to a value."""
     out = bytearray(data)
     for at, byte in changes:
@@ -123,7 +127,7 @@ def file_set(label: str = "DISC", moment: int = 0) -> bytes:
 
 
 def identifier(name: bytes, address: int, unique: int, number: int, characteristics: int = 0, use: bytes = b"",
-               changes: "list[tuple[int, int]]" = []) -> bytes:
+               changes: Changes = []) -> bytes:
     """A file identifier descriptor (ECMA-167 4/14.4) for the block of this number; changes are made before it is sealed."""
     body = struct.pack("<HBB", 1, characteristics, len(name)) + long_ad(BLOCK, address, 1, unique)
     body += struct.pack("<H", len(use)) + use + name
@@ -131,9 +135,9 @@ def identifier(name: bytes, address: int, unique: int, number: int, characterist
     return seal(IDENTIFIER, number, changed(bytes(16) + body, changes))
 
 
-def parent(address: int = 1, number: int = 6, **more: "object") -> bytes:
+def parent(address: int = 1, number: int = 6, changes: Changes = []) -> bytes:
     """The identifier of the directory above, which has the characteristics 0A."""
-    return identifier(b"", address, 0, number, 10, **more)  # type: ignore[arg-type]
+    return identifier(b"", address, 0, number, 10, b"", changes)
 
 
 def plain_size(name: bytes) -> int:
@@ -148,7 +152,8 @@ def lay(names: "list[tuple[str, str, int, int]]", above: int = 1, first: int = 6
     """
     said = [(b"", above, 0, 10)]
     said += [(spelling(text), address, unique, 2 if kind == "directory" else 0) for text, kind, address, unique in names]
-    at, places = 0, []
+    at = 0
+    places: "list[tuple[int, int]]" = []
     for index, (name, _, _, _) in enumerate(said):
         size = plain_size(name)
         left = BLOCK - at % BLOCK if at % BLOCK else 0

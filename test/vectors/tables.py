@@ -1,14 +1,11 @@
 """Virtual allocation tables (table.txt)."""
 
-import layouts
-from layouts import NONE, changed, file_entry, record, reply, table
+from layouts import Changes, NONE, changed, file_entry, record, reply, table
 from writing import Vectors, digits, padded
 
 OLD = "codec_tests::table::"
 FIRST = "codec_tests::first_faults::"
 LATER = "recover_tests::tables::"
-
-Changes = "list[tuple[int, int]]"
 
 # The faults of a table, as `67 Damaged` shows them.
 HEADER, LABEL, VERSION, RECORD, CLIENT_TWICE, ENTRY, COUNT = range(41, 48)
@@ -117,19 +114,20 @@ def _records(v: Vectors) -> None:
     _fault(v, "used-183-01", of, RECORD, changed(USED, [(183, 1)]))
     _fault(v, "version-3", of, RECORD, table([0, 2], version=3))
     first, second, third, fourth, none = reply(0, 1), reply(3, 2), reply(10, 3), reply(0, 4), reply(0, 0)
-    for count, replies, said in [(1, [first], "0:1"), (2, [second, first], "3:2 0:1"), (3, [fourth, second, first], "0:4 3:2 0:1"),
-                                 (4, [fourth, third, second, first], "0:4 10:3 3:2 0:1")]:
-        _table(v, f"replies-{count}", of, _root(7, 4, replies), 'label "DISC" previous 4 files 0 directories 1 version 2 next-unique 16 '
+    for kept, said in [([first], "0:1"), ([second, first], "3:2 0:1"), ([fourth, second, first], "0:4 3:2 0:1"),
+                       ([fourth, third, second, first], "0:4 10:3 3:2 0:1")]:
+        _table(v, f"replies-{len(kept)}", of, _root(7, 4, kept), 'label "DISC" previous 4 files 0 directories 1 version 2 next-unique 16 '
                f"commits 4 client 7 latest 4 replies {said} entries 0 2")
     _fault(v, "client-0", of, RECORD, _root(0, 4, [first]))
     _fault(v, "number-0", of, RECORD, _root(7, 0, [first]))
     _fault(v, "two-replies-to-one-number", of, RECORD, _root(7, 1, [second, first]))
-    for name, replies in [
+    wrong_replies: "list[tuple[str, list[bytes]]]" = [
         ("no-reply", []), ("code-11", [reply(11, 1)]), ("a-reserved-field", [reply(0, 1, 1)]), ("a-commit-to-come", [reply(0, 5)]),
         ("the-oldest-first", [first, second]), ("one-commit-twice", [second, second]), ("a-gap", [third, none, first]),
         ("a-gap-before-the-last", [third, second, none, first]), ("a-code-without-commit", [third, reply(1, 0)]),
         ("a-field-without-commit", [third, reply(0, 0, 1)]),
-    ]:
+    ]
+    for name, replies in wrong_replies:
         _fault(v, f"replies-by-{name}", of, RECORD, _root(7, 4, replies))
     of = LATER + "faults_of_a_record"
     for name, wrong in WRONG:
@@ -172,7 +170,8 @@ def _entries(v: Vectors) -> None:
     _table(v, "an-unused-entry", of, table([0, 2, NONE]), head + " none")
     for name, entries in [("the-root-at-the-table", [0, 9]), ("no-file-set", [NONE, 2]), ("no-root", [0, NONE])]:
         _fault(v, f"entries-by-{name}", of, ENTRY, table(entries))
-    for name, entries in [("none", []), ("one", [0]), ("one-too-many", [0, 2, 3])]:
+    few: "list[tuple[str, list[int]]]" = [("none", []), ("one", [0]), ("one-too-many", [0, 2, 3])]
+    for name, entries in few:
         _fault(v, f"entries-by-{name}", of, COUNT, table(entries))
     _fault(v, "unique-ids-from-15-on", of, COUNT, table([0, 2], next_unique=15))
     _table(v, "4097-entries", of, table([0, 2] + [NONE] * 4_095), head + " none*4095")

@@ -46,8 +46,8 @@ def _spellings(v: Vectors) -> None:
         v.case(f"no-text-{data.lower()}", TEXTS + "bytes_that_spell_nothing_are_refused " + FIRST + "of_a_spelling", f"bytes {data}",
                f"spelling -> fault {fault}")
     v.about("The first of two faults. The second one alone stands above.")
-    for data, fault in SPELLINGS:
-        v.case(f"two-faults-{data.hex()}", FIRST + "of_a_spelling", "bytes " + digits(data), f"spelling -> fault {fault}")
+    for both, fault in SPELLINGS:
+        v.case(f"two-faults-{both.hex()}", FIRST + "of_a_spelling", "bytes " + digits(both), f"spelling -> fault {fault}")
 
 
 # Bytes with two faults of a spelling, and the first of them.

@@ -7,7 +7,7 @@ import entries
 import fronts
 import layouts
 import tables
-from layouts import BLOCK, NONE, block, changed, file_entry, file_set, front, lay, parent, table
+from layouts import BLOCK, NONE, block, changed, file_entry, file_set, front, lay, table
 from writing import Vectors, digits, padded
 
 OLD = "recover_tests::"
@@ -165,10 +165,11 @@ def _shared(v: Vectors) -> None:
     of = OLD + "sharing::"
     v.case("each-state-of-a-chain", of + "each_state_of_a_chain_is_told", "bytes {chain}", "states 268 266 261 -> commits 2 ; commits 1 ; commits 0",
            "states 261 266 268 -> commits 0 ; commits 1 ; commits 2")
-    for at, seen in [
+    rows: "list[tuple[int, list[int | tuple[int, int]]]]" = [
         (70, [(70, FRONT)] * 3), (257, [(257, 21)] * 3), (258, [2, 1, (258, 31)]), (259, [2, 1, (259, 21)]), (262, [(262, 21), (262, 21), 0]),
         (263, [(263, 31), (263, 31), 0]), (264, [(264, 21), (264, 21), 0]), (266, [2, (266, CHAIN), 0]),
-    ]:
+    ]
+    for at, seen in rows:
         answer = " ; ".join(f"commits {one}" if isinstance(one, int) else told(one) for one in seen)
         v.case(f"states-with-block-{at}-damaged", of + "damage_is_told_as_it_is_of_each_state_alone", "bytes {chain}", f"flip {at} 0",
                f"states 268 266 261 -> {answer}")
@@ -319,7 +320,7 @@ def _no_table(v: Vectors, name: str, data: bytes) -> None:
            f"before 266 -> {refused}")
 
 
-FILE_FAULTS = [
+FILE_FAULTS: "list[tuple[int, int, layouts.Changes]]" = [
     (22, 181, [(20, 0)]), (23, 181, [(27, 7)]), (24, 176, [(34, 2)]), (24, 181, [(44, 0xA5), (45, 0x14)]), (24, 181, [(27, 4), (44, 0xA5), (45, 0x14)]),
     (24, 181, [(159, 1)]), (25, 181, [(56, 6)]), (25, 181, [(64, 1)]), (25, 176, [(56, 0), (172, 0)]),
     (25, 176, [(56, 0x51), (57, 7), (172, 0x51), (173, 7)]), (27, 181, [(181, 1)]), (27, 181, [(2047, 1)]), (21, 176, []),
