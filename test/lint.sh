@@ -53,6 +53,7 @@ if have mypy mypy; then
     silent "the client's tests are typed" apart clients/python . -p tests
     silent "the client's bench is typed" apart clients/python . bench.py
     silent 'the fault tests are typed' apart test . -p faults
+    silent 'what writes the vectors is typed' apart test/vectors . make.py count.py
     for file in test/copies/*.py test/readers/*.py test/documents/*.py bench/apply/*.py; do
         silent "$file is typed" apart "$top" "$top/test:$top/test/readers:$top/bench/apply" "$file"
     done
@@ -61,7 +62,7 @@ if have pyflakes3 pyflakes3; then
     silent 'nothing in Python is unused' pyflakes3 clients test bench
 fi
 if have shellcheck shellcheck; then
-    for file in .ci/run install.sh packaging/deb/build.sh packaging/deb/postinst packaging/deb/prerm test/*.sh bench/run bench/small bench/*/run; do
+    for file in .ci/run test/quick install.sh packaging/deb/build.sh packaging/deb/postinst packaging/deb/prerm test/*.sh bench/run bench/small bench/*/run; do
         silent "$file is clean" shellcheck -S warning "$file"
     done
 fi

@@ -1,5 +1,10 @@
 #!/usr/bin/env python3
-"""Writes the files of vectors, or with the word `check` says whether they are as this writes them."""
+"""Writes the files of vectors, and what the program `vectors` prints of them.
+
+    make.py [check]
+
+With the word `check` it writes nothing, and reports each file that is not as it would be written.
+"""
 
 import pathlib
 import sys
@@ -38,15 +43,18 @@ def written() -> "dict[pathlib.Path, str]":
 
 
 def main(words: "list[str]") -> int:
-    failed = 0
-    for path, text in written().items():
-        if words == ["check"]:
-            if not path.is_file() or path.read_text() != text:
-                print(f"{path} is not as test/vectors/make.py writes it")
-                failed = 1
-        else:
+    files = written()
+    if words != ["check"]:
+        for path, text in files.items():
             path.write_text(text)
-    return failed
+        return 0
+    failed = 0
+    for path, text in files.items():
+        if not path.is_file() or path.read_text() != text:
+            print(f"vectors: FAILED: {path} is not as test/vectors/make.py writes it")
+            failed += 1
+    print(f"vectors: {len(files) - failed} passed, {failed} failed")
+    return 1 if failed else 0
 
 
 if __name__ == "__main__":

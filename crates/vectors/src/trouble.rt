@@ -1,5 +1,6 @@
 //! Why a line of a case does not go as it says.
 
+use drive::DriveFault;
 use std::alloc::{AllocError, AllocFailed};
 use std::fmt;
 use words::WordsFault;
@@ -40,6 +41,12 @@ impl<T: Drop> From<AllocFailed<T>> for Trouble {
 impl From<fmt::Error> for Trouble {
     fn from(_error: fmt::Error) -> Trouble {
         Trouble::Memory
+    }
+}
+
+impl From<DriveFault> for Trouble {
+    fn from(_fault: DriveFault) -> Trouble {
+        Trouble::Line("the drive failed")
     }
 }
 

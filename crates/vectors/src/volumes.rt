@@ -8,6 +8,7 @@ use crate::compare::{Medium, blocks_of, words_of};
 use crate::tables::tell_table;
 use crate::trouble::Trouble;
 use drive::{Drive, MemDrive};
+use ecma::Block;
 use recover::{Known, PARTITION_START, State, StoreFault, before, last, state_at, state_sharing};
 use std::alloc::Global;
 use std::fmt::Write;
@@ -17,16 +18,19 @@ use words::number;
 fn drive_of(alloc: Global, medium: &Medium) -> Result<MemDrive, Trouble> {
     let mut drive = MemDrive::new(alloc, medium.capacity, Vec::new(alloc));
     for block in &blocks_of(alloc, &medium.bytes)? {
-        let next = next_of(&mut drive)?;
-        if next >= drive.capacity() || drive.write(next, &[*block]).is_err() {
-            return Err(Trouble::Line("no room for the blocks"));
-        }
+        add(&mut drive, block)?;
     }
     Ok(drive)
 }
 
-fn next_of(drive: &mut MemDrive) -> Result<u32, Trouble> {
-    drive.next().map_err(|_| Trouble::Line("the drive failed"))
+/// Adds a block behind the others.
+fn add(drive: &mut MemDrive, block: &Block) -> Result<(), Trouble> {
+    let next = drive.next()?;
+    if next >= drive.capacity() {
+        return Err(Trouble::Line("no room for the blocks"));
+    }
+    drive.write(next, &[*block])?;
+    Ok(())
 }
 
 /// The address of the last table's entry.
@@ -39,12 +43,21 @@ pub fn last_table(alloc: Global, medium: &Medium) -> Result<String, Trouble> {
 /// The address of the entry of the table before the one whose entry stands there.
 pub fn table_before(alloc: Global, medium: &Medium, at: u32) -> Result<String, Trouble> {
     let mut drive = drive_of(alloc, medium)?;
-    let next = next_of(&mut drive)?;
+    let found = step(alloc, &mut drive, at)?;
+    address(alloc, found)
+}
+
+/// A step of the chain from an address that must be there.
+fn step(
+    alloc: Global,
+    drive: &mut MemDrive,
+    at: u32,
+) -> Result<Result<Option<u32>, StoreFault>, Trouble> {
+    let next = drive.next()?;
     if at < PARTITION_START || next <= at {
         return Err(Trouble::Line("no such block"));
     }
-    let found = before(alloc, &mut drive, at);
-    address(alloc, found)
+    Ok(before(alloc, drive, at))
 }
 
 fn address(alloc: Global, found: Result<Option<u32>, StoreFault>) -> Result<String, Trouble> {
@@ -88,38 +101,63 @@ fn state_of(
     drive: &mut MemDrive,
     at: u32,
 ) -> Result<Result<State, StoreFault>, Trouble> {
-    let next = next_of(drive)?;
+    let next = drive.next()?;
     if at < PARTITION_START || next <= at {
         return Err(Trouble::Line("no such block"));
     }
     Ok(state_at(alloc, drive, at))
 }
 
-/// The commits of several states, or why each is refused. Each is looked at alone, and in turn with what is known of those
+/// What is told of a state: its commits, or why it is refused.
+type Told = Result<u32, StoreFault>;
+
+/// The commits of up to three states, or why each is refused. Each is looked at alone, and in turn with what is known of those
 /// before, which must tell the same.
-pub fn states(alloc: Global, medium: &Medium, ats: &[&str]) -> Result<String, Trouble> {
-    let mut drive = drive_of(alloc, medium)?;
-    let mut known = Known::new(alloc);
-    let mut text = String::new(alloc);
-    for word in ats {
-        let at = number(word)?;
-        let alone = commits(&state_of(alloc, &mut drive, at)?);
-        let shared = shared_state(alloc, &mut drive, &mut known, at)?;
-        if alone != shared {
-            return words_of(alloc, "another state alone");
+pub fn states(alloc: Global, medium: &Medium, words: &[&str]) -> Result<String, Trouble> {
+    let mut ats = [PARTITION_START; 3];
+    let mut last = PARTITION_START;
+    for (index, at) in ats.iter_mut().enumerate() {
+        if let Some(word) = words.get(index) {
+            last = number(word)?;
         }
+        *at = last;
+    }
+    let mut drive = drive_of(alloc, medium)?;
+    let shared = shared(alloc, &mut drive, ats)?;
+    if alone(alloc, &mut drive, ats)? != shared {
+        return words_of(alloc, "another state alone");
+    }
+    let mut text = String::new(alloc);
+    for told in shared.iter().take(words.len()) {
         if !text.is_empty() {
             text.push_str(" ; ")?;
         }
-        match alone {
+        match told {
             Ok(commits) => write!(text, "commits {commits}")?,
-            Err(fault) => text.push_str(&refusal(alloc, fault)?)?,
+            Err(fault) => text.push_str(&refusal(alloc, *fault)?)?,
         }
     }
     Ok(text)
 }
 
-fn commits(looked: &Result<State, StoreFault>) -> Result<u32, StoreFault> {
+/// What is told of three states, looked at in turn with what is known of those before.
+fn shared(alloc: Global, drive: &mut MemDrive, ats: [u32; 3]) -> Result<[Told; 3], Trouble> {
+    let mut known = Known::new(alloc);
+    let first = shared_state(alloc, drive, &mut known, ats[0])?;
+    let second = shared_state(alloc, drive, &mut known, ats[1])?;
+    let third = shared_state(alloc, drive, &mut known, ats[2])?;
+    Ok([first, second, third])
+}
+
+/// What is told of each of them alone.
+fn alone(alloc: Global, drive: &mut MemDrive, ats: [u32; 3]) -> Result<[Told; 3], Trouble> {
+    let first = commits(&state_of(alloc, drive, ats[0])?);
+    let second = commits(&state_of(alloc, drive, ats[1])?);
+    let third = commits(&state_of(alloc, drive, ats[2])?);
+    Ok([first, second, third])
+}
+
+fn commits(looked: &Result<State, StoreFault>) -> Told {
     match looked {
         Ok(state) => Ok(state.vat.sessions.commits),
         Err(fault) => Err(*fault),
@@ -132,11 +170,11 @@ fn shared_state(
     drive: &mut MemDrive,
     known: &mut Known,
     at: u32,
-) -> Result<Result<u32, StoreFault>, Trouble>
+) -> Result<Told, Trouble>
     requires { IsKnown (held (journal_of drive.old)) known.old }
     ensures known { IsKnown (held (journal_of drive.new)) known.new }
 {
-    let next = next_of(drive)?;
+    let next = drive.next()?;
     if at < PARTITION_START || next <= at {
         return Err(Trouble::Line("no such block"));
     }
