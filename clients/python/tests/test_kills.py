@@ -32,6 +32,7 @@ BATCH, BATCHES = 100, 40
 CODE = os.path.dirname(udfburn.__file__)
 NAMES = (
     "session.py", "recognition.py", "identity.py", "ledger.py", "ledger_file.py", "ledger_records.py", "ledger_schema.py", "tree.py", "connection.py", "line.py",
+    "seal.py",
 )
 TRACED = {os.path.join(CODE, name) for name in NAMES}
 

@@ -5,6 +5,7 @@ from __future__ import annotations
 import hashlib
 import os
 import subprocess
+import sys
 import unittest
 from typing import Dict, List
 from unittest import mock
@@ -17,6 +18,7 @@ from udfburn.seal import seal
 from . import bags
 from .model import File
 from .programs import WithPrograms
+from .test_kills import killer
 from .test_session import WithServer
 
 ODD = ("a name", "100%", "%25", "new\nline", "cr\rname", "back\\slash", "\\", "ends\r", "é", "中", "-c", "*star", "two\n\r%lines")
@@ -218,6 +220,39 @@ class Sealed(WithServer):
             # What this ledger itself stored anew is no fault.
             other.replace("/bag/data/a", b"of this ledger")
             self.assertEqual(len(seal(other, ("bag",)).written), 3)
+
+    def test_a_sealing_that_is_killed(self) -> None:
+        """At any line: the same command again makes it whole, and each file is stored as often as it has other bytes."""
+        self.one.close()
+        killed, lines, written = True, 0, set()
+        while killed:
+            lines += 211
+            # Other bytes each time, so that there is something to write.
+            with self.client() as client:
+                client.replace("/bag/data/a", b"%d" % lines, 5)
+            child = os.fork()
+            if not child:
+                try:
+                    sys.settrace(killer(lines))
+                    with self.client() as client:
+                        seal(client, ("bag",))
+                finally:
+                    sys.settrace(None)
+                    os._exit(0)
+            killed = os.WIFSIGNALED(os.waitpid(child, 0)[1])
+            with self.client() as client:
+                written.add(len(seal(client, ("bag",)).written))
+            self.assert_sealed()
+        self.assertLessEqual({0, 1, 3}, written, "it was killed before, between and after what it writes")
+
+    def assert_sealed(self) -> None:
+        """Every manifest has every file, with the digest of the bytes that are there."""
+        files = self.files()
+        payload = "".join(f"{hashlib.sha256(files[path]).hexdigest()}  {path[5:]}\n" for path in sorted(files) if path.startswith("/bag/data/"))
+        tags = ("/bag/bag-info.txt", "/bag/bagit.txt", "/bag/manifest-sha256.txt")
+        self.assertEqual(sorted(files["/bag/manifest-sha256.txt"].decode().splitlines()), sorted(payload.splitlines()))
+        expected = "".join(f"{hashlib.sha256(files[path]).hexdigest()}  {path[5:]}\n" for path in tags)
+        self.assertEqual(files["/bag/tagmanifest-sha256.txt"].decode(), expected)
 
     def test_a_manifest_among_the_sources(self) -> None:
         """Sealing would replace it, and then its source is deleted."""

@@ -152,6 +152,21 @@ class FullDisks(Local):
             client.create("/a", b"")
 
 
+    def test_of_the_ledger(self) -> None:
+        """SQLite says so, here by a limit of its own; what was not kept was not sent."""
+        with self.client() as client:
+            client.create("/a", b"")
+            client.session().ledger._base.execute("PRAGMA max_page_count = 1")
+            with self.assertRaisesRegex(e.LedgerError, "ledger.sqlite: cannot be written .database or disk is full.: see that its disk"):
+                for index in range(200):
+                    client.create(f"/{index}", bytes(5000))
+            commits = self.volume.commits
+        with self.client() as client:
+            self.assertEqual(client.resume(), [])
+            self.assertEqual(self.volume.commits, commits)
+            client.create("/b", b"")
+
+
 class FullDaemon(WithPrograms):
     def test_of_the_image_of_a_daemon(self) -> None:
         """The image is named, wherever the daemon was started; the drive is made to fail by a limit of the file size."""

@@ -2,6 +2,7 @@
 
 from __future__ import annotations
 
+from itertools import islice
 from typing import Dict, Iterator, List, NamedTuple, Optional, Set, Tuple
 
 from .reader.basics import BLOCK, FILE_BYTES, PARTITION, PATH_NAMES, UNUSED, blocks_of
@@ -14,6 +15,9 @@ from .reader.notes import Cause
 from .reader.volume import ROOT, Path, show
 
 LOST_AND_FOUND = "lost+found"
+LISTINGS = 100
+"""Earlier listings of a directory that are looked at, at most, where none is whole."""
+
 DEPTH = 64
 """Names in a path at most, also where directories were damaged into a deeper tree."""
 
@@ -286,7 +290,7 @@ class Tree:
     def _recover(self, item: Item) -> None:
         """Takes the nodes that a directory lost, by the names that its newest earlier listings have."""
         after = item.version.address if item.version is not None else self.link.start
-        for at, commit in self.versions(item.virtual, after):
+        for at, commit in islice(self.versions(item.virtual, after), LISTINGS):
             block = self.medium.block(at)
             entry = mend_entry(block, Hint(at - PARTITION, item.virtual)) if block is not None else None
             if entry is None or item.entry is not None and entry.unique != item.entry.unique:

@@ -44,7 +44,7 @@ class Audit:
         self._records = b""
         self._is_next = False
         self._last: Dict[int, int] = {}
-        self._known = Known()
+        self._known = Known(mends=0)
 
     def look(self, place: int) -> None:
         """Looks at a table, and at the nodes that it changes."""

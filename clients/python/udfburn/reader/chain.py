@@ -16,6 +16,10 @@ from .table import Head, Table, entries_at, previous_of, read_entries, read_head
 from .volume import Volume
 
 
+KEPT = 16
+"""The tables whose entries are kept, at most."""
+
+
 class Link(NamedTuple):
     """A table of the chain.
 
@@ -226,53 +230,53 @@ class Chain:
     def entries(self, index: int) -> "Tuple[array[int], Set[int]]":
         """The block numbers of virtual addresses behind a commit, and those that were not read but follow from other tables."""
         if index not in self._entries:
-            if len(self._entries) > 8:
+            if len(self._entries) >= KEPT:
                 self._entries.clear()
-            self._entries[index] = self._read_entries(index)
+            entries, unknown = self._read_entries(index)
+            if unknown or self.links[index].table is None:
+                self._fill(entries, unknown, index)
+            self._entries[index] = (entries, unknown)
         return self._entries[index]
 
     def _read_entries(self, index: int) -> "Tuple[array[int], Set[int]]":
+        """What a table itself has, and what cannot be: in blocks that are missing, or not below its entry."""
         link = self.links[index]
-        number = link.address - PARTITION
-        unknown: Set[int] = set()
         if link.table is None:
-            entries = array("I")
-        else:
-            run = self.volume.data_of(link.table)
-            entries = read_entries(run.data[: link.table.size], link.table.length)
-            for at in run.missing:
-                self.volume.notes.add(at, Cause.MISSING, "a block of the table cannot be read")
-                begin = (at - link.start) * BLOCK - link.table.length
-                unknown.update(range(max(begin // 4, 0), min((begin + BLOCK) // 4, len(entries))))
+            return array("I"), set()
+        number = link.address - PARTITION
+        run = self.volume.data_of(link.table)
+        entries = read_entries(run.data[: link.table.size], link.table.length)
+        unknown: Set[int] = set()
+        for at in run.missing:
+            self.volume.notes.add(at, Cause.MISSING, "a block of the table cannot be read")
+            begin = (at - link.start) * BLOCK - link.table.length
+            unknown.update(range(max(begin // 4, 0), min((begin + BLOCK) // 4, len(entries))))
+        if entries.count(UNUSED) + sum(1 for entry in entries if entry < number) < len(entries) or UNUSED in entries[:2]:
             unknown.update(v for v, entry in enumerate(entries) if entry >= number and entry != UNUSED or entry == UNUSED and v < 2)
-        if unknown or link.table is None:
-            self._fill(entries, unknown, index)
         return entries, unknown
 
     def _fill(self, entries: "array[int]", unknown: Set[int], index: int) -> None:
-        """Has what is unknown from the commit's own entries, and else from the table before."""
+        """Has what is unknown from what was written since the next older table that can be read, and else from that table."""
         link = self.links[index]
-        older = self.entries(index + 1)[0] if index + 1 < len(self.links) else array("I")
+        place = next((place for place in range(index + 1, len(self.links)) if self.links[place].table is not None), None)
+        older, doubted = self._read_entries(place) if place is not None else (array("I"), set())
+        low = self.links[place].address + 1 if place is not None else PARTITION
         if link.table is None:
             unknown.update(range(max(len(older), 2)))
+            new = len(unknown)
+            while self.survey.last_node(new, low, link.start) is not None:
+                unknown.add(new)
+                new += 1
             entries.extend([UNUSED] * (len(unknown) - len(entries)))
-            for new in range(len(older), len(older) + 2):
-                if self._own(new, index) is not None:
-                    unknown.add(new)
-                    entries.append(UNUSED)
         for virtual in unknown:
-            own = self._own(virtual, index)
-            before = older[virtual] if virtual < len(older) else UNUSED
+            own = self.survey.last_node(virtual, low, link.start)
+            before = older[virtual] if virtual < len(older) and virtual not in doubted else UNUSED
             entries[virtual] = own - PARTITION if own is not None else before
-
-    def _own(self, virtual: int, index: int) -> Optional[int]:
-        """The entry for a virtual address that a commit itself wrote, as far as it can be seen."""
-        low = self.links[index + 1].address + 1 if index + 1 < len(self.links) else PARTITION
-        return self.survey.last_node(virtual, low, self.links[index].start)
 
     def expected(self, virtual: int, index: int) -> Optional[int]:
         """The address that a table should have for a virtual address, by the commit's own entries or the table before."""
-        own = self._own(virtual, index)
+        low = self.links[index + 1].address + 1 if index + 1 < len(self.links) else PARTITION
+        own = self.survey.last_node(virtual, low, self.links[index].start)
         if own is not None:
             return own
         older = self.entries(index + 1)[0] if index + 1 < len(self.links) else array("I")

@@ -13,6 +13,9 @@ FILE_IDENTIFIER = 257
 HEAD = 38
 IS_DIRECTORY, IS_PARENT = 0x02, 0x0A
 FIELDS = struct.Struct("<HBBIIHHIH")
+MENDS = 1_000
+"""The identifiers that are tried to be mended, at most."""
+
 KEPT = 20_000
 """The identifiers that are kept as known, at most."""
 
@@ -101,9 +104,11 @@ def read_directory(data: bytes, size: int, first: int, known: Optional[Known] = 
 
 
 class Known:
-    """Bodies of identifiers that were read and were as they must be, so that one that is copied is not read again."""
+    """Bodies of identifiers that were read and were as they must be, so that one that is copied is not read again; and how many more
+    are mended."""
 
-    def __init__(self) -> None:
+    def __init__(self, mends: int = MENDS) -> None:
+        self.mends = mends
         self.bodies: Dict[bytes, Tuple[Identifier, bytes, int]] = {}
 
     def run(self, data: bytes, at: int, size: int, first: int, names: Dict[str, Identifier]) -> int:
@@ -181,7 +186,10 @@ class Reading:
             self.complete &= is_here
             return self._take(piece, name._replace(proved=is_here))
         end = next_proved(self.data, at + 4, self.size, self.first)
-        whole = mend_identifier(self.data[at:end], self.first + at // BLOCK, at == 0) if end - at <= BLOCK else None
+        whole = None
+        if end - at <= BLOCK and self.known.mends > 0:
+            self.known.mends -= 1
+            whole = mend_identifier(self.data[at:end], self.first + at // BLOCK, at == 0)
         mended = piece_at(whole, 0, len(whole)) if whole is not None else None
         if whole is not None and mended is not None:
             name = said_by(mended, self.first + at // BLOCK)

@@ -145,9 +145,9 @@ def restored(data: bytes, number: int, is_first: bool) -> Iterator[bytes]:
 
 def flipped(data: bytes, number: int) -> Iterator[bytes]:
     """The identifiers that differ in one bit of the fields or the name."""
-    for bit in range(16 * 8, len(data) * 8):
+    for at, bit in product((*range(16, 38), *range(max(38, len(data) - 258), len(data))), range(8)):
         changed = bytearray(data)
-        changed[bit // 8] ^= 1 << bit % 8
+        changed[at] ^= 1 << bit
         yield from restored(bytes(changed), number, changed[18] == 10)
 
 
