@@ -16,7 +16,7 @@ use Rattle.engine.specs.declared.serving.ServeFault.TheVariants as faults
 use Rattle.engine.specs.Situation.{Situation}
 use Rattle.engine.specs.Streams.{LeavesBy, PutsFront, PutsUntil, TakesPiece}
 use Rattle.engine.specs.Delivered.{IsAnswered}
-use Rattle.engine.specs.Served.{AllAnswered, AllTold, AllTaken, LastUntold, LeftAt, LeftBy, frames_of, Answering, AnswersSome, Serving, ServesUntil, ServesAll}
+use Rattle.engine.specs.Served.{AllAnswered, AllTold, AllTaken, LastUntold, LeftAt, LeftBy, frames_of, Answering, AnswersSome, Serving, ServesSome, ServesUntil, ServesAll}
 use Rattle.engine.proofs.Served.{answered_more, served_holds, served_withstand}
 
 -- and then others
@@ -265,23 +265,30 @@ consumes_kept (Some xs) None c x h k = absurd h
 consumes_kept (Some xs) (Some ys) None x h k = absurd k
 consumes_kept (Some xs) (Some ys) (Some zs) x h k = h ∙ ap (λ (y : List ℕ). x ++ y) (sym k)
 
+-- no more was read
+kept_some : (reader : Option (List ℕ)) (s t : Situation) (i l n o v : Option (List ℕ)) → Serving reader s t i l o v → Keeps l n → ServesSome s t i n o v
+kept_some reader s t i l n o v h k = record {
+  bytes = h.bytes;
+  messages = h.messages;
+  answers = h.answers;
+  reader = reader;
+  consumed = consumes_kept i l n h.bytes h.consumed k;
+  messages_are = h.messages_are;
+  answered = h.answered;
+  holds = served_holds h.messages s h.answers t h.answered;
+  withstands = served_withstand h.messages s h.answers t h.answered;
+  front = whole_front o v (frames_of h.answers) h.told;
+}
+
+-- for want of memory
+serving_short : (reader : Option (List ℕ)) (s t : Situation) (i l n o v : Option (List ℕ)) → Serving reader s t i l o v → IsIdle reader → Keeps l n → ServesUntil faults.Memory s t i n o v
+unfolding kept_some
+serving_short reader s t i l n o v h idle k = record { some = kept_some reader s t i l n o v h k; left_by = inr (inr (idle, h.told)) }
+
 -- a read failed, and took nothing
 pub serving_kept : (reader : Option (List ℕ)) (s t : Situation) (i l n o v : Option (List ℕ)) → Serving reader s t i l o v → IsIdle reader → Keeps l n → ServesUntil faults.Read s t i n o v
-serving_kept reader s t i l n o v h idle k = record {
-  some = record {
-    bytes = h.bytes;
-    messages = h.messages;
-    answers = h.answers;
-    reader = reader;
-    consumed = consumes_kept i l n h.bytes h.consumed k;
-    messages_are = h.messages_are;
-    answered = h.answered;
-    holds = served_holds h.messages s h.answers t h.answered;
-    withstands = served_withstand h.messages s h.answers t h.answered;
-    front = whole_front o v (frames_of h.answers) h.told;
-  };
-  left_by = (idle, h.told);
-}
+unfolding kept_some
+serving_kept reader s t i l n o v h idle k = record { some = kept_some reader s t i l n o v h k; left_by = (idle, h.told) }
 
 -- what was read of a stream is a piece of it
 pub takes_piece : (count : ℕ) (l n reader later : Option (List ℕ)) → (h : ReadsPiece count l n reader later) → TakesPiece l n h.piece
@@ -295,7 +302,8 @@ piece_some count l n reader later h some none = some (sym h.long ∙ ap length n
 pub serving_left : (fault : ServeFault) (reader : Option (List ℕ)) (s t : Situation) (i l n o v : Option (List ℕ)) → Serving reader s t i l o v → IsIdle reader → LeavesBy fault l n → ServesUntil fault s t i n o v
 serving_left faults.Read reader s t i l n o v h idle k = serving_kept reader s t i l n o v h idle k
 serving_left faults.Write reader s t i l n o v h idle k = absurd k
-serving_left faults.Memory reader s t i l n o v h idle k = serving_read reader s t i l n o v k.0 h idle k.2 k.1
+serving_left faults.Memory reader s t i l n o v h idle (inl k) = serving_read reader s t i l n o v k.0 h idle k.2 k.1
+serving_left faults.Memory reader s t i l n o v h idle (inr k) = serving_short reader s t i l n o v h idle k
 
 kept_self : (a : Option (List ℕ)) → Keeps a a
 kept_self None = tt

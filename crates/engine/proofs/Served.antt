@@ -1,8 +1,11 @@
 -- What messages that were answered by their store's calls leave at each front of the journal, and of what a loss of power leaves.
-use Rattle.std.proofs.Common.{ℕ, List, [], ◌∷◌, ◌++◌, IsTrue, Some, refl, subst}
+use Rattle.std.proofs.Common.{◌≡◌, ℕ, ◌+◌, List, [], ◌∷◌, ◌++◌, IsTrue, Some, sum_by, refl, ap, subst, arith}
+use Rattle.std.proofs.lemmas.List.Sums.{sum_by-cons}
+use Rattle.drive.specs.Reads.{Counts}
 use Rattle.request.specs.declared.answer.Answer.{Answer}
 use Rattle.request.specs.declared.message.Message.{Message}
 use Rattle.model.specs.Session.{State}
+use Rattle.engine.specs.Answered.{faults}
 use Rattle.engine.specs.Situation.{Situation}
 use Rattle.engine.specs.Said.{said_answer, said_answers}
 use Rattle.engine.specs.Steps.{HoldsState, AllSteps}
@@ -55,3 +58,14 @@ each_withstands volume (m ∷ messages) S before (a ∷ answers) behind (during,
 
 pub served_withstand : (messages : List Message) (before : Situation) (answers : List Answer) (behind : Situation) (all : AllAnswered messages before answers behind) → ServedWithstands messages before answers behind all
 served_withstand messages before answers behind all volume S honest at = each_withstands volume messages S before answers behind all honest at
+
+-- no more answers stand for a failure of the drive than it counted
+pub answered_counted : (messages : List Message) (before : Situation) (answers : List Answer) (behind : Situation) → AllAnswered messages before answers behind → Counts (sum_by faults answers) before.failures behind.failures
+answered_counted [] before [] behind same most = omega (arith, ap (λ (s : Situation). s.failures) same)
+answered_counted [] before (a ∷ answers) behind all most = absurd all
+answered_counted (m ∷ messages) before [] behind all most = absurd all
+answered_counted (m ∷ messages) before (a ∷ answers) behind (during, one, rest) most =
+    let later = answered_counted messages during answers behind rest most in
+    let first = one.answered.failures (omega (arith, later, most)) in
+    let all : sum_by faults (a ∷ answers) ≡ faults a + sum_by faults answers = sum_by-cons faults a answers in
+    omega (arith, later, first, all)

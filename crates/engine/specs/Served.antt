@@ -94,12 +94,12 @@ LeftAt faults.Memory answers reader output written = LastUntold answers 0 output
 
 -- Why a stream was left, by what was read of it, and written of the answers. A read fails where all that was read has its
 -- answers; a write where something was read; and memory is short for such a message's answer, for bytes that were read, or
--- before any were.
+-- to read on where each answer is written.
 abbrev pub LeftBy : ServeFault → List ℕ → List Answer → Option (List ℕ) → Option (List ℕ) → Option (List ℕ) → Type 0
 LeftBy faults.Read bytes answers reader output written = AllTold answers reader output written
 LeftBy faults.Write bytes answers reader output written = (bytes ≡ [] → ⊥) × LeftAt faults.Write answers reader output written
 LeftBy faults.Memory bytes answers reader output written =
-    LeftAt faults.Memory answers reader output written ⊎ (Unlooked answers reader output written ⊎ ((bytes ≡ []) × Appends output written []))
+    LeftAt faults.Memory answers reader output written ⊎ (Unlooked answers reader output written ⊎ AllTold answers reader output written)
 
 -- The same, but it ended with a fault, and of the answers' frames a front was written.
 pub record AnswersSome (fault : ServeFault) (reader after : Option (List ℕ)) (before behind : Situation) (output written : Option (List ℕ)) : Type 0 where

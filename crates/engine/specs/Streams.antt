@@ -1,5 +1,5 @@
 -- What was read from a stream and written to one, where its bytes are known.
-use Rattle.std.specs.Prelude.{◌≡◌, ℕ, List, [], take, Option}
+use Rattle.std.specs.Prelude.{◌≡◌, ◌⊎◌, ℕ, List, [], take, Option}
 use Rattle.std.specs.Io.KnownBytes.{Appends, Consumes, IsAtEnd, Keeps}
 use Rattle.engine.specs.declared.serving.ServeFault.{ServeFault}
 use Rattle.engine.specs.declared.serving.ServeFault.TheVariants as faults
@@ -19,8 +19,9 @@ PutsUntil faults.Read before after bytes = ⊥
 PutsUntil faults.Write before after bytes = PutsFront before after bytes
 PutsUntil faults.Memory before after bytes = Keeps before after
 
--- Why a stream is read no further: a read failed, and took nothing, or there was no memory for bytes that were read.
+-- Why a stream is read no further: a read failed, and took nothing; or there was no memory, for bytes that were read or for
+-- more of a stream that could not be asked for its end.
 abbrev pub LeavesBy : ServeFault → Option (List ℕ) → Option (List ℕ) → Type 0
 LeavesBy faults.Read before after = Keeps before after
 LeavesBy faults.Write before after = ⊥
-LeavesBy faults.Memory before after = (piece : List ℕ) × (piece ≡ [] → ⊥) × TakesPiece before after piece
+LeavesBy faults.Memory before after = ((piece : List ℕ) × (piece ≡ [] → ⊥) × TakesPiece before after piece) ⊎ Keeps before after

@@ -1,12 +1,12 @@
 //! Messages from a stream, and answers to one.
 
-ghost use Rattle.std.specs.Prelude.{◌≤◌, OnOk, IfOk, IfErr};
+ghost use Rattle.std.specs.Prelude.{◌≡◌, ◌≤◌, [], OnOk, IfOk, IfErr};
 ghost use Rattle.std.specs.Io.KnownBytes.{Appends};
 ghost use Rattle.drive.specs.Reads.{Follows};
 ghost use Rattle.request.specs.Answers.{answer_frame};
 ghost use Rattle.request.specs.Frames.{IsIdle};
 ghost use Rattle.request.specs.Streams.{ReadsPiece};
-ghost use Rattle.engine.specs.Streams.{LeavesBy, PutsUntil};
+ghost use Rattle.engine.specs.Streams.{LeavesBy, PutsUntil, TakesPiece};
 ghost use Rattle.engine.specs.Situation.{IsReady, seen_on};
 ghost use Rattle.engine.specs.Served.{Answering, AnswersSome, ServesUntil, ServesAll};
 
@@ -74,14 +74,21 @@ fn read_on<R: Read>(reader: &mut R, frames: &mut Frames) -> Result<usize, ServeF
     match frames.read_from(reader, PIECE_BYTES) {
         Ok(count) => Ok(count),
         Err(FeedFault::Read) => Err(ServeFault::Read),
-        Err(FeedFault::Memory) => {
-            // At its end a stream needs no memory.
-            let mut byte = [0u8; 1];
-            match read_piece(reader, &mut byte)? {
-                0 => Ok(0),
-                _ => Err(ServeFault::Memory),
-            }
-        }
+        Err(FeedFault::Memory) => end_of(reader),
+    }
+}
+
+/// The end of a stream where there is no memory to read on: at its end a stream needs none. Elsewhere memory is short, also
+/// where the stream cannot be asked.
+fn end_of<R: Read>(reader: &mut R) -> Result<usize, ServeFault>
+    ensures ok { IfOk result (λ count. (count ≡ 0) × TakesPiece (R.remaining reader.old) (R.remaining reader.new) []) }
+    ensures memory { IfErr result (λ fault. fault ≡ ServeFault.Memory) }
+    ensures err { IfErr result (λ fault. LeavesBy fault (R.remaining reader.old) (R.remaining reader.new)) }
+{
+    let mut byte = [0u8; 1];
+    match read_piece(reader, &mut byte) {
+        Ok(0) => Ok(0),
+        _ => Err(ServeFault::Memory),
     }
 }
 

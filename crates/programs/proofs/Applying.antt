@@ -21,9 +21,10 @@ use Rattle.store.specs.declared.store.Store.{Store}
 use Rattle.engine.specs.Situation.{Situation, situation, with_store}
 use Rattle.engine.specs.Steps.{HoldsState}
 use Rattle.engine.specs.Said.{said_answers}
-use Rattle.engine.specs.Served.{ServedHolds, ServesAll, ServesUntil, brought}
+use Rattle.engine.specs.Served.{AllAnswered, ServedHolds, ServesAll, ServesUntil, brought}
 use Rattle.engine.specs.declared.serving.ServeFault.{ServeFault}
 use Rattle.engine.proofs.Running.{runs_begin}
+use Rattle.engine.proofs.Served.{answered_counted}
 use Rattle.programs.specs.declared.fault.Fault.{Fault}
 use Rattle.programs.specs.declared.fault.Fault.TheVariants.{Usage, Path, Socket, Store as Stored, Stream}
 use Rattle.programs.specs.Applied.{Applies, AppliesAll, AppliesUntil, AppliesToImage, IsRunOfNew, IsUnmade, AnswersAll, AnswersUntil, AnswersInMemory}
@@ -61,19 +62,27 @@ module _ (capacity : ℕ) (label : List ℕ) (J : List Event) (made : IsFormatte
   new_long = ap length (made.holds refl) ∙ format_long (words_on capacity label 0) made.blocks made.is
 
   run_of_new : capacity ≤ 450000 → (failures : ℕ) (writes : List (List (List ℕ))) (messages : List Message) (answers : List Answer) (behind : Situation) → behind.honest ≡ true
-      → ServedHolds messages (situation None J failures capacity true writes) answers behind → IsRunOfNew capacity messages answers
-  run_of_new fits failures writes messages answers behind honest h =
+      → AllAnswered messages (situation None J failures capacity true writes) answers behind → ServedHolds messages (situation None J failures capacity true writes) answers behind → IsRunOfNew capacity messages answers
+  run_of_new fits failures writes messages answers behind honest answered h =
       let volume : min capacity 450000 ≡ capacity = omega (arith, fits) in
       let all = h (min capacity 450000) (formatted 0) (subst IsTrue (sym honest) refl) (new_is_at failures writes) in
       record {
+        new = situation None J failures capacity true writes;
+        last = behind;
+        size = refl;
+        honest = refl;
+        closed = refl;
+        stands = subst (λ (n : ℕ). HoldsState n (formatted 0) (situation None J failures capacity true writes)) volume (new_is_at failures writes);
+        answered = answered;
+        failures = answered_counted messages (situation None J failures capacity true writes) answers behind answered;
         end = length (held behind.journal);
         marks = all.holds.marks;
         counts = all.holds.counts;
         committed = all.holds.committed;
         fits = subst (λ (n : ℕ). Fits (need spelled) n (length (held behind.journal)) (formatted 0) 262 0 (brought messages) (said_answers answers) all.holds.marks all.holds.counts all.holds.committed) volume
             (subst (λ (n : ℕ). Fits (need spelled) (min capacity 450000) (length (held behind.journal)) (formatted 0) n 0 (brought messages) (said_answers answers) all.holds.marks all.holds.counts all.holds.committed) new_long all.holds.fits);
-        new = all.holds.new;
-        once = all.holds.once;
+        all_new = all.holds.new;
+        each_once = all.holds.once;
       }
 
   answers_all : capacity ≤ 450000 → (failures : ℕ) (writes : List (List (List ℕ))) (behind : Situation) (i l o w : Option (List ℕ)) → behind.honest ≡ true
@@ -85,7 +94,7 @@ module _ (capacity : ℕ) (label : List ℕ) (J : List Event) (made : IsFormatte
     reader = h.reader;
     consumed = h.serving.consumed;
     messages_are = h.serving.messages_are;
-    run = run_of_new fits failures writes h.serving.messages h.serving.answers (with_store kept behind) honest h.holds;
+    run = run_of_new fits failures writes h.serving.messages h.serving.answers (with_store kept behind) honest h.serving.answered h.holds;
     told = h.serving.told;
     idle = h.idle;
     ends = h.ends;
@@ -101,7 +110,7 @@ module _ (capacity : ℕ) (label : List ℕ) (J : List Event) (made : IsFormatte
       reader = h.some.reader;
       consumed = h.some.consumed;
       messages_are = h.some.messages_are;
-      run = run_of_new fits failures writes h.some.messages h.some.answers (with_store kept behind) honest h.some.holds;
+      run = run_of_new fits failures writes h.some.messages h.some.answers (with_store kept behind) honest h.some.answered h.some.holds;
       front = h.some.front;
     };
     left_by = h.left_by;

@@ -1,6 +1,6 @@
 -- Whether bytes begin a block of a format that was made in memory.
 use Rattle.std.proofs.Common.{◌≡◌, ℕ, zero, suc, ◌<◌, ◌≤◌, List, [], ◌∷◌, ◌++◌, length, drop, Bool, true, false, Result, Ok, Err, inr, sym, ap, subst, ◌∙◌, arith, ◌==◌}
-use Rattle.std.specs.Prelude.{slice_index_or, IfErr}
+use Rattle.std.specs.Prelude.{slice_index_or, IfErr, OnOk}
 use Rattle.std.specs.List.{starts_with}
 use Rattle.std.proofs.lemmas.Bool.Decides.{Decides-eqb}
 use Rattle.std.proofs.lemmas.Bool.{true≢false}
@@ -9,7 +9,7 @@ use Rattle.drive.specs.Journal.{Event, written, next_of}
 use Rattle.drive.proofs.Journals.{length-written}
 use Rattle.formatting.specs.NewVolume.{words_on, IsFormatOf, IsFormatted}
 use Rattle.programs.specs.declared.fault.Fault.{Fault}
-use Rattle.programs.specs.NewVolumes.{Begins, BeginsNot, IsNoPart, IsUnbegun}
+use Rattle.programs.specs.NewVolumes.{Begins, BeginsNot, IsBegun, IsNoPart, IsUnbegun}
 
 -- what stands at a place of a journal that was written in order
 event_at : (from at : ℕ) (blocks : List (List ℕ)) (event : Event) → at < length (written from blocks) → event ≡ slice_index_or (written from blocks) at event
@@ -50,3 +50,10 @@ pub unbegun_part : {T : Type 0} (outcome : Result T Fault) (room capacity moment
 unbegun_part (Ok x) room capacity moment at label part journal size next some short h = tt
 unbegun_part (Err fault) room capacity moment at label part journal size next some short h =
     inr (part, some, short, subst (λ (n : ℕ). IsNoPart capacity label moment n part fault) next (subst (λ (n : ℕ). IsNoPart n label moment at part fault) size h))
+
+-- or it is accepted
+pub begun_part : {T : Type 0} (outcome : Result T Fault) (room capacity moment at : ℕ) (label part : List ℕ) (journal : List Event) → room ≡ capacity → at ≡ next_of journal → length part < 2048
+    → OnOk outcome (Begins (words_on room label moment) at part) → OnOk outcome (IsBegun capacity label moment journal)
+begun_part (Ok x) room capacity moment at label part journal size next short h =
+    (part, short, inr (subst (λ (n : ℕ). Begins (words_on capacity label moment) n part) next (subst (λ (n : ℕ). Begins (words_on n label moment) at part) size h)))
+begun_part (Err fault) room capacity moment at label part journal size next short h = tt

@@ -22,7 +22,7 @@ use Rattle.programs.specs.Copies.{Sends, SendsSome}
 use Rattle.programs.specs.FaultLines.{Reports}
 use Rattle.programs.specs.Status.{status_of}
 use Rattle.programs.specs.Images.{OnImage, Unopened}
-use Rattle.programs.specs.NewVolumes.{Makes, MakesOnImage, Unbegun}
+use Rattle.programs.specs.NewVolumes.{IsBegun, Makes, MakesOnImage, Unbegun}
 use Rattle.programs.specs.Lines.{formatted_text}
 use Rattle.programs.specs.Questions.{Question, Shows, ShowsImage, ShowsPath}
 use Rattle.programs.specs.Questions.Question.{Names_at, Bytes_at, Commits, Soundness}
@@ -62,8 +62,9 @@ module _ (i l o v w : Option (List ℕ)) (kept : Keeps v w) where
       inr (inl (on_image capacity (λ before behind. Unbegun label moment capacity outcome before behind o v) (λ before behind. Unbegun label moment capacity outcome before behind o w)
       (λ before behind k. record { refused = k.refused; why = k.why; journal = k.journal; unwritten = keeps_trans o v w k.unwritten kept }) h))
   made_kept label moment capacity outcome (inr (inr h)) =
-      inr (inr (on_image capacity (λ before behind. Makes label moment capacity outcome before.journal behind.journal behind.honest o v) (λ before behind. Makes label moment capacity outcome before.journal behind.journal behind.honest o w)
-      (λ before behind k. makes_kept label moment capacity outcome before.journal behind.journal behind.honest k) h))
+      inr (inr (on_image capacity (λ before behind. IsBegun capacity label moment before.journal × Makes label moment capacity outcome before.journal behind.journal behind.honest o v)
+      (λ before behind. IsBegun capacity label moment before.journal × Makes label moment capacity outcome before.journal behind.journal behind.honest o w)
+      (λ before behind k. (k.0, makes_kept label moment capacity outcome before.journal behind.journal behind.honest k.1)) h))
 
   serves_kept : (before behind : Situation) → ServesAll before behind i l o v → ServesAll before behind i l o w
   serves_kept before behind h = record {
@@ -97,7 +98,7 @@ module _ (i l o v w : Option (List ℕ)) (kept : Keeps v w) where
   left_kept streams.Write bytes answers reader h = (h.0, left_at_kept streams.Write answers reader h.1)
   left_kept streams.Memory bytes answers reader (inl h) = inl (left_at_kept streams.Memory answers reader h)
   left_kept streams.Memory bytes answers reader (inr (inl h)) = inr (inl (h.0, h.1, h.2, h.3, h.4, keeps_on o v w (frames_of answers) h.5 kept))
-  left_kept streams.Memory bytes answers reader (inr (inr h)) = inr (inr (h.0, keeps_on o v w [] h.1 kept))
+  left_kept streams.Memory bytes answers reader (inr (inr h)) = inr (inr (h.0, keeps_on o v w (frames_of answers) h.1 kept))
 
   until_kept : (fault : ServeFault) (before behind : Situation) → ServesUntil fault before behind i l o v → ServesUntil fault before behind i l o w
   until_kept fault before behind h = record {

@@ -11,7 +11,7 @@ use Rattle.engine.specs.declared.serving.ServeFault.TheVariants as streams
 use Rattle.programs.specs.declared.fault.Fault.{Fault}
 use Rattle.programs.specs.declared.fault.Fault.TheVariants.{Usage, Path, Socket, Store, Stream}
 use Rattle.programs.specs.Lines.{Puts, formatted_text}
-use Rattle.programs.specs.NewVolumes.{Makes, MakesOnImage, IsUnbegun, Unbegun}
+use Rattle.programs.specs.NewVolumes.{Makes, MakesOnImage, IsBegun, IsUnbegun, Unbegun}
 use Rattle.programs.proofs.Opening.{begins_on, keeps_self}
 
 pub makes_put : {T : Type 0} (label : List ℕ) (moment capacity : ℕ) (outcome : Result T Fault) (J K : List Event) (honest : Bool) (o w : Option (List ℕ)) → Puts outcome o w formatted_text
@@ -46,9 +46,11 @@ unbegun_why label moment capacity room (Err f) journal fault size is why =
     subst (λ (g : Fault). IsUnbegun capacity label moment journal g) (sym is) (subst (λ (n : ℕ). IsUnbegun n label moment journal fault) size why)
 
 pub makes_image : {T : Type 0} (label : List ℕ) (moment capacity room : ℕ) (outcome : Result T Fault) (d : FileDrive) (J : List Event) (behind : Situation) (o w : Option (List ℕ)) → (image : List (List ℕ)) × BeginsWith image d → capacity_of d ≡ capacity
-    → room ≡ capacity_of d → J ≡ journal_of d → Makes label moment room outcome J behind.journal behind.honest o w → MakesOnImage label moment capacity outcome o w
-makes_image label moment capacity room outcome d J behind o w begins size same journal h =
-    inr (inr (begins_on capacity (λ before after. Makes label moment capacity outcome before.journal after.journal after.honest o w) d behind begins size
-    (subst (λ (n : ℕ). Makes label moment n outcome (journal_of d) behind.journal behind.honest o w) size
-    (subst (λ (n : ℕ). Makes label moment n outcome (journal_of d) behind.journal behind.honest o w) same
-    (subst (λ (j : List Event). Makes label moment room outcome j behind.journal behind.honest o w) journal h)))))
+    → room ≡ capacity_of d → J ≡ journal_of d → IsBegun (capacity_of d) label moment (journal_of d) → Makes label moment room outcome J behind.journal behind.honest o w → MakesOnImage label moment capacity outcome o w
+makes_image label moment capacity room outcome d J behind o w begins size same journal begun h =
+    inr (inr (begins_on capacity (λ before after. IsBegun capacity label moment before.journal × Makes label moment capacity outcome before.journal after.journal after.honest o w) d behind begins size (
+      subst (λ (n : ℕ). IsBegun n label moment (journal_of d)) size begun,
+      subst (λ (n : ℕ). Makes label moment n outcome (journal_of d) behind.journal behind.honest o w) size
+          (subst (λ (n : ℕ). Makes label moment n outcome (journal_of d) behind.journal behind.honest o w) same
+          (subst (λ (j : List Event). Makes label moment room outcome j behind.journal behind.honest o w) journal h)),
+    )))

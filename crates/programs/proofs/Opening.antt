@@ -1,6 +1,7 @@
 -- What is done on the drive over an image that was opened.
-use Rattle.std.proofs.Common.{◌≡◌, ◌==◌, ℕ, ◌≤◌, true, List, Option, Some, None, Result, Ok, Err, refl, ◌∙◌, ap, subst}
-use Rattle.std.specs.Prelude.{IsErrAnd}
+use Rattle.std.proofs.Common.{◌≡◌, ◌==◌, ℕ, ◌≤◌, Bool, true, false, List, Option, Some, None, Result, Ok, Err, refl, sym, ◌∙◌, ap, subst}
+use Rattle.std.specs.Prelude.{IsErrAnd, IfErr}
+use Rattle.std.proofs.lemmas.Bool.{false≢true}
 use Rattle.std.specs.Io.KnownBytes.{Keeps}
 use Rattle.drive.specs.Note.{fitted}
 use Rattle.drive.specs.FileDrive.{journal_of, writes_of, failures_of, capacity_of, honest_of, BeginsWith}
@@ -9,8 +10,8 @@ use Rattle.drive.proofs.Once.{once-written}
 use Rattle.recover.specs.declared.fault.StoreFault.TheVariants.{Device}
 use Rattle.engine.specs.Situation.{Situation, situation}
 use Rattle.programs.specs.declared.fault.Fault.{Fault}
-use Rattle.programs.specs.declared.fault.Fault.TheVariants.{Store}
-use Rattle.programs.specs.Images.{OnImage, Unopened, opened}
+use Rattle.programs.specs.declared.fault.Fault.TheVariants.{Usage, Path, Socket, Store, Stream}
+use Rattle.programs.specs.Images.{IsUnchanged, OnImage, Unopened, opened}
 
 pub keeps_self : (a : Option (List ℕ)) → Keeps a a
 keeps_self None = tt
@@ -36,3 +37,20 @@ begins_on capacity Did d behind (image, begins) size did =
 pub unopened : {T : Type 0} (outcome : Result T Fault) (fault : Fault) (output : Option (List ℕ)) → IsErrAnd outcome (λ f. f ≡ fault) → fault ≡ Store Device → Unopened outcome output output
 unopened (Ok x) fault output is device = absurd is
 unopened (Err f) fault output is device = record { fault = ap (λ (g : Fault). Err g) (is ∙ device); unwritten = keeps_self output }
+
+abbrev is_socket : Fault → Bool
+is_socket Usage = false
+is_socket Path = false
+is_socket Socket = true
+is_socket (Store fault) = false
+is_socket (Stream fault) = false
+
+-- where the image cannot be had no socket is asked for
+pub no_socket : {T : Type 0} (outcome : Result T Fault) (fault : Fault) → IsErrAnd outcome (λ f. f ≡ fault) → fault ≡ Store Device → IfErr outcome (λ f. f ≡ Socket → OnImage 450000 IsUnchanged)
+no_socket (Ok x) fault is device = tt
+no_socket (Err f) fault is device = λ socket. absurd (false≢true (ap is_socket (sym (is ∙ device) ∙ socket)))
+
+-- and where the socket cannot, the image was had
+pub had_image : {T : Type 0} (outcome : Result T Fault) → OnImage 450000 IsUnchanged → IfErr outcome (λ f. f ≡ Socket → OnImage 450000 IsUnchanged)
+had_image (Ok x) image = tt
+had_image (Err f) image = λ socket. image

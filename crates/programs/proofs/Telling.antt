@@ -13,6 +13,7 @@ use Rattle.engine.specs.Situation.{Situation}
 use Rattle.programs.specs.Connections.{LeavesConnection}
 use Rattle.programs.specs.FaultLines.{Reports, TellsOutcome, fault_line}
 use Rattle.programs.specs.Refusals.{IsDaemonTold, IsEarly, IsLeaving, RefusesDaemon, SaysEach, SaysFaults, TellsEarly, TellsRefusal}
+use Rattle.programs.specs.Images.{IsUnchanged, OnImage}
 use Rattle.programs.specs.Status.{AreWordsTold, fault_status, status_of}
 
 pub refused : (fault : Fault) → 1 ≤ fault_status fault
@@ -43,10 +44,11 @@ refused_not status fault is done = let least = refused fault in absurd (omega (a
 -- ---- a daemon that served nothing
 
 -- its words were read, and what they name cannot be had
-pub unserved : {T : Type 0} (words : List (List ℕ)) (asked : DaemonWords) (outcome : Result T Fault) → AsksDaemon words asked → IfErr outcome (λ fault. (fault ≡ Socket) ⊎ (fault ≡ Store stores.Device)) → IfErr outcome (RefusesDaemon words)
-unserved words asked (Ok x) asks h = tt
-unserved words asked (Err fault) asks (inl h) = subst (λ (f : Fault). RefusesDaemon words f) (sym h) (asked, asks)
-unserved words asked (Err fault) asks (inr h) = subst (λ (f : Fault). RefusesDaemon words f) (sym h) (inr (refl, (asked, asks)))
+pub unserved : {T : Type 0} (words : List (List ℕ)) (asked : DaemonWords) (outcome : Result T Fault) → AsksDaemon words asked → IfErr outcome (λ fault. (fault ≡ Socket) ⊎ (fault ≡ Store stores.Device))
+    → IfErr outcome (λ fault. fault ≡ Socket → OnImage 450000 IsUnchanged) → IfErr outcome (RefusesDaemon words)
+unserved words asked (Ok x) asks h image = tt
+unserved words asked (Err fault) asks (inl h) image = subst (λ (f : Fault). RefusesDaemon words f) (sym h) ((asked, asks), image h)
+unserved words asked (Err fault) asks (inr h) image = subst (λ (f : Fault). RefusesDaemon words f) (sym h) (inr (refl, (asked, asks)))
 
 -- or they are others, or memory is short for them
 pub unasked : (words : List (List ℕ)) (told : WordsFault) (fault : Fault) → AreWordsTold told fault → (told ≡ faults.Usage → (asked : DaemonWords) → AsksDaemon words asked → ⊥) → RefusesDaemon words fault

@@ -1,7 +1,8 @@
 -- What the messages of the input became, and what a user sees of it who gave them a volume in memory.
-use Rattle.std.specs.Prelude.{◌≡◌, ◌⊎◌, ⊤, ℕ, ◌<◌, List, codes, Option, IsSome, Result, Ok, Err}
+use Rattle.std.specs.Prelude.{◌≡◌, ◌⊎◌, ⊤, ℕ, ◌<◌, List, codes, sum_by, Option, None, IsSome, IsTrue, Result, Ok, Err}
 use Rattle.std.specs.Io.KnownBytes.{Appends, Consumes, IsAtEnd, Keeps}
 use Rattle.limits.specs.declared.TheConstants.{GREATEST_CAPACITY, LEAST_CAPACITY, FORMAT_BLOCKS}
+use Rattle.drive.specs.Reads.{Counts}
 use Rattle.osta.specs.FirstFault.{first_fault}
 use Rattle.osta.specs.Label.{label_faults}
 use Rattle.request.specs.declared.answer.Answer.{Answer}
@@ -20,7 +21,9 @@ use Rattle.store.specs.declared.store.Store.{Store}
 use Rattle.engine.specs.Situation.{Situation, with_store}
 use Rattle.engine.specs.Streams.{PutsFront}
 use Rattle.engine.specs.Said.{said_answers}
-use Rattle.engine.specs.Served.{IsCutOff, LeftBy, ServesAll, ServesUntil, brought, frames_of}
+use Rattle.engine.specs.Answered.{faults}
+use Rattle.engine.specs.Steps.{HoldsState}
+use Rattle.engine.specs.Served.{AllAnswered, IsCutOff, LeftBy, ServesAll, ServesUntil, brought, frames_of}
 use Rattle.engine.specs.declared.serving.ServeFault.{ServeFault}
 use Rattle.programs.specs.declared.fault.Fault.{Fault}
 use Rattle.programs.specs.declared.fault.Fault.TheVariants.{Usage, Path, Socket, Store as Stored, Stream}
@@ -50,15 +53,25 @@ AppliesToImage outcome input left output written =
 -- ---- a volume in memory, whose drive is honest: no premise is left
 
 -- A run from a new volume of this capacity, formatted at moment 0, may give these messages these answers: each by a row, from
--- the state after the requests that were committed before it. A new volume is its root alone, in the blocks of a format.
+-- the state after the requests that were committed before it. A new volume is its root alone, in the blocks of a format. An
+-- engine gave the answers, on an honest drive of this capacity where none was open; and no more of them tell of a failing
+-- drive than failures were counted.
 pub record IsRunOfNew (capacity : ℕ) (messages : List Message) (answers : List Answer) : Type 0 where
+  pub new : Situation
+  pub last : Situation
+  pub size : new.capacity ≡ capacity
+  pub honest : IsTrue new.honest
+  pub closed : new.store ≡ None
+  pub stands : HoldsState capacity (formatted 0) new
+  pub answered : AllAnswered messages new answers last
+  pub failures : Counts (sum_by faults answers) new.failures last.failures
   pub end : ℕ
   pub marks : List ℕ
   pub counts : List ℕ
   pub committed : List Request
   pub fits : Fits (need spelled) capacity end (formatted 0) FORMAT_BLOCKS 0 (brought messages) (said_answers answers) marks counts committed
-  pub new : AllNew (formatted 0) committed
-  pub once : EachOnce committed
+  pub all_new : AllNew (formatted 0) committed
+  pub each_once : EachOnce committed
 
 -- The messages of the bytes that were read, up to the input's end or a frame that is too long, were answered so, and what
 -- was written is the answers' frames, in order.

@@ -21,6 +21,10 @@ pub record OnImage (capacity : ℕ) (Did : Situation → Situation → Type 0) :
   pub behind : Situation
   pub did : Did (opened capacity count image) behind
 
+-- it was opened, and no more
+abbrev pub IsUnchanged : Situation → Situation → Type 0
+IsUnchanged before behind = behind ≡ before
+
 -- The image could not be had, and nothing was printed.
 pub record Unopened {T : Type 0} (outcome : Result T Fault) (output written : Option (List ℕ)) : Type 0 where
   pub fault : outcome ≡ Err (Store Device)

@@ -56,6 +56,10 @@ IsUnbegun capacity label moment journal fault =
     (fault ≡ Store stores.Device)
     ⊎ ((part : List ℕ) × (0 < length part) × (length part < BLOCK_BYTES) × IsNoPart capacity label moment (next_of journal) part fault)
 
+-- what is left after the last whole block of an image: nothing, or bytes that begin the next block of a format with these words
+abbrev pub IsBegun : ℕ → List ℕ → ℕ → List Event → Type 0
+IsBegun capacity label moment journal = (part : List ℕ) × (length part < BLOCK_BYTES) × ((part ≡ []) ⊎ Begins (words_on capacity label moment) (next_of journal) part)
+
 -- what is left behind the last whole block of an image was refused, and nothing was done
 pub record Unbegun {T : Type 0} (label : List ℕ) (moment capacity : ℕ) (outcome : Result T Fault) (before behind : Situation) (output written : Option (List ℕ)) : Type 0 where
   pub refused : IsErr outcome
@@ -68,4 +72,4 @@ abbrev pub MakesOnImage : {T : Type 0} → List ℕ → ℕ → ℕ → Result T
 MakesOnImage label moment capacity outcome output written =
     Unopened outcome output written
     ⊎ (OnImage capacity (λ before behind. Unbegun label moment capacity outcome before behind output written)
-    ⊎ OnImage capacity (λ before behind. Makes label moment capacity outcome before.journal behind.journal behind.honest output written))
+    ⊎ OnImage capacity (λ before behind. IsBegun capacity label moment before.journal × Makes label moment capacity outcome before.journal behind.journal behind.honest output written))

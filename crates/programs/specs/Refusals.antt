@@ -1,5 +1,6 @@
 -- Why a program began nothing, or a daemon served nothing, what it says of its connections, and how.
 use Rattle.std.specs.Prelude.{◌≡◌, ◌⊎◌, ⊤, ℕ, List, [], ◌∷◌, codes, Option}
+use Rattle.limits.specs.declared.TheConstants.{GREATEST_CAPACITY}
 use Rattle.command_line.specs.declared.daemon.DaemonWords.{DaemonWords}
 use Rattle.command_line.specs.Daemon.{AsksDaemon}
 use Rattle.engine.specs.Streams.{PutsFront}
@@ -7,17 +8,18 @@ use Rattle.recover.specs.declared.fault.StoreFault.TheVariants as stores
 use Rattle.programs.specs.declared.fault.Fault.{Fault}
 use Rattle.programs.specs.declared.fault.Fault.TheVariants.{Usage, Path, Socket, Store, Stream}
 use Rattle.programs.specs.FaultLines.{fault_line}
+use Rattle.programs.specs.Images.{IsUnchanged, OnImage}
 use Rattle.programs.specs.Status.{fault_status}
 
 -- these are words of the daemon
 abbrev pub AreDaemonWords : List (List ℕ) → Type 0
 AreDaemonWords words = (asked : DaemonWords) × AsksDaemon words asked
 
--- They are none, memory is short to read them, or what they name cannot be had: the image, or the socket.
+-- They are none, memory is short to read them, or what they name cannot be had: the image, or then the socket.
 abbrev pub RefusesDaemon : List (List ℕ) → Fault → Type 0
 RefusesDaemon words Usage = (asked : DaemonWords) → AsksDaemon words asked → ⊥
 RefusesDaemon words Path = ⊥
-RefusesDaemon words Socket = AreDaemonWords words
+RefusesDaemon words Socket = AreDaemonWords words × OnImage GREATEST_CAPACITY IsUnchanged
 RefusesDaemon words (Store fault) = (fault ≡ stores.Memory) ⊎ ((fault ≡ stores.Device) × AreDaemonWords words)
 RefusesDaemon words (Stream fault) = ⊥
 

@@ -6,7 +6,7 @@ ghost use Rattle.drive.specs.Reads.{Follows};
 ghost use Rattle.engine.specs.Situation.{IsReady, seen_on, situation_on};
 ghost use Rattle.engine.specs.Served.{ServesAll};
 ghost use Rattle.programs.specs.Connections.{GoesOn, AreOneRun, LeavesConnection, LeavesStream};
-ghost use Rattle.programs.specs.Images.{OnImage};
+ghost use Rattle.programs.specs.Images.{IsUnchanged, OnImage};
 ghost use Rattle.programs.specs.Refusals.{AreDaemonWords, RefusesDaemon, SaysFaults, TellsRefusal};
 ghost use Rattle.programs.specs.Status.{IsRefusal};
 
@@ -78,6 +78,8 @@ where
     R: Files<File = File> + Net + Clock + AllocGlobal,
     E: Write,
     ensures refused { IfErr result (λ fault. (fault ≡ Fault.Socket) ⊎ (fault ≡ Fault.Store StoreFault.Device)) }
+    // The image comes first: where the socket cannot be had, it was opened, and nothing was done to it.
+    ensures image { IfErr result (λ fault. fault ≡ Fault.Socket → OnImage GREATEST_CAPACITY IsUnchanged) }
     // All of them together are one run.
     ensures run { OnOk result (OnImage GREATEST_CAPACITY AreOneRun) }
     ensures said { OnOk result (SaysFaults (E.contents errors.old) (E.contents errors.new)) }

@@ -3,7 +3,7 @@
 ghost use Rattle.std.specs.Prelude.{◌≡◌, ◌<◌, IfErr, OnOk};
 ghost use Rattle.drive.specs.FileDrive.{journal_of, capacity_of, honest_of};
 ghost use Rattle.formatting.specs.NewVolume.{words_on};
-ghost use Rattle.programs.specs.NewVolumes.{Begins, IsNoPart, IsUnbegun, Makes, MakesOnImage};
+ghost use Rattle.programs.specs.NewVolumes.{Begins, IsBegun, IsNoPart, IsUnbegun, Makes, MakesOnImage};
 ghost use Rattle.programs.specs.Status.{IsRefusal};
 
 use crate::fault::Fault;
@@ -63,6 +63,7 @@ fn require_beginning(
     ensures journal { journal_of drive.new ≡ journal_of drive.old }
     ensures capacity { capacity_of drive.new ≡ capacity_of drive.old }
     ensures honest { honest_of drive.new ≡ honest_of drive.old }
+    ensures begun { OnOk result (IsBegun (capacity_of drive.old) label.now moment (journal_of drive.old)) }
     ensures refused { IfErr result (IsUnbegun (capacity_of drive.old) label.now moment (journal_of drive.old)) }
 {
     let mut part = [0; 2048];

@@ -19,4 +19,4 @@ pub returns-clause-makes : goal.returns-clause-makes
 returns-clause-makes g c =
     makes_image c.args.label.now c.args.moment c.args.capacity _ c.make.result c.in_ok-drive.drive _
     (situation None c.make.new.drive.contents.journal c.make.new.drive.failures c.make.new.drive.capacity (c.make.new.drive.contents.misreads == 0) c.make.new.drive.contents.writes) _ _
-    c.in_ok-drive.ensures.image c.in_ok-drive.ensures.capacity c.require_beginning.ensures.capacity c.require_beginning.ensures.journal c.make.ensures.makes
+    c.in_ok-drive.ensures.image c.in_ok-drive.ensures.capacity c.require_beginning.ensures.capacity c.require_beginning.ensures.journal c.in_ok-require_beginning.ensures.begun c.make.ensures.makes
