@@ -3,7 +3,7 @@
 from __future__ import annotations
 
 import re
-from typing import Collection, Dict, FrozenSet, Iterator, List, NamedTuple, Optional, Set, Tuple
+from typing import Collection, Dict, FrozenSet, Iterator, List, NamedTuple, Optional, Set
 
 from .reader.volume import Path
 

@@ -8,7 +8,7 @@ from array import array
 from typing import Iterator, List, NamedTuple, Optional, Tuple
 
 from .basics import BLOCK, CLIENTS, FIRST_UNIQUE, NODES, PARTITION, UNUSED, entity, is_label, read_dstring
-from .notes import Cause, Fault, Faults
+from .notes import Cause, Fault
 
 SESSIONS = entity(b"*udfburn sessions")
 HEAD = 196

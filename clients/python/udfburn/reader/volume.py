@@ -4,13 +4,13 @@ from __future__ import annotations
 
 from typing import Dict, Iterator, List, NamedTuple, Optional, Set, Tuple
 
-from .basics import BLOCK, FIRST_UNIQUE, NUMBERS, PARTITION, PATH_NAMES, UNUSED, blocks_of, read_dstring
+from .basics import BLOCK, FIRST_UNIQUE, PARTITION, PATH_NAMES, UNUSED, blocks_of, read_dstring
 from .directory import Directory, Identifier, read_directory
-from .entry import Entry, Kind, entry_faults, is_entry_like, read_entry, read_file_set
+from .entry import Entry, Kind, is_entry_like, read_entry, read_file_set
 from .front import Front, note_front, read_front
 from .medium import Medium, Run
 from .notes import Cause, Notes
-from .table import Client, Head, Table, entries_at, is_sensible, previous_of, read_clients, read_entries, read_head, table_faults
+from .table import Client, Table, entries_at, is_sensible, previous_of, read_clients, read_entries, read_head, table_faults
 
 Path = Tuple[str, ...]
 """The names from the root on. The root has none."""
