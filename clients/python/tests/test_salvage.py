@@ -269,6 +269,15 @@ class Salvaging(Damaged):
             self.assertEqual({path: found[1] for path, found in files.items() if found[0] != UNFINISHED}, wanted)
             self.assertEqual(notes, [])
 
+    def test_a_large_device(self) -> None:
+        """What is after the volume, and what is past the greatest one, is nothing of it."""
+        self.fill()
+        with open(self.image, "r+b") as file:
+            file.seek(0, os.SEEK_END)
+            file.write(b"\xaa" * 5 * BLOCK)
+            file.truncate(500_000 * BLOCK)
+        self.assertEqual(self.expect_all(), [])
+
     def test_no_table(self) -> None:
         self.put(bytes(700_000))
         self.assertRaises(NothingToSalvage, self.salvage)
