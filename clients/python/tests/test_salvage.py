@@ -2,13 +2,9 @@
 
 from __future__ import annotations
 
-import hashlib
-import json
 import os
 import random
 import struct
-import subprocess
-import sys
 import tempfile
 import unittest
 from typing import Callable, Dict, List, Optional, Tuple
@@ -16,19 +12,17 @@ from unittest import mock
 
 from udfburn.protocol import Create, MakeDir, Message, Path, Remove, Rename, Replace
 from udfburn.reader import Kind, Medium, Volume
-from udfburn.salvage import DAMAGED, EARLIER, LOST, NAMELESS, UNFINISHED, UNPROVED, WHOLE, NothingToSalvage, Outcome, Salvage
-from udfburn.salvage_digests import Digests, Manifest, add_manifests, folder_of, lines_of
-from udfburn.salvage_write import Output, fitting
+from udfburn.salvage import DAMAGED, EARLIER, LOST, NAMELESS, UNFINISHED, UNPROVED, NothingToSalvage, Outcome, Salvage
 
 from .model import Volume as Model
-from .programs import PACKAGE, UDFBURN
+from .programs import UDFBURN
 from .volumes import Writer, apply_messages, format_image
 
 BLOCK = 2048
 Found = Dict[Path, Tuple[str, bytes, Outcome]]
 
 
-class Salvaging(unittest.TestCase):
+class Damaged(unittest.TestCase):
     """A small volume, and copies of it with wrong bytes."""
 
     def setUp(self) -> None:
@@ -108,6 +102,10 @@ class Salvaging(unittest.TestCase):
             else:
                 self.assertEqual(files.get(path, ("", b""))[:2], (UNPROVED, data), (path, notes))
         return notes
+
+
+class Salvaging(Damaged):
+    """What comes out of damaged copies."""
 
     # ---- one wrong byte
 
@@ -271,6 +269,15 @@ class Salvaging(unittest.TestCase):
             self.assertEqual({path: found[1] for path, found in files.items() if found[0] != UNFINISHED}, wanted)
             self.assertEqual(notes, [])
 
+    def test_a_large_device(self) -> None:
+        """What is after the volume, and what is past the greatest one, is nothing of it."""
+        self.fill()
+        with open(self.image, "r+b") as file:
+            file.seek(0, os.SEEK_END)
+            file.write(b"\xaa" * 5 * BLOCK)
+            file.truncate(500_000 * BLOCK)
+        self.assertEqual(self.expect_all(), [])
+
     def test_no_table(self) -> None:
         self.put(bytes(700_000))
         self.assertRaises(NothingToSalvage, self.salvage)
@@ -305,56 +312,6 @@ class Salvaging(unittest.TestCase):
             self.damage(at, 60, b"\xff" * 4)
             self.expect_all()
 
-    # ---- digests
-
-    def test_digests_of_a_manifest(self) -> None:
-        """A file is whole where its digest agrees, and damaged where it does not."""
-        self.fill()
-        lines = "".join(f"{hashlib.sha256(data).hexdigest()}  {'/'.join(path)}\n" for path, data in self.model.files().items())
-        self.send(Create, ("manifest-sha256.txt",), lines.encode())
-        self.send(Create, ("new",), b"not listed")
-        files, _ = self.salvage()
-        self.assertEqual({found[0] for path, found in files.items() if path[-1] != "manifest-sha256.txt"}, {WHOLE, UNPROVED})
-        self.assertEqual(files["new",][0], UNPROVED)
-        _, data, _ = self.node("top")
-        assert data is not None
-        self.flip(data, 77)
-        files, _ = self.salvage()
-        self.assertEqual((files["top",][0], files["d", "large"][0]), (DAMAGED, WHOLE))
-        # A bit inside an entry is mended by the digest, and so is a lost entry.
-        self.flip(data, 77)
-        self.flip(self.node("d", "renamed")[0], 300)
-        self.damage(self.node("top")[0], 0, bytes(BLOCK))
-        files, _ = self.salvage()
-        for path in (("d", "renamed"), ("top",)):
-            self.assertEqual(files[path][:2], (WHOLE, self.model.files()[path]))
-
-    def test_digests_of_a_ledger(self) -> None:
-        """They are found by the commits that wrote the files, whatever the files are called now."""
-        ledger, local = os.path.join(self.room, "ledger.sqlite"), os.path.join(self.room, "local")
-        os.mkdir(local)
-        for name in ("a", "b", "c"):
-            with open(os.path.join(local, name), "wb") as file:
-                file.write(name.encode() * 3000)
-        words = ["--image", self.image, "--ledger", ledger, "--quiet", "--program", UDFBURN]
-        self.assertEqual(self.command("put", "-r", local, "/kept", *words).stderr, "")
-        self.assertEqual(self.command("mv", "/kept/a", "/kept/z", *words).stderr, "")
-        done = self.command("salvage", self.image, "--list", "--ledger", ledger)
-        self.assertEqual((done.returncode, done.stdout.count("whole /kept/")), (0, 3), done.stdout + done.stderr)
-        _, data, _ = self.node("kept", "b")
-        assert data is not None
-        self.flip(data, 5)
-        self.damage(self.node("kept", "z")[0], 0, bytes(BLOCK))
-        done = self.command("salvage", self.image, "--list", "--ledger", ledger)
-        self.assertIn("damaged /kept/b (3000 bytes) - its bytes do not have the digest that is kept of them\n", done.stderr)
-        self.assertIn("whole /kept/z (3000 bytes)\n", done.stdout)
-        self.assertEqual(self.command("salvage", self.image, "--list", "--ledger", ledger + "x").returncode, 2)
-        # Of another volume the ledger knows nothing.
-        format_image(self.image + ".other")
-        self.image += ".other"
-        self.send(Create, ("x",), b"1")
-        self.assertIn("unproved /x", self.command("salvage", self.image, "--list", "--ledger", ledger).stdout)
-
     # ---- a commit that is not finished
 
     def test_unfinished(self) -> None:
@@ -370,30 +327,6 @@ class Salvaging(unittest.TestCase):
         self.damage(len(self.blocks()) // BLOCK - 1, 0, b"\xff" * BLOCK)
         self.assertTrue(self.expect_all())
 
-    # ---- log
-
-    def test_log(self) -> None:
-        self.fill()
-        said = subprocess.run([UDFBURN, "log", self.image], check=True, capture_output=True, text=True).stdout
-        done = self.command("log", self.image)
-        self.assertEqual((done.returncode, done.stdout, done.stderr), (0, said, ""))
-        lines = said.splitlines()
-        sound = self.blocks()
-        at = [int(line.split()[1]) for line in lines]
-        # A bit of an entry: the line says that it is broken. The whole entry and the table: that commit is lost.
-        self.flip(at[3], 60)
-        done = self.command("log", self.image)
-        self.assertEqual(done.returncode, 1)
-        self.assertEqual(done.stdout.splitlines(), [*lines[:3], lines[3] + " broken: its entry has a wrong byte", *lines[4:]])
-        self.put(sound)
-        for address in (at[3] - 1, at[3]):
-            self.damage(address, 0, bytes(BLOCK))
-        done = self.command("log", self.image)
-        self.assertEqual(done.stdout.splitlines()[3:5], ["6 ? ? ? lost", lines[4]])
-        self.assertIn("1 lost", done.stderr)
-        first = json.loads(self.command("log", self.image, "--json").stdout.splitlines()[0])
-        self.assertEqual((first["commit"], first["address"], first["files"], first["broken"]), (9, at[0], 5, []))
-
     def test_a_table_that_is_older(self) -> None:
         """A block of an older table in the place of a newer one's does not bring the older tree back."""
         self.fill()
@@ -406,162 +339,3 @@ class Salvaging(unittest.TestCase):
                 begin = (older.first + 257) * BLOCK
                 self.damage(tables[newer].first + 257, 0, bytes(sound[begin : begin + BLOCK]))
                 self.expect_all()
-
-    # ---- the command
-
-    def command(self, *words: str) -> "subprocess.CompletedProcess[str]":
-        environment = {**os.environ, "PYTHONPATH": PACKAGE, "UDFBURN": ""}
-        return subprocess.run([sys.executable, "-m", "udfburn", *words], capture_output=True, text=True, env=environment, check=False)
-
-    def test_command(self) -> None:
-        self.fill()
-        before = self.blocks()
-        out = os.path.join(self.room, "out")
-        listed = self.command("salvage", self.image, "--list")
-        self.assertFalse(os.path.exists(out))
-        self.assertIn("unproved /d/e/deep (2500 bytes)\n", listed.stdout)
-        done = self.command("salvage", self.image, out)
-        self.assertEqual(done.returncode, 1)
-        self.assertIn("5 files are unproved", done.stderr)
-        self.assertEqual(self.command("salvage", self.image, out, "--accept-unproved", "--quiet").returncode, 0)
-        for path, data in self.model.files().items():
-            with open(os.path.join(out, *path), "rb") as file:
-                self.assertEqual(file.read(), data)
-        self.assertEqual(os.stat(os.path.join(out, "top")).st_mtime, 4.0)
-        self.assertEqual(os.stat(os.path.join(out, "d", "e")).st_mtime, 6.0)
-        self.assertEqual(self.blocks(), before)
-        self.assertEqual([name for _, _, names in os.walk(out) for name in names if name.startswith(".")], [])
-
-    def test_nothing_is_replaced(self) -> None:
-        """What is there stays: a file with other bytes, a link that leads out."""
-        self.fill()
-        out, other = os.path.join(self.room, "out"), os.path.join(self.room, "other")
-        os.makedirs(os.path.join(out))
-        os.mkdir(other)
-        os.symlink(other, os.path.join(out, "d"))
-        with open(os.path.join(out, "top"), "wb") as file:
-            file.write(b"mine")
-        done = self.command("salvage", self.image, out)
-        self.assertEqual(done.returncode, 1)
-        os.unlink(os.path.join(out, "d"))
-        done = self.command("salvage", self.image, out, "--accept-unproved")
-        self.assertEqual(done.returncode, 1)
-        self.assertIn("is there already, with other bytes", done.stderr)
-        self.assertEqual(os.listdir(other), [])
-        with open(os.path.join(out, "top"), "rb") as file:
-            self.assertEqual(file.read(), b"mine")
-
-    def test_json(self) -> None:
-        self.fill()
-        address, data, _ = self.node("top")
-        assert data is not None
-        self.flip(address, 2000)
-        lines = [json.loads(line) for line in self.command("salvage", self.image, "--list", "--json").stdout.splitlines()]
-        structures = [(line["block"], line["cause"]) for line in lines if line["did"] == "structure"]
-        self.assertEqual(structures, [(address, 27)])
-        self.assertEqual({line["state"] for line in lines if line["did"] == "file"}, {"unproved"})
-        end = lines[-1]
-        self.assertEqual((end["did"], end["status"], end["files"], end["unproved"], end["label"], end["commit"]), ("salvage", 1, 5, 5, "TEST", 9))
-
-    def test_words(self) -> None:
-        self.assertEqual(self.command("salvage", self.image).returncode, 2)
-        self.assertEqual(self.command("salvage", self.image, "out", "--list").returncode, 2)
-        self.assertEqual(self.command("salvage", self.image, "--list", "--map", self.image).returncode, 2)
-        self.assertEqual(self.command("salvage", self.image + "x", "--list").returncode, 1)
-        self.put(b"")
-        self.assertIn("no table of a volume can be read", self.command("salvage", self.image, "--list").stderr)
-        self.assertIn("no table of a volume can be read", self.command("log", self.image).stderr)
-
-    def test_a_tree_that_names_cannot_hold(self) -> None:
-        """Names that are too long for the system are cut, and all files are there."""
-        self.send(MakeDir, ("lost+found",))
-        self.send(Create, ("lost+found", "x"), b"1")
-        self.send(Create, ("é" * 254,), b"2")
-        self.send(Create, ("é" * 253 + "e",), b"3")
-        out = os.path.join(self.room, "out")
-        self.assertEqual(self.command("salvage", self.image, out, "--accept-unproved").returncode, 0)
-        found = []
-        for at, _, names in os.walk(out):
-            for name in names:
-                with open(os.path.join(at, name), "rb") as file:
-                    found.append(file.read())
-        self.assertEqual(sorted(found), [b"1", b"2", b"3"])
-
-
-class Writing(unittest.TestCase):
-    """The folder that files go into."""
-
-    def setUp(self) -> None:
-        room = tempfile.TemporaryDirectory()
-        self.addCleanup(room.cleanup)
-        self.room = room.name
-
-    def test_names(self) -> None:
-        self.assertEqual(fitting("a", ".x"), b"a.x")
-        self.assertEqual(len(fitting("é" * 200, "~17")), 255)
-        self.assertTrue(fitting("é" * 200, "~17").endswith("é~17".encode()))
-
-    def test_two_of_one_name(self) -> None:
-        """Two paths that are written alike get names of their own."""
-        output = Output(self.room)
-        for key, name in enumerate(["é" * 200 + "a", "é" * 200 + "b", "é" * 200 + "c"]):
-            output.write(key, (name,), b"%d" % key, 0, str(key))
-        done = output.finish()
-        output.close()
-        self.assertEqual(len(os.listdir(self.room)), 3)
-        for key, path, error in done:
-            self.assertIsNone(error)
-            with open(os.path.join(self.room, path), "rb") as file:
-                self.assertEqual(file.read(), b"%d" % key)
-
-    def test_interrupted(self) -> None:
-        """What has no name yet is gone."""
-        output = Output(self.room)
-        output.write(0, ("d", "a"), b"x", 0, "1")
-        output.close()
-        self.assertEqual(os.listdir(os.path.join(self.room, "d")), [])
-
-    def test_synced_before_it_is_named(self) -> None:
-        output = Output(self.room)
-        self.addCleanup(output.close)
-        with mock.patch("udfburn.salvage_write.os.fsync", side_effect=OSError("no room")):
-            output.write(0, ("a",), b"x", 0, "1")
-            self.assertRaises(OSError, output.flush)
-        self.assertNotIn("a", os.listdir(self.room))
-
-
-class Manifests(unittest.TestCase):
-    """Digests as manifests write them."""
-
-    def test_lines(self) -> None:
-        digest = "ab" * 32
-        bag = f"{digest}  data/a%0Ab%25\n{digest} *data/c\nno line\n".encode()
-        self.assertEqual([line.path for line in lines_of(("bag",), bag, True)], [("bag", "data", "a\nb%"), ("bag", "data", "c")])
-        plain = f"\\{digest}  a\\nb\\\\\n{digest.upper()}  ./d/e%25\u2028f\n".encode()
-        self.assertEqual(list(lines_of((), plain, False)), [(("a\nb\\",), digest), (("d", "e%25\u2028f"), digest)])
-
-    def test_a_manifest_without_a_name(self) -> None:
-        """It is that of the folder in which its files are."""
-        lines = "".join(f"{'ab' * 32}  d/{name}\n" for name in "xyz").encode()
-        paths: Dict[Path, None] = {("a", "d", name): None for name in "xy"}
-        self.assertEqual(folder_of(lines, {**paths, ("d", "x"): None}), ("a",))
-        self.assertIsNone(folder_of(lines, {("d", "x"): None}))
-        self.assertIsNone(folder_of(lines + b"something else\n", paths))
-        self.assertIsNone(folder_of(b"", paths))
-
-    def test_a_manifest_that_is_doubted(self) -> None:
-        """Where a manifest is not as another has it, that a file differs from it says nothing."""
-        digests, mine, other = Digests(), "ab" * 32, "cd" * 32
-        line = f"{mine}  file\n".encode()
-        found = [
-            Manifest(("manifest-sha256.txt",), (), line, "ef" * 32, False, 500),
-            Manifest(("tagmanifest-sha256.txt",), (), f"{'00' * 32}  manifest-sha256.txt\n".encode(), "11" * 32, False, 502),
-        ]
-        add_manifests(digests, found, set())
-        self.assertEqual([digests.agrees(("file",), digest, 400) for digest in (mine, other)], [True, None])
-        digests = Digests()
-        add_manifests(digests, found[:1], set())
-        self.assertEqual([digests.agrees(("file",), digest, 400) for digest in (mine, other)], [True, False])
-        # A file that was written after its manifest may be another.
-        self.assertEqual([digests.agrees(("file",), digest, 600) for digest in (mine, other)], [True, None])
-        self.assertIsNone(digests.agrees(("x",), other, 400))

@@ -17,7 +17,7 @@ from .protocol import (
 )
 
 TURN = 1.0
-"""Seconds behind which a conversation is ended between two requests, so that others get their turn."""
+"""Seconds after which a conversation is ended between two requests, so that others get their turn."""
 
 BEGINNINGS = 4
 """How many times as long as its beginning took it goes on all the same: a program reads a full volume anew from a slow disk."""
@@ -101,7 +101,7 @@ class Line:
                 connection.close()
                 raise
             self._connection, self._opened = connection, time.monotonic()
-            # Behind a socket it is others who are waited for.
+            # At a socket it is others who are waited for.
             self._turn = max(TURN, BEGINNINGS * (self._opened - began)) if self.way.kind == "image" else TURN
         return self._connection
 

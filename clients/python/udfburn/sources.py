@@ -168,7 +168,7 @@ counts by seconds."""
 
 
 def await_tick(status: os.stat_result) -> None:
-    """Waits where a file changed just now, so that a change behind the reading gets another time, and is seen by it."""
+    """Waits where a file changed just now, so that a change after the reading gets another time, and is seen by it."""
     age = time.time_ns() - status.st_ctime_ns
     tick = TICK if status.st_ctime_ns % 1_000_000_000 else COARSE_TICK
     if 0 <= age < tick:

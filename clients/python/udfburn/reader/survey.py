@@ -6,7 +6,7 @@ from array import array
 from bisect import bisect_left
 from typing import Dict, Iterator, List, Optional, Tuple
 
-from .basics import BLOCK, PARTITION
+from .basics import BLOCK, GREATEST_CAPACITY, PARTITION
 from .entry import Kind
 from .medium import Medium, Run
 from .mend import Hint, mend_entry
@@ -35,7 +35,7 @@ class Survey:
         self.missing: List[int] = []
         self._nodes: "Dict[int, array[int]]" = {}
         self._entries: "array[int]" = array("I")
-        for at, run in medium.pieces(PARTITION, medium.blocks):
+        for at, run in medium.pieces(PARTITION, min(medium.blocks, GREATEST_CAPACITY)):
             self._look(at, run)
 
     def _look(self, start: int, run: Run) -> None:

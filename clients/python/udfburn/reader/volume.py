@@ -4,7 +4,7 @@ from __future__ import annotations
 
 from typing import Dict, Iterator, List, NamedTuple, Optional, Set, Tuple
 
-from .basics import BLOCK, FIRST_UNIQUE, PARTITION, PATH_NAMES, UNUSED, blocks_of, read_dstring
+from .basics import BLOCK, FIRST_UNIQUE, GREATEST_CAPACITY, PARTITION, PATH_NAMES, UNUSED, blocks_of, read_dstring
 from .directory import Directory, Identifier, read_directory
 from .entry import Entry, Kind, is_entry_like, read_entry, read_file_set
 from .front import Front, note_front, read_front
@@ -83,8 +83,10 @@ class Volume:
 
     def last_entry(self) -> Optional[int]:
         """The address of the last table's entry that is as it must be."""
-        for start in range((self.medium.blocks - 1) // 512 * 512, -1, -512):
-            run = self.medium.run(start, min(512, self.medium.blocks - start))
+        # A device may be larger than any volume.
+        end = min(self.medium.blocks, GREATEST_CAPACITY)
+        for start in range((end - 1) // 512 * 512, -1, -512):
+            run = self.medium.run(start, min(512, end - start))
             for index in range(len(run.data) // BLOCK - 1, -1, -1):
                 at = start + index
                 if at >= PARTITION and is_table_entry(run.data[index * BLOCK : (index + 1) * BLOCK], at - PARTITION):

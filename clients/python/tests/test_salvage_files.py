@@ -1,0 +1,92 @@
+"""What `salvage` writes, and the manifests that it reads."""
+
+from __future__ import annotations
+
+import os
+import tempfile
+import unittest
+from typing import Dict
+from unittest import mock
+
+from udfburn.protocol import Path
+from udfburn.salvage_digests import Digests, Manifest, add_manifests, folder_of, lines_of
+from udfburn.salvage_write import Output, fitting
+
+
+class Writing(unittest.TestCase):
+    """The folder that files go into."""
+
+    def setUp(self) -> None:
+        room = tempfile.TemporaryDirectory()
+        self.addCleanup(room.cleanup)
+        self.room = room.name
+
+    def test_names(self) -> None:
+        self.assertEqual(fitting("a", ".x"), b"a.x")
+        self.assertEqual(len(fitting("é" * 200, "~17")), 255)
+        self.assertTrue(fitting("é" * 200, "~17").endswith("é~17".encode()))
+
+    def test_two_of_one_name(self) -> None:
+        """Two paths that are written alike get names of their own."""
+        output = Output(self.room)
+        for key, name in enumerate(["é" * 200 + "a", "é" * 200 + "b", "é" * 200 + "c"]):
+            output.write(key, (name,), b"%d" % key, 0, str(key))
+        done = output.finish()
+        output.close()
+        self.assertEqual(len(os.listdir(self.room)), 3)
+        for key, path, error in done:
+            self.assertIsNone(error)
+            with open(os.path.join(self.room, path), "rb") as file:
+                self.assertEqual(file.read(), b"%d" % key)
+
+    def test_interrupted(self) -> None:
+        """What has no name yet is gone."""
+        output = Output(self.room)
+        output.write(0, ("d", "a"), b"x", 0, "1")
+        output.close()
+        self.assertEqual(os.listdir(os.path.join(self.room, "d")), [])
+
+    def test_synced_before_it_is_named(self) -> None:
+        output = Output(self.room)
+        self.addCleanup(output.close)
+        with mock.patch("udfburn.salvage_write.os.fsync", side_effect=OSError("no room")):
+            output.write(0, ("a",), b"x", 0, "1")
+            self.assertRaises(OSError, output.flush)
+        self.assertNotIn("a", os.listdir(self.room))
+
+
+class Manifests(unittest.TestCase):
+    """Digests as manifests write them."""
+
+    def test_lines(self) -> None:
+        digest = "ab" * 32
+        bag = f"{digest}  data/a%0Ab%25\n{digest} *data/c\nno line\n".encode()
+        self.assertEqual([line.path for line in lines_of(("bag",), bag, True)], [("bag", "data", "a\nb%"), ("bag", "data", "c")])
+        plain = f"\\{digest}  a\\nb\\\\\n{digest.upper()}  ./d/e%25\u2028f\n".encode()
+        self.assertEqual(list(lines_of((), plain, False)), [(("a\nb\\",), digest), (("d", "e%25\u2028f"), digest)])
+
+    def test_a_manifest_without_a_name(self) -> None:
+        """It is that of the folder in which its files are."""
+        lines = "".join(f"{'ab' * 32}  d/{name}\n" for name in "xyz").encode()
+        paths: Dict[Path, None] = {("a", "d", name): None for name in "xy"}
+        self.assertEqual(folder_of(lines, {**paths, ("d", "x"): None}), ("a",))
+        self.assertIsNone(folder_of(lines, {("d", "x"): None}))
+        self.assertIsNone(folder_of(lines + b"something else\n", paths))
+        self.assertIsNone(folder_of(b"", paths))
+
+    def test_a_manifest_that_is_doubted(self) -> None:
+        """Where a manifest is not as another has it, that a file differs from it says nothing."""
+        digests, mine, other = Digests(), "ab" * 32, "cd" * 32
+        line = f"{mine}  file\n".encode()
+        found = [
+            Manifest(("manifest-sha256.txt",), (), line, "ef" * 32, False, 500),
+            Manifest(("tagmanifest-sha256.txt",), (), f"{'00' * 32}  manifest-sha256.txt\n".encode(), "11" * 32, False, 502),
+        ]
+        add_manifests(digests, found, set())
+        self.assertEqual([digests.agrees(("file",), digest, 400) for digest in (mine, other)], [True, None])
+        digests = Digests()
+        add_manifests(digests, found[:1], set())
+        self.assertEqual([digests.agrees(("file",), digest, 400) for digest in (mine, other)], [True, False])
+        # A file that was written after its manifest may be another.
+        self.assertEqual([digests.agrees(("file",), digest, 600) for digest in (mine, other)], [True, None])
+        self.assertIsNone(digests.agrees(("x",), other, 400))
