@@ -1,0 +1,6 @@
+"""An archive over many volumes: `udfburn-archive`, described in docs/ARCHIVE.md.
+
+The volumes are the truth. The catalogue says where each file is, and can be made again from the volumes alone.
+"""
+
+__all__ = ["errors"]

@@ -1,0 +1,341 @@
+"""The catalogue: which file is where. It is never the truth: the volumes are, and it can be made again from them.
+
+A version of a file is one row a volume that has bytes of it: one row for nearly all, more where its parts are on several
+volumes. A row's id is `volume * COMMITS + commit`, by the commit that wrote the file, so volumes alone give the same ids.
+"""
+
+from __future__ import annotations
+
+import socket
+import uuid
+from typing import Dict, Iterable, Iterator, List, NamedTuple, Optional, Sequence, Tuple
+
+from ..protocol import Path, limits
+from .base import Base, Row, open_base
+from .config import Config
+from .errors import CatalogueError
+from .names import kept_name, name_back
+from .schema import COMMITS, TAIL, VERSION, statements
+
+OPEN, FULL, CLOSING, CLOSED, NEW = "open", "full", "closing", "closed", "new"
+"""The states of a volume. NEW has its number and maybe no image yet."""
+
+FOLDERS = 100_000
+"""Ids of folders that are remembered, at most."""
+
+
+class Held(NamedTuple):
+    """A row: a version of a file, or those of its parts that a volume has.
+
+    `size` has bytes, `moment` and `added` are in microseconds from 1970-01-01 UTC. `first` is the first part that is here, and
+    `parts` how many are; both are None where the file is whole.
+    """
+
+    volume: int
+    commit: int
+    path: Path
+    size: int
+    moment: int
+    sha256: bytes
+    added: int
+    first: Optional[int] = None
+    parts: Optional[int] = None
+
+    def id(self) -> int:
+        return self.volume * COMMITS + self.commit
+
+    def version(self) -> Tuple[Path, int, int, bytes]:
+        """What tells one version from another."""
+        return self.path, self.size, self.moment, self.sha256
+
+
+class VolumeRow(NamedTuple):
+    """What the catalogue keeps of a volume."""
+
+    number: int
+    label: str
+    state: str
+    holder: str
+    capacity: int
+    formatted: int
+    closed: Optional[int] = None
+    last_commit: int = 0
+    files: int = 0
+    nodes: int = 1
+    blocks: int = 0
+    clients: int = 0
+    manifest: int = 0
+    fullest_folder: int = 0
+    length: Optional[int] = None
+    sha256: Optional[bytes] = None
+    checked: Optional[int] = None
+    data_checked: Optional[int] = None
+    trouble: Optional[str] = None
+
+
+class Copy(NamedTuple):
+    """A copy of a closed volume, and what was wrong with it when it was last looked at."""
+
+    volume: int
+    remote: str
+    made: int
+    checked: int
+    trouble: Optional[str]
+
+
+VOLUME = ", ".join(VolumeRow._fields)
+KEPT_VOLUME = f"""
+INSERT INTO volume ({VOLUME}) VALUES ({", ".join("?" * len(VolumeRow._fields))}) ON CONFLICT (number) DO UPDATE SET
+{", ".join(f"{name} = excluded.{name}" for name in VolumeRow._fields[1:])}
+"""
+KEPT_FILE = """
+INSERT INTO file (id, folder, name, tail, size, moment, sha256, added, first_part, part_count) VALUES (?, ?, ?, ?, ?, ?, ?, ?, ?, ?)
+ON CONFLICT (id) DO UPDATE SET folder = excluded.folder, name = excluded.name, tail = excluded.tail, size = excluded.size,
+moment = excluded.moment, sha256 = excluded.sha256, added = excluded.added, first_part = excluded.first_part,
+part_count = excluded.part_count
+"""
+FILE = "file.id, file.name, file.size, file.moment, file.sha256, file.added, file.first_part, file.part_count"
+
+
+class Catalogue:
+    """An open catalogue of an archive."""
+
+    def __init__(self, config: Config, make: bool = False):
+        self.config = config
+        self.base: Base = open_base(config.sqlite(), config.catalogue, make)
+        self._folders: Dict[str, int] = {}
+        try:
+            self._open(make)
+        except BaseException:
+            self.base.close()
+            raise
+
+    def __enter__(self) -> "Catalogue":
+        return self
+
+    def __exit__(self, *_: object) -> None:
+        self.base.close()
+
+    # ---- tables
+
+    def _open(self, make: bool) -> None:
+        """Sees that the tables are those of this archive, and of a version that this program knows."""
+        version = self._version()
+        if version is None and not make:
+            raise CatalogueError("the catalogue has no tables of an archive: 'udfburn-archive rebuild' makes it again of the volumes")
+        if version is not None and version > VERSION:
+            raise CatalogueError(f"the catalogue has version {version}, and this program knows {VERSION}: use a newer program")
+        if version is None or version < VERSION:
+            self._migrate()
+        self.id, label = self.base.run("SELECT id, label FROM archive")[0]
+        if label != self.config.label:
+            raise CatalogueError(f"the catalogue is of the archive {label}, and {self.config.path('archive.toml')} says {self.config.label}")
+        if make:
+            self._register()
+
+    def _version(self) -> Optional[int]:
+        """The version of the tables; None where there are none."""
+        if not self.base.has_table("archive"):
+            for name in ("file", "volume", "folder", "copy", "holder"):
+                if self.base.has_table(name):
+                    raise CatalogueError(f"the catalogue's base has a table {name} of another program: take a base of its own")
+            return None
+        try:
+            rows = self.base.run("SELECT version FROM archive")
+        except CatalogueError as error:
+            raise CatalogueError(f"the catalogue's base has a table 'archive' of another program ({error})") from error
+        if len(rows) != 1:
+            raise CatalogueError(f"the catalogue has {len(rows)} archives, and not one")
+        return int(rows[0][0])
+
+    def _migrate(self) -> None:
+        """Makes this program's tables, or brings those of an older version up to it: all at once, or nothing of it."""
+        try:
+            with self.base.transaction():
+                version = self._version() or 0
+                for statement in statements(version, self.base.text, self.base.blob, self.base.serial) if version < VERSION else ():
+                    self.base.run(statement)
+                if not version:
+                    values = (str(uuid.uuid4()), VERSION, self.config.label, 1)
+                    self.base.run("INSERT INTO archive (id, version, label, next_volume) VALUES (?, ?, ?, ?)", values)
+                self.base.run("UPDATE archive SET version = ?", (VERSION,))
+        except CatalogueError:
+            # Another process may have made them meanwhile.
+            if self._version() != VERSION:
+                raise
+
+    def _register(self) -> None:
+        """Keeps who this archive's folder is."""
+        statement = "INSERT INTO holder (id, host, place) VALUES (?, ?, ?) ON CONFLICT (id) DO UPDATE SET host = excluded.host, place = excluded.place"
+        self.base.run(statement, (self.config.id, socket.gethostname(), kept_name(self.config.folder)))
+
+    def holders(self) -> Dict[str, str]:
+        """Each archive's folder: its host and its path, by its id."""
+        return {id: f"{host}:{name_back(place)}" for id, host, place in self.base.run("SELECT id, host, place FROM holder")}
+
+    # ---- volumes
+
+    def new_number(self) -> int:
+        """The number of a new volume, which nobody else gets. Only inside a transaction."""
+        self.base.run("UPDATE archive SET next_volume = next_volume + 1")
+        return int(self.base.run("SELECT next_volume FROM archive")[0][0]) - 1
+
+    def keep_numbers_above(self, number: int) -> None:
+        """Sees that new volumes get numbers above one that exists."""
+        self.base.run("UPDATE archive SET next_volume = ? WHERE next_volume <= ?", (number + 1, number))
+
+    def save(self, volume: VolumeRow) -> None:
+        """Keeps what is known of a volume."""
+        self.base.run(KEPT_VOLUME, tuple(volume))
+
+    def volumes(self) -> List[VolumeRow]:
+        """All volumes, by their numbers."""
+        return [volume_row(row) for row in self.base.run(f"SELECT {VOLUME} FROM volume ORDER BY number")]
+
+    def volume(self, number: int) -> Optional[VolumeRow]:
+        """A volume, by its number."""
+        rows = self.base.run(f"SELECT {VOLUME} FROM volume WHERE number = ?", (number,))
+        return volume_row(rows[0]) if rows else None
+
+    def copies(self, number: Optional[int] = None) -> List[Copy]:
+        """The copies of a volume, or of all."""
+        where, values = ("WHERE volume = ?", (number,)) if number is not None else ("", ())
+        return [Copy(*row) for row in self.base.run(f"SELECT volume, remote, made, checked, trouble FROM copy {where} ORDER BY volume, remote", values)]
+
+    def save_copy(self, copy: Copy) -> None:
+        """Keeps what is known of a copy."""
+        statement = """INSERT INTO copy (volume, remote, made, checked, trouble) VALUES (?, ?, ?, ?, ?) ON CONFLICT (volume, remote)
+        DO UPDATE SET made = excluded.made, checked = excluded.checked, trouble = excluded.trouble"""
+        self.base.run(statement, tuple(copy))
+
+    # ---- files
+
+    def add(self, volume: VolumeRow, rows: Sequence[Held]) -> None:
+        """Keeps files of a volume, and what is known of it behind them, as one."""
+        with self.base.transaction():
+            self._insert(rows)
+            self.save(volume)
+
+    def replace(self, volume: VolumeRow, rows: Sequence[Held]) -> None:
+        """Has these files in the place of all that the catalogue had of a volume, as one."""
+        with self.base.transaction():
+            self.base.run("DELETE FROM file WHERE id >= ? AND id < ?", (volume.number * COMMITS, (volume.number + 1) * COMMITS))
+            self._insert(rows)
+            self.keep_numbers_above(volume.number)
+            self.save(volume)
+
+    def _insert(self, rows: Sequence[Held]) -> None:
+        # Sorted, so that two processes that make the same folders make them in one order, and none waits for the other.
+        folders = {text: self._folder_id(text) for text in sorted({folder_text(row.path[:-1]) for row in rows})}
+        kept = []
+        for row in rows:
+            name = kept_name(row.path[-1])
+            folder = folders[folder_text(row.path[:-1])]
+            kept.append((row.id(), folder, name, name[::-1][:TAIL], row.size, row.moment, row.sha256, row.added, row.first, row.parts))
+        self.base.many(KEPT_FILE, kept)
+
+    def _folder_id(self, text: str) -> int:
+        """The id of a folder, which is made where it is missing."""
+        if text not in self._folders:
+            if len(self._folders) >= FOLDERS:
+                self._folders.clear()
+            found = self.base.run("SELECT id FROM folder WHERE path = ?", (text,))
+            if not found:
+                self.base.run("INSERT INTO folder (path) VALUES (?) ON CONFLICT DO NOTHING", (text,))
+                # Of a transaction that is undone the folder is gone, so its id is not remembered.
+                return int(self.base.run("SELECT id FROM folder WHERE path = ?", (text,))[0][0])
+            self._folders[text] = int(found[0][0])
+        return self._folders[text]
+
+    def in_folder(self, path: Path) -> Dict[str, List[Held]]:
+        """The rows of each name in a folder, the newest first."""
+        statement = f"SELECT {FILE} FROM file JOIN folder ON folder.id = file.folder WHERE folder.path = ?"
+        found: Dict[str, List[Held]] = {}
+        for row in self.base.run(statement, (folder_text(path),)):
+            held = held_row(path, row)
+            found.setdefault(held.path[-1], []).append(held)
+        for rows in found.values():
+            rows.sort(key=order, reverse=True)
+        return found
+
+    def of_path(self, path: Path) -> List[Held]:
+        """The rows of a path, the newest first."""
+        statement = f"SELECT {FILE} FROM file JOIN folder ON folder.id = file.folder WHERE folder.path = ? AND file.name = ?"
+        rows = [held_row(path[:-1], row) for row in self.base.run(statement, (folder_text(path[:-1]), kept_name(path[-1])))] if path else []
+        return sorted(rows, key=order, reverse=True)
+
+    def of_volume(self, number: int) -> List[Held]:
+        """The rows of a volume, in order of their commits."""
+        statement = f"""SELECT {FILE}, folder.path FROM file JOIN folder ON folder.id = file.folder
+        WHERE file.id >= ? AND file.id < ? ORDER BY file.id"""
+        values = (number * COMMITS, (number + 1) * COMMITS)
+        return [held_row(folder_back(row[-1]), row[:-1]) for row in self.base.run(statement, values)]
+
+    def folders_below(self, path: Path) -> Iterator[Path]:
+        """A folder and those below it that have files, in order of their paths."""
+        text = folder_text(path)
+        low, high = (text + "/", text + "0") if text else ("/", "0")
+        statement = "SELECT path FROM folder WHERE path = ? OR (path >= ? AND path < ?) ORDER BY path"
+        for (found,) in self.base.run(statement, (text, low, high)):
+            yield folder_back(found)
+
+
+def folder_text(path: Path) -> str:
+    """A folder as the catalogue has it: the root is the empty text."""
+    return "".join("/" + kept_name(name) for name in path)
+
+
+def folder_back(text: str) -> Path:
+    """The folder that the catalogue has."""
+    return tuple(name_back(name) for name in text.split("/")[1:])
+
+
+def held_row(folder: Path, row: Row) -> Held:
+    """A row of files."""
+    id, name, size, moment, sha256, added, first, count = row
+    volume, commit = divmod(int(id), COMMITS)
+    return Held(volume, commit, folder + (name_back(name),), int(size), int(moment), bytes(sha256), int(added), first, count)
+
+
+def volume_row(row: Row) -> VolumeRow:
+    """A row of volumes."""
+    found = VolumeRow(*row)
+    return found._replace(sha256=None if found.sha256 is None else bytes(found.sha256))
+
+
+def order(held: Held) -> Tuple[int, int]:
+    """By which rows of one path are older or newer: when they were added, then by volume and commit."""
+    return held.added, held.id()
+
+
+def versions(rows: Iterable[Held]) -> List[List[Held]]:
+    """The versions of one path, the newest first, each with its rows in order of their parts. One that lacks parts is left out."""
+    found: Dict[Tuple[Path, int, int, bytes], List[Held]] = {}
+    for row in rows:
+        found.setdefault(row.version(), []).append(row)
+    whole = [sorted(group, key=lambda row: row.first or 0) for group in found.values() if is_whole(group)]
+    return sorted(whole, key=lambda group: max(map(order, group)), reverse=True)
+
+
+def part_count(size: int) -> int:
+    """The parts of a file of this size; 0 where it is kept whole."""
+    return 0 if size <= limits.FILE else -(-size // limits.FILE)
+
+
+def is_whole(group: Sequence[Held]) -> bool:
+    """Whether rows of one version have all its parts."""
+    wanted = part_count(group[0].size)
+    if not wanted:
+        return True
+    have = 0
+    for row in sorted(group, key=lambda row: (row.first or 0, -(row.parts or 0))):
+        if (row.first or 0) > have:
+            return False
+        have = max(have, (row.first or 0) + (row.parts or 0))
+    return have >= wanted
+
+
+__all__ = [
+    "CLOSED", "CLOSING", "Catalogue", "Copy", "FULL", "Held", "NEW", "OPEN", "VolumeRow", "is_whole", "part_count",
+    "versions",
+]

@@ -1,0 +1,221 @@
+"""Compares closed volumes, and their copies, with what they were when they were closed; and repairs one from another."""
+
+from __future__ import annotations
+
+import os
+import random
+from contextlib import closing
+from hashlib import sha256
+from typing import Dict, List, NamedTuple, Optional, Sequence
+
+from ..ledger import sync_file, sync_folder
+from ..operations import now
+from ..sources import shown
+from .catalogue import CLOSED, Catalogue, Copy, VolumeRow
+from .close import SIDECARS, beside, send
+from .config import Config
+from .contents import Contents
+from .errors import CopyFailed, NotAtHand, VolumeDiffers
+from .remotes import Print, print_of_file, remote_of
+from .tell import Tell, shown_path
+from .volume import image_of
+
+
+class Options(NamedTuple):
+    """What is looked at."""
+
+    data: bool = False
+    remotes: bool = False
+    sample: Optional[int] = None
+    oldest: bool = False
+
+
+def chosen(rows: Sequence[VolumeRow], names: Sequence[str], options: Options) -> List[VolumeRow]:
+    """The volumes that are looked at: those that are named, else all closed ones, of which some at random or those that were
+    not looked at for longest."""
+    closed = [row for row in rows if row.state == CLOSED]
+    if names:
+        by_label = {row.label: row for row in rows}
+        missing = [name for name in names if name not in by_label]
+        if missing:
+            raise NotAtHand(f"{missing[0]}: is no volume of this archive")
+        closed = [by_label[name] for name in names]
+    if options.oldest:
+        closed.sort(key=lambda row: (row.data_checked if options.data else row.checked) or 0)
+        return closed[: options.sample or 1]
+    if options.sample is not None:
+        return sorted(random.sample(closed, min(options.sample, len(closed))), key=lambda row: row.number)
+    return closed
+
+
+class Checker:
+    """A run of `check`."""
+
+    def __init__(self, config: Config, catalogue: Catalogue, tell: Tell, options: Options):
+        self.config, self.catalogue, self.tell, self.options = config, catalogue, tell, options
+        self.volumes = self.files = self.copies = 0
+        self.failures: List[str] = []
+        self.away: List[str] = []
+
+    def run(self, rows: Sequence[VolumeRow]) -> None:
+        """Looks at volumes."""
+        for row in rows:
+            image = image_of(self.config, row)
+            if image is None:
+                self.away.append(row.label)
+            else:
+                self._volume(row, image)
+            if self.options.remotes:
+                for copy in self.catalogue.copies(row.number):
+                    self._copy(row, copy)
+
+    def _volume(self, row: VolumeRow, image: str) -> None:
+        """Looks at a volume at hand, and keeps when, and what was found."""
+        trouble = self._trouble(row, image)
+        self.volumes += 1
+        time = now()
+        data = time if self.options.data else row.data_checked
+        self.catalogue.save(row._replace(checked=time, data_checked=data, trouble=trouble if row.state == CLOSED else row.trouble))
+        if trouble:
+            self.failures.append(f"{row.label}: {trouble}: {self._cure(row)}")
+        self.tell.say_step(f"{row.label}: {trouble or 'is as it was'}", did="checked", volume=row.label, trouble=trouble)
+
+    def _trouble(self, row: VolumeRow, image: str) -> Optional[str]:
+        if row.state == CLOSED:
+            try:
+                found = print_of_file(image, fresh=True)
+            except OSError as error:
+                return f"cannot be read: {error.strerror or error}"
+            if found.length != row.length:
+                return f"has {found.length} bytes, and had {row.length}"
+            if found.sha256 != row.sha256 and not self.options.data:
+                return "has another SHA-256 than when it was closed"
+            if not self.options.data:
+                return None
+            return self._data(row, image) or ("has another SHA-256 than when it was closed" if found.sha256 != row.sha256 else None)
+        return self._data(row, image) if self.options.data else None
+
+    def _data(self, row: VolumeRow, image: str) -> Optional[str]:
+        """Compares each file with its digest: by the catalogue, and by the bag's manifest."""
+        try:
+            with closing(Contents(image)) as contents:
+                bad = self._files(row, contents)
+        except VolumeDiffers as error:
+            return str(error)
+        for path in bad:
+            self.failures.append(f"{row.label}: {path} is not as it was stored")
+        return f"{len(bad)} files are not as they were stored, the first is {bad[0]}" if bad else None
+
+    def _files(self, row: VolumeRow, contents: Contents) -> List[str]:
+        bad: List[str] = []
+        for path, digest in contents.manifest().items():
+            node = contents.nodes.get(path)
+            if node is None or sha256(contents.volume.read(node).data).digest() != digest:
+                bad.append("/".join(path))
+        files = {file.commit: file for file in contents.files()}
+        for held in self.catalogue.of_volume(row.number):
+            self.files += 1
+            file = files.get(held.commit)
+            if file is None or file.path != held.path or file.parts != held.parts:
+                bad.append(shown_path(held.path))
+            elif held.parts is None and sha256(b"".join(contents.volume.read(node).data for node in file.nodes)).digest() != held.sha256:
+                bad.append(shown_path(held.path))
+        return list(dict.fromkeys(bad))
+
+    def _copy(self, row: VolumeRow, copy: Copy) -> None:
+        """Looks at a copy on a remote."""
+        try:
+            found = remote_of(copy.remote).look(row.label + ".img")
+        except CopyFailed as error:
+            self.failures.append(f"{row.label}: the copy on {copy.remote} cannot be looked at: {error}")
+            return
+        trouble = None if found == Print(row.length or 0, row.sha256 or b"") else "is not there" if found is None else "is not as it was closed"
+        self.copies += 1
+        self.catalogue.save_copy(copy._replace(checked=now(), trouble=trouble))
+        if trouble:
+            self.failures.append(f"{row.label}: the copy on {copy.remote} {trouble}: 'udfburn-archive repair {row.label}'")
+        self.tell.say_step(f"{row.label} on {copy.remote}: {trouble or 'is as it was'}", did="checked", volume=row.label, remote=copy.remote, trouble=trouble)
+
+    def _cure(self, row: VolumeRow) -> str:
+        """From which copy a volume can be repaired."""
+        good = [copy.remote for copy in self.catalogue.copies(row.number) if copy.trouble is None]
+        if good:
+            return f"'udfburn-archive repair {row.label}' takes it from {good[0]}"
+        return "no copy is known: 'udfburn-client salvage' gives what is whole"
+
+
+class Repairer:
+    """A run of `repair`: a damaged or lost image from a good copy, and damaged or lost copies from a good image."""
+
+    def __init__(self, config: Config, catalogue: Catalogue, tell: Tell):
+        self.config, self.catalogue, self.tell = config, catalogue, tell
+        self.repaired = 0
+        self.failures: List[str] = []
+
+    def run(self, rows: Sequence[VolumeRow]) -> None:
+        """Repairs volumes."""
+        for row in rows:
+            if row.state != CLOSED or row.sha256 is None:
+                self.failures.append(f"{row.label}: is not closed, so there is nothing to compare it with")
+                continue
+            try:
+                self._volume(row)
+            except CopyFailed as error:
+                self.failures.append(f"{row.label}: {error}")
+
+    def _volume(self, row: VolumeRow) -> None:
+        wanted = Print(row.length or 0, row.sha256 or b"")
+        image = self.config.path("closed", row.label + ".img")
+        if not (os.path.isfile(image) and print_of_file(image, fresh=True) == wanted):
+            self._fetch(row, image, wanted)
+        if row.trouble:
+            self.catalogue.save(row._replace(trouble=None, checked=now()))
+        for copy in self.catalogue.copies(row.number):
+            if remote_of(copy.remote).look(row.label + ".img") != wanted:
+                send(row, image, copy.remote)
+                self._did(row, f"the copy on {copy.remote}", "the image at hand")
+            self.catalogue.save_copy(copy._replace(checked=now(), trouble=None))
+
+    def _fetch(self, row: VolumeRow, image: str, wanted: Print) -> None:
+        """Takes the image from the first copy that is as it was closed. What is damaged gets another name, and is not deleted."""
+        new = image + ".new"
+        why: Dict[str, str] = {}
+        for copy in self.catalogue.copies(row.number):
+            try:
+                remote_of(copy.remote).fetch(row.label + ".img", new)
+                sync_file(new)
+                if print_of_file(new, fresh=True) != wanted:
+                    raise CopyFailed("is not as it was closed")
+            except CopyFailed as error:
+                why[copy.remote] = str(error)
+                continue
+            self._put(image, new)
+            self._fetch_sidecars(row, image, copy.remote)
+            self._did(row, "the image", copy.remote)
+            return
+        if os.path.lexists(new):
+            os.unlink(new)
+        told = "; ".join(f"{remote}: {text}" for remote, text in why.items())
+        raise CopyFailed(f"no copy is good ({told or 'none is known'}): 'udfburn-client salvage' gives what is whole")
+
+    def _put(self, image: str, new: str) -> None:
+        if os.path.lexists(image):
+            os.replace(image, f"{image}.damaged-{now()}")
+        os.chmod(new, 0o444)
+        os.rename(new, image)
+        sync_folder(os.path.dirname(image))
+
+    def _fetch_sidecars(self, row: VolumeRow, image: str, remote: str) -> None:
+        """Takes the files beside the image too, where they are missing."""
+        for end in SIDECARS:
+            path = beside(image, end)
+            if not os.path.lexists(path):
+                try:
+                    remote_of(remote).fetch(os.path.basename(path), path + ".new")
+                    os.rename(path + ".new", path)
+                except (CopyFailed, OSError) as error:
+                    self.tell.note(f"{shown(path)}: {error}")
+
+    def _did(self, row: VolumeRow, what: str, source: str) -> None:
+        self.repaired += 1
+        self.tell.say_step(f"repaired {what} of {row.label} from {source}", did="repaired", volume=row.label, what=what, source=source)

@@ -1,0 +1,233 @@
+"""Closes volumes: writes the bag's tag files, ends the image, keeps what is known of it beside it, and sends it to each remote.
+
+Each step is durable before the next, and each is done again by the same command where it was cut.
+"""
+
+from __future__ import annotations
+
+import fcntl
+import os
+import stat
+import time
+from contextlib import closing
+from typing import Dict, List, Optional, Tuple
+
+from ..bag import DECLARATION, INFO, MANIFEST, TAG_MANIFEST, declaration, info, manifest, tag_manifest
+from ..connection import find_program, run_program
+from ..ledger import sync_file, sync_folder
+from ..operations import Operation, now
+from ..protocol import Code, Create, Replace, limits
+from ..sources import shown
+from .catalogue import CLOSED, CLOSING, Catalogue, Copy, VolumeRow
+from .claims import Claims
+from .config import Config, write_file
+from .contents import Contents, read_fields
+from .errors import ArchiveError, CopyFailed, NotAtHand, VolumeDiffers
+from .remotes import Print, print_of_file, remote_of
+from .tell import Tell
+from .volume import OpenVolume, image_of, stamp
+
+SIDECARS = (".sha256", ".info", ".log", ".svg")
+"""The files beside a closed image: its digest in the form of sha256sum, what is known of it, its commits, its map."""
+
+
+def beside(image: str, end: str) -> str:
+    """The path of a file beside an image."""
+    return image[: -len(".img")] + end
+
+
+def sidecar(image: str) -> Tuple[int, bytes]:
+    """The length and the digest that an image had when it was closed; of one that has none kept, those that it has now."""
+    try:
+        with open(beside(image, ".info"), "rb") as file:
+            fields = read_fields(file.read())
+        return int(fields["length"]), bytes.fromhex(fields["sha256"])
+    except (OSError, KeyError, ValueError):
+        found = print_of_file(image)
+        return found.length, found.sha256
+
+
+class Closer:
+    """A run of `close`."""
+
+    def __init__(self, config: Config, catalogue: Catalogue, claims: Claims, tell: Tell):
+        self.config, self.catalogue, self.claims, self.tell = config, catalogue, claims, tell
+        self.program = find_program()
+        self.failures: List[str] = []
+        self.closed = self.copied = 0
+
+    def close(self, row: VolumeRow) -> None:
+        """Closes a volume and sends it, as far as that is not done."""
+        if row.state != CLOSED:
+            self.claims.volume(row.number, row.label)
+            row = self.catalogue.volume(row.number) or row
+        if row.state != CLOSED:
+            row = self._close(row)
+            self.closed += 1
+            self.tell.say_step(f"closed {row.label}", did="closed", volume=row.label, length=row.length, sha256=row.sha256.hex() if row.sha256 else None)
+        self._send(row)
+
+    # ---- closed
+
+    def _close(self, row: VolumeRow) -> VolumeRow:
+        target = self.config.path("closed", row.label + ".img")
+        source = self.config.path("open", row.label + ".img")
+        if os.path.isfile(source):
+            row = self._finish(row)
+            self._end(source)
+            self._keep_beside(source, target)
+            # The image comes last, so what is in the folder `closed` has all that belongs to it.
+            os.rename(source, target)
+            sync_folder(os.path.dirname(target))
+            sync_folder(os.path.dirname(source))
+        elif not os.path.isfile(target):
+            raise NotAtHand(f"{row.label}: its image is not at hand: bring it back to the folder open of the archive")
+        length, digest = sidecar(target)
+        found = print_of_file(target, fresh=True)
+        if found != Print(length, digest):
+            raise VolumeDiffers(f"{shown(target)}: is not as it was closed, by its length or its SHA-256")
+        with closing(Contents(target)) as contents:
+            closed = contents.closed()
+            if closed is None:
+                raise VolumeDiffers(f"{shown(target)}: is among the closed volumes, and its bag was not finished")
+        row = row._replace(state=CLOSED, length=length, sha256=digest, closed=closed, checked=now(), data_checked=now(), trouble=None)
+        self.catalogue.save(row)
+        self._forget_ledger(row)
+        return row
+
+    def _finish(self, row: VolumeRow) -> VolumeRow:
+        """Writes the tag files, each as it must be, the tag manifest last."""
+        volume = OpenVolume(self.config, self.catalogue, row)
+        with closing(volume):
+            volume.take_up()
+            volume.row = volume.row._replace(state=CLOSING)
+            self.catalogue.save(volume.row)
+            with closing(Contents(volume.image)) as contents:
+                files = self._tag_files(volume, contents)
+                there = {path[0]: contents.bytes_of(node) for path, node in contents.nodes.items() if len(path) == 1 and path[0] in files}
+                done = contents.closed()
+            moment = done or now()
+            wanted = [
+                Operation(Replace if name in there else Create, (name,), moment, data) for name, data in files.items() if there.get(name) != data
+            ]
+            for outcome in volume.client.run(wanted) if wanted else ():
+                if outcome.code is not Code.DONE:
+                    raise VolumeDiffers(f"{row.label}: {outcome.operation.path[0]}: {outcome.code.name}: run the command again")
+                volume.last_commit = outcome.commit
+            volume.row = volume.filled(volume.last_commit, volume.row.files)
+            self.catalogue.save(volume.row)
+            return volume.row
+
+    def _tag_files(self, volume: OpenVolume, contents: Contents) -> Dict[str, bytes]:
+        """The tag files by their names, in the order in which they are written. Digests are of the bytes that the volume has, and
+        agree with those of the catalogue."""
+        from hashlib import sha256
+
+        known = {held.commit: held for held in self.catalogue.of_volume(volume.row.number)}
+        whole = {file.whole: file for file in contents.files() if file.parts is None}
+        digests = []
+        size = 0
+        for node in contents.payload():
+            data = contents.bytes_of(node)
+            digest = sha256(data).digest()
+            file = whole.get(node.path)
+            if file is not None and file.commit in known and known[file.commit].sha256 != digest:
+                raise VolumeDiffers(f"{volume.image}: {'/'.join(node.path)} has other bytes than were stored: 'rebuild', and store it again")
+            digests.append((node.path, digest))
+            size += len(data)
+        date = stamp(contents.closed() or time.time_ns() // 1000)[:10]
+        fields = {
+            "Bagging-Date": self._date(contents) or date, "External-Identifier": volume.row.label, "Bag-Group-Identifier": self.catalogue.id,
+            "Bag-Software-Agent": "udfburn-archive",
+        }
+        files = {DECLARATION: declaration(), INFO: info(fields, size, len(digests)), MANIFEST: manifest(digests)}
+        if len(files[MANIFEST]) > limits.FILE:
+            raise ArchiveError(f"{volume.row.label}: its manifest would have {len(files[MANIFEST])} bytes, and a file has at most {limits.FILE}")
+        tags = {**files, **{"/".join(path): contents.bytes_of(node) for path, node in contents.nodes.items() if is_tag(path, node.kind.name)}}
+        files[TAG_MANIFEST] = tag_manifest(tags)
+        return files
+
+    def _date(self, contents: Contents) -> Optional[str]:
+        """The date that an earlier run began with."""
+        node = contents.nodes.get((INFO,))
+        return read_fields(contents.bytes_of(node)).get("Bagging-Date") if node is not None else None
+
+    def _end(self, image: str) -> None:
+        """Ends the image after its last table's entry, looks at all of it, and makes it read-only."""
+        with closing(Contents(image)) as contents:
+            end = (contents.last_address + 1) * limits.BLOCK
+        descriptor = os.open(image, os.O_RDWR | os.O_CLOEXEC)
+        try:
+            fcntl.flock(descriptor, fcntl.LOCK_EX | fcntl.LOCK_NB)
+            if os.fstat(descriptor).st_size > end:
+                os.ftruncate(descriptor, end)
+            os.fchmod(descriptor, stat.S_IRUSR | stat.S_IRGRP | stat.S_IROTH)
+            os.fsync(descriptor)
+        finally:
+            os.close(descriptor)
+        run_program(self.program, ["check", image])
+
+    def _keep_beside(self, image: str, target: str) -> None:
+        """Writes the files beside the image, where it will be."""
+        from ..map import draw_map
+
+        found = print_of_file(image, fresh=True)
+        with closing(Contents(image)) as contents:
+            about, commits, closed = contents.about(), contents.last_commit, contents.closed()
+        name = os.path.basename(target)
+        text = (
+            f"archive: {about.archive}\nlabel: {about.label}\nvolume: {about.number}\nclosed: {stamp(closed or 0)}\ncommits: {commits}\n"
+            f"length: {found.length}\nsha256: {found.sha256.hex()}\n"
+        )
+        write_file(beside(target, ".sha256"), f"{found.sha256.hex()}  {name}\n".encode())
+        write_file(beside(target, ".log"), run_program(self.program, ["log", image]))
+        write_file(beside(target, ".svg"), draw_map(image, self.program).encode())
+        write_file(beside(target, ".info"), text.encode())
+        sync_file(beside(target, ".info"))
+
+    def _forget_ledger(self, row: VolumeRow) -> None:
+        """A closed volume takes no more requests, so its ledger has nothing left to say."""
+        ledger = self.config.path("open", row.label + ".ledger")
+        for end in ("", "-wal", "-shm", ".lock"):
+            if os.path.lexists(ledger + end):
+                os.unlink(ledger + end)
+
+    # ---- sent
+
+    def _send(self, row: VolumeRow) -> None:
+        """Sends a closed volume to each remote that does not have it, and compares what arrived."""
+        image = image_of(self.config, row)
+        have = {copy.remote for copy in self.catalogue.copies(row.number) if copy.trouble is None}
+        for name in self.config.copies:
+            if name in have:
+                continue
+            if image is None:
+                self.failures.append(f"{row.label}: is not at hand, and is not sent to {name}")
+                continue
+            try:
+                send(row, image, name)
+            except CopyFailed as error:
+                self.failures.append(f"{row.label}: is not on {name}: {error}")
+                continue
+            self.catalogue.save_copy(Copy(row.number, name, now(), now(), None))
+            self.copied += 1
+            self.tell.say_step(f"copied {row.label} to {name}", did="copied", volume=row.label, remote=name)
+
+
+def send(row: VolumeRow, image: str, name: str) -> None:
+    """Copies a closed volume to a remote, the image first, where it is not there; and compares all its bytes as they are there."""
+    remote, wanted = remote_of(name), Print(row.length or 0, row.sha256 or b"")
+    base = os.path.basename(image)
+    if remote.look(base) != wanted:
+        remote.send(image, base)
+        found = remote.look(base)
+        if found != wanted:
+            raise CopyFailed(f"what arrived is not what was sent, by its {'SHA-256' if found and found.length == wanted.length else 'length'}")
+    for end in SIDECARS:
+        if os.path.isfile(beside(image, end)):
+            remote.send(beside(image, end), os.path.basename(beside(image, end)))
+
+
+def is_tag(path: Tuple[str, ...], kind: str) -> bool:
+    """Whether a file of the volume is a tag file beside those of a bag (RFC 8493 2.2.4)."""
+    return kind == "FILE" and path[0] != "data" and path[0] not in (DECLARATION, INFO, MANIFEST, TAG_MANIFEST)

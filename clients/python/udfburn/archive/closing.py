@@ -1,0 +1,84 @@
+"""What the commands do that close, check and repair volumes."""
+
+from __future__ import annotations
+
+import argparse
+from contextlib import closing
+from typing import List
+
+from .catalogue import CLOSED, CLOSING, FULL, Catalogue, VolumeRow
+from .check import Checker, Options, Repairer, chosen
+from .claims import claims_of
+from .close import Closer
+from .commands import config_of, tell_of
+from .config import Config
+from .errors import ArchiveError, Claimed
+from .tell import Tell, plural
+
+
+def to_close(config: Config, catalogue: Catalogue, names: List[str], full: bool) -> List[VolumeRow]:
+    """The volumes that are closed or sent."""
+    rows = catalogue.volumes()
+    if names:
+        return chosen(rows, names, Options())
+    own = [row for row in rows if row.holder == config.id]
+    states = (FULL, CLOSING, CLOSED) if full else ("open", FULL, CLOSING, CLOSED)
+    return [row for row in own if row.state in states and (row.files or row.state != "open")]
+
+
+def close(arguments: argparse.Namespace) -> int:
+    """Closes volumes."""
+    config, tell = config_of(arguments), tell_of(arguments)
+    with Catalogue(config) as catalogue, closing(claims_of(catalogue.base, config.path("locks"), config.catalogue)) as claims:
+        closer = Closer(config, catalogue, claims, tell)
+        for row in to_close(config, catalogue, arguments.volume, arguments.full):
+            try:
+                closer.close(row)
+            except (ArchiveError, OSError) as error:
+                if isinstance(error, Claimed) and not arguments.volume:
+                    tell.note(f"{error} (it is left open)")
+                    continue
+                closer.failures.append(f"{row.label}: {error}")
+    words = f"closed {plural(closer.closed, 'volume', 'volumes')}"
+    words += f", made {plural(closer.copied, 'copy', 'copies')}" if config.copies else ""
+    return ended(tell, "close", words, closer.failures, closed=closer.closed, copied=closer.copied)
+
+
+def check(arguments: argparse.Namespace) -> int:
+    """Checks volumes."""
+    config, tell = config_of(arguments), tell_of(arguments)
+    options = Options(arguments.data, arguments.remotes, arguments.sample, arguments.oldest)
+    with Catalogue(config) as catalogue:
+        checker = Checker(config, catalogue, tell, options)
+        checker.run(chosen(catalogue.volumes(), arguments.volume, options))
+    for label in checker.away:
+        tell.note(f"{label}: is not at hand, and is not looked at")
+    words = f"looked at {plural(checker.volumes, 'volume', 'volumes')}"
+    words += f" and {plural(checker.files, 'file', 'files')}" if options.data else ""
+    words += f", {plural(checker.copies, 'copy', 'copies')}" if options.remotes else ""
+    words += ": all is as it was" if not checker.failures else ""
+    return ended(
+        tell, "check", words, checker.failures, volumes=checker.volumes, files=checker.files, copies=checker.copies, away=checker.away,
+    )
+
+
+def repair(arguments: argparse.Namespace) -> int:
+    """Repairs volumes."""
+    config, tell = config_of(arguments), tell_of(arguments)
+    with Catalogue(config) as catalogue:
+        rows = catalogue.volumes()
+        copies = {copy.volume for copy in catalogue.copies() if copy.trouble}
+        found = chosen(rows, arguments.volume, Options()) if arguments.volume else [row for row in rows if row.trouble or row.number in copies]
+        repairer = Repairer(config, catalogue, tell)
+        repairer.run(found)
+    words = f"repaired {plural(repairer.repaired, 'image or copy', 'images or copies')} of {plural(len(found), 'volume', 'volumes')}"
+    return ended(tell, "repair", words, repairer.failures, repaired=repairer.repaired, volumes=len(found))
+
+
+def ended(tell: Tell, did: str, words: str, failures: List[str], **fields: object) -> int:
+    """Tells the end of a command, and gives its status."""
+    for line in failures:
+        tell.note(line)
+    words += f"; {plural(len(failures), 'failure', 'failures')}" if failures else ""
+    tell.say(words, did=did, failures=failures, **fields)
+    return 1 if failures else 0

@@ -1,0 +1,109 @@
+"""What the commands do that change an archive."""
+
+from __future__ import annotations
+
+import argparse
+import os
+import uuid
+from dataclasses import dataclass
+from typing import List
+
+from ..ledger import make_folder
+from ..sources import shown
+from .add import Adder, Options
+from .catalogue import Catalogue
+from .config import FILE, LOCAL, Config, check_label, check_remote, checked, is_url, read, strange, write
+from .errors import BadConfig, NoArchive
+from .rebuild import Rebuilder, open_or_make
+from .scan import targets
+from .tell import Tell, plural, size
+
+
+@dataclass
+class Settings:
+    """What `init` is told."""
+
+    catalogue: str
+    label: str
+    capacity: int
+    copies: List[str]
+
+
+def config_of(arguments: argparse.Namespace) -> Config:
+    """The archive that a command is about."""
+    return read(arguments.archive or os.environ.get("UDFBURN_ARCHIVE") or os.curdir)
+
+
+def tell_of(arguments: argparse.Namespace) -> Tell:
+    return Tell(arguments.quiet, arguments.json)
+
+
+def init(arguments: argparse.Namespace) -> int:
+    """Makes an archive. `archive.toml` comes last, so a folder that has it is whole."""
+    folder = os.path.realpath(arguments.dir)
+    if os.path.exists(os.path.join(folder, FILE)):
+        raise NoArchive(f"{shown(folder)}: is an archive already")
+    catalogue = arguments.catalogue or LOCAL
+    if arguments.catalogue and not is_url(arguments.catalogue):
+        raise BadConfig(f"{arguments.catalogue}: is no URL of PostgreSQL (postgresql://..)")
+    left = [name for name in strange(folder) if not name.startswith(LOCAL)]
+    if left:
+        raise NoArchive(f"{shown(folder)}: is not empty: it has {shown(left[0])}")
+    copies = [check_remote(copy if ":" in copy else os.path.abspath(copy)) for copy in arguments.copies]
+    wanted = len(copies) if arguments.copies_wanted is None else arguments.copies_wanted
+    table = {
+        "format": 1, "id": str(uuid.uuid4()), "label": check_label(arguments.label), "catalogue": catalogue, "capacity": arguments.capacity,
+        "copies": copies, "copies_wanted": wanted, "delete": arguments.delete or ("copied" if wanted else "acknowledged"),
+    }
+    config = checked(folder, table, "init")
+    make_folder(folder)
+    Catalogue(config, make=True).base.close()
+    write(config)
+    line = f"made the archive {config.label} in {shown(folder)}"
+    tell_of(arguments).say(line, did="init", archive=folder, label=config.label, catalogue=config.catalogue)
+    return 0
+
+
+def add(arguments: argparse.Namespace) -> int:
+    """Stores folders."""
+    config, tell = config_of(arguments), tell_of(arguments)
+    wanted = targets(arguments.folder, arguments.at)
+    with Catalogue(config) as catalogue:
+        adder = Adder(config, catalogue, Options(arguments.delete_source, arguments.skip_odd), tell)
+        try:
+            summary = adder.run(wanted)
+        finally:
+            tell.end()
+            for line in [f"left out: {line}" for line in adder.summary.skipped] + adder.summary.failures:
+                tell.note(line)
+            for why, count in adder.deleter.waiting.items():
+                tell.note(f"{plural(count, 'source stays', 'sources stay')} {why}")
+    words = [f"stored {plural(summary.files, 'file', 'files')}, {size(summary.bytes)}"]
+    words += [f"{summary.same} were there"] if summary.same else []
+    words += [f"deleted {summary.deleted}"] if arguments.delete_source else []
+    words += [f"did not keep {plural(summary.empty, 'empty folder', 'empty folders')}"] if summary.empty else []
+    words += [f"{plural(len(summary.failures), 'failure', 'failures')}"] if summary.failures else []
+    tell.say(
+        ", ".join(words), did="add", files=summary.files, bytes=summary.bytes, same=summary.same, deleted=summary.deleted,
+        kept=sum(adder.deleter.waiting.values()), empty=summary.empty, skipped=summary.skipped, failures=summary.failures,
+    )
+    return 1 if summary.failures else 0
+
+
+def rebuild(arguments: argparse.Namespace) -> int:
+    """Makes the catalogue again."""
+    config, tell = config_of(arguments), tell_of(arguments)
+    with open_or_make(config, tell) as catalogue:
+        summary = Rebuilder(config, catalogue, tell, arguments.dry_run).run(arguments.image)
+    for difference in summary.differences:
+        tell.say(f"{difference.volume} {difference.path}: {difference.how}", did="differs", **difference._asdict())
+    for line in summary.failures:
+        tell.note(line)
+    for label in summary.away:
+        tell.note(f"{label} is not at hand: what the catalogue has of it stays as it is")
+    found = plural(len(summary.differences), "difference", "differences") if summary.differences else "no difference"
+    tell.say(
+        f"read {plural(summary.volumes, 'volume', 'volumes')} with {plural(summary.files, 'file', 'files')}: {found}", did="rebuild",
+        volumes=summary.volumes, files=summary.files, differences=len(summary.differences), away=summary.away, failures=summary.failures,
+    )
+    return 1 if summary.failures else 0

@@ -1,0 +1,178 @@
+"""The folder of an archive, and its `archive.toml`."""
+
+from __future__ import annotations
+
+import os
+import tomllib
+from typing import Any, Dict, List, NamedTuple, Optional, Tuple
+
+from ..ledger import make_folder, sync_file, sync_folder
+from ..protocol import limits
+from ..protocol.names import name_fault, spelled_size
+from ..sources import shown
+from .errors import BadConfig, NoArchive
+
+FILE = "archive.toml"
+FORMAT = 1
+"""The format of the folder that this program writes."""
+
+LOCAL = "catalogue.sqlite"
+"""The catalogue where none is named: a SQLite file in the folder."""
+
+LABEL = 30 - 7
+"""Letters of an archive's label: a volume's label has a hyphen and six digits more, and at most 30 letters."""
+
+DELETIONS = ("acknowledged", "copied")
+KEYS = {"format", "id", "label", "catalogue", "capacity", "copies", "copies_wanted", "delete"}
+
+
+class Config(NamedTuple):
+    """What `archive.toml` says.
+
+    `id` is drawn once a folder. `capacity` is the blocks of a new volume. `copies` are the places where closed volumes are
+    sent. `wanted` of them have to have a volume before a source is deleted by `delete = "copied"`.
+    """
+
+    folder: str
+    id: str
+    label: str
+    catalogue: str
+    capacity: int
+    copies: Tuple[str, ...]
+    wanted: int
+    delete: str
+
+    def path(self, *names: str) -> str:
+        """A path in the archive's folder."""
+        return os.path.join(self.folder, *names)
+
+    def sqlite(self) -> Optional[str]:
+        """The file of the catalogue, where it is one."""
+        return None if is_url(self.catalogue) else self.path(self.catalogue)
+
+
+def is_url(catalogue: str) -> bool:
+    """Whether a catalogue is a server's."""
+    return catalogue.startswith(("postgresql://", "postgres://"))
+
+
+def check_label(label: str) -> str:
+    """The label itself, where volumes can have it with their number."""
+    if name_fault(label) is not None or spelled_size(label) != len(label) + 1 or len(label) > LABEL or not label.isprintable():
+        raise BadConfig(f"{label!r}: is no label of an archive: one has 1 to {LABEL} letters of Latin-1 and no slash")
+    return label
+
+
+def volume_label(label: str, number: int) -> str:
+    """The label of a volume."""
+    return f"{label}-{number:06}"
+
+
+def check_remote(remote: str) -> str:
+    """The place itself, where it is a folder's absolute path or a remote of rclone."""
+    if os.path.isabs(remote):
+        return os.path.normpath(remote)
+    name, colon, _ = remote.partition(":")
+    if not colon or not name or "/" in name or remote.startswith("-"):
+        raise BadConfig(f"{remote}: is neither the absolute path of a folder nor NAME:PATH of a remote of rclone")
+    return remote
+
+
+def field(table: Dict[str, Any], key: str, kind: type, where: str) -> Any:
+    """A field that has to be there."""
+    value = table.get(key)
+    if not isinstance(value, kind) or isinstance(value, bool):
+        raise BadConfig(f"{where}: {key} is missing or has another type than {kind.__name__}")
+    return value
+
+
+def read(folder: str) -> Config:
+    """The archive of a folder."""
+    folder = os.path.realpath(folder)
+    where = os.path.join(folder, FILE)
+    try:
+        with open(where, "rb") as file:
+            table = tomllib.load(file)
+    except FileNotFoundError as error:
+        raise NoArchive(f"{shown(folder)}: holds no {FILE}: make an archive by 'udfburn-archive init'") from error
+    except (tomllib.TOMLDecodeError, UnicodeDecodeError) as error:
+        raise BadConfig(f"{shown(where)}: {error}") from error
+    return checked(folder, table, shown(where))
+
+
+def checked(folder: str, table: Dict[str, Any], where: str) -> Config:
+    """The fields, each of which is as it must be."""
+    version = field(table, "format", int, where)
+    if version != FORMAT:
+        raise BadConfig(f"{where}: has format {version}, and this program knows {FORMAT}: use the program that wrote it")
+    unknown = sorted(set(table) - KEYS)
+    if unknown:
+        raise BadConfig(f"{where}: has unknown fields: {', '.join(unknown)}")
+    copies = field(table, "copies", list, where)
+    if not all(isinstance(copy, str) for copy in copies) or len(set(copies)) != len(copies):
+        raise BadConfig(f"{where}: copies is no list of different texts")
+    found = Config(
+        folder, field(table, "id", str, where), check_label(field(table, "label", str, where)), field(table, "catalogue", str, where),
+        field(table, "capacity", int, where), tuple(check_remote(copy) for copy in copies), field(table, "copies_wanted", int, where),
+        field(table, "delete", str, where),
+    )
+    if not limits.CAPACITY[0] <= found.capacity <= limits.CAPACITY[1]:
+        raise BadConfig(f"{where}: capacity is from {limits.CAPACITY[0]} to {limits.CAPACITY[1]} blocks")
+    if found.delete not in DELETIONS:
+        raise BadConfig(f"{where}: delete is one of {', '.join(DELETIONS)}")
+    if not 0 <= found.wanted <= len(copies) or (found.delete == "copied" and not found.wanted):
+        raise BadConfig(f"{where}: copies_wanted is from 1 (0 with delete = \"acknowledged\") to the count of copies")
+    return found
+
+
+def text(config: Config) -> str:
+    """`archive.toml` of an archive."""
+    copies = ", ".join(quoted(copy) for copy in config.copies)
+    return f"""# An archive of udfburn-archive(1). `copies`, `copies_wanted`, `delete` and `capacity` may be changed.
+format = {FORMAT}
+id = {quoted(config.id)}
+label = {quoted(config.label)}
+catalogue = {quoted(config.catalogue)}
+# Blocks of 2,048 bytes of a new volume.
+capacity = {config.capacity}
+# Where closed volumes are sent: absolute paths of folders, or remotes of rclone.
+copies = [{copies}]
+# How many of them have to have a volume before a source is deleted, where delete is "copied".
+copies_wanted = {config.wanted}
+# When --delete-source deletes: "acknowledged" (the volume has the file) or "copied".
+delete = {quoted(config.delete)}
+"""
+
+
+def quoted(value: str) -> str:
+    """A basic string of TOML."""
+    escaped = value.replace("\\", "\\\\").replace('"', '\\"')
+    return '"' + "".join(letter if letter.isprintable() else f"\\U{ord(letter):08X}" for letter in escaped) + '"'
+
+
+FOLDERS = ("open", "closed", "locks")
+
+
+def write(config: Config) -> None:
+    """Makes the folder of an archive, and `archive.toml` in it, durable and whole."""
+    for name in FOLDERS:
+        make_folder(config.path(name))
+    write_file(config.path(FILE), text(config).encode())
+
+
+def write_file(path: str, data: bytes) -> None:
+    """Writes a file that has its name once it is whole and on the disk."""
+    new = path + ".new"
+    with open(new, "wb") as file:
+        file.write(data)
+    sync_file(new)
+    os.replace(new, path)
+    sync_folder(os.path.dirname(path))
+
+
+def strange(folder: str) -> List[str]:
+    """What a folder holds that no archive has at its beginning."""
+    try:
+        return sorted(set(os.listdir(folder)) - {*FOLDERS, FILE, FILE + ".new"})
+    except FileNotFoundError:
+        return []

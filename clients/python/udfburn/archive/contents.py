@@ -1,0 +1,225 @@
+"""What a volume of an archive says of itself: its number, its runs, its files with their digests. Read by `udfburn.reader`,
+which knows the medium's format alone."""
+
+from __future__ import annotations
+
+from bisect import bisect_left, bisect_right
+from hashlib import sha256
+from typing import Dict, Iterator, List, NamedTuple, Optional, Set, Tuple
+
+from ..bag import MANIFEST, PAYLOAD, TAG_MANIFEST, read_manifest
+from ..protocol import Path, limits
+from ..reader import Kind, Medium, Node, NoVolume, State, Volume
+from .catalogue import Held, part_count
+from .errors import VolumeDiffers
+from .names import read_back, text_of
+
+TITLE = "udfburn-archive 1"
+"""The first line of the text that each volume of an archive begins with; its number is that of the layout."""
+
+ABOUT = "volume.txt"
+RUNS = "runs"
+
+
+class About(NamedTuple):
+    """What `volume.txt` says: the archive, its label, and the volume's number."""
+
+    archive: str
+    label: str
+    number: int
+
+
+class File(NamedTuple):
+    """A file of the archive on a volume: its path, the nodes of its bytes in order, and its row but for the digest."""
+
+    path: Path
+    version: int
+    whole: Path
+    """Its stored path, which is a folder's where it has parts."""
+    nodes: Tuple[Node, ...]
+    size: int
+    moment: int
+    commit: int
+    added: int
+    sha256: Optional[bytes]
+    first: Optional[int]
+    parts: Optional[int]
+
+    def held(self, number: int, digest: bytes) -> Held:
+        """The row of the catalogue."""
+        return Held(number, self.commit, self.path, self.size, self.moment, digest, self.added, self.first, self.parts)
+
+
+def read_fields(data: bytes) -> Dict[str, str]:
+    """The fields of a text: `name: value` a line, up to the first empty line."""
+    found: Dict[str, str] = {}
+    for line in data.decode("utf-8", "replace").split("\n"):
+        name, colon, value = line.partition(": ")
+        if not line:
+            break
+        if colon:
+            found[name] = value
+    return found
+
+
+def read_about(data: bytes, where: str) -> About:
+    """What `volume.txt` says, or `VolumeDiffers`."""
+    title = data.decode("utf-8", "replace").split("\n", 1)[0]
+    if title != TITLE:
+        raise VolumeDiffers(f"{where}: is no volume of an archive that this program knows: {ABOUT} begins with {title[:40]!r}")
+    fields = read_fields(data)
+    try:
+        return About(fields["archive"], fields["label"], int(fields["volume"]))
+    except (KeyError, ValueError) as error:
+        raise VolumeDiffers(f"{where}: {ABOUT} lacks its archive, label or volume") from error
+
+
+class Contents:
+    """A volume, as it was when it was opened. Closed by `close`, or at the end of `with`."""
+
+    def __init__(self, image: str):
+        self.image = image
+        try:
+            self.medium = Medium(image)
+        except OSError as error:
+            raise VolumeDiffers(f"{image}: {error.strerror or error}") from error
+        try:
+            self._read()
+        except NoVolume as error:
+            self.medium.close()
+            raise VolumeDiffers(f"{image}: holds no volume ({error})") from error
+        except BaseException:
+            self.medium.close()
+            raise
+
+    def __enter__(self) -> "Contents":
+        return self
+
+    def __exit__(self, *_: object) -> None:
+        self.close()
+
+    def close(self) -> None:
+        self.medium.close()
+
+    def _read(self) -> None:
+        self.volume = Volume(self.medium)
+        chain = self.volume.chain()
+        self.addresses = [table.address for table in reversed(chain)]
+        self.first_commit, self.last_commit = chain[-1].commit, chain[0].commit
+        self.last_address = chain[0].address
+        self.label, self.formatted = self.volume.label or "", self.volume.moment or 0
+        self.capacity = self.volume.capacity or limits.CAPACITY[1]
+        self.state: State = self.volume.state()
+        self.nodes: Dict[Path, Node] = {node.path: node for node in self.state.walk()}
+        if self.state.broken:
+            raise VolumeDiffers(f"{self.image}: is damaged: {len(self.state.broken)} files or folders cannot be read: repair it of a copy, or 'udfburn-client salvage'")
+        self._runs = sorted((self.commit_of(node), node.moment or 0) for path, node in self.nodes.items() if len(path) == 2 and path[0] == RUNS)
+
+    # ---- what it says
+
+    def about(self) -> About:
+        """Which volume of which archive it is; `VolumeDiffers` where it is none."""
+        node = self.nodes.get((ABOUT,))
+        if node is None:
+            raise VolumeDiffers(f"{self.image}: is no volume of an archive: it has no {ABOUT}")
+        return read_about(self.bytes_of(node), self.image)
+
+    def commit_of(self, node: Node) -> int:
+        """The commit that wrote a file: the first whose table's entry comes after the file's own."""
+        return self.first_commit + bisect_left(self.addresses, node.address)
+
+    def added(self, commit: int) -> int:
+        """When the run began that wrote a commit."""
+        index = bisect_right(self._runs, (commit, limits.MOMENT)) - 1
+        return self._runs[index][1] if index >= 0 else self.formatted
+
+    def runs(self) -> int:
+        """How many runs wrote to it."""
+        return len(self._runs)
+
+    def clients(self) -> Set[int]:
+        """The clients that it keeps."""
+        return {client.client for client in self.state.clients}
+
+    def bytes_of(self, node: Node) -> bytes:
+        """The bytes of a file, or `VolumeDiffers` where a block cannot be read."""
+        run = self.volume.read(node)
+        if run.missing:
+            raise VolumeDiffers(f"{self.image}: blocks of {text_of(node.path)} cannot be read, the first is {run.missing[0]}")
+        return run.data
+
+    def is_bag(self) -> bool:
+        """Whether the last file of a bag is there."""
+        return (TAG_MANIFEST,) in self.nodes
+
+    def closed(self) -> Optional[int]:
+        """When the bag was finished, in microseconds; None where it was not."""
+        node = self.nodes.get((TAG_MANIFEST,))
+        return node.moment if node is not None else None
+
+    def manifest(self) -> Dict[Path, bytes]:
+        """The digests of a bag's payload, by path; empty where the bag was not finished."""
+        node = self.nodes.get((MANIFEST,))
+        return read_manifest(self.bytes_of(node)) if node is not None and self.is_bag() else {}
+
+    # ---- its files
+
+    def files(self) -> List[File]:
+        """The files of the archive, by their commits. Parts without a description are left out."""
+        digests = self.manifest()
+        whole: List[File] = []
+        described: Dict[Tuple[Path, int], Node] = {}
+        parts: Dict[Tuple[Path, int], Dict[int, Node]] = {}
+        for path, node in self.nodes.items():
+            stored = read_back(path) if node.kind is Kind.FILE else None
+            if stored is None:
+                continue
+            if stored.part is None:
+                commit = self.commit_of(node)
+                whole.append(File(stored.path, stored.version, path, (node,), node.size, node.moment or 0, commit, self.added(commit), digests.get(path), None, None))
+            elif stored.part < 0:
+                described[stored.path, stored.version] = node
+            else:
+                parts.setdefault((stored.path, stored.version), {})[stored.part] = node
+        whole += [self._in_parts(path, version, node, parts.get((path, version), {})) for (path, version), node in described.items()]
+        return sorted(whole, key=lambda file: file.commit)
+
+    def _in_parts(self, path: Path, version: int, node: Node, parts: Dict[int, Node]) -> File:
+        """A file in parts, by its description."""
+        fields = read_fields(self.bytes_of(node))
+        try:
+            size, first, digest = int(fields["size"]), int(fields["first part"]), bytes.fromhex(fields["sha256"])
+        except (KeyError, ValueError) as error:
+            raise VolumeDiffers(f"{self.image}: {text_of(node.path)} is no description of a file in parts") from error
+        nodes: List[Node] = []
+        while first + len(nodes) < part_count(size) and first + len(nodes) in parts:
+            nodes.append(parts[first + len(nodes)])
+        commit = self.commit_of(node)
+        return File(path, version, node.path[:-1], tuple(nodes), size, node.moment or 0, commit, self.added(commit), digest, first, len(nodes))
+
+    def pieces(self, file: File) -> Iterator[bytes]:
+        """The bytes of a file, or of the parts that are here."""
+        for node in file.nodes:
+            yield self.bytes_of(node)
+
+    def digest(self, file: File) -> bytes:
+        """The digest of a file: from the manifest or its description, else reckoned of its bytes."""
+        if file.sha256 is not None:
+            return file.sha256
+        whole = sha256()
+        for piece in self.pieces(file):
+            whole.update(piece)
+        return whole.digest()
+
+    def rows(self, number: int, known: Optional[Dict[int, Held]] = None) -> List[Held]:
+        """The rows of the catalogue. Digests of files that are known by their commits are not reckoned anew."""
+        found = []
+        for file in self.files():
+            old = known.get(file.commit) if known else None
+            same = old is not None and (old.path, old.size, old.moment) == (file.path, file.size, file.moment)
+            found.append(file.held(number, old.sha256 if old is not None and same else self.digest(file)))
+        return found
+
+    def payload(self) -> List[Node]:
+        """The files of the payload, in order of their paths."""
+        return [node for path, node in sorted(self.nodes.items()) if path[:1] == (PAYLOAD,) and node.kind is Kind.FILE]

@@ -1,0 +1,107 @@
+"""Deletes sources: last of all, and only what the volumes or their copies are seen to have."""
+
+from __future__ import annotations
+
+from hashlib import sha256
+from typing import Dict, List, Optional, Sequence, Tuple
+
+from ..errors import SourceError
+from ..sources import Source, delete, shown
+from .catalogue import CLOSED, Catalogue, Held, VolumeRow, is_whole
+from .config import Config
+from .contents import Contents
+from .job import Job, find_file
+from .volume import image_of
+
+class Deleter:
+    """Deletes what `archive.toml` lets it: a file that a volume acknowledged, or one of a volume with enough copies."""
+
+    def __init__(self, config: Config, catalogue: Catalogue):
+        self.config, self.catalogue = config, catalogue
+        self.deleted = 0
+        self.waiting: Dict[str, int] = {}
+        """Files that stay, by why."""
+        self.failures: List[str] = []
+        self._contents: Optional[Tuple[int, Contents]] = None
+        self._rows: Dict[int, Tuple[VolumeRow, int]] = {}
+
+    def close(self) -> None:
+        if self._contents is not None:
+            self._contents[1].close()
+            self._contents = None
+
+    def stored(self, jobs: Sequence[Job]) -> None:
+        """Files that were stored just now: their replies are in the ledger, and the catalogue has them."""
+        for job in jobs:
+            if self.config.delete == "copied":
+                self._stay("until closed volumes with them are copied: close them, and run the command again")
+            elif not job.in_parts() or is_whole(self._same(job)):
+                self._delete(job.source)
+
+    def _same(self, job: Job) -> List[Held]:
+        """The rows of a file in parts."""
+        source = job.source
+        key = (source.path, source.identity.size, source.moment(), job.digest)
+        rows = [row for row in self.catalogue.of_path(source.path) if row.version() == key]
+        return rows or [job.held(0, 0)._replace(parts=0)]
+
+    def same(self, source: Source, rows: Sequence[Held]) -> None:
+        """A file that the archive had before. The catalogue is not the truth, so the volume is looked at."""
+        for row in rows:
+            why = self._why_not(row)
+            if why is not None:
+                self._stay(why)
+                return
+        self._delete(source)
+
+    def _why_not(self, held: Held) -> Optional[str]:
+        """Why a row does not let its source go."""
+        volume, copies = self._volume(held.volume)
+        if volume is None:
+            return f"since the catalogue lacks volume {held.volume}"
+        if self.config.delete == "copied" and (volume.state != CLOSED or copies < self.config.wanted):
+            return f"until {volume.label} is closed and on {self.config.wanted} remotes"
+        if volume.state == CLOSED and copies:
+            return None
+        image = image_of(self.config, volume)
+        if image is None:
+            return f"since {volume.label} is not at hand"
+        return None if self._has(held, image) else f"since {volume.label} does not show them: check it"
+
+    def _volume(self, number: int) -> Tuple[Optional[VolumeRow], int]:
+        """A volume, and how many good copies it has."""
+        if number not in self._rows:
+            row = self.catalogue.volume(number)
+            if row is None:
+                return None, 0
+            good = [copy for copy in self.catalogue.copies(number) if copy.trouble is None and copy.remote in self.config.copies]
+            self._rows[number] = row, len(good)
+        return self._rows[number]
+
+    def _has(self, held: Held, image: str) -> bool:
+        """Whether the volume at hand has the bytes."""
+        if self._contents is None or self._contents[0] != held.volume:
+            self.close()
+            self._contents = held.volume, Contents(image)
+        contents = self._contents[1]
+        file = find_file(contents, held)
+        if file is None or (file.first, file.parts) != (held.first, held.parts):
+            return False
+        if held.parts is not None:
+            return file.sha256 == held.sha256 and all(len(piece) for piece in contents.pieces(file))
+        return sha256(b"".join(contents.pieces(file))).digest() == held.sha256
+
+    def _stay(self, why: str) -> None:
+        self.waiting[why] = self.waiting.get(why, 0) + 1
+
+    def _delete(self, source: Source) -> None:
+        try:
+            delete(source)
+            self.deleted += 1
+        except SourceError as error:
+            self.failures.append(f"{error} (it was stored, and is not deleted)")
+        except OSError as error:
+            self.failures.append(f"{shown(source.local)}: {error.strerror} (it was stored, and is not deleted)")
+
+
+__all__ = ["Deleter"]

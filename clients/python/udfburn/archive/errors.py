@@ -1,0 +1,51 @@
+"""What an archive refuses or fails at. Every message says what to do where something can be done."""
+
+from __future__ import annotations
+
+from ..errors import UdfburnError
+
+
+class ArchiveError(UdfburnError):
+    """Anything that an archive refuses."""
+
+
+class NoArchive(ArchiveError):
+    """The folder holds no archive, or something else."""
+
+
+class BadConfig(ArchiveError):
+    """`archive.toml` is not as it must be."""
+
+
+class CatalogueError(ArchiveError):
+    """The catalogue cannot be used."""
+
+
+class CatalogueLost(CatalogueError):
+    """The connection to the catalogue was lost, and with it this process's claims."""
+
+
+class Claimed(ArchiveError):
+    """Another process has the path or the volume."""
+
+
+class NotAtHand(ArchiveError):
+    """The volume is not at hand."""
+
+
+class VolumeDiffers(ArchiveError):
+    """A volume is not the one that the catalogue knows, or lacks what was acknowledged."""
+
+
+class CopyFailed(ArchiveError):
+    """A copy was not made, or is not what was sent."""
+
+
+class CannotStore(ArchiveError):
+    """A file that no volume can hold under its path."""
+
+
+__all__ = [
+    "ArchiveError", "BadConfig", "CannotStore", "CatalogueError", "CatalogueLost", "Claimed", "CopyFailed", "NoArchive",
+    "NotAtHand", "VolumeDiffers",
+]

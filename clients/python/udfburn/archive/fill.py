@@ -1,0 +1,232 @@
+"""Fills open volumes: files are planned on them, sent, and kept in the catalogue once their replies are in the ledger."""
+
+from __future__ import annotations
+
+from typing import Callable, Dict, Iterator, List, Sequence
+
+from ..errors import Full
+from ..operations import Operation, Outcome
+from ..protocol import Code, MakeDir, Path, limits
+from .catalogue import FULL, Catalogue
+from .claims import Claims
+from .config import Config
+from .errors import VolumeDiffers
+from .job import Job
+from .tell import Tell, shown_path
+from .tree import Tree
+from .volume import OpenVolume, open_new, own_volumes
+
+BATCH_FILES, BATCH_BYTES = 512, 64 * limits.FILE
+"""Files, and their bytes, that are planned on a volume before they are sent."""
+
+KEEP = 256
+"""Files that are stored before the catalogue has them."""
+
+OPEN_MOST = 4
+"""Open volumes of one run. The files of a folder go to the first that has room for all of them."""
+
+Kept = Callable[[List[Job]], None]
+"""Is told of files that the catalogue has."""
+
+Failed = Callable[[Job, str], None]
+"""Is told of a file that was not stored, and why."""
+
+
+class Filler:
+    """The open volumes of a run."""
+
+    def __init__(self, config: Config, catalogue: Catalogue, claims: Claims, tell: Tell, text: str, kept: Kept, failed: Failed):
+        self.config, self.catalogue, self.claims, self.tell, self.text = config, catalogue, claims, tell, text
+        self.kept, self.failed = kept, failed
+        self.open: List[OpenVolume] = []
+        self.planned: Dict[int, List[Job]] = {}
+        # What an earlier run left comes first, so that the catalogue has all that the volumes have.
+        for volume in own_volumes(config, catalogue, claims):
+            self.open.append(volume)
+
+    def close(self) -> None:
+        """Gives the ledgers back."""
+        for volume in self.open:
+            volume.close()
+
+    # ---- where files go
+
+    def put(self, folder: Path, jobs: Sequence[Job]) -> None:
+        """Plans the files of a folder: on one volume where they fit on one, else on as many as they take."""
+        waiting = self._resumed(list(jobs))
+        if not waiting:
+            return
+        sizes, names = [job.size() for job in waiting], [job.source.path[-1] for job in waiting]
+        for volume in list(self.open):
+            if volume.tree.fits(sizes, folder, names):
+                waiting = self._plan(volume, waiting)
+                break
+        else:
+            if Tree.empty(self.config.capacity).fits(sizes, folder, names):
+                waiting = self._plan(self._new(), waiting)
+        # They are too many for one volume, or took more than was reckoned.
+        while waiting:
+            waiting = self._spill(waiting)
+
+    def _resumed(self, jobs: List[Job]) -> List[Job]:
+        """Goes on with files whose front a volume has, on that volume; gives what is left."""
+        left: List[Job] = []
+        for job in jobs:
+            volume = next((volume for volume in self.open if volume.row.number == job.volume), None) if job.whole is not None else None
+            if volume is None:
+                left.append(job if job.whole is None else job.again())
+            else:
+                left += self._plan(volume, [job], partly=True, onward=True)
+        return left
+
+    def _spill(self, jobs: List[Job]) -> List[Job]:
+        """Plans files wherever the first of them fits, else on a new volume; gives those that are left."""
+        for volume in list(self.open):
+            left = self._plan(volume, jobs)
+            if len(left) < len(jobs):
+                return left
+        volume = self._new()
+        left = self._plan(volume, jobs, partly=True)
+        if left and left[0] is jobs[0]:
+            self.failed(jobs[0], f"{shown_path(jobs[0].source.path)}: does not fit on an empty volume of {self.config.capacity} blocks")
+            return left[1:]
+        return left
+
+    def _plan(self, volume: OpenVolume, jobs: List[Job], partly: bool = False, onward: bool = False) -> List[Job]:
+        """Plans files on a volume as long as they fit; gives those that are left."""
+        for index, job in enumerate(jobs):
+            self._mark(volume)
+            if not job.plan(volume.tree, partly):
+                return [job.again()] + jobs[index + 1 :] if onward else jobs[index:]
+            volume.tree.settle()
+            self.planned.setdefault(volume.row.number, []).append(job)
+            rest = job.rest()
+            if rest is not None:
+                return [rest] + jobs[index + 1 :]
+            if self._is_enough(volume):
+                left = jobs[index + 1 :]
+                return self.flush(volume) + left
+            partly = False
+        return []
+
+    def _mark(self, volume: OpenVolume) -> None:
+        """Plans the text that notes the run, before the first file."""
+        if volume.marker is None:
+            volume.plan_marker(self.text)
+
+    def _is_enough(self, volume: OpenVolume) -> bool:
+        jobs = self.planned.get(volume.row.number, [])
+        return len(jobs) >= BATCH_FILES or sum(job.size() for job in jobs[-BATCH_FILES:]) >= BATCH_BYTES
+
+    def _new(self) -> OpenVolume:
+        """A new volume. Where there are too many open ones, the fullest takes no more."""
+        if len(self.open) >= OPEN_MOST:
+            fullest = max(self.open, key=lambda volume: volume.tree.share())
+            for job in self.flush(fullest):
+                self.put(job.source.path[:-1], [job])
+            if fullest in self.open:
+                self._full(fullest)
+        volume = open_new(self.config, self.catalogue, self.claims)
+        self.open.append(volume)
+        self.tell.say_step(f"opened {volume.row.label}", did="opened", volume=volume.row.label)
+        return volume
+
+    def _full(self, volume: OpenVolume) -> None:
+        """Takes a volume as full."""
+        volume.row = volume.row._replace(state=FULL)
+        self.catalogue.save(volume.row)
+        volume.close()
+        self.open.remove(volume)
+        self.tell.say_step(f"{volume.row.label} is full", did="full", volume=volume.row.label)
+
+    # ---- sent
+
+    def finish(self) -> None:
+        """Sends all that is planned."""
+        while any(self.planned.values()):
+            for volume in list(self.open):
+                for job in self.flush(volume):
+                    self.put(job.source.path[:-1], [job])
+        for volume in list(self.open):
+            if volume.is_full():
+                self._full(volume)
+
+    def flush(self, volume: OpenVolume) -> List[Job]:
+        """Sends what is planned on a volume; gives files for which the medium had no room, which is rarely any."""
+        jobs = self.planned.pop(volume.row.number, [])
+        if not jobs:
+            return []
+        done: List[Job] = []
+        full = False
+        try:
+            for outcome in volume.client.run(operations(volume, jobs)):
+                self._take(volume, outcome, done)
+                if len(done) >= KEEP:
+                    self._keep(volume, done)
+        except Full:
+            full = True
+        # Of a file that was cut the volume has its first parts, and the next run goes on behind them.
+        cut = [job for job in jobs if job.in_parts() and job.commit and not job.stored()]
+        self._keep(volume, done, cut)
+        return self._after(volume, jobs, full)
+
+    def _after(self, volume: OpenVolume, jobs: List[Job], full: bool) -> List[Job]:
+        """What is left of jobs that were sent; the volume is read again where not all went as planned."""
+        volume.resync()
+        left: List[Job] = []
+        for job in jobs:
+            if job.failure is not None:
+                self.failed(job, job.failure)
+            elif not job.stored():
+                left.append(job.again())
+        if full:
+            self._full(volume)
+        elif any(job.failure for job in jobs):
+            volume.load()
+            if volume.is_full():
+                self._full(volume)
+        elif left:
+            raise VolumeDiffers(f"{volume.row.label}: gave no answer for {len(left)} files: run the command again")
+        return left
+
+    def _take(self, volume: OpenVolume, outcome: Outcome, done: List[Job]) -> None:
+        """Takes the outcome of a request."""
+        operation = outcome.operation
+        volume.last_commit = outcome.commit
+        if operation.tag is None:
+            if outcome.code is not Code.DONE and not (operation.kind is MakeDir and outcome.code is Code.EXISTS):
+                raise VolumeDiffers(f"{volume.row.label}: {shown_path(operation.path)}: {outcome.code.name}: run the command again")
+            return
+        job, is_part = operation.tag
+        if outcome.code is not Code.DONE:
+            job.fail(f"{shown_path(job.source.path)}: {volume.row.label} refuses {shown_path(operation.path)}: {outcome.code.name}")
+            return
+        if is_part:
+            job.done += 1
+        else:
+            job.commit = outcome.commit
+        if job.stored():
+            done.append(job)
+            self.tell.step("stored", job.source.path, job.size(), volume.row.label, outcome.commit)
+
+    def _keep(self, volume: OpenVolume, done: List[Job], cut: Sequence[Job] = ()) -> None:
+        """Has the catalogue keep what is stored, and then tells whoever deletes sources."""
+        if volume.last_commit == volume.row.last_commit:
+            return
+        self.claims.require()
+        rows = [job.held(volume.row.number, volume.began) for job in (*done, *cut)]
+        fresh = sum(1 for job in (*done, *cut) if job.begun == job.first)
+        volume.row = volume.filled(volume.last_commit, volume.row.files + fresh)
+        self.catalogue.add(volume.row, rows)
+        finished = list(done)
+        done.clear()
+        self.kept(finished)
+
+
+def operations(volume: OpenVolume, jobs: Sequence[Job]) -> Iterator[Operation]:
+    """The requests of files, with the one that notes the run before the first."""
+    marker = volume.take_marker()
+    if marker is not None:
+        yield marker
+    for job in jobs:
+        yield from job.operations()

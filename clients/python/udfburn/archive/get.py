@@ -1,0 +1,155 @@
+"""Copies files out of the volumes that are at hand, each compared with its SHA-256."""
+
+from __future__ import annotations
+
+import os
+from hashlib import sha256
+from typing import Dict, Iterator, List, NamedTuple, Optional, Sequence, Set, Tuple
+
+from ..errors import SourceError, UdfburnError
+from ..fetch import make_folder, save, sync_names
+from ..protocol import Path
+from ..sources import shown
+from .catalogue import Catalogue, Held, VolumeRow, versions
+from .config import Config
+from .contents import Contents, File
+from .errors import ArchiveError, VolumeDiffers
+from .tell import Tell, shown_path
+from .volume import image_of
+
+
+class Wanted(NamedTuple):
+    """A version that is to be copied: its rows, and the local path that it gets."""
+
+    rows: List[Held]
+    local: str
+
+
+class Lacking(ArchiveError):
+    """Bytes that are not had, and why."""
+
+
+class Summary:
+    """What a run did."""
+
+    def __init__(self) -> None:
+        self.files = self.bytes = 0
+        self.failures: List[str] = []
+        self.lacking: Dict[str, int] = {}
+        """Volumes that are not at hand, and how many files are on each."""
+
+
+def as_of(groups: Sequence[List[Held]], moment: Optional[int]) -> Optional[List[Held]]:
+    """The newest version, or the newest that was there at a moment."""
+    for group in groups:
+        if moment is None or max(held.added for held in group) <= moment:
+            return group
+    return None
+
+
+def wanted(catalogue: Catalogue, paths: Sequence[Path], folder: str, moment: Optional[int]) -> Iterator[Wanted]:
+    """What is copied of paths, each of which is a file's or a folder's. One that is nothing is an error."""
+    for path in paths:
+        found = 0
+        group = as_of(versions(catalogue.of_path(path)), moment)
+        if group is not None:
+            found += 1
+            yield Wanted(group, os.path.join(folder, path[-1]))
+        for below in catalogue.folders_below(path):
+            for name, rows in sorted(catalogue.in_folder(below).items()):
+                group = as_of(versions(rows), moment)
+                if group is not None:
+                    found += 1
+                    yield Wanted(group, os.path.join(folder, *path[-1:], *below[len(path) :], name))
+        if not found:
+            raise Lacking(f"{shown_path(path)}: is not in the archive" + (" at that time" if moment is not None else ""))
+
+
+class Getter:
+    """A run of `get`."""
+
+    def __init__(self, config: Config, catalogue: Catalogue, tell: Tell, force: bool):
+        self.config, self.catalogue, self.tell, self.force = config, catalogue, tell, force
+        self.summary = Summary()
+        self._rows: Dict[int, VolumeRow] = {row.number: row for row in catalogue.volumes()}
+        self._open: Dict[int, Tuple[Contents, Dict[int, File]]] = {}
+        self._changed: Set[str] = set()
+
+    def run(self, files: Sequence[Wanted]) -> Summary:
+        """Copies versions, volume by volume."""
+        try:
+            for want in sorted(files, key=lambda want: [(row.volume, row.commit) for row in want.rows]):
+                self._one(want)
+        finally:
+            for contents, _ in self._open.values():
+                contents.close()
+        for folder in sorted(self._changed):
+            sync_names(folder)
+        return self.summary
+
+    def _one(self, want: Wanted) -> None:
+        held = want.rows[0]
+        missing = [row.volume for row in want.rows if not self._at_hand(row.volume)]
+        if missing:
+            for number in missing:
+                label = self._rows[number].label if number in self._rows else f"volume {number}"
+                self.summary.lacking[label] = self.summary.lacking.get(label, 0) + 1
+            return
+        try:
+            self._changed.update(make_folder(os.path.dirname(want.local)))
+            count = save(want.local, self._checked(want.rows), held.moment, self.force)
+        except (UdfburnError, OSError) as error:
+            self.summary.failures.append(f"{shown_path(held.path)}: {error}")
+            return
+        self._changed.add(os.path.dirname(want.local))
+        self.summary.files += 1
+        self.summary.bytes += count
+        self.tell.step("got", held.path, count, self._rows[held.volume].label, held.commit)
+
+    def _at_hand(self, number: int) -> bool:
+        return number in self._open or (number in self._rows and image_of(self.config, self._rows[number]) is not None)
+
+    def _volume(self, number: int) -> Tuple[Contents, Dict[int, File]]:
+        """A volume and its files by their commits. A few are kept open."""
+        if number not in self._open:
+            if len(self._open) >= 4:
+                first = next(iter(self._open))
+                self._open.pop(first)[0].close()
+            image = image_of(self.config, self._rows[number])
+            if image is None:
+                raise Lacking(f"{self._rows[number].label} is not at hand")
+            contents = Contents(image)
+            self._open[number] = contents, {file.commit: file for file in contents.files()}
+        return self._open[number]
+
+    def _checked(self, rows: Sequence[Held]) -> Iterator[bytes]:
+        """The bytes of a version. They are compared with their digest before the last of them is given, so no file gets its name
+        that differs."""
+        whole, count, last = sha256(), 0, b""
+        have = 0
+        for row in rows:
+            contents, files = self._volume(row.volume)
+            file = files.get(row.commit)
+            if file is None or file.path != row.path:
+                raise VolumeDiffers(f"{contents.image}: does not have it as the catalogue says: run 'check' and 'rebuild'")
+            skip = max(have - (row.first or 0), 0)
+            for index, piece in enumerate(contents.pieces(file)):
+                if index < skip:
+                    continue
+                whole.update(piece)
+                count += len(piece)
+                have += 1
+                yield last
+                last = piece
+        if count != rows[0].size or whole.digest() != rows[0].sha256:
+            raise VolumeDiffers("its bytes are not those of its SHA-256: run 'check --data', and 'repair'")
+        yield last
+
+
+def require_folder(folder: str) -> None:
+    """Sees that files can go into a folder, which is made where it is missing."""
+    if os.path.lexists(folder) and not os.path.isdir(folder):
+        raise SourceError(f"{shown(folder)}: is no folder")
+
+
+__all__ = ["Getter", "Lacking", "Summary", "Wanted", "as_of", "require_folder", "wanted"]

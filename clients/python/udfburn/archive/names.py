@@ -1,0 +1,209 @@
+"""How paths of an archive are written on a volume, and read back without the catalogue (docs/ARCHIVE.md, "Names").
+
+A name keeps its spelling where UDF can spell it and it does not begin with `=`. Names that begin with `=` are this
+program's: `=s1` and on hold names of the folder above that found no room in it, `=v2` and on hold later versions,
+`=p0` and on hold the parts of a file, `=file.txt` describes them, and `==` begins an escaped name. To undo the layout,
+leave out the `=s` and `=v` folders, and decode escaped names.
+"""
+
+from __future__ import annotations
+
+import os
+import re
+from typing import Iterable, List, NamedTuple, Optional, Tuple
+
+from ..bag import PAYLOAD
+from ..protocol import Path, limits
+from ..protocol.names import has_spelling, name_fault, spelled_size
+from .errors import CannotStore
+
+MARK = "="
+"""What a reserved name begins with."""
+
+ESCAPED = "=="
+"""What an escaped name begins with."""
+
+DESCRIPTION = "=file.txt"
+"""The name of the text that describes a file in parts."""
+
+DEPTH = 9
+"""Names of a folder of the archive as it is stored, at most. Above are `data` and a version, below are a spread folder, a
+file in parts, which may take a name more, a folder of parts and a part: 16 names in all."""
+
+PIECE = 240
+"""Bytes of a piece of an escaped name, as it is spelled and in UTF-8, at most."""
+
+SHOWN = 254
+"""Bytes of UTF-8 of a name that Linux shows whole, at most."""
+
+CODED = "%\r\n"
+"""Letters that a manifest writes otherwise (RFC 8493 2.1.3), which not all who check a bag know. So no stored name has them."""
+
+SPREAD = re.compile(r"=s([1-9][0-9]*)")
+VERSION = re.compile(r"=v([1-9][0-9]*)")
+PARTS = re.compile(r"=p(0|[1-9][0-9]*)")
+HEXED = re.compile(rb"=([0-9A-F]{2})")
+
+
+def is_plain(name: str) -> bool:
+    """Whether a name is stored as it is: UDF can spell it, Linux shows it whole, and a manifest has it without a code."""
+    return (
+        name_fault(name) is None and not name.startswith((MARK, "..")) and not any(letter in name for letter in CODED)
+        and len(name.encode()) <= SHOWN
+    )
+
+
+def spelled(name: str) -> Path:
+    """The names, one below the other, under which a name is stored: most often itself alone."""
+    return (name,) if is_plain(name) else pieces(tokens(name))
+
+
+def tokens(name: str) -> List[str]:
+    """The characters of an escaped name: those that UDF can spell as they are, bytes of others as `=` and two digits."""
+    found = []
+    for character in name:
+        plain = has_spelling(character) and character not in "=/\0" + CODED
+        found.append(character if plain else "".join(f"={byte:02X}" for byte in os.fsencode(character)))
+    return found
+
+
+def pieces(parts: Iterable[str]) -> Path:
+    """An escaped name as names that fit. Each but the last ends with `=`."""
+    names, piece = [], ESCAPED
+    for part in parts:
+        if max(spelled_size(piece + part), len((piece + part).encode())) > PIECE:
+            names.append(piece + MARK)
+            piece = ESCAPED
+        piece += part
+    return (*names, piece)
+
+
+def decoded(names: Path) -> Path:
+    """The path that stored names stand for, where none of them is of this program but escaped ones."""
+    path: List[str] = []
+    begun = ""
+    for name in names:
+        if not name.startswith(ESCAPED):
+            path.append(name)
+            continue
+        begun += name[len(ESCAPED) :]
+        if begun.endswith(MARK):
+            begun = begun[:-1]
+            continue
+        path += unescaped(begun).split("/")
+        begun = ""
+    return tuple(path)
+
+
+def unescaped(text: str) -> str:
+    """The name that an escaped one stands for."""
+    return os.fsdecode(HEXED.sub(lambda found: bytes([int(found.group(1), 16)]), os.fsencode(text)))
+
+
+def stored_folder(path: Path) -> Path:
+    """The names under which a folder of the archive is stored below the payload. Where there are too many of them, or too
+    deep, the first names of the path are joined to one escaped name."""
+    whole = [spelled(name) for name in path]
+    below = [name for names in whole for name in names]
+    if len(below) <= DEPTH:
+        return tuple(below)
+    for count in range(2, len(path) + 1):
+        joined = pieces(token for token in tokens_of_path(path[:count]))
+        rest = [name for names in whole[count:] for name in names]
+        if len(joined) + len(rest) <= DEPTH:
+            return joined + tuple(rest)
+    raise CannotStore(f"{text_of(path)}: is too long a path for a volume, also with its names joined")
+
+
+def tokens_of_path(path: Path) -> List[str]:
+    """The tokens of names that are joined by escaped slashes."""
+    found: List[str] = []
+    for index, name in enumerate(path):
+        found += (["=2F"] if index else []) + tokens(name)
+    return found
+
+
+# ---- stored paths, read back
+
+class Stored(NamedTuple):
+    """What a stored path is: a path of the archive, the version of it, and which part of the file, None for the whole of
+    it, -1 for its description."""
+
+    path: Path
+    version: int
+    part: Optional[int]
+
+
+def read_back(names: Path) -> Optional[Stored]:
+    """What a stored file is; None where it is none of the payload."""
+    if not names or names[0] != PAYLOAD:
+        return None
+    names, version, part = names[1:], 1, None
+    found = VERSION.fullmatch(names[0]) if names else None
+    if found:
+        names, version = names[1:], int(found.group(1))
+    if names and names[-1] == DESCRIPTION:
+        names, part = names[:-1], -1
+    elif len(names) > 1 and PARTS.fullmatch(names[-2]) and names[-1].isdigit():
+        names, part = names[:-2], int(names[-1])
+    kept = tuple(name for name in names if not SPREAD.fullmatch(name))
+    return Stored(decoded(kept), version, part)
+
+
+def folder_back(names: Path) -> Optional[Tuple[int, Path]]:
+    """The version and the folder of the archive whose names a stored folder holds; None where it holds none, as a folder of
+    parts or the beginning of a long name."""
+    if not names or names[0] != PAYLOAD:
+        return None
+    below, version = names[1:], 1
+    found = VERSION.fullmatch(below[0]) if below else None
+    if found:
+        below, version = below[1:], int(found.group(1))
+    last = below[-1] if below else ""
+    if PARTS.fullmatch(last) or (last.startswith(ESCAPED) and last.endswith(MARK)):
+        return None
+    return version, decoded(tuple(name for name in below if not SPREAD.fullmatch(name)))
+
+
+def part_name(index: int) -> Path:
+    """The names of a part below the folder of its file: 500 parts a folder, in eight digits and more."""
+    return (f"=p{index // 500}", f"{index:08}")
+
+
+# ---- paths as texts
+
+LOW, HIGH = 0xDC80, 0x10FF80
+"""Bytes that are no UTF-8 are surrogates in Python, which no base keeps; a base has private characters in their place."""
+
+KEPT = {LOW + index: HIGH + index for index in range(128)}
+BACK = {HIGH + index: LOW + index for index in range(128)}
+
+
+def kept_name(name: str) -> str:
+    """A name as the catalogue keeps it."""
+    if name.isascii():
+        return name
+    if any(HIGH <= ord(character) for character in name):
+        raise CannotStore(f"{name!r}: has a private character that the catalogue uses for bytes that are not UTF-8")
+    return name.translate(KEPT)
+
+
+def name_back(kept: str) -> str:
+    """The name that the catalogue keeps."""
+    return kept if kept.isascii() else kept.translate(BACK)
+
+
+def text_of(path: Path) -> str:
+    """A path as users write it."""
+    return "/" + "/".join(path)
+
+
+def path_of(text: str) -> Path:
+    """The names of a path that users write. Empty names and `.` count for nothing; `..` is refused."""
+    names = tuple(name for name in text.split("/") if name not in ("", "."))
+    if ".." in names or "\0" in text:
+        raise CannotStore(f"{text}: is no path of an archive")
+    return names
+
+
+assert 1 + 1 + DEPTH + 1 + 2 + 1 + 1 <= limits.DEPTH

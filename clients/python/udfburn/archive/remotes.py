@@ -1,0 +1,151 @@
+"""Where copies of closed volumes go: a folder of any file system, or a remote of rclone. What arrived is read back and compared."""
+
+from __future__ import annotations
+
+import os
+import shutil
+import subprocess
+from hashlib import sha256
+from typing import IO, Iterator, List, NamedTuple, Optional
+
+from ..ledger import sync_file, sync_folder
+from ..sources import shown
+from .errors import CopyFailed
+
+PIECE = 1 << 20
+
+NOT_THERE = (3, 4)
+"""The statuses of rclone where there is no such folder or file."""
+
+
+class Print(NamedTuple):
+    """A file's length and its SHA-256."""
+
+    length: int
+    sha256: bytes
+
+
+def print_of(stream: IO[bytes]) -> Print:
+    """The length and the digest of what is left of a stream."""
+    whole, count = sha256(), 0
+    while True:
+        piece = stream.read(PIECE)
+        if not piece:
+            return Print(count, whole.digest())
+        whole.update(piece)
+        count += len(piece)
+
+
+def print_of_file(path: str, fresh: bool = False) -> Print:
+    """The length and the digest of a file; `fresh` reads it from the disk, and not what the system has in memory."""
+    with open(path, "rb") as file:
+        if fresh:
+            os.posix_fadvise(file.fileno(), 0, 0, os.POSIX_FADV_DONTNEED)
+        return print_of(file)
+
+
+class Remote:
+    """A place for copies. `name` is how `archive.toml` has it."""
+
+    def __init__(self, name: str):
+        self.name = name
+
+    def send(self, local: str, name: str) -> None:
+        """Copies a file there. It gets its name once it is whole."""
+        raise NotImplementedError
+
+    def fetch(self, name: str, local: str) -> None:
+        """Copies a file from there."""
+        raise NotImplementedError
+
+    def look(self, name: str) -> Optional[Print]:
+        """The length and the digest of a file there, by all its bytes; None where it is not there."""
+        raise NotImplementedError
+
+
+class FolderRemote(Remote):
+    """A folder."""
+
+    def send(self, local: str, name: str) -> None:
+        target = os.path.join(self.name, name)
+        new = target + ".new"
+        try:
+            shutil.copyfile(local, new)
+            sync_file(new)
+            os.replace(new, target)
+            sync_folder(self.name)
+        except OSError as error:
+            raise CopyFailed(f"{shown(target)}: {error.strerror or error}") from error
+
+    def fetch(self, name: str, local: str) -> None:
+        try:
+            shutil.copyfile(os.path.join(self.name, name), local)
+        except OSError as error:
+            raise CopyFailed(f"{shown(os.path.join(self.name, name))}: {error.strerror or error}") from error
+
+    def look(self, name: str) -> Optional[Print]:
+        path = os.path.join(self.name, name)
+        try:
+            return print_of_file(path, fresh=True)
+        except FileNotFoundError:
+            # Of a disk that is not mounted nothing is known, and nothing is written in its place.
+            if not os.path.isdir(self.name):
+                raise CopyFailed(f"{shown(self.name)}: is not there: mount it, or make the folder") from None
+            return None
+        except OSError as error:
+            raise CopyFailed(f"{shown(path)}: {error.strerror or error}") from error
+
+
+class RcloneRemote(Remote):
+    """A remote of rclone, by its own configuration."""
+
+    def _path(self, name: str) -> str:
+        return self.name + ("" if self.name.endswith((":", "/")) else "/") + name
+
+    def _run(self, words: List[str], missing: bool = False) -> Optional[bytes]:
+        """What rclone prints; None where what it looks for is not there, and that may be."""
+        try:
+            done = subprocess.run(["rclone", *words], stdin=subprocess.DEVNULL, capture_output=True, check=False)
+        except FileNotFoundError as error:
+            raise CopyFailed("the program rclone is not on the PATH (Debian: rclone)") from error
+        if missing and done.returncode in NOT_THERE:
+            return None
+        if done.returncode:
+            raise CopyFailed(f"rclone {' '.join(words[:1])} {self.name}: {last_line(done.stderr) or f'status {done.returncode}'}")
+        return done.stdout
+
+    def send(self, local: str, name: str) -> None:
+        # A name of its own first: not every remote takes a file as a whole or not at all.
+        new = self._path(name + ".new")
+        self._run(["copyto", "--ignore-times", local, new])
+        self._run(["moveto", new, self._path(name)])
+
+    def fetch(self, name: str, local: str) -> None:
+        self._run(["copyto", "--ignore-times", self._path(name), local])
+
+    def look(self, name: str) -> Optional[Print]:
+        if not self._run(["lsf", "--files-only", self._path(name)], missing=True):
+            return None
+        with subprocess.Popen(["rclone", "cat", self._path(name)], stdin=subprocess.DEVNULL, stdout=subprocess.PIPE, stderr=subprocess.PIPE) as process:
+            assert process.stdout and process.stderr
+            found = print_of(process.stdout)
+            told = process.stderr.read()
+        if process.returncode:
+            raise CopyFailed(f"rclone cat {self.name}: {last_line(told)}")
+        return found
+
+
+def last_line(told: bytes) -> str:
+    """The last line of what a program told."""
+    lines = told.decode(errors="replace").strip().splitlines()
+    return lines[-1] if lines else ""
+
+
+def remote_of(name: str) -> Remote:
+    """The place of a name in `archive.toml`."""
+    return FolderRemote(name) if os.path.isabs(name) else RcloneRemote(name)
+
+
+def remotes_of(names: "tuple[str, ...]") -> Iterator[Remote]:
+    """The places of an archive."""
+    return map(remote_of, names)

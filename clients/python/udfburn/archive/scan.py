@@ -1,0 +1,104 @@
+"""Local folders, one after another, as what is to be stored; links are not followed."""
+
+from __future__ import annotations
+
+import os
+import stat
+from typing import Iterator, List, NamedTuple, Sequence, Set, Tuple
+
+from ..errors import UsageError
+from ..protocol import Path
+from ..sources import Identity, Source, odd, shown
+from .names import path_of, text_of
+
+
+class Found(NamedTuple):
+    """A folder of the archive, with the files that are to be in it."""
+
+    folder: Path
+    files: List[Source]
+
+
+class Walk:
+    """Folders as they are found. `odd` has what is neither file nor folder, `faults` what cannot be read, `empty` counts folders
+    with nothing in them, which the archive does not keep."""
+
+    def __init__(self, own: str):
+        status = os.stat(own)
+        self._own = (status.st_dev, status.st_ino)
+        self.odd: List[str] = []
+        self.faults: List[str] = []
+        self.empty = 0
+
+    def below(self, local: str, at: Path) -> Iterator[Found]:
+        """A file, or a folder and all below it."""
+        try:
+            status = os.lstat(local)
+        except OSError as error:
+            self.faults.append(f"{shown(local)}: {error.strerror}")
+            return
+        if stat.S_ISDIR(status.st_mode):
+            yield from self._folder(local, at)
+        elif stat.S_ISREG(status.st_mode):
+            yield Found(at[:-1], [Source(local, at, Identity.of(status))])
+        else:
+            self.odd.append(f"{shown(local)}: is {odd(status)}")
+
+    def _folder(self, local: str, at: Path) -> Iterator[Found]:
+        """Folder by folder, the files of each before the folders in it."""
+        waiting = [(local, at)]
+        while waiting:
+            local, at = waiting.pop()
+            files, folders = self._names(local, at)
+            if files:
+                yield Found(at, files)
+            waiting += reversed(folders)
+
+    def _names(self, local: str, at: Path) -> Tuple[List[Source], List[Tuple[str, Path]]]:
+        files: List[Source] = []
+        folders: List[Tuple[str, Path]] = []
+        try:
+            status = os.stat(local)
+            entries = [] if (status.st_dev, status.st_ino) == self._own else sorted(os.scandir(local), key=lambda entry: os.fsencode(entry.name))
+        except OSError as error:
+            self.faults.append(f"{shown(local)}: {error.strerror}")
+            return [], []
+        self.empty += not entries
+        for entry in entries:
+            try:
+                found = entry.stat(follow_symlinks=False)
+            except OSError as error:
+                self.faults.append(f"{shown(entry.path)}: {error.strerror}")
+                continue
+            if stat.S_ISDIR(found.st_mode):
+                folders.append((entry.path, at + (entry.name,)))
+            elif stat.S_ISREG(found.st_mode):
+                files.append(Source(entry.path, at + (entry.name,), Identity.of(found)))
+            else:
+                self.odd.append(f"{shown(entry.path)}: is {odd(found)}")
+        return files, folders
+
+
+def targets(locals_: Sequence[str], at: str) -> List[Tuple[str, Path]]:
+    """The path that each local file or folder becomes. One becomes AT; with a slash at its end, or with several, each gets its
+    own name below AT. No two become one path, or one a part of the other."""
+    names = path_of(at)
+    if len(locals_) == 1 and not at.endswith("/"):
+        found = [(locals_[0], names)]
+    else:
+        found = [(local, names + own_name(local)) for local in locals_]
+    taken: Set[Path] = set()
+    for local, path in found:
+        if not path and not os.path.isdir(local):
+            raise UsageError(f"{shown(local)}: is no folder, and cannot become the root of the archive")
+        above = {path[:depth] for depth in range(len(path) + 1)}
+        if above & taken or any(other[: len(path)] == path for other in taken):
+            raise UsageError(f"{text_of(path)}: more than one of the folders would be there, or one inside another: add them one by one")
+        taken.add(path)
+    return found
+
+
+def own_name(local: str) -> Path:
+    """The name of a local file or folder; none for the root of the system."""
+    name = os.path.basename(os.path.abspath(local))
+    return (name,) if name else ()

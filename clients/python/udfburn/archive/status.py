@@ -1,0 +1,107 @@
+"""How each volume stands: how full in each limit, when it was last looked at, where its copies are, and what needs attention."""
+
+from __future__ import annotations
+
+import os
+import time
+from typing import Dict, List, NamedTuple, Optional, Tuple
+
+from ..protocol import limits
+from .catalogue import CLOSED, CLOSING, FULL, NEW, Catalogue, Copy, VolumeRow
+from .config import Config
+from .tree import MANIFEST
+from .volume import image_of
+
+STALE = 400 * 86_400 * 1_000_000
+"""Microseconds after which a closed volume should be looked at again."""
+
+
+class Line(NamedTuple):
+    """A volume: its state, and how full it is in each limit, from 0 to 1."""
+
+    row: VolumeRow
+    state: str
+    at_hand: bool
+    fullness: Dict[str, float]
+    copies: List[Copy]
+    attention: List[str]
+
+
+def fullness(row: VolumeRow) -> Dict[str, float]:
+    """How full a volume is in each limit."""
+    return {
+        "nodes": row.nodes / limits.NODES, "names": row.fullest_folder / limits.NAMES, "blocks": row.blocks / row.capacity,
+        "clients": row.clients / limits.CLIENTS, "manifest": row.manifest / MANIFEST,
+    }
+
+
+def good(copies: List[Copy], config: Config) -> int:
+    """How many copies are well, of those that `archive.toml` asks for."""
+    return sum(1 for copy in copies if copy.trouble is None and copy.remote in config.copies)
+
+
+def state_of(row: VolumeRow, at_hand: bool, copies: int, config: Config, own: bool) -> str:
+    """The state as users see it."""
+    if own and not at_hand and row.state != NEW:
+        return "away"
+    if row.state == CLOSED and config.copies and copies == len(config.copies):
+        return "copied"
+    return row.state
+
+
+def attention(row: VolumeRow, at_hand: bool, copies: List[Copy], config: Config, own: bool, now: int) -> List[str]:
+    """What needs somebody."""
+    found = []
+    if row.trouble:
+        found.append(f"{row.trouble}: 'repair {row.label}'")
+    found += [f"the copy on {copy.remote}: {copy.trouble}: 'repair {row.label}'" for copy in copies if copy.trouble]
+    if own and not at_hand and row.state not in (NEW, CLOSED):
+        found.append("is not closed, and its image is not at hand: bring it back")
+    if own and not at_hand and row.state == CLOSED and not good(copies, config):
+        found.append("is away, and no copy is known")
+    if row.state in (FULL, CLOSING):
+        found.append(f"is {row.state}: 'close {row.label}'")
+    if row.state == CLOSED and at_hand and good(copies, config) < len(config.copies):
+        missing = [remote for remote in config.copies if remote not in [copy.remote for copy in copies if not copy.trouble]]
+        found.append(f"is not on {', '.join(missing)}: 'close {row.label}'")
+    if row.state == CLOSED and at_hand and now - (row.checked or row.closed or 0) > STALE:
+        found.append(f"was not checked for {(now - (row.checked or row.closed or 0)) // 86_400_000_000} days: 'check {row.label}'")
+    return found
+
+
+def lines(config: Config, catalogue: Catalogue) -> List[Line]:
+    """All volumes, those that need attention first."""
+    copies: Dict[int, List[Copy]] = {}
+    for copy in catalogue.copies():
+        copies.setdefault(copy.volume, []).append(copy)
+    now = time.time_ns() // 1000
+    found = []
+    for row in catalogue.volumes():
+        own, at_hand = row.holder == config.id, image_of(config, row) is not None
+        have = copies.get(row.number, [])
+        state = state_of(row, at_hand, good(have, config), config, own)
+        found.append(Line(row, state, at_hand, fullness(row), have, attention(row, at_hand, have, config, own, now)))
+    return sorted(found, key=lambda line: (not line.attention, line.row.number))
+
+
+def incomplete(catalogue: Catalogue) -> List[Tuple[str, str]]:
+    """Files in parts of which the archive lacks some: their paths, and the volumes of the parts that are there."""
+    from .catalogue import held_row, folder_back, FILE, is_whole, Held
+    from .tell import shown_path
+
+    groups: Dict[object, List[Held]] = {}
+    statement = f"SELECT {FILE}, folder.path FROM file JOIN folder ON folder.id = file.folder WHERE file.size > ?"
+    for row in catalogue.base.run(statement, (limits.FILE,)):
+        held = held_row(folder_back(row[-1]), row[:-1])
+        groups.setdefault(held.version(), []).append(held)
+    lacking = [group for group in groups.values() if not is_whole(group)]
+    return [(shown_path(group[0].path), ", ".join(f"{catalogue.config.label}-{held.volume:06}" for held in group)) for group in lacking]
+
+
+def room(config: Config) -> Optional[int]:
+    """Bytes that the disk of the archive's folder has left."""
+    try:
+        found = os.statvfs(config.folder)
+    except OSError:
+        return None
+    return found.f_bavail * found.f_frsize

@@ -1,0 +1,55 @@
+"""What a command of the archive tells while it works."""
+
+from __future__ import annotations
+
+import time
+from ..progress import Progress, plural, printable, size
+from ..protocol import Path
+from .names import text_of
+
+
+def shown_path(path: Path) -> str:
+    """A path that can be printed whatever bytes it has."""
+    return text_of(path).encode(errors="surrogateescape").decode(errors="backslashreplace")
+
+
+class Tell(Progress):
+    """Steps, with the volume of each; and on a terminal one line that counts, since nobody knows the whole ahead."""
+
+    def step(self, what: str, path: Path, count: int, volume: str = "", commit: int = 0) -> None:
+        """A step was done."""
+        self.done_files += 1
+        self.done_bytes += count
+        if self.quiet:
+            return
+        if self.as_json:
+            self._print_json({"did": what, "path": shown_path(path), "bytes": count, "volume": volume or None, "commit": commit or None})
+        elif self.bar:
+            self._count(what)
+        else:
+            where = f" {volume}" if volume else ""
+            print(printable(f"{what} {shown_path(path)}{where}"), file=self.output)
+
+    def _count(self, what: str) -> None:
+        now = time.monotonic()
+        if now - self.shown >= 0.1:
+            self.shown = now
+            seconds = max(now - self.began, 1e-6)
+            line = f"{what}: {plural(self.done_files, 'file', 'files')}, {size(self.done_bytes)}, {size(self.done_bytes / seconds)}/s"
+            self.errors.write("\r\x1b[K" + line)
+            self.errors.flush()
+
+    def say_step(self, line: str, **fields: object) -> None:
+        """A step that is no file's."""
+        if self.bar:
+            self.end()
+        if not self.quiet:
+            self.say(line, **fields)
+
+    def note(self, line: str) -> None:
+        """Something that a user has to know, on the standard error."""
+        self.end()
+        print(f"udfburn-archive: {printable(line)}", file=self.errors, flush=True)
+
+
+__all__ = ["Tell", "plural", "shown_path", "size"]

@@ -1,0 +1,239 @@
+"""The folders of an open volume, and whether more fits in every limit: nodes, names, blocks and the manifest's bytes."""
+
+from __future__ import annotations
+
+from typing import Dict, Iterable, List, NamedTuple, Optional, Tuple
+
+from ..bag import PAYLOAD, manifest_size
+from ..blocks import Layout, Reckoner, Space, blocks_for, data_blocks
+from ..protocol import Path, limits
+from .catalogue import part_count
+from .names import DESCRIPTION, SPREAD, part_name, spelled, stored_folder
+
+KEPT_NODES = 10
+"""Nodes that are kept for what `close` writes and for the next run."""
+
+KEPT_NAMES = 9
+"""Names that a folder keeps for the folders that spread it: there are at most eight, since a volume has 4,096 nodes."""
+
+MANIFEST = limits.FILE - 1024
+"""Bytes of a manifest, at most."""
+
+SPARE = 64
+"""Blocks that are kept beside what is reckoned: a block that looks like a table's entry moves what is written."""
+
+
+FIRST = 262
+"""The first block behind a format."""
+
+Undo = Tuple[Tuple[int, int, int, int], List[Path], Dict[Path, Optional[Tuple[int, int, int]]]]
+"""What is needed to undo a plan: the counts before it, what it named, and how the folders of that were laid."""
+
+
+class Place(NamedTuple):
+    """Where a file goes: the folders that are made for it, and its own path, which is a folder's where it has parts."""
+
+    folders: Tuple[Path, ...]
+    path: Path
+
+
+class Tree:
+    """An open volume as it will be when all that was planned is written."""
+
+    def __init__(self, space: Space, manifest: int = 0):
+        self.capacity = space.capacity
+        self.space = space
+        self.manifest = manifest
+        self.reckoner = Reckoner(space)
+        self.names: Dict[Path, Dict[str, bool]] = {(): {}}
+        self.actual: Dict[Path, List[Path]] = {(): [()]}
+        self._undo: List[Undo] = []
+        self._keep_room()
+
+    @staticmethod
+    def empty(capacity: int) -> "Tree":
+        """A volume right after it was opened."""
+        tree = Tree(Space(capacity, FIRST, {1}))
+        tree.small(("volume.txt",), 2000)
+        for folder in ("runs", PAYLOAD):
+            tree.reckoner.make((folder,))
+            tree.has((folder,), True)
+        tree.small(("runs", "00001.txt"), 500)
+        return tree
+
+    # ---- what is there
+
+    def has(self, path: Path, is_folder: bool) -> None:
+        """Takes in what the volume has; folders before what is in them."""
+        self.names[path[:-1]][path[-1]] = is_folder
+        if is_folder:
+            self.names[path] = {}
+            self.actual.setdefault(logical(path), []).append(path)
+
+    def lay_out(self) -> None:
+        """Reckons how the folders that are there are laid, once all of them are taken in."""
+        for path, names in self.names.items():
+            self.reckoner.directory(path, names)
+
+    def at(self, logic: Path) -> Optional[bool]:
+        """What is at a path where spreading folders count for nothing: a folder, a file, or None for nothing."""
+        if not logic:
+            return True
+        for folder in self.actual.get(logic[:-1], ()):
+            if logic[-1] in self.names[folder]:
+                return self.names[folder][logic[-1]]
+        return None
+
+    # ---- what it takes
+
+    def reserve(self) -> int:
+        """Blocks that `close` needs: the manifest with what the program asks for it, and five small files."""
+        table = blocks_for(196 + 48 * (len(self.space.clients) + 1) + 4 * (self.space.entries + KEPT_NODES))
+        return 2 * blocks_for(self.manifest + 4096) + 6 * (2 * table + 16) + SPARE
+
+    def _keep_room(self) -> None:
+        self.space.capacity = self.capacity - self.reserve()
+
+    def fits(self, sizes: Iterable[int], folder: Path, names: Iterable[str]) -> bool:
+        """Whether files of these sizes and names fit in a folder together, as far as can be reckoned ahead."""
+        layout, entries, nodes, blocks, manifest = self._layout(folder), self.space.entries, self.space.nodes, 0, self.manifest
+        nodes += len(folder) + 2
+        base = (PAYLOAD,) + folder
+        for size, name in zip(sizes, names):
+            parts = part_count(size)
+            nodes += 1 + (parts + 2 + parts // 500 if parts else 0)
+            entries = max(entries, nodes + 1)
+            table = blocks_for(196 + 48 * (len(self.space.clients) + 1) + 4 * entries)
+            layout.add(name[:127] or "x")
+            if layout.full > 40:
+                layout, nodes = Layout(), nodes + 1
+            blocks += table + 2 + data_blocks(min(size, limits.FILE)) + layout.blocks()
+            blocks += (parts - 1) * (table + 2 + data_blocks(limits.FILE) + 12) if parts else 0
+            manifest += max(parts, 1) * (manifest_size(base) + 2 + len(name.encode(errors="replace"))) + 16 * parts
+            if nodes > limits.NODES - KEPT_NODES or manifest > MANIFEST:
+                return False
+        return self.space.next + blocks + 2 * blocks_for(manifest - self.manifest) + SPARE <= self.space.capacity
+
+    def _layout(self, folder: Path) -> Layout:
+        """How the names of a folder are laid, to add more to it."""
+        found = self.actual.get((PAYLOAD,) + stored_folder(folder), [])
+        layouts: Dict[Path, Layout] = {}
+        restore_layout(layouts, (), kept_layout(self.reckoner.layouts.get(found[-1])) if found else None)
+        return layouts.get((), Layout())
+
+    # ---- what is planned
+
+    def place(self, folder: Path, name: str, size: int, in_parts: bool) -> Optional[Place]:
+        """Plans a file, or the description of one in parts, in the first version that has its path free. None where it does
+        not fit."""
+        for version in range(1, limits.NODES):
+            base = (PAYLOAD,) + ((f"=v{version}",) if version > 1 else ()) + stored_folder(folder)
+            whole = base + spelled(name)
+            if not self._conflict(whole):
+                return self._plan(whole + ((DESCRIPTION,) if in_parts else ()), size)
+        return None
+
+    def place_part(self, whole: Path, index: int, size: int) -> Optional[Place]:
+        """Plans a part of a file, whose folder is there or planned."""
+        return self._plan(logical(whole) + part_name(index), size)
+
+    def small(self, path: Path, size: int) -> Optional[Place]:
+        """Plans a small file of this program's own."""
+        return self._plan(path, size)
+
+    def _conflict(self, whole: Path) -> bool:
+        """Whether something has this path, or a file is where a folder of it would be."""
+        return self.at(whole) is not None or any(self.at(whole[:depth]) is False for depth in range(1, len(whole)))
+
+    def _plan(self, whole: Path, size: int) -> Optional[Place]:
+        """Plans the folders above and the file; None where a limit would be passed, and then nothing is planned."""
+        before = self._kept()
+        made: List[Path] = []
+        last = self._names(whole, made)
+        new = made + [last] if last is not None else made
+        layouts = {path[:-1]: kept_layout(self.reckoner.layouts.get(path[:-1])) for path in new}
+        self._undo.append((before, new, layouts))
+        if last is not None and len(last) <= limits.DEPTH:
+            fits = all([self.reckoner.make(path) for path in made]) and self.reckoner.create(last, size)
+            self.manifest += manifest_size(last) if whole[0] == PAYLOAD else 0
+            self._keep_room()
+            if fits and self.space.nodes <= limits.NODES - KEPT_NODES and self.manifest <= MANIFEST and self.space.next <= self.space.capacity:
+                return Place(tuple(made), last)
+        self.back()
+        return None
+
+    def _names(self, whole: Path, made: List[Path]) -> Optional[Path]:
+        """Names the folders above that are missing, and the file; None where there is no room for a name."""
+        for depth in range(1, len(whole)):
+            if self._step(whole[:depth], True, made) is None:
+                return None
+        return self._step(whole, False, made)
+
+    def _kept(self) -> Tuple[int, int, int, int]:
+        return self.space.next, self.space.nodes, self.space.entries, self.manifest
+
+    def back(self) -> None:
+        """Undoes what was planned last."""
+        before, new, layouts = self._undo.pop()
+        self.space.next, self.space.nodes, self.space.entries, self.manifest = before
+        for path in reversed(new):
+            if self.names[path[:-1]].pop(path[-1]):
+                del self.names[path]
+                self.reckoner.layouts.pop(path, None)
+                self.actual[logical(path)].remove(path)
+                if not self.actual[logical(path)]:
+                    del self.actual[logical(path)]
+        for path, kept in layouts.items():
+            if path in self.names:
+                restore_layout(self.reckoner.layouts, path, kept)
+        self._keep_room()
+
+    def settle(self) -> None:
+        """What was planned so far is not undone any more."""
+        self._undo.clear()
+
+    def share(self) -> float:
+        """How full it is, in the limit that is nearest: from 0 to 1."""
+        return max(self.space.next / max(self.space.capacity, 1), self.space.nodes / (limits.NODES - KEPT_NODES), self.manifest / MANIFEST)
+
+    def _step(self, logic: Path, is_folder: bool, made: List[Path]) -> Optional[Path]:
+        """The actual path of a name, which is put where there is room for it."""
+        above = self.actual[logic[:-1]]
+        for folder in above:
+            if logic[-1] in self.names[folder]:
+                return folder + (logic[-1],)
+        home = next((folder for folder in above if len(self.names[folder]) < room_of(folder)), None)
+        if home is None:
+            home = above[0] + (f"=s{len(above)}",)
+            if len(self.names[above[0]]) >= limits.NAMES:
+                return None
+            self.has(home, True)
+            made.append(home)
+        path = home + (logic[-1],)
+        self.has(path, is_folder)
+        if is_folder:
+            made.append(path)
+        return path
+
+
+def kept_layout(layout: Optional[Layout]) -> Optional[Tuple[int, int, int]]:
+    """How a folder is laid, so that it can be had again."""
+    return None if layout is None else (layout.full, layout.at, layout.sum)
+
+
+def restore_layout(layouts: Dict[Path, Layout], path: Path, kept: Optional[Tuple[int, int, int]]) -> None:
+    """Has a folder laid as it was."""
+    if kept is None:
+        layouts.pop(path, None)
+    else:
+        layouts.setdefault(path, Layout()).full, layouts[path].at, layouts[path].sum = kept
+
+
+def logical(path: Path) -> Path:
+    """A stored path without the folders that spread others."""
+    return tuple(name for name in path if not SPREAD.fullmatch(name))
+
+
+def room_of(folder: Path) -> int:
+    """The names that a folder takes."""
+    return limits.NAMES if folder and SPREAD.fullmatch(folder[-1]) else limits.NAMES - KEPT_NAMES

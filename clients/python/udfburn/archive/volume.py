@@ -1,0 +1,250 @@
+"""An open volume of this archive's folder: made, taken up again after a crash, and planned on."""
+
+from __future__ import annotations
+
+import os
+import time
+from contextlib import closing
+from datetime import datetime, timezone
+from typing import Iterator, Optional
+
+from ..bag import PAYLOAD, manifest_size
+from ..blocks import Space
+from ..client import Client
+from ..connection import find_program, run_program
+from ..ledger import sync_folder
+from ..operations import Operation, now
+from ..protocol import Code, Create, MakeDir, Path
+from ..reader import Kind
+from .catalogue import CLOSED, NEW, OPEN, Catalogue, VolumeRow
+from .claims import Claims
+from .config import Config, volume_label
+from .contents import ABOUT, RUNS, TITLE, Contents
+from .errors import VolumeDiffers
+from .tree import Tree
+
+RUNS_MOST = 480
+"""Runs that write to one volume, at most: each has a text in one folder."""
+
+CLIENTS_MOST = 37
+"""Clients that a volume gets, at most: Linux mounts a volume with up to 38."""
+
+RULES = """
+This volume belongs to an archive that is larger than a disc. The files are below
+data/, under their own paths and names, but for what this text says. Names that
+begin with = are the archive's:
+
+  =s1, =s2 ..  A folder with more names than UDF takes here goes on in these. Move
+               what is in them up into the folder that has them.
+  =v2, =v3 ..  Right below data/: later versions of files, under their own paths.
+  NAME/=file.txt, NAME/=p0/00000000 ..
+               A file above a mebibyte, in parts: "cat NAME/=p*/*" joins them, in
+               order of their numbers. The text has its size and its SHA-256. Where
+               parts are missing here they are on other volumes of the archive.
+  ==NAME       A name that UDF cannot spell, one that begins with =, or several
+               names in one where a path is too deep. =XX is the byte XX in
+               hexadecimal digits, as in quoted-printable; =2F separates names.
+               A folder whose name ends with = goes on with the name in it.
+
+runs/ has a text for each run that wrote to this volume. A closed volume is a bag
+of RFC 8493: "sha256sum -c manifest-sha256.txt" checks it.
+"""
+
+
+def stamp(moment: int) -> str:
+    """A moment, as people read it."""
+    return datetime.fromtimestamp(moment / 1e6, timezone.utc).strftime("%Y-%m-%dT%H:%M:%SZ")
+
+
+def image_of(config: Config, row: VolumeRow) -> Optional[str]:
+    """The image of a volume, where it is at hand."""
+    for folder in ("closed", "open") if row.state == CLOSED else ("open", "closed"):
+        image = config.path(folder, row.label + ".img")
+        if os.path.isfile(image):
+            return image
+    return None
+
+
+class OpenVolume:
+    """A volume that this process writes. It has a claim on it."""
+
+    def __init__(self, config: Config, catalogue: Catalogue, row: VolumeRow):
+        self.config, self.catalogue, self.row = config, catalogue, row
+        self.program = find_program()
+        self.image = config.path("open", row.label + ".img")
+        self.ledger = config.path("open", row.label + ".ledger")
+        self.client = Client(f"image:{self.image}", ledger=self.ledger, program=self.program)
+        self.marker: Optional[Operation] = None
+        self._sent = False
+        self.began = self.runs = self.last_commit = 0
+        self.tree = Tree(Space(row.capacity, row.capacity, set()))
+
+    # ---- made
+
+    def make(self) -> None:
+        """Makes the image of a new volume, where it is not there. It gets its name once it is a volume."""
+        if self.row.state != NEW or os.path.lexists(self.image):
+            return
+        new = self.image + ".new"
+        for left in (new, self.ledger):
+            if os.path.lexists(left):
+                os.unlink(left)
+        run_program(self.program, ["format", new, self.row.label, str(self.row.formatted), str(self.row.capacity)])
+        os.rename(new, self.image)
+        sync_folder(os.path.dirname(self.image))
+
+    def begin(self) -> None:
+        """Writes what each volume begins with, as far as it is not there."""
+        text = (
+            f"{TITLE}\narchive: {self.catalogue.id}\nlabel: {self.config.label}\nvolume: {self.row.number}\n"
+            f"opened: {stamp(self.row.formatted)}\n{RULES}"
+        )
+        wanted = [
+            Operation(Create, (ABOUT,), self.row.formatted, text.encode()), Operation(MakeDir, (RUNS,), self.row.formatted),
+            Operation(MakeDir, (PAYLOAD,), self.row.formatted),
+        ]
+        with self.client.held():
+            missing = [operation for operation in wanted if self.client.find(operation.path) is None]
+            for outcome in self.client.run(missing) if missing else ():
+                if outcome.code is not Code.DONE:
+                    raise VolumeDiffers(f"{self.row.label}: {outcome.operation.path}: {outcome.code.name}")
+
+    # ---- taken up
+
+    def take_up(self) -> None:
+        """Finishes what an earlier process began, and has the catalogue agree with the volume."""
+        self.make()
+        self.client.resume()
+        with closing(Contents(self.image)) as contents:
+            self.require_own(contents)
+            fresh = (ABOUT,) not in contents.nodes or (PAYLOAD,) not in contents.nodes or (RUNS,) not in contents.nodes
+        if fresh:
+            self.begin()
+        self.load()
+
+    def require_own(self, contents: Contents) -> None:
+        """Raises where the image is not this volume."""
+        row = self.row
+        if (contents.label, contents.formatted, contents.capacity) != (row.label, row.formatted, row.capacity):
+            raise VolumeDiffers(f"{self.image}: is not {row.label}, by its label, the moment of its format or its capacity")
+        if contents.last_commit < row.last_commit:
+            raise VolumeDiffers(
+                f"{self.image}: has {contents.last_commit} commits, and {row.last_commit} were acknowledged: it is an older copy: bring the right one back"
+            )
+        if (ABOUT,) not in contents.nodes:
+            if row.last_commit or contents.last_commit > 3:
+                raise VolumeDiffers(f"{self.image}: has no {ABOUT}, and is not {row.label}")
+            return
+        about = contents.about()
+        if (about.archive, about.number) != (self.catalogue.id, row.number):
+            raise VolumeDiffers(f"{self.image}: is volume {about.number} of the archive {about.archive}, and not {row.label} of {self.catalogue.id}")
+
+    def load(self) -> None:
+        """Reads the volume: has the catalogue agree with it, and plans from what is there."""
+        with closing(Contents(self.image)) as contents:
+            self.require_own(contents)
+            self.tree = self._tree(contents)
+            if contents.last_commit != self.row.last_commit or self.row.state == NEW:
+                self._agree(contents)
+            self.runs, self.last_commit = contents.runs(), contents.last_commit
+
+    def _agree(self, contents: Contents) -> None:
+        known = self.catalogue.of_volume(self.row.number)
+        rows = contents.rows(self.row.number, {held.commit: held for held in known})
+        lost = {held.id() for held in known} - {held.id() for held in rows}
+        if lost:
+            paths = [held.path for held in known if held.id() in lost]
+            raise VolumeDiffers(f"{self.image}: lacks {len(lost)} files that the catalogue has, the first is {paths[0]}: bring the right image back, or 'rebuild'")
+        state = OPEN if self.row.state == NEW else self.row.state
+        self.row = self.filled(contents.last_commit, len(rows))._replace(state=state)
+        self.catalogue.replace(self.row, rows)
+
+    def _tree(self, contents: Contents) -> Tree:
+        """What the volume has, to plan more on it."""
+        clients = contents.clients() | {self.client.session().ledger.client}
+        space = Space(self.row.capacity, contents.medium.blocks, clients, len(contents.state.entries), len(contents.nodes))
+        manifest = sum(manifest_size(node.path) for node in contents.payload())
+        tree = Tree(space, manifest)
+        for path, node in contents.nodes.items():
+            if path:
+                tree.has(path, node.kind is Kind.DIRECTORY)
+        tree.lay_out()
+        return tree
+
+    def filled(self, last_commit: int, files: int) -> VolumeRow:
+        """The row, with how full the volume is."""
+        space, tree = self.tree.space, self.tree
+        return self.row._replace(
+            last_commit=last_commit, files=files, nodes=space.nodes, blocks=os.path.getsize(self.image) // 2048, clients=len(space.clients),
+            manifest=tree.manifest, fullest_folder=max(map(len, tree.names.values())),
+        )
+
+    def is_full(self) -> bool:
+        """Whether hardly anything more would fit."""
+        space = self.tree.space
+        return space.nodes > 4070 or space.left() < 200 or self.runs >= RUNS_MOST or len(space.clients) > CLIENTS_MOST or self.tree.manifest > 1_040_000
+
+    # ---- written
+
+    def plan_marker(self, text: str) -> None:
+        """Plans the text that notes a run before its first file."""
+        self.began = now()
+        path: Path = (RUNS, f"{self.runs + 1:05}.txt")
+        self.tree.small(path, len(text))
+        self.runs += 1
+        self.marker = Operation(Create, path, self.began, text.encode())
+        self._sent = False
+
+    def take_marker(self) -> Optional[Operation]:
+        """That text, once."""
+        if self._sent:
+            return None
+        self._sent = True
+        return self.marker
+
+    def resync(self) -> None:
+        """Has the plan go on where the image ends."""
+        self.tree.space.next = os.path.getsize(self.image) // 2048
+
+    def close(self) -> None:
+        """Gives the ledger back."""
+        self.client.close()
+
+
+def new_row(config: Config, catalogue: Catalogue) -> VolumeRow:
+    """A volume with the next number, that no other process gets."""
+    with catalogue.base.transaction():
+        number = catalogue.new_number()
+        row = VolumeRow(number, volume_label(config.label, number), NEW, config.id, config.capacity, time.time_ns() // 1000)
+        catalogue.save(row)
+    return row
+
+
+def own_volumes(config: Config, catalogue: Catalogue, claims: Claims) -> Iterator[OpenVolume]:
+    """The open volumes of this archive's folder that no other process has, each claimed and taken up."""
+    for row in catalogue.volumes():
+        if row.holder == config.id and row.state in (NEW, OPEN) and claims.try_volume(row.number):
+            # What another process did until it let go. A volume that was moved away is not written.
+            fresh = catalogue.volume(row.number)
+            if fresh is not None and (fresh.state == NEW or fresh.state == OPEN and image_of(config, fresh)):
+                yield taken_up(OpenVolume(config, catalogue, fresh))
+
+
+def open_new(config: Config, catalogue: Catalogue, claims: Claims) -> OpenVolume:
+    """A new volume."""
+    row = new_row(config, catalogue)
+    claims.volume(row.number, row.label)
+    return taken_up(OpenVolume(config, catalogue, row))
+
+
+def taken_up(volume: OpenVolume) -> OpenVolume:
+    """The volume, taken up; or its ledger is given back."""
+    try:
+        volume.take_up()
+    except BaseException:
+        volume.close()
+        raise
+    return volume
+
+
+__all__ = ["OpenVolume", "image_of", "new_row", "open_new", "own_volumes", "stamp"]
