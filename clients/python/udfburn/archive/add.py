@@ -87,7 +87,7 @@ class Adder:
     def _kept(self, jobs: List[Job]) -> None:
         """The catalogue has files."""
         self.summary.files += sum(1 for job in jobs if job.first == 0)
-        self.summary.bytes += sum(job.size() for job in jobs)
+        self.summary.bytes += sum(job.planned_bytes() for job in jobs)
         if self.options.delete_source:
             self.deleter.stored(jobs)
 

@@ -7,7 +7,7 @@ import sqlite3
 from contextlib import contextmanager
 from typing import Any, Dict, Iterable, Iterator, List, Optional, Sequence, Tuple
 
-from ..ledger import sync_folder
+from ..ledger_file import sync_folder
 from ..sources import shown
 from .errors import CatalogueError, CatalogueLost
 

@@ -8,7 +8,7 @@ from contextlib import closing
 from hashlib import sha256
 from typing import Dict, List, NamedTuple, Optional, Sequence
 
-from ..ledger import sync_file, sync_folder
+from ..ledger_file import sync_file, sync_folder
 from ..operations import now
 from ..sources import shown
 from .catalogue import CLOSED, Catalogue, Copy, VolumeRow
@@ -214,7 +214,7 @@ class Repairer:
                     remote_of(remote).fetch(os.path.basename(path), path + ".new")
                     os.rename(path + ".new", path)
                 except (CopyFailed, OSError) as error:
-                    self.tell.note(f"{shown(path)}: {error}")
+                    self.tell.note(f"{shown(path)}: {error}", did="not repaired", path=path)
 
     def _did(self, row: VolumeRow, what: str, source: str) -> None:
         self.repaired += 1

@@ -8,9 +8,9 @@ import sys
 from typing import TYPE_CHECKING, Any, Callable, Dict, List, Optional
 
 from .. import __version__
-from ..errors import UdfburnError, UsageError
-from ..progress import printable
+from ..errors import OutputFailed, UdfburnError, UsageError
 from ..protocol import limits
+from .tell import Tell
 
 if TYPE_CHECKING:
     Subs = argparse._SubParsersAction[argparse.ArgumentParser]
@@ -75,6 +75,10 @@ def add_writers(subs: "Subs") -> None:
     repair = command(subs, "repair", "takes damaged or lost images from good copies, and damaged copies from good images")
     repair.add_argument("volume", nargs="*", metavar="VOLUME", help="labels; else all in which check found something")
 
+    adopt = command(subs, "adopt", "takes over a volume of another folder of this archive, whose machine is gone")
+    adopt.add_argument("volume", metavar="VOLUME", help="its label")
+    adopt.add_argument("image", nargs="?", metavar="IMAGE", help="its image; else it is looked for in both folders")
+
     rebuild = command(subs, "rebuild", "makes the catalogue again of the volumes at hand, and says in what it differs")
     rebuild.add_argument("image", nargs="*", metavar="IMAGE", help="more images, or folders of images")
     rebuild.add_argument("--dry-run", action="store_true", help="says in what it differs, and changes nothing")
@@ -86,6 +90,16 @@ def add_readers(subs: "Subs") -> None:
     ls.add_argument("path", nargs="?", default="/", metavar="PATH")
     ls.add_argument("-R", "--recursive", action="store_true", help="all below it")
     ls.add_argument("-l", "--long", action="store_true", help="with size, moment, SHA-256, volume and commit")
+
+    find = command(subs, "find", "finds files by a pattern of their names, or of their paths where it begins with a slash")
+    find.add_argument("pattern", metavar="PATTERN", help="* is any text, ? a character, [..] one of some; quote it from the shell")
+    find.add_argument("-l", "--long", action="store_true", help="with size, moment, SHA-256, volume and commit")
+
+    history = command(subs, "history", "shows all versions of a file, the newest first")
+    history.add_argument("path", metavar="PATH")
+
+    where = command(subs, "where", "shows on which volumes a file is, and where these and their copies are")
+    where.add_argument("path", metavar="PATH")
 
     get = command(subs, "get", "copies files and folders from the volumes at hand; names the volumes that it lacks")
     get.add_argument("path", nargs="+", metavar="PATH")
@@ -104,7 +118,8 @@ def add_readers(subs: "Subs") -> None:
 
 
 COMMANDS: Dict[str, str] = {
-    "init": "commands", "add": "commands", "rebuild": "commands", "ls": "queries", "get": "queries", "status": "queries",
+    "init": "commands", "add": "commands", "rebuild": "commands", "ls": "queries", "get": "queries", "status": "queries", "find": "queries", "history": "queries",
+    "where": "queries", "adopt": "closing",
     "close": "closing", "check": "closing", "repair": "closing",
 }
 
@@ -126,34 +141,34 @@ def main(words: Optional[List[str]] = None) -> int:
         arguments = parser().parse_args(words)
     except SystemExit as end:
         return int(end.code or 0)
+    closed = sys.stdout is None
+    tell = arguments.tell = Tell(arguments.quiet, arguments.json, closed=closed)
     try:
-        status = function(arguments.command)(arguments)
-        sys.stdout.flush()
+        tell.require_output()
+        status = run(arguments, tell)
+        tell.finish(arguments.command, status)
         return status
-    except KeyboardInterrupt:
-        print("udfburn-archive: interrupted: the same command goes on", file=sys.stderr)
-        return 130
     except BrokenPipeError:
         os.dup2(os.open(os.devnull, os.O_WRONLY), sys.stdout.fileno())
         print("udfburn-archive: the standard output takes no more", file=sys.stderr)
         return 1
+    except OutputFailed as error:
+        print(f"udfburn-archive: {error}", file=sys.stderr)
+        return 1
+
+
+def run(arguments: argparse.Namespace, tell: Tell) -> int:
+    """Does what a command asks for, and gives its status."""
+    try:
+        return function(arguments.command)(arguments)
+    except (BrokenPipeError, OutputFailed):
+        raise
+    except KeyboardInterrupt:
+        return tell.fail("interrupted: the same command goes on", 130)
     except UsageError as error:
-        return failed(arguments, error, 2)
-    except (UdfburnError, ValueError) as error:
-        return failed(arguments, error, 1)
-    except OSError as error:
-        return failed(arguments, error, 1)
-
-
-def failed(arguments: argparse.Namespace, error: Exception, status: int) -> int:
-    """Tells why a command ended, and gives the status."""
-    for line in str(error).split("\n"):
-        print(f"udfburn-archive: {printable(line)}", file=sys.stderr)
-    if arguments.json:
-        from json import dumps
-
-        print(dumps({"did": arguments.command, "status": status, "error": type(error).__name__, "message": str(error)}))
-    return status
+        return tell.fail(error, 2)
+    except (UdfburnError, ValueError, OSError) as error:
+        return tell.fail(error)
 
 
 if __name__ == "__main__":

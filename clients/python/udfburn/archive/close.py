@@ -14,7 +14,7 @@ from typing import Dict, List, Optional, Tuple
 
 from ..bag import DECLARATION, INFO, MANIFEST, TAG_MANIFEST, declaration, info, manifest, tag_manifest
 from ..connection import find_program, run_program
-from ..ledger import sync_file, sync_folder
+from ..ledger_file import sync_file, sync_folder
 from ..operations import Operation, now
 from ..protocol import Code, Create, Replace, limits
 from ..sources import shown

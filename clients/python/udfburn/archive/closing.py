@@ -36,12 +36,12 @@ def close(arguments: argparse.Namespace) -> int:
                 closer.close(row)
             except (ArchiveError, OSError) as error:
                 if isinstance(error, Claimed) and not arguments.volume:
-                    tell.note(f"{error} (it is left open)")
+                    tell.note(f"{error} (it is left open)", did="left open", volume=row.label)
                     continue
                 closer.failures.append(f"{row.label}: {error}")
     words = f"closed {plural(closer.closed, 'volume', 'volumes')}"
     words += f", made {plural(closer.copied, 'copy', 'copies')}" if config.copies else ""
-    return ended(tell, "close", words, closer.failures, closed=closer.closed, copied=closer.copied)
+    return ended(tell, words, closer.failures, closed=closer.closed, copied=closer.copied)
 
 
 def check(arguments: argparse.Namespace) -> int:
@@ -52,13 +52,13 @@ def check(arguments: argparse.Namespace) -> int:
         checker = Checker(config, catalogue, tell, options)
         checker.run(chosen(catalogue.volumes(), arguments.volume, options))
     for label in checker.away:
-        tell.note(f"{label}: is not at hand, and is not looked at")
+        tell.note(f"{label}: is not at hand, and is not looked at", did="away", volume=label)
     words = f"looked at {plural(checker.volumes, 'volume', 'volumes')}"
     words += f" and {plural(checker.files, 'file', 'files')}" if options.data else ""
     words += f", {plural(checker.copies, 'copy', 'copies')}" if options.remotes else ""
     words += ": all is as it was" if not checker.failures else ""
     return ended(
-        tell, "check", words, checker.failures, volumes=checker.volumes, files=checker.files, copies=checker.copies, away=checker.away,
+        tell, words, checker.failures, volumes=checker.volumes, files=checker.files, copies=checker.copies, away=checker.away,
     )
 
 
@@ -72,13 +72,25 @@ def repair(arguments: argparse.Namespace) -> int:
         repairer = Repairer(config, catalogue, tell)
         repairer.run(found)
     words = f"repaired {plural(repairer.repaired, 'image or copy', 'images or copies')} of {plural(len(found), 'volume', 'volumes')}"
-    return ended(tell, "repair", words, repairer.failures, repaired=repairer.repaired, volumes=len(found))
+    return ended(tell, words, repairer.failures, repaired=repairer.repaired, volumes=len(found))
 
 
-def ended(tell: Tell, did: str, words: str, failures: List[str], **fields: object) -> int:
+def adopt(arguments: argparse.Namespace) -> int:
+    """Takes a volume over."""
+    from .adopt import adopt as take
+
+    config, tell = config_of(arguments), tell_of(arguments)
+    with Catalogue(config) as catalogue, closing(claims_of(catalogue.base, config.path("locks"), config.catalogue)) as claims:
+        (row,) = chosen(catalogue.volumes(), [arguments.volume], Options())
+        row = take(config, catalogue, claims, row, arguments.image)
+    tell.result(f"took over {row.label} with {plural(row.files, 'file', 'files')}", volume=row.label, files=row.files, state=row.state)
+    return 0
+
+
+def ended(tell: Tell, words: str, failures: List[str], **fields: object) -> int:
     """Tells the end of a command, and gives its status."""
     for line in failures:
-        tell.note(line)
+        tell.fail(line)
     words += f"; {plural(len(failures), 'failure', 'failures')}" if failures else ""
-    tell.say(words, did=did, failures=failures, **fields)
+    tell.result(words, **fields)
     return 1 if failures else 0

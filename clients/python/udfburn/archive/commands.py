@@ -8,7 +8,7 @@ import uuid
 from dataclasses import dataclass
 from typing import List
 
-from ..ledger import make_folder
+from ..ledger_file import make_folder
 from ..sources import shown
 from .add import Adder, Options
 from .catalogue import Catalogue
@@ -35,7 +35,9 @@ def config_of(arguments: argparse.Namespace) -> Config:
 
 
 def tell_of(arguments: argparse.Namespace) -> Tell:
-    return Tell(arguments.quiet, arguments.json)
+    """What the command tells by."""
+    tell: Tell = arguments.tell
+    return tell
 
 
 def init(arguments: argparse.Namespace) -> int:
@@ -60,7 +62,7 @@ def init(arguments: argparse.Namespace) -> int:
     Catalogue(config, make=True).base.close()
     write(config)
     line = f"made the archive {config.label} in {shown(folder)}"
-    tell_of(arguments).say(line, did="init", archive=folder, label=config.label, catalogue=config.catalogue)
+    tell_of(arguments).result(line, archive=folder, label=config.label, catalogue=config.catalogue)
     return 0
 
 
@@ -73,19 +75,20 @@ def add(arguments: argparse.Namespace) -> int:
         try:
             summary = adder.run(wanted)
         finally:
-            tell.end()
-            for line in [f"left out: {line}" for line in adder.summary.skipped] + adder.summary.failures:
-                tell.note(line)
+            for line in adder.summary.skipped:
+                tell.left_out(line)
+            for line in adder.summary.failures:
+                tell.fail(line)
             for why, count in adder.deleter.waiting.items():
-                tell.note(f"{plural(count, 'source stays', 'sources stay')} {why}")
+                tell.note(f"{plural(count, 'source stays', 'sources stay')} {why}", did="stays", files=count, message=why)
     words = [f"stored {plural(summary.files, 'file', 'files')}, {size(summary.bytes)}"]
     words += [f"{summary.same} were there"] if summary.same else []
     words += [f"deleted {summary.deleted}"] if arguments.delete_source else []
     words += [f"did not keep {plural(summary.empty, 'empty folder', 'empty folders')}"] if summary.empty else []
     words += [f"{plural(len(summary.failures), 'failure', 'failures')}"] if summary.failures else []
-    tell.say(
-        ", ".join(words), did="add", files=summary.files, bytes=summary.bytes, same=summary.same, deleted=summary.deleted,
-        kept=sum(adder.deleter.waiting.values()), empty=summary.empty, skipped=summary.skipped, failures=summary.failures,
+    tell.result(
+        ", ".join(words), files=summary.files, bytes=summary.bytes, same=summary.same, deleted=summary.deleted,
+        kept=sum(adder.deleter.waiting.values()), empty=summary.empty,
     )
     return 1 if summary.failures else 0
 
@@ -98,12 +101,12 @@ def rebuild(arguments: argparse.Namespace) -> int:
     for difference in summary.differences:
         tell.say(f"{difference.volume} {difference.path}: {difference.how}", did="differs", **difference._asdict())
     for line in summary.failures:
-        tell.note(line)
+        tell.fail(line)
     for label in summary.away:
-        tell.note(f"{label} is not at hand: what the catalogue has of it stays as it is")
+        tell.note(f"{label} is not at hand: what the catalogue has of it stays as it is", did="away", volume=label)
     found = plural(len(summary.differences), "difference", "differences") if summary.differences else "no difference"
-    tell.say(
-        f"read {plural(summary.volumes, 'volume', 'volumes')} with {plural(summary.files, 'file', 'files')}: {found}", did="rebuild",
-        volumes=summary.volumes, files=summary.files, differences=len(summary.differences), away=summary.away, failures=summary.failures,
+    tell.result(
+        f"read {plural(summary.volumes, 'volume', 'volumes')} with {plural(summary.files, 'file', 'files')}: {found}",
+        volumes=summary.volumes, files=summary.files, differences=len(summary.differences), away=summary.away,
     )
     return 1 if summary.failures else 0

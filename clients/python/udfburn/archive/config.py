@@ -6,7 +6,7 @@ import os
 import tomllib
 from typing import Any, Dict, List, NamedTuple, Optional, Tuple
 
-from ..ledger import make_folder, sync_file, sync_folder
+from ..ledger_file import make_folder, sync_file, sync_folder
 from ..protocol import limits
 from ..protocol.names import name_fault, spelled_size
 from ..sources import shown

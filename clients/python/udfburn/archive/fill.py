@@ -116,7 +116,7 @@ class Filler:
 
     def _is_enough(self, volume: OpenVolume) -> bool:
         jobs = self.planned.get(volume.row.number, [])
-        return len(jobs) >= BATCH_FILES or sum(job.size() for job in jobs[-BATCH_FILES:]) >= BATCH_BYTES
+        return len(jobs) >= BATCH_FILES or sum(job.planned_bytes() for job in jobs) >= BATCH_BYTES
 
     def _new(self) -> OpenVolume:
         """A new volume. Where there are too many open ones, the fullest takes no more."""
@@ -207,7 +207,7 @@ class Filler:
             job.commit = outcome.commit
         if job.stored():
             done.append(job)
-            self.tell.step("stored", job.source.path, job.size(), volume.row.label, outcome.commit)
+            self.tell.step("stored", job.source.path, job.planned_bytes(), volume.row.label, outcome.commit)
 
     def _keep(self, volume: OpenVolume, done: List[Job], cut: Sequence[Job] = ()) -> None:
         """Has the catalogue keep what is stored, and then tells whoever deletes sources."""

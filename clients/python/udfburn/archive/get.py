@@ -4,11 +4,12 @@ from __future__ import annotations
 
 import os
 from hashlib import sha256
-from typing import Dict, Iterator, List, NamedTuple, Optional, Sequence, Set, Tuple
+from typing import Dict, Iterator, List, NamedTuple, Optional, Sequence, Tuple
 
-from ..errors import SourceError, UdfburnError
-from ..fetch import make_folder, save, sync_names
+from ..errors import DiskFull, SourceError, UdfburnError
+from ..fetch import make_folder
 from ..protocol import Path
+from ..saving import Saver
 from ..sources import shown
 from .catalogue import Catalogue, Held, VolumeRow, versions
 from .config import Config
@@ -69,22 +70,23 @@ class Getter:
     """A run of `get`."""
 
     def __init__(self, config: Config, catalogue: Catalogue, tell: Tell, force: bool):
-        self.config, self.catalogue, self.tell, self.force = config, catalogue, tell, force
+        self.config, self.catalogue, self.tell = config, catalogue, tell
         self.summary = Summary()
+        self._saver = Saver(force)
         self._rows: Dict[int, VolumeRow] = {row.number: row for row in catalogue.volumes()}
         self._open: Dict[int, Tuple[Contents, Dict[int, File]]] = {}
-        self._changed: Set[str] = set()
 
     def run(self, files: Sequence[Wanted]) -> Summary:
         """Copies versions, volume by volume."""
         try:
-            for want in sorted(files, key=lambda want: [(row.volume, row.commit) for row in want.rows]):
-                self._one(want)
+            with self._saver:
+                for want in sorted(files, key=lambda want: [(row.volume, row.commit) for row in want.rows]):
+                    self._one(want)
+                self._saver.finish()
         finally:
             for contents, _ in self._open.values():
                 contents.close()
-        for folder in sorted(self._changed):
-            sync_names(folder)
+        self.summary.failures += self._saver.failures
         return self.summary
 
     def _one(self, want: Wanted) -> None:
@@ -96,12 +98,16 @@ class Getter:
                 self.summary.lacking[label] = self.summary.lacking.get(label, 0) + 1
             return
         try:
-            self._changed.update(make_folder(os.path.dirname(want.local)))
-            count = save(want.local, self._checked(want.rows), held.moment, self.force)
+            for folder in make_folder(os.path.dirname(want.local) or os.curdir):
+                self._saver.folder(folder)
+            self._saver.save(want.local, self._checked(want.rows), held.moment, lambda count: self._got(held, count))
+        except DiskFull:
+            raise
         except (UdfburnError, OSError) as error:
             self.summary.failures.append(f"{shown_path(held.path)}: {error}")
-            return
-        self._changed.add(os.path.dirname(want.local))
+
+    def _got(self, held: Held, count: int) -> None:
+        """A file has its name."""
         self.summary.files += 1
         self.summary.bytes += count
         self.tell.step("got", held.path, count, self._rows[held.volume].label, held.commit)

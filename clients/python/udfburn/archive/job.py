@@ -56,6 +56,10 @@ class Job:
         """The bytes that are to be sent."""
         return max(self.source.identity.size - self.first * limits.FILE, 0)
 
+    def planned_bytes(self) -> int:
+        """The bytes that are sent by what was planned."""
+        return min(self.size(), len(self.parts) * limits.FILE) if self.in_parts() else self.size()
+
     def stored(self) -> bool:
         """Whether all that was planned is stored."""
         return self.failure is None and self.commit > 0 and self.done == len(self.parts)

@@ -14,7 +14,7 @@ from .get import Getter, Lacking, as_of, require_folder, wanted
 from .names import path_of
 from .status import Line, incomplete, lines, room
 from .tell import Tell, plural, shown_path, size
-from .volume import stamp
+from .volume import image_of, stamp
 
 
 def moment_of(text: Optional[str]) -> Optional[int]:
@@ -103,6 +103,60 @@ def list_folders(tell: Tell, catalogue: Catalogue, path: Path) -> int:
     return count
 
 
+def find(arguments: argparse.Namespace) -> int:
+    """Finds files."""
+    from .find import find as found_by
+
+    config, tell = config_of(arguments), tell_of(arguments)
+    count = 0
+    with Catalogue(config) as catalogue:
+        labels = Labels(catalogue)
+        for group in found_by(catalogue, arguments.pattern):
+            count += 1
+            shown = shown_path(group[0].path)
+            tell.say(long_line(group, labels, shown) if arguments.long else shown, **fields(group, labels))
+    tell.outcome = {"files": count}
+    return 0 if count else 1
+
+
+def groups_of(catalogue: Catalogue, path: Path) -> List[List[Held]]:
+    """The versions of a file, or `Lacking`."""
+    found = versions(catalogue.of_path(path))
+    if not found:
+        raise Lacking(f"{shown_path(path)}: is no file of the archive")
+    return found
+
+
+def history(arguments: argparse.Namespace) -> int:
+    """Shows the versions of a file."""
+    config, tell = config_of(arguments), tell_of(arguments)
+    with Catalogue(config) as catalogue:
+        labels = Labels(catalogue)
+        for group in groups_of(catalogue, path_of(arguments.path)):
+            tell.say(long_line(group, labels, f"added {stamp(max(held.added for held in group))}"), **fields(group, labels))
+    return 0
+
+
+def where(arguments: argparse.Namespace) -> int:
+    """Shows where a file is."""
+    config, tell = config_of(arguments), tell_of(arguments)
+    with Catalogue(config) as catalogue:
+        holders = catalogue.holders()
+        group = groups_of(catalogue, path_of(arguments.path))[0]
+        for held in group:
+            row = catalogue.volume(held.volume)
+            if row is None:
+                raise Lacking(f"the catalogue lacks volume {held.volume}: run 'rebuild'")
+            image = image_of(config, row)
+            remotes = [copy.remote for copy in catalogue.copies(row.number) if copy.trouble is None]
+            parts = f", parts {held.first} to {(held.first or 0) + (held.parts or 0) - 1}" if held.parts is not None else ""
+            place = image or (f"at {holders.get(row.holder, '?')}" if row.holder != config.id else "away")
+            line = f"{row.label} commit {held.commit}{parts}: {row.state}, {place}" + "".join(f", copy on {remote}" for remote in remotes)
+            tell.say(line, volume=row.label, commit=held.commit, first=held.first, parts=held.parts, state=row.state, image=image,
+                     holder=holders.get(row.holder), copies=remotes, sha256=held.sha256.hex(), size=held.size, moment=held.moment)
+    return 0
+
+
 def get(arguments: argparse.Namespace) -> int:
     """Copies files and folders."""
     config, tell = config_of(arguments), tell_of(arguments)
@@ -111,14 +165,14 @@ def get(arguments: argparse.Namespace) -> int:
         files = list(wanted(catalogue, [path_of(path) for path in arguments.path], arguments.dir, moment_of(arguments.as_of)))
         summary = Getter(config, catalogue, tell, arguments.force).run(files)
     for line in summary.failures:
-        tell.note(line)
+        tell.fail(line)
     for label, count in sorted(summary.lacking.items()):
-        tell.note(f"{label} is not at hand, and has {plural(count, 'file', 'files')} of these: bring it into the folder closed of the archive")
+        tell.fail(f"{label} is not at hand, and has {plural(count, 'file', 'files')} of these: bring it into the folder closed of the archive")
     lacking = sum(summary.lacking.values())
     words = f"got {plural(summary.files, 'file', 'files')}, {size(summary.bytes)}"
     words += f"; {plural(len(summary.failures), 'failure', 'failures')}" if summary.failures else ""
     words += f"; volumes that are not at hand: {', '.join(sorted(summary.lacking))}" if lacking else ""
-    tell.say(words, did="get", files=summary.files, bytes=summary.bytes, failures=summary.failures, lacking=sorted(summary.lacking))
+    tell.result(words, files=summary.files, bytes=summary.bytes, lacking=sorted(summary.lacking))
     return 1 if summary.failures or lacking else 0
 
 
@@ -136,8 +190,8 @@ def status(arguments: argparse.Namespace) -> int:
     files, left = sum(line.row.files for line in found), room(config)
     words = f"{config.label}: {plural(len(found), 'volume', 'volumes')}, {plural(files, 'file', 'files')}"
     words += f", {size(left)} left on the disk" if left is not None else ""
-    tell.say(
-        words, did="status", label=config.label, archive=config.folder, volumes=len(found), files=files, left=left,
+    tell.result(
+        words, label=config.label, archive=config.folder, volumes=len(found), files=files, left=left,
         attention=sum(len(line.attention) for line in found) + len(lacking),
     )
     return 0

@@ -7,7 +7,7 @@ import time
 from typing import Dict, Iterator, List, NamedTuple, Optional, Tuple
 
 from ..bag import manifest_size
-from ..ledger import sync_folder
+from ..ledger_file import sync_folder
 from ..sources import shown
 from .base import SqliteBase
 from .catalogue import CLOSED, NEW, OPEN, Catalogue, Held, VolumeRow
@@ -56,7 +56,7 @@ def open_or_make(config: Config, tell: Tell) -> Catalogue:
         if path is None or not os.path.isfile(path) or not is_broken(path):
             raise
         aside = f"{path}.damaged-{int(time.time())}"
-        tell.note(f"{error}; it is kept as {shown(aside)}")
+        tell.note(f"{error}; it is kept as {shown(aside)}", did="put aside", path=aside)
         for end in ("-wal", "-shm", ""):
             if os.path.lexists(path + end):
                 os.rename(path + end, aside + end)

@@ -8,7 +8,7 @@ import subprocess
 from hashlib import sha256
 from typing import IO, Iterator, List, NamedTuple, Optional
 
-from ..ledger import sync_file, sync_folder
+from ..ledger_file import sync_file, sync_folder
 from ..sources import shown
 from .errors import CopyFailed
 

@@ -32,7 +32,7 @@ CREATE TABLE file (
     moment BIGINT NOT NULL, sha256 {bytes} NOT NULL, added BIGINT NOT NULL, first_part BIGINT, part_count BIGINT
 );
 CREATE INDEX file_path ON file (folder, name);
-CREATE INDEX file_name ON file (name);
+CREATE INDEX file_name ON file (name, folder);
 CREATE INDEX file_tail ON file (tail);
 CREATE TABLE path_lock (path {text} PRIMARY KEY);
 CREATE TABLE volume_lock (volume BIGINT PRIMARY KEY)

@@ -28,7 +28,7 @@ class Tell(Progress):
             self._count(what)
         else:
             where = f" {volume}" if volume else ""
-            print(printable(f"{what} {shown_path(path)}{where}"), file=self.output)
+            self._print(printable(f"{what} {shown_path(path)}{where}"))
 
     def _count(self, what: str) -> None:
         now = time.monotonic()
@@ -46,9 +46,7 @@ class Tell(Progress):
         if not self.quiet:
             self.say(line, **fields)
 
-    def note(self, line: str) -> None:
-        """Something that a user has to know, on the standard error."""
-        self.end()
+    def _print_error(self, line: str) -> None:
         print(f"udfburn-archive: {printable(line)}", file=self.errors, flush=True)
 
 

@@ -12,7 +12,7 @@ from ..bag import PAYLOAD, manifest_size
 from ..blocks import Space
 from ..client import Client
 from ..connection import find_program, run_program
-from ..ledger import sync_folder
+from ..ledger_file import sync_folder
 from ..operations import Operation, now
 from ..protocol import Code, Create, MakeDir, Path
 from ..reader import Kind
