@@ -211,7 +211,7 @@ def status_fields(line: Line, holders: Dict[str, str]) -> Dict[str, object]:
     """A volume, for programs."""
     row = line.row
     return {
-        "volume": row.label, "state": line.state, "at_hand": line.at_hand, "holder": holders.get(row.holder), "files": row.files,
+        "did": "volume", "volume": row.label, "state": line.state, "at_hand": line.at_hand, "holder": holders.get(row.holder), "files": row.files,
         "nodes": row.nodes, "blocks": row.blocks, "capacity": row.capacity, "clients": row.clients, "manifest": row.manifest,
         "fullest_folder": row.fullest_folder, "fullness": line.fullness, "last_commit": row.last_commit, "closed": row.closed,
         "sha256": row.sha256.hex() if row.sha256 else None, "length": row.length, "checked": row.checked, "data_checked": row.data_checked,

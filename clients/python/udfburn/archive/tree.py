@@ -98,18 +98,18 @@ class Tree:
         """Whether files of these sizes and names fit in a folder together, as far as can be reckoned ahead."""
         layout, entries, nodes, blocks, manifest = self._layout(folder), self.space.entries, self.space.nodes, 0, self.manifest
         nodes += len(folder) + 2
-        base = (PAYLOAD,) + folder
+        base = manifest_size((PAYLOAD,) + stored_folder(folder))
         for size, name in zip(sizes, names):
             parts = part_count(size)
             nodes += 1 + (parts + 2 + parts // 500 if parts else 0)
             entries = max(entries, nodes + 1)
             table = blocks_for(196 + 48 * (len(self.space.clients) + 1) + 4 * entries)
-            layout.add(name[:127] or "x")
+            layout.add(spelled(name)[0])
             if layout.full > 40:
                 layout, nodes = Layout(), nodes + 1
             blocks += table + 2 + data_blocks(min(size, limits.FILE)) + layout.blocks()
             blocks += (parts - 1) * (table + 2 + data_blocks(limits.FILE) + 12) if parts else 0
-            manifest += max(parts, 1) * (manifest_size(base) + 2 + len(name.encode(errors="replace"))) + 16 * parts
+            manifest += max(parts, 1) * (base + 2 + sum(len(piece.encode()) for piece in spelled(name))) + 16 * parts
             if nodes > limits.NODES - KEPT_NODES or manifest > MANIFEST:
                 return False
         return self.space.next + blocks + 2 * blocks_for(manifest - self.manifest) + SPARE <= self.space.capacity

@@ -1,0 +1,51 @@
+#!/bin/sh
+# The archive over many volumes, tried with real programs: PostgreSQL, rclone, udfclient and a Linux kernel, processes that are
+# killed, disks that are full, images that are damaged.
+#
+# usage: test/archive.sh [--large] [UDFBURN [NAME..]]
+# --large adds what takes long: 100 kills, 3 GB, 10^7 rows. A NAME is a module of test/archive, as test_commands. Its last line is
+# 'archive: N passed, M failed'. It takes Python 3.11 or later; PYTHON names another than Debian's, which has the driver of PostgreSQL.
+set -u
+home=$(cd "$(dirname "$0")" && pwd)
+large=
+if [ "${1:-}" = --large ]; then
+    large=--large
+    shift
+fi
+UDFBURN=${1:-$home/../crates/udfburn/out/udfburn}
+[ $# -eq 0 ] || shift
+UDFBURN=$(cd "$(dirname "$UDFBURN")" && pwd)/$(basename "$UDFBURN")
+export UDFBURN
+if ! [ -x "$UDFBURN" ]; then
+    echo "archive: $UDFBURN is no program"
+    echo 'archive: 0 passed, 1 failed'
+    exit 1
+fi
+PATH=$PATH:/usr/sbin:/sbin
+
+# Volumes are made in memory where there is room: what is tested is what happens to processes, not to disks.
+free=$(df -Pk /dev/shm 2> /dev/null | awk 'NR == 2 { print $4 }')
+if [ -z "${TMPDIR:-}" ] && [ -z "$large" ] && [ -w /dev/shm ] && [ "${free:-0}" -gt 4000000 ]; then
+    TMPDIR=/dev/shm
+    export TMPDIR
+fi
+
+python=${PYTHON:-/usr/bin/python3}
+[ -x "$python" ] || python=python3
+output=$(mktemp) || exit 1
+trap 'rm -f "$output"' EXIT
+trap 'exit 1' HUP INT PIPE TERM
+cd "$home" || exit 1
+status=0
+PYTHONDONTWRITEBYTECODE=1 PYTHONUTF8=1 "$python" -m archive $large "$@" > "$output" 2>&1 || status=$?
+sed '$d' "$output"
+last=$(tail -n 1 "$output")
+case $last in
+    *' passed, '*' failed') echo "archive: $last" ;;
+    *)
+        echo "$last"
+        echo 'archive: 0 passed, 1 failed'
+        status=1
+        ;;
+esac
+exit "$status"

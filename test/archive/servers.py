@@ -1,0 +1,155 @@
+"""Servers of the tests' own: PostgreSQL on a socket in a folder of its own, with a standby where that is asked for, and rclone."""
+
+from __future__ import annotations
+
+import glob
+import os
+import pwd
+import shutil
+import signal
+import socket
+import subprocess
+import tempfile
+import time
+import unittest
+from typing import Any, List, Optional
+
+from .support import PATIENCE
+
+PORT = 5432
+
+
+def programs() -> Optional[str]:
+    """The folder of PostgreSQL's programs."""
+    found = sorted(glob.glob("/usr/lib/postgresql/*/bin/initdb"), key=lambda path: int(path.split("/")[4]))
+    return os.path.dirname(found[-1]) if found else None
+
+
+def driver() -> bool:
+    try:
+        import psycopg  # noqa: F401
+    except ImportError:
+        return False
+    return True
+
+
+class Server:
+    """A server of PostgreSQL. It refuses to run as root, so it is `postgres` where the tests are root."""
+
+    def __init__(self, test: unittest.TestCase, primary: Optional["Server"] = None):
+        folder = programs()
+        if folder is None or not driver():
+            test.skipTest("PostgreSQL or python3-psycopg is not installed")
+        assert folder
+        self.programs = folder
+        self.room = tempfile.mkdtemp(prefix="pg-")
+        self.data = os.path.join(self.room, "data")
+        self.user = pwd.getpwnam("postgres") if os.geteuid() == 0 else pwd.getpwuid(os.geteuid())
+        os.chown(self.room, self.user.pw_uid, self.user.pw_gid)
+        self.process: Optional["subprocess.Popen[bytes]"] = None
+        test.addCleanup(shutil.rmtree, self.room, ignore_errors=True)
+        test.addCleanup(self.stop)
+        if primary is None:
+            self._run("initdb", "-A", "trust", "-U", "postgres", "-E", "UTF8", "--no-sync", self.data)
+        else:
+            self._run("pg_basebackup", "-h", primary.room, "-U", "postgres", "-D", self.data, "-R", "-X", "stream", "-c", "fast", "--no-sync")
+        self.start()
+
+    def _as_user(self) -> Any:
+        user = self.user
+
+        def become() -> None:
+            if os.geteuid() == 0:
+                os.initgroups(user.pw_name, user.pw_gid)
+                os.setgid(user.pw_gid)
+                os.setuid(user.pw_uid)
+        return become
+
+    def _run(self, name: str, *words: str) -> None:
+        subprocess.run(
+            [os.path.join(self.programs, name), *words], check=True, stdout=subprocess.DEVNULL, stderr=subprocess.DEVNULL,
+            preexec_fn=self._as_user(), cwd="/", timeout=PATIENCE,
+        )
+
+    def start(self) -> None:
+        """Starts it, and waits until it answers."""
+        words = [os.path.join(self.programs, "postgres"), "-D", self.data, "-k", self.room, "-c", "listen_addresses=", "-c", "max_connections=100"]
+        # Its own group: what is killed is the whole server.
+        with open(os.path.join(self.room, "log"), "ab") as log:
+            self.process = subprocess.Popen(words, stdout=log, stderr=log, preexec_fn=self._as_user(), cwd="/", start_new_session=True)
+        limit = time.monotonic() + 60
+        while subprocess.run([os.path.join(self.programs, "pg_isready"), "-h", self.room, "-q"], check=False).returncode:
+            if time.monotonic() > limit or self.process.poll() is not None:
+                with open(os.path.join(self.room, "log"), errors="replace") as log_file:
+                    raise AssertionError("PostgreSQL does not start: " + log_file.read()[-2000:])
+            time.sleep(0.05)
+
+    def kill(self) -> None:
+        """Kills it at once, and all its processes."""
+        assert self.process
+        os.killpg(self.process.pid, signal.SIGKILL)
+        self.process.wait()
+        pid = os.path.join(self.data, "postmaster.pid")
+        if os.path.exists(pid):
+            os.unlink(pid)
+        for name in os.listdir(self.room):
+            if name.startswith(".s.PGSQL"):
+                os.unlink(os.path.join(self.room, name))
+
+    def stop(self) -> None:
+        if self.process is not None and self.process.poll() is None:
+            self.process.send_signal(signal.SIGQUIT)
+            self.process.wait()
+
+    def sql(self, statement: str, base: str = "postgres") -> List[Any]:
+        import psycopg
+
+        with psycopg.connect(self.url(base), autocommit=True) as connection:
+            cursor = connection.execute(statement)
+            return cursor.fetchall() if cursor.description else []
+
+    def url(self, base: str, *others: "Server") -> str:
+        hosts = ",".join(server.room for server in (self, *others))
+        return f"postgresql://postgres@/{base}?host={hosts}"
+
+    def new_base(self, name: str) -> str:
+        """A base of its own, and its URL."""
+        self.sql(f"CREATE DATABASE {name}")
+        return self.url(name)
+
+    def replicate(self, test: unittest.TestCase) -> "Server":
+        """A standby to which each transaction goes before it is answered."""
+        standby = Server(test, self)
+        self.sql("ALTER SYSTEM SET synchronous_standby_names = '*'")
+        self.sql("SELECT pg_reload_conf()")
+        limit = time.monotonic() + 60
+        while not self.sql("SELECT 1 FROM pg_stat_replication WHERE sync_state = 'sync'"):
+            if time.monotonic() > limit:
+                raise AssertionError("the standby does not follow")
+            time.sleep(0.1)
+        return standby
+
+    def promote(self) -> None:
+        self.sql("SELECT pg_promote()")
+
+
+def webdav(test: unittest.TestCase, folder: str) -> str:
+    """A remote of rclone over HTTP, which `rclone serve webdav` of the test's own serves."""
+    if shutil.which("rclone") is None:
+        test.skipTest("rclone is not installed")
+    with socket.socket() as probe:
+        probe.bind(("127.0.0.1", 0))
+        port = probe.getsockname()[1]
+    process = subprocess.Popen(["rclone", "serve", "webdav", folder, "--addr", f"127.0.0.1:{port}"], stdout=subprocess.DEVNULL, stderr=subprocess.DEVNULL)
+    test.addCleanup(process.wait)
+    test.addCleanup(process.kill)
+    limit = time.monotonic() + 30
+    while True:
+        try:
+            socket.create_connection(("127.0.0.1", port), 1).close()
+            break
+        except OSError:
+            if time.monotonic() > limit:
+                raise
+            time.sleep(0.05)
+    return f"http://127.0.0.1:{port}"

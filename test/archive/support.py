@@ -1,0 +1,161 @@
+"""Rooms, trees, and the command under test."""
+
+from __future__ import annotations
+
+import hashlib
+import json
+import os
+import random
+import shutil
+import signal
+import subprocess
+import sys
+import tempfile
+import time
+import unittest
+from typing import Any, Dict, List, Optional, Tuple
+
+UDFBURN = os.environ.get("UDFBURN", "")
+LARGE = bool(os.environ.get("LARGE"))
+HERE = os.path.dirname(os.path.abspath(__file__))
+PACKAGE = os.path.abspath(os.path.join(HERE, "..", "..", "clients", "python"))
+PATIENCE = 600.0
+"""Seconds after which what did not come counts as missing."""
+
+Digests = Dict[bytes, Tuple[str, int]]
+"""The SHA-256 and the moment in microseconds of each file, by its path below a folder."""
+
+
+class Done:
+    """What a command did: its status, its lines, and its objects where it was asked for JSON."""
+
+    def __init__(self, status: int, output: str, errors: str):
+        self.status, self.output, self.errors = status, output, errors
+
+    def objects(self) -> List[Dict[str, Any]]:
+        return [json.loads(line) for line in self.output.splitlines()]
+
+    def last(self) -> Dict[str, Any]:
+        return self.objects()[-1]
+
+
+def environment() -> Dict[str, str]:
+    """The environment of a command: the package under test, and no user's own files."""
+    found = {**os.environ, "PYTHONPATH": PACKAGE, "PYTHONDONTWRITEBYTECODE": "1", "UDFBURN": UDFBURN, "PYTHONUTF8": "1"}
+    for name in ("UDFBURN_ARCHIVE", "UDFBURN_LEDGER", "UDFBURN_SOCKET"):
+        found.pop(name, None)
+    return found
+
+
+def words_of(command: str, *words: str) -> List[str]:
+    return [sys.executable, "-m", "udfburn.archive", command, *words]
+
+
+def start(command: str, *words: str, **options: Any) -> "subprocess.Popen[bytes]":
+    """A command in a group of processes of its own, so that it can be killed with the programs that it runs."""
+    return subprocess.Popen(
+        words_of(command, *words), env=environment(), stdout=subprocess.DEVNULL, stderr=subprocess.DEVNULL, start_new_session=True, **options,
+    )
+
+
+def kill(process: "subprocess.Popen[bytes]") -> None:
+    """Kills a command at once. The programs that it runs lose their input with it."""
+    process.send_signal(signal.SIGKILL)
+    process.wait()
+
+
+def digests(folder: str) -> Digests:
+    """Each regular file below a folder."""
+    found: Digests = {}
+    top = os.fsencode(folder)
+    for at, _, names in os.walk(top):
+        for name in names:
+            path = os.path.join(at, name)
+            if not os.path.islink(path):
+                with open(path, "rb") as file:
+                    whole = hashlib.file_digest(file, "sha256").hexdigest()
+                found[os.path.relpath(path, top)] = whole, os.stat(path).st_mtime_ns // 1000
+    return found
+
+
+def make_tree(folder: str, files: int, seed: int, most: int = 6000, a_folder: int = 40) -> None:
+    """A tree of files of random sizes and bytes."""
+    chance = random.Random(seed)
+    for index in range(files):
+        at = os.path.join(folder, f"d{index // a_folder // 8}", f"e{index // a_folder}")
+        os.makedirs(at, exist_ok=True)
+        with open(os.path.join(at, f"file {index}.bin"), "wb") as file:
+            file.write(chance.randbytes(chance.randrange(most)))
+
+
+def write(path: str, data: bytes) -> str:
+    os.makedirs(os.path.dirname(path), exist_ok=True)
+    with open(path, "wb") as file:
+        file.write(data)
+    return path
+
+
+class WithArchive(unittest.TestCase):
+    """A room, and an archive where it is made."""
+
+    def setUp(self) -> None:
+        if not UDFBURN:
+            self.fail("UDFBURN names the program")
+        self.room = tempfile.mkdtemp(prefix="archive-")
+        self.addCleanup(shutil.rmtree, self.room, ignore_errors=True)
+        self.archive = self.path("archive")
+        self.source = self.path("source")
+        os.mkdir(self.source)
+
+    def path(self, *names: str) -> str:
+        return os.path.join(self.room, *names)
+
+    def run_in(self, archive: str, command: str, *words: str, status: Optional[int] = 0) -> Done:
+        """Runs a command on an archive, which has to end with a status."""
+        place = [] if command == "init" else ["--archive", archive]
+        done = subprocess.run(
+            words_of(command, *words, *place, "--json"), env=environment(), capture_output=True, timeout=PATIENCE, cwd=self.room,
+        )
+        found = Done(done.returncode, done.stdout.decode(errors="replace"), done.stderr.decode(errors="replace"))
+        if status is not None and found.status != status:
+            self.fail(f"{command} ended with {found.status}, not {status}: {found.errors[-3000:]}{found.output[-500:]}")
+        return found
+
+    def do(self, command: str, *words: str, status: Optional[int] = 0) -> Done:
+        return self.run_in(self.archive, command, *words, status=status)
+
+    def init(self, *words: str, archive: Optional[str] = None) -> None:
+        self.do("init", archive or self.archive, "--label", "T", *words)
+
+    def add(self, *words: str, status: Optional[int] = 0) -> Done:
+        """Adds the source as /."""
+        return self.do("add", self.source, "--at", "/s", *words, status=status)
+
+    def get_all(self, archive: Optional[str] = None) -> Digests:
+        """All that the archive gives back."""
+        folder = tempfile.mkdtemp(dir=self.room)
+        self.run_in(archive or self.archive, "get", "/s", folder)
+        return digests(os.path.join(folder, "s"))
+
+    def volumes(self, archive: Optional[str] = None) -> List[Dict[str, Any]]:
+        return [line for line in self.run_in(archive or self.archive, "status").objects() if line["did"] == "volume"]
+
+    def rows(self, archive: Optional[str] = None) -> List[Dict[str, Any]]:
+        """All files of the catalogue, in an order that does not depend on it."""
+        lines = [line for line in self.run_in(archive or self.archive, "ls", "-R", "/").objects() if line.get("kind") == "file"]
+        return sorted(lines, key=lambda line: (line["path"], line["added"]))
+
+    def require_agreed(self, archive: Optional[str] = None) -> None:
+        """`rebuild` finds no difference."""
+        last = self.run_in(archive or self.archive, "rebuild").last()
+        self.assertEqual(last["differences"], 0)
+        self.assertEqual(last["failures"], [])
+
+
+def wait_until(condition: Any, seconds: float = 60.0) -> None:
+    """Waits until something holds."""
+    limit = time.monotonic() + seconds
+    while not condition():
+        if time.monotonic() > limit:
+            raise AssertionError("what was waited for did not come")
+        time.sleep(0.01)

@@ -1,0 +1,236 @@
+"""Crashes of one machine with SQLite: processes killed at random and between two steps, disks that are full, a catalogue that is
+lost or damaged."""
+
+from __future__ import annotations
+
+import os
+import random
+import shutil
+import subprocess
+import sys
+import time
+from typing import List
+
+from .support import LARGE, PATIENCE, WithArchive, digests, environment, kill, make_tree, start, write
+
+KILLS = 100 if LARGE else 14
+
+STEPS = """
+import os, sys
+sys.argv[1:1] = []
+count = int(sys.argv.pop(1))
+names = ("rename", "replace", "unlink", "mkdir", "fsync", "chmod", "fchmod", "ftruncate")
+left = [count]
+def counted(name):
+    call = getattr(os, name)
+    def step(*words, **fields):
+        if left[0] == 0:
+            os.kill(os.getpid(), 9)
+        left[0] -= 1
+        return call(*words, **fields)
+    return step
+for name in names:
+    setattr(os, name, counted(name))
+from udfburn.archive.cli import main
+status = main(sys.argv[1:])
+print(count - left[0])
+sys.exit(status)
+"""
+"""Runs the command, and kills it right before a call of the system that changes files, counted from 0."""
+
+
+class Crashes(WithArchive):
+    def add_killed(self, chance: random.Random, *words: str) -> None:
+        process = start("add", self.source, "--at", "/s", "--archive", self.archive, *words)
+        time.sleep(chance.uniform(0.2, 1.3))
+        kill(process)
+
+    def test_add_is_killed(self) -> None:
+        self.init("--capacity", "5000")
+        make_tree(self.source, 2000 if LARGE else 500, 11)
+        write(os.path.join(self.source, "big"), os.urandom(4_200_000))
+        chance = random.Random(1)
+        for _ in range(KILLS):
+            self.add_killed(chance)
+        before = digests(self.source)
+        self.add()
+        self.assertEqual(self.get_all(), before)
+        self.assertEqual(len(self.rows()), len(before))
+        self.require_agreed()
+        self.do("close")
+        self.require_agreed()
+        self.assertEqual(self.do("check", "--data").last()["failures"], [])
+
+    def test_add_that_deletes_is_killed(self) -> None:
+        self.init("--capacity", "5000")
+        make_tree(self.source, 400, 12)
+        before = digests(self.source)
+        chance = random.Random(2)
+        for _ in range(KILLS // 2):
+            self.add_killed(chance, "--delete-source")
+            # What is not there any more is in the archive, whatever the catalogue knows by now.
+            self.do("add", self.path("archive", "archive.toml"), "--at", "/t/x")
+            there = {row["path"]: row["sha256"] for row in self.rows()}
+            gone = set(before) - set(digests(self.source))
+            for path in gone:
+                self.assertEqual(there.get("/s/" + os.fsdecode(path)), before[path][0])
+        self.add("--delete-source")
+        self.assertEqual(digests(self.source), {})
+        self.assertEqual(self.get_all(), before)
+
+    def steps(self, count: int, *words: str) -> "subprocess.CompletedProcess[bytes]":
+        return subprocess.run(
+            [sys.executable, "-c", STEPS, str(count), *words, "--archive", self.archive, "--quiet"], env=environment(), capture_output=True,
+            timeout=PATIENCE,
+        )
+
+    def test_each_step_of_close(self) -> None:
+        remote = self.path("remote")
+        os.mkdir(remote)
+        self.init("--copies", remote)
+        write(os.path.join(self.source, "f"), b"1")
+        self.add()
+        shutil.copytree(self.archive, self.path("kept"))
+        before = digests(self.source)
+        count = 0
+        while True:
+            # Each time from the same state, killed one call later.
+            for folder in (self.archive, remote):
+                shutil.rmtree(folder)
+            shutil.copytree(self.path("kept"), self.archive)
+            os.mkdir(remote)
+            done = self.steps(count, "close")
+            if done.returncode == 0:
+                break
+            self.assertEqual(done.returncode, -9, done.stderr.decode())
+            self.do("close")
+            self.require_agreed()
+            self.assertEqual(self.do("check", "--data", "--remotes").last()["failures"], [])
+            (volume,) = self.volumes()
+            self.assertEqual(volume["state"], "copied")
+            count += 1 if LARGE else 3
+        self.assertGreater(count, 10)
+        self.assertEqual(self.get_all(), before)
+
+    def test_each_step_of_a_first_add(self) -> None:
+        write(os.path.join(self.source, "f"), b"1")
+        before = digests(self.source)
+        count = 0
+        while True:
+            shutil.rmtree(self.archive, ignore_errors=True)
+            self.init()
+            done = self.steps(count, "add", self.source, "--at", "/s")
+            if done.returncode == 0:
+                break
+            self.assertEqual(done.returncode, -9, done.stderr.decode())
+            self.add()
+            self.require_agreed()
+            self.assertEqual(self.get_all(), before)
+            # The number that the killed run took is not lost.
+            self.assertEqual([volume["volume"] for volume in self.volumes()], ["T-000001"])
+            count += 1 if LARGE else 2
+        self.assertGreater(count, 5)
+
+
+class Disk(WithArchive):
+    """A file system of the test's own that is full."""
+
+    def mount(self, size: str) -> str:
+        folder = self.path("disk")
+        os.mkdir(folder)
+        if os.geteuid() != 0 or subprocess.run(["mount", "-t", "tmpfs", "-o", f"size={size}", "none", folder], capture_output=True, check=False).returncode:
+            self.skipTest("a file system cannot be mounted here")
+        self.addCleanup(subprocess.run, ["umount", "-l", folder], check=False)
+        return folder
+
+    def test_the_disk_is_full(self) -> None:
+        disk = self.mount("9m")
+        self.archive = os.path.join(disk, "archive")
+        self.init("--capacity", "6000")
+        make_tree(self.source, 700, 21)
+        before = digests(self.source)
+        filler = os.path.join(disk, "filler")
+        chance = random.Random(3)
+        ended: List[int] = []
+        for _ in range(8):
+            # Another program takes what is left of the disk, at any moment.
+            process = start("add", self.source, "--at", "/s", "--archive", self.archive, "--delete-source")
+            time.sleep(chance.uniform(0.2, 1.0))
+            fill(filler)
+            ended.append(process.wait())
+            os.unlink(filler)
+        self.assertTrue(any(ended), "the disk was never full")
+        subprocess.run(["mount", "-o", "remount,size=200m", disk], check=True)
+        self.add("--delete-source")
+        self.assertEqual(digests(self.source), {})
+        self.assertEqual(self.get_all(), before)
+        self.require_agreed()
+        self.do("close")
+        self.assertEqual(self.do("check", "--data").last()["failures"], [])
+
+
+def fill(path: str) -> None:
+    """Takes all that a disk has left."""
+    with open(path, "wb", buffering=0) as file:
+        try:
+            while True:
+                file.write(bytes(4096))
+        except OSError:
+            pass
+
+
+class Catalogues(WithArchive):
+    def test_a_lost_catalogue(self) -> None:
+        self.init("--capacity", "5000")
+        make_tree(self.source, 500, 31)
+        write(os.path.join(self.source, "big"), os.urandom(3_000_000))
+        self.add()
+        self.do("close")
+        make_tree(self.source, 520, 31)
+        self.add()
+        before = self.rows()
+        for name in os.listdir(self.archive):
+            if name.startswith("catalogue.sqlite"):
+                os.unlink(os.path.join(self.archive, name))
+        self.do("status", status=1)
+        self.do("rebuild")
+        self.assertEqual(self.rows(), before)
+        self.require_agreed()
+        self.assertEqual(self.add().last()["files"], 0)
+
+    def test_a_damaged_catalogue(self) -> None:
+        self.init()
+        make_tree(self.source, 40, 32)
+        self.add()
+        before = self.rows()
+        path = os.path.join(self.archive, "catalogue.sqlite")
+        for end in ("-wal", "-shm"):
+            if os.path.exists(path + end):
+                os.unlink(path + end)
+        write(path, b"no base" * 1000)
+        self.do("status", status=1)
+        self.do("rebuild")
+        self.assertEqual(self.rows(), before)
+        self.assertTrue([name for name in os.listdir(self.archive) if ".damaged-" in name])
+
+    def test_a_wrong_catalogue(self) -> None:
+        import sqlite3
+
+        self.init()
+        make_tree(self.source, 40, 33)
+        self.add()
+        before = self.rows()
+        base = sqlite3.connect(os.path.join(self.archive, "catalogue.sqlite"))
+        ids = [id for (id,) in base.execute("SELECT id FROM file ORDER BY id")]
+        base.execute("DELETE FROM file WHERE id = ?", (ids[3],))
+        base.execute("UPDATE file SET size = size + 1 WHERE id = ?", (ids[4],))
+        base.execute("INSERT INTO file SELECT id + 100000, folder, name, tail, size, moment, sha256, added, first_part, part_count FROM file WHERE id = ?", (ids[5],))
+        base.commit()
+        base.close()
+        last = self.do("rebuild", "--dry-run")
+        self.assertEqual(last.last()["differences"], 3)
+        self.assertNotEqual(self.rows(), before)
+        hows = sorted(line["how"] for line in self.do("rebuild").objects() if line["did"] == "differs")
+        self.assertEqual([how.split()[0] for how in hows], ["differed", "is", "was"])
+        self.assertEqual(self.rows(), before)
+        self.require_agreed()

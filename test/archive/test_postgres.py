@@ -1,0 +1,218 @@
+"""Several machines on one catalogue: real servers of PostgreSQL, processes and servers that are killed, a standby that is promoted."""
+
+from __future__ import annotations
+
+import os
+import random
+import shutil
+import time
+from typing import Dict, List
+
+from .servers import Server
+from .support import LARGE, WithArchive, digests, kill, make_tree, start, wait_until, write
+
+MACHINES = 4
+KILLS = 100 if LARGE else 12
+SERVER_KILLS = 10 if LARGE else 2
+
+
+class OnServer(WithArchive):
+    """Machines with an archive's folder each, on one server."""
+
+    def setUp(self) -> None:
+        super().setUp()
+        self.server = Server(self)
+        self.url = self.server.new_base("archive")
+
+    def machine(self, index: int, url: str = "") -> str:
+        """The archive's folder of a machine."""
+        folder = self.path(f"machine{index}")
+        self.init("--catalogue", url or self.url, archive=folder)
+        return folder
+
+
+class Machines(OnServer):
+    def test_one_path_is_one_machine_s(self) -> None:
+        first, second = self.machine(1), self.machine(2)
+        make_tree(self.source, 400, 1)
+        process = start("add", self.source, "--at", "/s/a", "--archive", first)
+        wait_until(lambda: self.server.sql("SELECT 1 FROM path_lock WHERE path = '/s/a'", "archive"))
+        wait_until(lambda: self.server.sql("SELECT 1 FROM volume", "archive"))
+        for at in ("/s/a", "/s/a/b", "/s", "/"):
+            if process.poll() is None:
+                done = self.run_in(second, "add", self.source, "--at", at if at != "/" else "/s", status=None)
+                if process.poll() is None:
+                    self.assertEqual(done.status, 1, at)
+                    self.assertIn("another process", done.errors)
+        # Beside it there is room for another.
+        self.run_in(second, "add", self.source, "--at", "/t/a")
+        self.assertEqual(process.wait(), 0)
+        holders = {volume["volume"]: volume["holder"] for volume in self.volumes(first)}
+        self.assertEqual(len(set(holders.values())), 2)
+
+    def test_claims_die_with_the_process(self) -> None:
+        first, second = self.machine(1), self.machine(2)
+        make_tree(self.source, 300, 2)
+        process = start("add", self.source, "--at", "/s", "--archive", first)
+        wait_until(lambda: self.server.sql("SELECT 1 FROM file", "archive"))
+        kill(process)
+        done = self.run_in(second, "add", self.source, "--at", "/s")
+        self.assertEqual(done.last()["files"] + done.last()["same"], 300)
+        # The first machine never comes back: its volume is taken over.
+        label = next(volume["volume"] for volume in self.volumes(first) if volume["at_hand"])
+        self.run_in(second, "adopt", label)
+        self.require_agreed(second)
+        self.assertEqual(self.get_all(second), digests(self.source))
+        shutil.rmtree(first)
+        self.run_in(second, "close")
+        self.assertEqual(self.run_in(second, "check", "--data").last()["failures"], [])
+        self.assertEqual(self.run_in(second, "add", self.source, "--at", "/s").last()["files"], 0)
+
+    def test_an_old_holder_writes_no_more(self) -> None:
+        first, second = self.machine(1), self.machine(2)
+        write(os.path.join(self.source, "f"), b"1")
+        self.run_in(first, "add", self.source, "--at", "/s")
+        self.run_in(second, "adopt", "T-000001")
+        image = os.path.join(first, "open", "T-000001.img")
+        before = open(image, "rb").read()
+        write(os.path.join(self.source, "g"), b"2")
+        self.run_in(first, "add", self.source, "--at", "/s")
+        self.assertEqual(open(image, "rb").read(), before)
+        self.require_agreed(first)
+        self.require_agreed(second)
+
+    def test_a_volume_in_use_is_not_adopted(self) -> None:
+        first, second = self.machine(1), self.machine(2)
+        make_tree(self.source, 500, 3)
+        process = start("add", self.source, "--at", "/s", "--archive", first)
+        wait_until(lambda: self.server.sql("SELECT 1 FROM file", "archive"))
+        done = self.run_in(second, "adopt", "T-000001", status=None)
+        if process.poll() is None:
+            self.assertEqual(done.status, 1)
+        self.assertEqual(process.wait(), 0)
+
+    def test_a_newer_catalogue_is_refused(self) -> None:
+        first = self.machine(1)
+        self.server.sql("UPDATE archive SET version = 7", "archive")
+        self.assertIn("version 7", self.run_in(first, "status", status=1).errors)
+
+    def test_a_base_of_another_program_is_left_alone(self) -> None:
+        url = self.server.new_base("other")
+        self.server.sql("CREATE TABLE file (x INTEGER)", "other")
+        done = self.do("init", self.path("x"), "--label", "T", "--catalogue", url, status=1)
+        self.assertIn("another program", done.errors)
+        self.assertEqual(self.server.sql("SELECT count(*) FROM file", "other"), [(0,)])
+
+    def test_a_server_that_is_gone_is_said(self) -> None:
+        first = self.machine(1)
+        self.server.kill()
+        done = self.run_in(first, "add", self.source, status=1)
+        self.assertIn("cannot be reached", done.errors)
+
+    def test_a_lost_catalogue_is_made_again(self) -> None:
+        machines = [self.machine(index) for index in range(2)]
+        for index, machine in enumerate(machines):
+            make_tree(os.path.join(self.source, str(index)), 60, index)
+            self.run_in(machine, "add", os.path.join(self.source, str(index)), "--at", f"/s/{index}")
+        before = self.rows(machines[0])
+        self.server.sql("DROP DATABASE archive")
+        self.server.new_base("archive")
+        for machine in machines:
+            self.run_in(machine, "rebuild")
+        self.assertEqual(self.rows(machines[0]), before)
+
+
+class Killed(OnServer):
+    """Four machines on one catalogue, killed at random; the server too."""
+
+    def setUp(self) -> None:
+        super().setUp()
+        self.sources: Dict[str, str] = {}
+        for index in range(MACHINES):
+            source = os.path.join(self.source, str(index))
+            make_tree(source, 1500 if LARGE else 260, 100 + index)
+            write(os.path.join(source, "big"), random.Random(index).randbytes(3_300_000))
+            self.sources[self.machine(index)] = source
+
+    def begin(self, machine: str) -> "object":
+        source = self.sources[machine]
+        return start("add", source, "--at", f"/s/{os.path.basename(source)}", "--archive", machine)
+
+    def finish(self) -> None:
+        """Each machine's command again does the rest, and then all is there once."""
+        for machine, source in self.sources.items():
+            self.run_in(machine, "add", source, "--at", f"/s/{os.path.basename(source)}")
+        first = next(iter(self.sources))
+        whole = {os.fsencode(self.relative(path)): found[0] for path, found in digests(self.source).items()}
+        rows = self.rows(first)
+        self.assertEqual(len(rows), len(whole))
+        self.assertEqual({os.fsencode(row["path"]): row["sha256"] for row in rows}, whole)
+        for machine in self.sources:
+            self.require_agreed(machine)
+        self.require_once(whole)
+        for machine in self.sources:
+            self.run_in(machine, "close")
+            self.assertEqual(self.run_in(machine, "check", "--data").last()["failures"], [])
+            self.require_agreed(machine)
+
+    def relative(self, path: bytes) -> str:
+        return "/s/" + os.fsdecode(path)
+
+    def require_once(self, whole: Dict[bytes, str]) -> None:
+        """No two volumes have one file: the catalogue has a row for each part of the volumes that `rebuild` agreed with."""
+        rows = self.server_rows()
+        small = [row for row in rows if row[1] is None]
+        self.assertEqual(len(small), len(whole) - MACHINES)
+        parts: List[int] = [row[1] for row in rows if row[1] is not None]
+        self.assertEqual(sum(parts), 4 * MACHINES)
+
+    def server_rows(self) -> "list[tuple[str, int]]":
+        return self.server.sql("SELECT folder.path || '/' || name, part_count FROM file JOIN folder ON folder.id = folder", "archive")
+
+    def test_processes_are_killed(self) -> None:
+        chance = random.Random(46)
+        processes: Dict[str, object] = {}
+        for _ in range(KILLS):
+            for machine in self.sources:
+                if processes.get(machine) is None or processes[machine].poll() is not None:  # type: ignore[attr-defined]
+                    processes[machine] = self.begin(machine)
+            time.sleep(chance.uniform(0.15, 1.2))
+            victim = chance.choice(list(self.sources))
+            kill(processes[victim])  # type: ignore[arg-type]
+        for process in processes.values():
+            process.wait()  # type: ignore[attr-defined]
+        self.finish()
+
+    def test_the_server_is_killed(self) -> None:
+        chance = random.Random(47)
+        for _ in range(SERVER_KILLS):
+            processes = [self.begin(machine) for machine in self.sources]
+            time.sleep(chance.uniform(0.6, 2.0))
+            self.server.kill()
+            for process in processes:
+                process.wait()  # type: ignore[attr-defined]
+            self.server.start()
+        self.finish()
+
+
+class Standby(WithArchive):
+    def test_the_standby_is_promoted(self) -> None:
+        primary = Server(self)
+        primary.new_base("archive")
+        standby = primary.replicate(self)
+        url = primary.url("archive", standby)
+        self.init("--catalogue", url)
+        make_tree(self.source, 600, 9)
+        process = start("add", self.source, "--at", "/s", "--archive", self.archive)
+        wait_until(lambda: primary.sql("SELECT 1 FROM file", "archive"))
+        acknowledged = {row[0] for row in primary.sql("SELECT id FROM file", "archive")}
+        primary.kill()
+        process.wait()
+        standby.promote()
+        wait_until(lambda: standby.sql("SELECT pg_is_in_recovery()") == [(False,)])
+        there = {row[0] for row in standby.sql("SELECT id FROM file", "archive")}
+        self.assertLessEqual(acknowledged, there)
+        last = self.add().last()
+        self.assertEqual(last["files"] + last["same"], 600)
+        self.require_agreed()
+        self.assertEqual(self.get_all(), digests(self.source))
