@@ -36,6 +36,30 @@ output=$(mktemp) || exit 1
 trap 'rm -f "$output"' EXIT
 trap 'exit 1' HUP INT PIPE TERM
 cd "$home" || exit 1
+
+# A Linux kernel that reads UDF: this machine's, else Debian's in a machine of QEMU, as in test/readers.sh.
+room=$(mktemp -d) || exit 1
+trap 'rm -rf "$output" "$room"' EXIT
+kernel() {
+    ./packages.sh --lists > "$room/apt.log" 2>&1
+    package=$(apt-cache depends linux-image-cloud-amd64 | sed -n 's/.*Depends: \(linux-image-[0-9].*\)/\1/p' | head -n 1)
+    mkdir "$room/kernel" "$room/package"
+    [ -n "$package" ] && (cd "$room/package" && apt-get -q download "$package" >> "$room/apt.log" 2>&1) &&
+        dpkg-deb -x "$room/package/"*.deb "$room/kernel"
+}
+case "${1:-test_remotes}" in
+    test_remotes*)
+        if gcc -std=c11 -O2 -static readers/guest.c -o "$room/guest" 2> "$room/gcc.log"; then
+            if "$python" readers/readers.py --may-mount "$room/guest" "$room"; then
+                GUEST=$room/guest
+                export GUEST
+            elif command -v qemu-system-x86_64 > "$room/which" && kernel; then
+                GUEST=$room/guest KERNEL=$room/kernel
+                export GUEST KERNEL
+            fi
+        fi
+        ;;
+esac
 status=0
 PYTHONDONTWRITEBYTECODE=1 PYTHONUTF8=1 "$python" -m archive $large "$@" > "$output" 2>&1 || status=$?
 sed '$d' "$output"

@@ -30,10 +30,12 @@ case $1 in
     --suites)
         shift
         for tool in gcc:gcc python3:python3 rsync:rsync mandoc:mandoc strace:strace lintian:lintian strip:binutils mypy:mypy pyflakes3:pyflakes3 shellcheck:shellcheck systemd-analyze:systemd udfclient:udfclient \
-            udfinfo:udftools ddrescue:gddrescue par2:par2 dvdisaster:dvdisaster blkid:util-linux mkfs.ext4:e2fsprogs mount:mount; do
+            udfinfo:udftools ddrescue:gddrescue par2:par2 dvdisaster:dvdisaster blkid:util-linux mkfs.ext4:e2fsprogs mount:mount rclone:rclone \
+            pg_ctlcluster:postgresql qemu-system-x86_64:qemu-system-x86 chromium:chromium; do
             command -v "${tool%:*}" > /dev/null || set -- "$@" "${tool#*:}"
         done
         [ -e /usr/include/stdio.h ] || set -- "$@" libc6-dev
+        [ -d /usr/lib/python3/dist-packages/psycopg ] || set -- "$@" python3-psycopg
         [ $# -gt 0 ] || exit 0
         ;;
 esac

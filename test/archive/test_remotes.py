@@ -1,0 +1,229 @@
+"""Copies on real remotes, repaired volumes, and bags as other readers show them."""
+
+from __future__ import annotations
+
+import os
+import random
+import shutil
+import subprocess
+import sys
+from pathlib import Path
+from typing import List
+
+from .servers import webdav
+from .support import HERE, PATIENCE, WithArchive, digests, make_tree, write
+
+READERS = os.path.join(HERE, "..", "readers")
+
+
+class WithRemotes(WithArchive):
+    """An archive with a folder, a local remote of rclone, and one over HTTP."""
+
+    def setUp(self) -> None:
+        super().setUp()
+        if shutil.which("rclone") is None:
+            self.skipTest("rclone is not installed")
+        for name in ("folder", "local", "served"):
+            os.mkdir(self.path(name))
+        url = webdav(self, self.path("served"))
+        config = f"[here]\ntype = alias\nremote = {self.path('local')}\n\n[dav]\ntype = webdav\nurl = {url}\nvendor = other\n"
+        os.environ["RCLONE_CONFIG"] = write(self.path("rclone.conf"), config.encode())
+        self.addCleanup(os.environ.pop, "RCLONE_CONFIG")
+        self.remotes = [self.path("folder"), "here:sub", "dav:deep/er"]
+        self.init("--copies", *self.remotes, "--capacity", "5000")
+
+    def image(self, number: int) -> str:
+        return os.path.join(self.archive, "closed", f"T-{number:06}.img")
+
+    def copies(self) -> List[str]:
+        return [self.path("folder"), self.path("local", "sub"), self.path("served", "deep", "er")]
+
+
+def change(path: str, place: int) -> None:
+    """Changes a byte of a file, also of one that is read-only."""
+    mode = os.stat(path).st_mode
+    os.chmod(path, 0o600)
+    with open(path, "r+b") as file:
+        file.seek(place)
+        byte = file.read(1)
+        file.seek(place)
+        file.write(bytes([byte[0] ^ 0x40]))
+    os.chmod(path, mode)
+
+
+class Copies(WithRemotes):
+    def test_each_remote_gets_each_volume(self) -> None:
+        make_tree(self.source, 500, 41)
+        self.add()
+        self.do("close")
+        names = sorted(os.listdir(os.path.join(self.archive, "closed")))
+        self.assertEqual(names, [f"T-000001{end}" for end in (".img", ".info", ".log", ".sha256", ".svg")])
+        for place in self.copies():
+            self.assertEqual(sorted(os.listdir(place)), names)
+            for name in names:
+                with open(os.path.join(place, name), "rb") as copy, open(os.path.join(self.archive, "closed", name), "rb") as own:
+                    self.assertEqual(copy.read(), own.read())
+            subprocess.run(["sha256sum", "--quiet", "-c", *[name for name in names if name.endswith(".sha256")]], check=True, cwd=place)
+        self.assertTrue(all(volume["state"] == "copied" for volume in self.volumes()))
+        (where,) = self.do("where", self.rows()[0]["path"]).objects()[:-1]
+        self.assertEqual(sorted(where["copies"]), sorted(self.remotes))
+
+    def test_damage_is_found_and_repaired(self) -> None:
+        make_tree(self.source, 300, 42)
+        self.add()
+        self.do("close")
+        chance = random.Random(4)
+        with open(self.image(1), "rb") as file:
+            whole = file.read()
+        for place in [chance.randrange(len(whole)) for _ in range(2)]:
+            change(self.image(1), place)
+            done = self.do("check", status=1)
+            self.assertIn("repair T-000001", done.errors)
+            self.do("check", "--data", status=1)
+            self.assertTrue(self.volumes()[0]["attention"])
+            self.do("repair")
+            with open(self.image(1), "rb") as file:
+                self.assertEqual(file.read(), whole)
+            self.do("check", "--data")
+        # What was damaged is kept under another name.
+        self.assertEqual(len([name for name in os.listdir(os.path.dirname(self.image(1))) if ".damaged-" in name]), 2)
+
+    def test_a_damaged_file_is_named(self) -> None:
+        make_tree(self.source, 30, 43)
+        data = os.urandom(5000)
+        write(os.path.join(self.source, "the one"), data)
+        self.add()
+        self.do("close")
+        with open(self.image(1), "rb") as file:
+            change(self.image(1), file.read().index(data) + 77)
+        done = self.do("check", "--data", status=1)
+        self.assertIn("the one is not as it was stored", done.errors)
+        get = self.do("get", "/s", self.path("back"), status=1)
+        self.assertIn("/s/the one", get.errors)
+        self.assertEqual(get.last()["files"], 30)
+        self.assertFalse(os.path.exists(self.path("back", "s", "the one")))
+        self.do("repair")
+        self.assertEqual(self.get_all(), digests(self.source))
+
+    def test_damaged_and_lost_copies(self) -> None:
+        make_tree(self.source, 60, 44)
+        self.add()
+        self.do("close")
+        change(os.path.join(self.copies()[1], "T-000001.img"), 700_000)
+        os.unlink(os.path.join(self.copies()[2], "T-000001.img"))
+        os.unlink(self.image(1))
+        done = self.do("check", "--remotes", status=1)
+        self.assertIn("here:sub is not as it was closed", done.errors)
+        self.assertIn("dav:deep/er is not there", done.errors)
+        # The only good copy mends the others.
+        self.do("repair", "T-000001")
+        self.do("check", "--data", "--remotes")
+        for place in self.copies():
+            with open(os.path.join(place, "T-000001.img"), "rb") as copy, open(self.image(1), "rb") as own:
+                self.assertEqual(copy.read(), own.read())
+
+    def test_no_good_copy(self) -> None:
+        make_tree(self.source, 10, 45)
+        self.add()
+        self.do("close")
+        with open(self.image(1), "rb") as file:
+            damaged = file.read()
+        for path in [self.image(1)] + [os.path.join(place, "T-000001.img") for place in self.copies()]:
+            change(path, 700_000)
+        done = self.do("repair", "T-000001", status=1)
+        self.assertIn("no copy is good", done.errors)
+        self.assertEqual(len(damaged), os.path.getsize(self.image(1)))
+
+    def test_a_remote_that_is_gone(self) -> None:
+        make_tree(self.source, 10, 46)
+        self.add()
+        os.rename(self.path("folder"), self.path("folder.gone"))
+        done = self.do("close", status=1)
+        self.assertEqual(done.last()["copied"], 2)
+        self.assertFalse(os.path.exists(self.path("folder")))
+        os.rename(self.path("folder.gone"), self.path("folder"))
+        self.assertEqual(self.do("close").last()["copied"], 1)
+
+    def test_the_oldest_first(self) -> None:
+        for index in range(3):
+            write(os.path.join(self.source, f"big{index}"), os.urandom(4_900_000))
+        self.add()
+        self.do("close")
+        looked = []
+        for _ in range(3):
+            (line,) = [line for line in self.do("check", "--oldest").objects() if line.get("did") == "checked"]
+            looked.append(line["volume"])
+        self.assertEqual(sorted(looked), ["T-000001", "T-000002", "T-000003"])
+        self.assertEqual(self.do("check", "--sample", "2").last()["volumes"], 2)
+
+
+class Bags(WithArchive):
+    """A closed volume, as other programs show it, is a bag."""
+
+    def setUp(self) -> None:
+        super().setUp()
+        self.init("--capacity", "30000")
+        make_tree(self.source, 120, 51)
+        write(os.path.join(self.source, "big"), os.urandom(2_200_000))
+        for index in range(600):
+            write(os.path.join(self.source, "many", f"f{index}"), b"%d" % index)
+        self.add()
+        self.do("close")
+        self.closed = os.path.join(self.archive, "closed", "T-000001.img")
+
+    def require_bag(self, folder: str) -> None:
+        """Checks it as RFC 8493 has it, with what every system has."""
+        with open(os.path.join(folder, "bagit.txt"), encoding="utf-8") as file:
+            self.assertEqual(file.read(), "BagIt-Version: 1.0\nTag-File-Character-Encoding: UTF-8\n")
+        for name in ("manifest-sha256.txt", "tagmanifest-sha256.txt"):
+            subprocess.run(["sha256sum", "--quiet", "-c", name], check=True, cwd=folder)
+        found = digests(os.path.join(folder, "data"))
+        with open(os.path.join(folder, "manifest-sha256.txt"), "rb") as manifest:
+            lines = manifest.read().splitlines()
+        self.assertEqual(sorted(line.split(b"  ", 1)[1] for line in lines), sorted(b"data/" + path for path in found))
+        size = sum(os.path.getsize(os.path.join(os.fsencode(folder), b"data", path)) for path in found)
+        with open(os.path.join(folder, "bag-info.txt"), encoding="utf-8") as info:
+            self.assertIn(f"Payload-Oxum: {size}.{len(found)}\n", info.read())
+        # The files of the archive follow from the bag alone: those in parts are joined, spread ones are moved up.
+        joined = subprocess.run("cat data/s/big/=p*/*", shell=True, check=True, cwd=folder, capture_output=True).stdout
+        with open(os.path.join(self.source, "big"), "rb") as big:
+            self.assertEqual(joined, big.read())
+        many = [path for path in found if path.startswith(b"s/many/")]
+        self.assertEqual(len(many), 600)
+        self.assertTrue(any(path.startswith(b"s/many/=s1/") for path in many))
+
+    def test_as_udfclient_shows_it(self) -> None:
+        if shutil.which("udfclient") is None:
+            self.skipTest("udfclient is not installed")
+        with open(self.closed, "rb") as file:
+            # The volume set identifier of the primary volume descriptor (ECMA-167 3/10.1.11), a dstring in one byte a letter.
+            file.seek(32 * 2048 + 72)
+            field = file.read(128)
+        where = ":".join([field[1 : field[127]].decode()] + ["T-000001"] * 3)
+        words = f'get "{where}" bag\nquit\n'
+        subprocess.run(["udfclient", "-b", "2048", self.closed], input=words.encode(), cwd=self.room, check=True, capture_output=True, timeout=PATIENCE)
+        self.require_bag(self.path("bag"))
+
+    def test_as_linux_shows_it(self) -> None:
+        guest, kernel = os.environ.get("GUEST"), os.environ.get("KERNEL")
+        if not guest:
+            self.skipTest("no kernel with udf: test/archive.sh has one where it can be had")
+        assert guest
+        sys.path.insert(0, READERS)
+        import linux
+
+        room = Path(self.path("linux"))
+        room.mkdir()
+        jobs = [linux.Job(Path(self.closed))]
+        (mount,) = linux.mount_in_machine(Path(guest), Path(kernel), jobs, room) if kernel else linux.mount_here(Path(guest), jobs, room)
+        self.assertEqual(mount.refused, 0)
+        folder = self.path("bag")
+        for path, node in mount.nodes.items():
+            local = os.fsencode(folder) + path
+            if node.kind == "D":
+                os.makedirs(local, exist_ok=True)
+            else:
+                os.makedirs(os.path.dirname(local), exist_ok=True)
+                with open(local, "wb") as file:
+                    file.write(node.data)
+        self.require_bag(folder)
