@@ -114,12 +114,15 @@ def add_readers(subs: "Subs") -> None:
     check.add_argument("--sample", type=int, metavar="N", help="N volumes at random")
     check.add_argument("--oldest", action="store_true", help="those that were not looked at for longest: one, or N with --sample")
 
+    report = command(subs, "report", "writes one static page: the volumes, their media by commits, and a search by path")
+    report.add_argument("out", metavar="OUT.html")
+
     command(subs, "status", "shows how full each volume is, its copies, and what needs attention")
 
 
 COMMANDS: Dict[str, str] = {
     "init": "commands", "add": "commands", "rebuild": "commands", "ls": "queries", "get": "queries", "status": "queries", "find": "queries", "history": "queries",
-    "where": "queries", "adopt": "closing",
+    "where": "queries", "report": "queries", "adopt": "closing",
     "close": "closing", "check": "closing", "repair": "closing",
 }
 

@@ -8,6 +8,7 @@ from typing import Dict, Iterable, List, Optional
 
 from ..errors import UsageError
 from ..protocol import Path
+from ..sources import shown
 from .catalogue import Catalogue, Held, versions
 from .commands import config_of, tell_of
 from .get import Getter, Lacking, as_of, require_folder, wanted
@@ -78,8 +79,8 @@ def ls(arguments: argparse.Namespace) -> int:
 
 
 def list_file(tell: Tell, arguments: argparse.Namespace, group: List[Held], labels: Dict[int, str], name: str) -> None:
-    shown = shown_path((name,))[1:]
-    tell.say(long_line(group, labels, shown) if arguments.long else f"f {shown}", kind="file", **fields(group, labels))
+    text = shown_path((name,))[1:]
+    tell.say(long_line(group, labels, text) if arguments.long else f"f {text}", kind="file", **fields(group, labels))
 
 
 def list_folder(tell: Tell, arguments: argparse.Namespace, catalogue: Catalogue, folder: Path, labels: Dict[int, str], whole: bool) -> int:
@@ -113,8 +114,8 @@ def find(arguments: argparse.Namespace) -> int:
         labels = Labels(catalogue)
         for group in found_by(catalogue, arguments.pattern):
             count += 1
-            shown = shown_path(group[0].path)
-            tell.say(long_line(group, labels, shown) if arguments.long else shown, **fields(group, labels))
+            path = shown_path(group[0].path)
+            tell.say(long_line(group, labels, path) if arguments.long else path, **fields(group, labels))
     tell.outcome = {"files": count}
     return 0 if count else 1
 
@@ -174,6 +175,17 @@ def get(arguments: argparse.Namespace) -> int:
     words += f"; volumes that are not at hand: {', '.join(sorted(summary.lacking))}" if lacking else ""
     tell.result(words, files=summary.files, bytes=summary.bytes, lacking=sorted(summary.lacking))
     return 1 if summary.failures or lacking else 0
+
+
+def report(arguments: argparse.Namespace) -> int:
+    """Writes the page."""
+    from .report import write_report
+
+    config, tell = config_of(arguments), tell_of(arguments)
+    with Catalogue(config) as catalogue:
+        count = write_report(config, catalogue, arguments.out)
+    tell.result(f"wrote {shown(arguments.out)}, {size(count)}", page=arguments.out, bytes=count)
+    return 0
 
 
 def status(arguments: argparse.Namespace) -> int:

@@ -1,0 +1,82 @@
+"""One static page about an archive: nothing is loaded from elsewhere, and no server is asked."""
+
+from __future__ import annotations
+
+import os
+import time
+from contextlib import closing
+from importlib.resources import files
+from json import dumps
+from typing import Any, Dict, List
+
+from ..errors import SourceError
+from ..sources import shown
+from .catalogue import Catalogue
+from .close import beside
+from .config import Config, write_file
+from .contents import Contents
+from .errors import VolumeDiffers
+from .status import Line, lines
+from .tell import shown_path
+from .volume import image_of
+
+PLACE = "/*DATA*/"
+"""Where the page has its data."""
+
+BEGIN = b"<!DOCTYPE html>\n<html lang=\"en\">\n"
+
+
+def ends(config: Config, line: Line) -> List[int]:
+    """The address of the last block of each commit, the format's first; none where nothing of the medium is at hand."""
+    image = image_of(config, line.row)
+    log = beside(config.path("closed", line.row.label + ".img"), ".log")
+    if os.path.isfile(log):
+        with open(log, encoding="ascii") as file:
+            return [int(words.split()[1]) for words in reversed(file.read().splitlines())]
+    if image is None:
+        return []
+    try:
+        with closing(Contents(image)) as contents:
+            return contents.addresses
+    except VolumeDiffers:
+        return []
+
+
+def volume(config: Config, catalogue: Catalogue, line: Line, folders: Dict[str, int]) -> Dict[str, Any]:
+    """What the page has of a volume. Its files stand in lists of one length, in order of their commits."""
+    row = line.row
+    rows = catalogue.of_volume(row.number)
+    return {
+        "number": row.number, "label": row.label, "state": line.state, "capacity": row.capacity, "opened": row.formatted, "closed": row.closed,
+        "checked": row.checked, "last": row.last_commit, "sha256": row.sha256.hex() if row.sha256 else None, "fullness": line.fullness,
+        # A file on several volumes counts where its first part is.
+        "whole": sum(1 for held in rows if not held.first), "bytes": sum(held.size for held in rows if not held.first),
+        "copies": [copy.remote for copy in line.copies if copy.trouble is None], "attention": line.attention, "ends": ends(config, line),
+        "names": [shown_path(held.path[-1:])[1:] for held in rows], "sizes": [held.size for held in rows], "commits": [held.commit for held in rows],
+        "folders": [folders.setdefault(shown_path(held.path[:-1]).rstrip("/"), len(folders)) for held in rows],
+    }
+
+
+def page(config: Config, catalogue: Catalogue) -> str:
+    """The page."""
+    folders: Dict[str, int] = {}
+    volumes = [volume(config, catalogue, line, folders) for line in sorted(lines(config, catalogue), key=lambda line: line.row.number)]
+    counts = {"files": sum(one["whole"] for one in volumes), "bytes": sum(one["bytes"] for one in volumes)}
+    data = {"label": config.label, "made": time.time_ns() // 1000, **counts, "volumes": volumes, "folders": list(folders)}
+    # So that no name ends the script.
+    text = dumps(data, ensure_ascii=False, separators=(",", ":")).replace("<", "\\u003c").replace("\u2028", "\\u2028")
+    return files(__package__ or "udfburn.archive").joinpath("report.html").read_text("utf-8").replace(PLACE, text)
+
+
+def write_report(config: Config, catalogue: Catalogue, path: str) -> int:
+    """Writes the page, and gives its bytes. A file that is no page of this command is left alone."""
+    path = os.path.abspath(path)
+    if os.path.lexists(path):
+        if not os.path.isfile(path) or os.path.islink(path):
+            raise SourceError(f"{shown(path)}: is there already, and is no page of this command")
+        with open(path, "rb") as file:
+            if file.read(len(BEGIN)) not in (b"", BEGIN):
+                raise SourceError(f"{shown(path)}: is there already, and is no page of this command")
+    data = page(config, catalogue).encode()
+    write_file(path, data)
+    return len(data)

@@ -1,0 +1,117 @@
+"""The page of an archive, as a real browser shows it."""
+
+from __future__ import annotations
+
+import html
+import os
+import re
+import shutil
+import sqlite3
+import subprocess
+from typing import List
+
+from .support import PATIENCE, WithArchive, make_tree, write
+
+BROWSER = next((path for path in map(shutil.which, ("chromium", "chromium-browser", "google-chrome")) if path), None)
+
+
+class Report(WithArchive):
+    def page(self) -> str:
+        path = self.path("report.html")
+        self.do("report", path)
+        return path
+
+    def shown(self, page: str, state: str = "") -> str:
+        """What the browser has made of the page, without a network."""
+        if BROWSER is None:
+            self.skipTest("no browser: Debian has chromium")
+        assert BROWSER
+        words = [BROWSER, "--headless", "--no-sandbox", "--disable-gpu", "--proxy-server=127.0.0.1:9", f"--user-data-dir={self.path('browser')}", "--dump-dom"]
+        done = subprocess.run([*words, f"file://{page}#{state}"], check=True, capture_output=True, timeout=PATIENCE)
+        return done.stdout.decode()
+
+    def texts(self, shown: str, place: str) -> List[str]:
+        """The texts of the elements with an ID, in order."""
+        (inner,) = re.findall(rf'id="{place}"[^>]*>(.*?)</(?:div|tbody|ul)>\s*(?:</section>|</table>|</header>)', shown, re.S)
+        return [html.unescape(text) for text in re.findall(r">([^<>]+)<", ">" + inner + "<") if text.strip()]
+
+    def test_what_it_shows(self) -> None:
+        self.init()
+        make_tree(self.source, 60, 61)
+        evil = "</script><b>&amp;\"'"
+        write(os.path.join(self.source, "f", evil.replace("/", "-")), b"evil")
+        self.add()
+        self.do("close")
+        write(os.path.join(self.source, "late.txt"), b"late")
+        self.add()
+        page = self.page()
+        with open(page, encoding="utf-8") as file:
+            text = file.read()
+        self.assertFalse(re.findall(r"(?:src|href)\s*=|https?://|url\(|@import", text.split('<script type="application/json"')[0]))
+        shown = self.shown(page)
+        self.assertIn("2 volumes, 62 files", shown)
+        self.assertIn("T-000001", self.texts(shown, "volumes"))
+        self.assertRegex(shown, r'data-ready="\d+"')
+        found = self.texts(self.shown(page, "search=LATE"), "found")
+        self.assertEqual(found[0], "/s/late.txt")
+        self.assertIn("1 file", found[-1])
+        found = self.texts(self.shown(page, "search=script"), "found")
+        self.assertEqual(found[0], "/s/f/" + evil.replace("/", "-"))
+
+    def test_the_tree_at_each_commit(self) -> None:
+        self.init()
+        for index in range(12):
+            write(os.path.join(self.source, f"f{index:02}"), b"%d" % index)
+        self.add()
+        rows = sorted((row["places"][0]["commit"], row["path"]) for row in self.rows())
+        page = self.page()
+        for commit in (0, rows[0][0], rows[5][0], rows[5][0] - 1, rows[-1][0]):
+            shown = self.shown(page, f"volume=T-000001&commit={commit}")
+            names = sorted(text for text in self.texts(shown, "one") if re.fullmatch("f[0-9]+", text))
+            self.assertEqual(names, sorted(path.split("/")[-1] for at, path in rows if at <= commit))
+
+    def test_only_a_page_is_replaced(self) -> None:
+        self.init()
+        page = self.page()
+        self.do("report", page)
+        other = write(self.path("other.html"), b"<html>mine")
+        self.do("report", other, status=1)
+        with open(other, "rb") as file:
+            self.assertEqual(file.read(), b"<html>mine")
+
+    def test_a_hundred_thousand_files(self) -> None:
+        self.init()
+        write(os.path.join(self.source, "f"), b"1")
+        self.add()
+        fill_catalogue(os.path.join(self.archive, "catalogue.sqlite"), 100_000)
+        shown = self.shown(self.page(), "volume=T-000005&search=name-99")
+        self.assertIn("100,001 files", shown)
+        (ready,) = re.findall(r'data-ready="(\d+)"', shown)
+        self.assertLess(int(ready), 3000)
+
+
+def fill_catalogue(path: str, files: int, a_volume: int = 4000, a_folder: int = 32) -> None:
+    """Rows that were made for it: volumes from 2 on, with folders of some files each."""
+    base = sqlite3.connect(path)
+    base.execute("PRAGMA synchronous = OFF")
+    columns = [name for _, name, *_ in base.execute("PRAGMA table_info(volume)")]
+    (row,) = base.execute("SELECT * FROM volume WHERE number = 1")
+    known = dict(zip(columns, row))
+    (first,) = base.execute("SELECT coalesce(max(id), 0) + 1 FROM folder").fetchone()
+    for number in range(2, 2 + -(-files // a_volume)):
+        values = {**known, "number": number, "label": f"T-{number:06}", "last_commit": a_volume + 10, "files": a_volume, "nodes": 4090}
+        base.execute(f"INSERT INTO volume ({', '.join(columns)}) VALUES ({', '.join('?' * len(columns))})", [values[name] for name in columns])
+    base.executemany(
+        "INSERT INTO folder VALUES (?, ?)", ((first + index, f"/made/year-{index // 5000}/month-{index // 400 % 12}/folder-{index}") for index in range(-(-files // a_folder))),
+    )
+    base.executemany("INSERT INTO file VALUES (?, ?, ?, ?, ?, ?, ?, ?, NULL, NULL)", (made_row(index, a_volume, a_folder, first) for index in range(files)))
+    base.execute("UPDATE archive SET next_volume = ?", (2 + -(-files // a_volume),))
+    base.commit()
+    base.close()
+
+
+def made_row(index: int, a_volume: int, a_folder: int, first: int) -> "tuple[object, ...]":
+    number, commit = 2 + index // a_volume, 10 + index % a_volume
+    name = f"name-{index * 7919 % 10_000_019}.bin"
+    digest = index.to_bytes(8, "big") * 4
+    return number << 18 | commit, first + index // a_folder, name, name[::-1][:12], index % 100_000, 1_700_000_000_000_000 + index, digest, 1_700_000_001_000_000 + number
