@@ -3,6 +3,7 @@
 from __future__ import annotations
 
 import glob
+import importlib.util
 import os
 import pwd
 import shutil
@@ -26,11 +27,8 @@ def programs() -> Optional[str]:
 
 
 def driver() -> bool:
-    try:
-        import psycopg  # noqa: F401
-    except ImportError:
-        return False
-    return True
+    """Whether the driver is there."""
+    return importlib.util.find_spec("psycopg") is not None
 
 
 class Server:

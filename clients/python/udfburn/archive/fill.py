@@ -40,6 +40,7 @@ class Filler:
         self.kept, self.failed = kept, failed
         self.open: List[OpenVolume] = []
         self.planned: Dict[int, List[Job]] = {}
+        self.weights: Dict[int, int] = {}
         # What an earlier run left comes first, so that the catalogue has all that the volumes have.
         for volume in own_volumes(config, catalogue, claims):
             self.open.append(volume)
@@ -100,6 +101,7 @@ class Filler:
                 return [job.again()] + jobs[index + 1 :] if onward else jobs[index:]
             volume.tree.settle()
             self.planned.setdefault(volume.row.number, []).append(job)
+            self.weights[volume.row.number] = self.weights.get(volume.row.number, 0) + job.planned_bytes()
             rest = job.rest()
             if rest is not None:
                 return [rest] + jobs[index + 1 :]
@@ -115,8 +117,7 @@ class Filler:
             volume.plan_marker(self.text)
 
     def _is_enough(self, volume: OpenVolume) -> bool:
-        jobs = self.planned.get(volume.row.number, [])
-        return len(jobs) >= BATCH_FILES or sum(job.planned_bytes() for job in jobs) >= BATCH_BYTES
+        return len(self.planned[volume.row.number]) >= BATCH_FILES or self.weights[volume.row.number] >= BATCH_BYTES
 
     def _new(self) -> OpenVolume:
         """A new volume. Where there are too many open ones, the fullest takes no more."""
@@ -154,6 +155,7 @@ class Filler:
     def flush(self, volume: OpenVolume) -> List[Job]:
         """Sends what is planned on a volume; gives files for which the medium had no room, which is rarely any."""
         jobs = self.planned.pop(volume.row.number, [])
+        self.weights[volume.row.number] = 0
         if not jobs:
             return []
         done: List[Job] = []
