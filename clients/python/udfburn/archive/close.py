@@ -12,12 +12,13 @@ import time
 from contextlib import closing
 from typing import Dict, List, Optional, Tuple
 
-from ..bag import DECLARATION, INFO, MANIFEST, TAG_MANIFEST, declaration, info, manifest, tag_manifest
 from ..connection import find_program, run_program
 from ..ledger_file import sync_file, sync_folder
+from ..manifest import BAG_DECLARATION, BAG_INFO, DECLARATION, MANIFEST, PAYLOAD, TAG_MANIFEST, Line, bag_manifest
 from ..operations import Operation, now
-from ..protocol import Code, Create, Replace, limits
+from ..protocol import Code, Create, Path, Replace, limits
 from ..sources import shown
+from .bag import info, tag_manifest
 from .catalogue import CLOSED, CLOSING, Catalogue, Copy, VolumeRow
 from .claims import Claims
 from .config import Config, write_file
@@ -133,23 +134,24 @@ class Closer:
             file = whole.get(node.path)
             if file is not None and file.commit in known and known[file.commit].sha256 != digest:
                 raise VolumeDiffers(f"{volume.image}: {'/'.join(node.path)} has other bytes than were stored: 'rebuild', and store it again")
-            digests.append((node.path, digest))
+            digests.append(Line(digest, node.path))
             size += len(data)
         date = stamp(contents.closed() or time.time_ns() // 1000)[:10]
         fields = {
             "Bagging-Date": self._date(contents) or date, "External-Identifier": volume.row.label, "Bag-Group-Identifier": self.catalogue.id,
             "Bag-Software-Agent": "udfburn-archive",
         }
-        files = {DECLARATION: declaration(), INFO: info(fields, size, len(digests)), MANIFEST: manifest(digests)}
+        files = {BAG_DECLARATION: DECLARATION, BAG_INFO: info(fields, size, len(digests)), MANIFEST: bag_manifest(digests)}
         if len(files[MANIFEST]) > limits.FILE:
             raise ArchiveError(f"{volume.row.label}: its manifest would have {len(files[MANIFEST])} bytes, and a file has at most {limits.FILE}")
-        tags = {**files, **{"/".join(path): contents.bytes_of(node) for path, node in contents.nodes.items() if is_tag(path, node.kind.name)}}
+        tags: Dict[Path, bytes] = {(name,): data for name, data in files.items()}
+        tags.update({path: contents.bytes_of(node) for path, node in contents.nodes.items() if is_tag(path, node.kind.name)})
         files[TAG_MANIFEST] = tag_manifest(tags)
         return files
 
     def _date(self, contents: Contents) -> Optional[str]:
         """The date that an earlier run began with."""
-        node = contents.nodes.get((INFO,))
+        node = contents.nodes.get((BAG_INFO,))
         return read_fields(contents.bytes_of(node)).get("Bagging-Date") if node is not None else None
 
     def _end(self, image: str) -> None:
@@ -228,6 +230,6 @@ def send(row: VolumeRow, image: str, name: str) -> None:
             remote.send(beside(image, end), os.path.basename(beside(image, end)))
 
 
-def is_tag(path: Tuple[str, ...], kind: str) -> bool:
+def is_tag(path: Path, kind: str) -> bool:
     """Whether a file of the volume is a tag file beside those of a bag (RFC 8493 2.2.4)."""
-    return kind == "FILE" and path[0] != "data" and path[0] not in (DECLARATION, INFO, MANIFEST, TAG_MANIFEST)
+    return kind == "FILE" and path[0] != PAYLOAD and path[0] not in (BAG_DECLARATION, BAG_INFO, MANIFEST, TAG_MANIFEST)

@@ -7,7 +7,7 @@ from bisect import bisect_left, bisect_right
 from hashlib import sha256
 from typing import Dict, Iterator, List, NamedTuple, Optional, Set, Tuple
 
-from ..bag import MANIFEST, PAYLOAD, TAG_MANIFEST, read_manifest
+from ..manifest import MANIFEST, PAYLOAD, TAG_MANIFEST, read_manifest
 from ..protocol import Path, limits
 from ..reader import Kind, Medium, Node, NoVolume, State, Volume
 from .catalogue import Held, part_count
@@ -160,7 +160,8 @@ class Contents:
     def manifest(self) -> Dict[Path, bytes]:
         """The digests of a bag's payload, by path; empty where the bag was not finished."""
         node = self.nodes.get((MANIFEST,))
-        return read_manifest(self.bytes_of(node)) if node is not None and self.is_bag() else {}
+        lines = read_manifest(self.bytes_of(node), True)[0] if node is not None and self.is_bag() else []
+        return {line.path: line.sha256 for line in lines}
 
     # ---- its files
 

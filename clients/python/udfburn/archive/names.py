@@ -12,7 +12,7 @@ import os
 import re
 from typing import Iterable, List, NamedTuple, Optional, Tuple
 
-from ..bag import PAYLOAD
+from ..manifest import PAYLOAD
 from ..protocol import Path, limits
 from ..protocol.names import has_spelling, name_fault, spelled_size
 from .errors import CannotStore

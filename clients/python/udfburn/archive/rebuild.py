@@ -6,9 +6,9 @@ import os
 import time
 from typing import Dict, Iterator, List, NamedTuple, Optional, Tuple
 
-from ..bag import manifest_size
 from ..ledger_file import sync_folder
 from ..sources import shown
+from .bag import manifest_size
 from .base import SqliteBase
 from .catalogue import CLOSED, NEW, OPEN, Catalogue, Held, VolumeRow
 from .claims import claims_of

@@ -4,9 +4,10 @@ from __future__ import annotations
 
 from typing import Dict, Iterable, List, NamedTuple, Optional, Tuple
 
-from ..bag import PAYLOAD, manifest_size
 from ..blocks import Layout, Reckoner, Space, blocks_for, data_blocks
+from ..manifest import PAYLOAD
 from ..protocol import Path, limits
+from .bag import manifest_size
 from .catalogue import part_count
 from .names import DESCRIPTION, SPREAD, part_name, spelled, stored_folder
 

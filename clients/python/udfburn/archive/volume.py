@@ -8,14 +8,15 @@ from contextlib import closing
 from datetime import datetime, timezone
 from typing import Iterator, Optional
 
-from ..bag import PAYLOAD, manifest_size
 from ..blocks import Space
 from ..client import Client
 from ..connection import find_program, run_program
 from ..ledger_file import sync_folder
+from ..manifest import PAYLOAD
 from ..operations import Operation, now
 from ..protocol import Code, Create, MakeDir, Path
 from ..reader import Kind
+from .bag import manifest_size
 from .catalogue import CLOSED, NEW, OPEN, Catalogue, VolumeRow
 from .claims import Claims
 from .config import Config, volume_label
