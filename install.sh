@@ -71,8 +71,8 @@ put 755 "$udfburn" "$prefix/bin/udfburn"
 put 755 "$udfburnd" "$prefix/bin/udfburnd"
 for page in man/*.[1-9]; do
     name=$(basename "$page")
-    # The client's page goes with the client.
-    [ "$name" != udfburn-client.1 ] || [ -d clients/python/udfburn ] || continue
+    # The pages of the client and the archive go with the package.
+    case $name in udfburn-client.1 | udfburn-archive.1) [ -d clients/python/udfburn ] || continue ;; esac
     put 644 "$page" "$prefix/share/man/man${page##*.}/$name"
 done
 sed "s|@bindir@|$prefix/bin|g" packaging/systemd/udfburnd@.service | put 644 - "$prefix/lib/systemd/system/udfburnd@.service"
@@ -83,7 +83,7 @@ done
 
 if [ -d clients/python/udfburn ]; then
     python=${PYTHON_DIR:-$prefix/lib/udfburn}
-    (cd clients/python && find udfburn -type f -name '*.py' -o -type f -name py.typed | LC_ALL=C sort) > "$list.python"
+    (cd clients/python && find udfburn -type f -name '*.py' -o -type f -name py.typed -o -type f -name '*.html' | LC_ALL=C sort) > "$list.python"
     while IFS= read -r file; do
         put 644 "clients/python/$file" "$python/$file"
     done < "$list.python"
@@ -91,6 +91,10 @@ if [ -d clients/python/udfburn ]; then
     put 755 - "$prefix/bin/udfburn-client" << END
 #!/bin/sh
 PYTHONPATH=$python\${PYTHONPATH:+:\$PYTHONPATH} exec python3 -m udfburn "\$@"
+END
+    put 755 - "$prefix/bin/udfburn-archive" << END
+#!/bin/sh
+PYTHONPATH=$python\${PYTHONPATH:+:\$PYTHONPATH} exec python3 -m udfburn.archive "\$@"
 END
 fi
 

@@ -82,7 +82,9 @@ expected() {
         if [ -n "$client" ]; then
             echo "644 $1/share/man/man1/udfburn-client.1"
             echo "755 $1/bin/udfburn-client"
-            (cd clients/python && find udfburn -name '*.py' -o -name py.typed) | sed "s|^|644 $1/lib/udfburn/|"
+            echo "644 $1/share/man/man1/udfburn-archive.1"
+            echo "755 $1/bin/udfburn-archive"
+            (cd clients/python && find udfburn -name '*.py' -o -name py.typed -o -name '*.html') | sed "s|^|644 $1/lib/udfburn/|"
         fi
     } | LC_ALL=C sort -k 2
 }
@@ -144,6 +146,14 @@ if [ -d clients/python/udfburn ] && [ -f clients/python/udfburn/__main__.py ]; t
             grep -o -e '^--[a-z][a-z-]*' > "$room/page"
         grep -q '^\.Fl -help' man/udfburn-client.1 && echo --help >> "$room/page"
         holds 'its page has its options' same "$room/wanted" sort -u "$room/page"
+        if python3 -c 'import tomllib' 2> "$room/which"; then
+            holds 'the installed archive says its words' "$prefix/bin/udfburn-archive" --help
+            for command in init add ls find history where get status close check repair rebuild adopt report; do
+                "$prefix/bin/udfburn-archive" "$command" --help
+            done | grep -o -e '--[a-z][a-z-]*' | sort -u > "$room/wanted"
+            sed 's/Fl -\([a-z]\)/\n--\1/g' man/udfburn-archive.1 | grep -o -e '^--[a-z][a-z-]*' | grep -v -x -e --version | sort -u > "$room/page"
+            holds "the archive's page has its options" same "$room/wanted" sort -u "$room/page"
+        fi
     else
         absent python3
     fi

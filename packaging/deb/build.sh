@@ -49,7 +49,8 @@ if command -v objdump > "$work/which"; then
 fi
 client=
 [ ! -d "$room/usr/lib/python3" ] || client='
-Recommends: python3 (>= 3.9)'
+Recommends: python3 (>= 3.9)
+Suggests: python3-psycopg, rclone'
 
 mkdir "$room/DEBIAN"
 for script in postinst prerm; do
