@@ -11,7 +11,7 @@ import sys
 import time
 from typing import List
 
-from .support import LARGE, PATIENCE, WithArchive, digests, environment, kill, make_tree, start, write
+from .support import LARGE, PATIENCE, WithArchive, digests, environment, kill, make_tree, start, wait_until, write
 
 KILLS = 100 if LARGE else 14
 
@@ -130,6 +130,38 @@ class Crashes(WithArchive):
             self.assertEqual([volume["volume"] for volume in self.volumes()], ["T-000001"])
             count += 1 if LARGE else 2
         self.assertGreater(count, 5)
+
+
+class SideBySide(WithArchive):
+    """Several processes on one archive with SQLite."""
+
+    def test_two_processes_have_a_volume_each(self) -> None:
+        self.init()
+        for name in ("a", "b"):
+            make_tree(os.path.join(self.source, name), 300, ord(name))
+        processes = [start("add", os.path.join(self.source, name), "--at", f"/s/{name}", "--archive", self.archive) for name in ("a", "b")]
+        self.assertEqual([process.wait() for process in processes], [0, 0])
+        self.assertEqual(len(self.volumes()), 2)
+        self.assertEqual(self.get_all(), digests(self.source))
+        self.require_agreed()
+        # The next run fills both.
+        write(os.path.join(self.source, "c"), b"c")
+        self.add()
+        self.assertEqual(len(self.volumes()), 2)
+
+    def test_one_path_is_one_process_s(self) -> None:
+        self.init()
+        make_tree(self.source, 700, 40)
+        process = start("add", self.source, "--at", "/s/a", "--archive", self.archive)
+        wait_until(lambda: os.path.exists(os.path.join(self.archive, "open", "T-000001.img")))
+        for at in ("/s/a", "/s/a/b", "/s"):
+            done = self.do("add", self.source, "--at", at, status=None)
+            if process.poll() is None:
+                self.assertEqual(done.status, 1)
+                self.assertIn("another process", done.errors)
+        self.do("close")
+        self.assertEqual(process.wait(), 0)
+        self.require_agreed()
 
 
 class Disk(WithArchive):

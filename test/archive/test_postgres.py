@@ -91,6 +91,42 @@ class Machines(OnServer):
             self.assertEqual(done.status, 1)
         self.assertEqual(process.wait(), 0)
 
+    def test_lost_claims_end_a_run(self) -> None:
+        first = self.machine(1)
+        make_tree(self.source, 900, 5)
+        before = digests(self.source)
+        process = start("add", self.source, "--at", "/s", "--archive", first, "--delete-source")
+        wait_until(lambda: self.server.sql("SELECT 1 FROM file", "archive"))
+        self.server.sql("SELECT pg_terminate_backend(pid) FROM pg_stat_activity WHERE datname = 'archive' AND state = 'idle in transaction'")
+        kept = {row[0] for row in self.server.sql("SELECT id FROM file", "archive")}
+        self.assertEqual(process.wait(), 1)
+        # Not one row came after the claims were lost, but those of the transaction that was under way.
+        self.assertLessEqual(len(self.server.sql("SELECT id FROM file", "archive")), len(kept) + 256)
+        self.run_in(first, "add", self.source, "--at", "/s", "--delete-source")
+        self.assertEqual(self.get_all(first), before)
+        self.require_agreed(first)
+
+    def test_what_a_killed_machine_left_is_not_there_twice(self) -> None:
+        first, second = self.machine(1), self.machine(2)
+        make_tree(self.source, 40, 8)
+        write(os.path.join(self.source, "big"), os.urandom(2_500_000))
+        self.run_in(first, "add", self.source, "--at", "/s")
+        # As where the first machine was killed before the catalogue had its last files.
+        (middle,) = self.server.sql("SELECT id FROM file ORDER BY id LIMIT 1 OFFSET 20", "archive")[0]
+        self.server.sql(f"DELETE FROM file WHERE id > {middle}", "archive")
+        self.server.sql(f"UPDATE volume SET last_commit = {middle % (1 << 18)}", "archive")
+        self.run_in(second, "add", self.source, "--at", "/s")
+        other = os.path.join(self.room, "other")
+        write(os.path.join(other, "x"), b"1")
+        self.run_in(first, "add", other, "--at", "/other")
+        for archive in (first, second):
+            self.require_agreed(archive)
+        rows = self.server.sql("SELECT folder.path || '/' || name, count(*) FROM file JOIN folder ON folder.id = folder GROUP BY 1", "archive")
+        self.assertEqual(len(rows), 42)
+        self.assertEqual({count for _, count in rows}, {1})
+        self.run_in(second, "adopt", "T-000001")
+        self.assertEqual(self.get_all(second), digests(self.source))
+
     def test_a_newer_catalogue_is_refused(self) -> None:
         first = self.machine(1)
         self.server.sql("UPDATE archive SET version = 7", "archive")

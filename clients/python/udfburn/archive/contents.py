@@ -12,7 +12,7 @@ from ..protocol import Path, limits
 from ..reader import Kind, Medium, Node, NoVolume, State, Volume
 from .catalogue import Held, part_count
 from .errors import VolumeDiffers
-from .names import read_back, text_of
+from .names import DESCRIPTION, read_back, text_of
 
 TITLE = "udfburn-archive 1"
 """The first line of the text that each volume of an archive begins with; its number is that of the layout."""
@@ -197,6 +197,12 @@ class Contents:
             nodes.append(parts[first + len(nodes)])
         commit = self.commit_of(node)
         return File(path, version, node.path[:-1], tuple(nodes), size, node.moment or 0, commit, self.added(commit), digest, first, len(nodes))
+
+    def stored_paths(self, file: File) -> List[Path]:
+        """The paths of a file on the volume: its own, or those of its parts, the last first, and of their description."""
+        if file.parts is None:
+            return [file.whole]
+        return [node.path for node in reversed(file.nodes)] + [file.whole + (DESCRIPTION,)]
 
     def pieces(self, file: File) -> Iterator[bytes]:
         """The bytes of a file, or of the parts that are here."""

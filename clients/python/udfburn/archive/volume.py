@@ -14,13 +14,13 @@ from ..connection import find_program, run_program
 from ..ledger_file import sync_folder
 from ..manifest import PAYLOAD
 from ..operations import Operation, now
-from ..protocol import Code, Create, MakeDir, Path
+from ..protocol import Code, Create, MakeDir, Path, Remove
 from ..reader import Kind
 from .bag import manifest_size
-from .catalogue import CLOSED, NEW, OPEN, Catalogue, VolumeRow
+from .catalogue import CLOSED, NEW, OPEN, Catalogue, VolumeRow, is_whole
 from .claims import Claims
 from .config import Config, volume_label
-from .contents import ABOUT, RUNS, TITLE, Contents
+from .contents import ABOUT, RUNS, TITLE, Contents, File
 from .errors import VolumeDiffers
 from .tree import Tree
 
@@ -142,12 +142,40 @@ class OpenVolume:
 
     def load(self) -> None:
         """Reads the volume: has the catalogue agree with it, and plans from what is there."""
+        while self._remove_doubles():
+            pass
         with closing(Contents(self.image)) as contents:
             self.require_own(contents)
             self.tree = self._tree(contents)
             if contents.last_commit != self.row.last_commit or self.row.state == NEW:
                 self._agree(contents)
             self.runs, self.last_commit = contents.runs(), contents.last_commit
+
+    def _remove_doubles(self) -> bool:
+        """Removes files that no catalogue ever had from here, and that another volume has by now: another process stored them after
+        this volume's was killed. Whether there were any."""
+        with closing(Contents(self.image)) as contents:
+            self.require_own(contents)
+            if contents.last_commit == self.row.last_commit:
+                return False
+            known = {held.commit for held in self.catalogue.of_volume(self.row.number)}
+            doubles = [file for file in contents.files() if file.commit not in known and self._is_elsewhere(contents, file)]
+            paths = [path for file in doubles for path in contents.stored_paths(file)]
+            room = self.row.capacity - contents.medium.blocks
+        # Each takes a commit. Where the volume is that full they stay, and nothing is lost.
+        if not paths or room < 64 * len(paths) + 2000:
+            return False
+        for outcome in self.client.run(Operation(Remove, path, now()) for path in paths):
+            if outcome.code is not Code.DONE:
+                raise VolumeDiffers(f"{self.row.label}: {outcome.operation.path}: {outcome.code.name}: run the command again")
+        return True
+
+    def _is_elsewhere(self, contents: Contents, file: File) -> bool:
+        """Whether the catalogue has all of a file's version on other volumes."""
+        rows = [row for row in self.catalogue.of_path(file.path) if row.volume != self.row.number]
+        alike = [row for row in rows if (row.size, row.moment) == (file.size, file.moment)]
+        same = [row for row in alike if row.sha256 == contents.digest(file)] if alike else []
+        return bool(same) and is_whole(same)
 
     def _agree(self, contents: Contents) -> None:
         known = self.catalogue.of_volume(self.row.number)
