@@ -41,12 +41,13 @@ def in_turn(names: List[str]) -> int:
     result = unittest.TextTestRunner(resultclass=Result, verbosity=0).run(suite)
     assert isinstance(result, Result)
     # A test that was left out is a failure where all of them are asked for, as in CI.
-    left_out = len(result.skipped) if os.environ.get("CI") == "true" else 0
+    skipped = [(test, why) for test, why in result.skipped if why != "--large has it"]
+    left_out = len(skipped) if os.environ.get("CI") == "true" else 0
     failed = len(result.failures) + len(result.errors) + len(result.unexpectedSuccesses) + left_out
-    for test, why in result.skipped:
+    for test, why in skipped:
         print(f"left out: {test.id()}: {why}")
     print(f"{result.passed} passed, {failed} failed")
-    return 1 if failed or not result.passed else 0
+    return 1 if failed or not (result.passed or result.skipped) else 0
 
 
 def side_by_side(names: List[str]) -> int:
@@ -57,7 +58,7 @@ def side_by_side(names: List[str]) -> int:
     for name, output in zip(names, done):
         *lines, last = output.rstrip().split("\n")
         found = re.fullmatch("([0-9]+) passed, ([0-9]+) failed", last)
-        if found is None or int(found.group(2)) or not int(found.group(1)) or any(line.startswith("left out") for line in lines) or os.environ.get("TIMES"):
+        if found is None or int(found.group(2)) or any(line.startswith("left out") for line in lines) or os.environ.get("TIMES") or os.environ.get("LARGE"):
             print(f"{name}:\n{output}")
         passed += int(found.group(1)) if found else 0
         failed += int(found.group(2)) if found else 1
@@ -81,7 +82,7 @@ def classes() -> List[str]:
             if isinstance(value, type) and issubclass(value, unittest.TestCase) and value.__module__ == loaded.__name__ and unittest.TestLoader().getTestCaseNames(value):
                 found.append(f"{module}.{name}")
     # The longest first.
-    return sorted(found, key=lambda name: not any(word in name for word in ("Killed", "Crashes", "Copies", "Commands")))
+    return sorted(found, key=lambda name: not any(word in name for word in ("Killed", "Crashes", "Many", "Copies", "Commands")))
 
 
 def main() -> int:

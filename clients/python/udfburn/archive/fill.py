@@ -106,8 +106,9 @@ class Filler:
             if rest is not None:
                 return [rest] + jobs[index + 1 :]
             if self._is_enough(volume):
-                left = jobs[index + 1 :]
-                return self.flush(volume) + left
+                left = self.flush(volume)
+                if left or volume not in self.open:
+                    return left + jobs[index + 1 :]
             partly = False
         return []
 

@@ -1,0 +1,67 @@
+"""Trees of many files, and files of many parts. What takes minutes is behind --large."""
+
+from __future__ import annotations
+
+import os
+import random
+import time
+import unittest
+
+from .support import LARGE, WithArchive, digests, make_tree, start
+from .test_report import fill_catalogue
+
+
+class Many(WithArchive):
+    def test_fifty_thousand_files(self) -> None:
+        self.init()
+        for part in range(4):
+            make_tree(os.path.join(self.source, str(part)), 12_500, 70 + part, most=200, a_folder=500)
+        before = digests(self.source)
+        self.assertEqual(len(before), 50_000)
+        # Four processes, with volumes of their own.
+        processes = [start("add", os.path.join(self.source, str(part)), "--at", f"/s/{part}", "--archive", self.archive, "--quiet") for part in range(4)]
+        self.assertEqual([process.wait() for process in processes], [0] * 4)
+        self.assertEqual(self.get_all(), before)
+        self.require_agreed()
+        self.assertGreaterEqual(len(self.volumes()), 13)
+        # The files of one folder are on one volume.
+        homes = {}
+        for row in self.rows():
+            homes.setdefault(os.path.dirname(row["path"]), set()).add(row["places"][0]["volume"])
+        self.assertEqual({len(volumes) for volumes in homes.values()}, {1})
+
+
+@unittest.skipUnless(LARGE, "--large has it")
+class Large(WithArchive):
+    def test_three_gigabytes(self) -> None:
+        self.init()
+        chance = random.Random(3)
+        for name, mebibytes in (("half", 1_500), ("a", 700), ("b", 500), ("c", 372)):
+            with open(os.path.join(self.source, name), "wb") as file:
+                for _ in range(mebibytes):
+                    file.write(chance.randbytes(1_000_000))
+        before = digests(self.source)
+        began = time.monotonic()
+        self.add()
+        print(f"stored 3.07 GB in {time.monotonic() - began:.0f} s")
+        self.require_agreed()
+        self.do("close")
+        began = time.monotonic()
+        self.assertEqual(self.get_all(), before)
+        print(f"got 3.07 GB in {time.monotonic() - began:.0f} s")
+        places = {row["path"]: len(row["places"]) for row in self.rows()}
+        # Only what is too large for one volume is on several.
+        self.assertEqual(places, {"/s/half": 2, "/s/a": 1, "/s/b": 1, "/s/c": 1})
+
+    def test_ten_million_rows(self) -> None:
+        self.init()
+        with open(os.path.join(self.source, "f"), "wb") as file:
+            file.write(b"1")
+        self.add()
+        fill_catalogue(os.path.join(self.archive, "catalogue.sqlite"), 10_000_000)
+        for pattern in ("name-1234567.bin", "name-123456*", "*4567.bin"):
+            began = time.monotonic()
+            count = self.do("find", pattern).last()["files"]
+            print(f"find {pattern}: {count} in {time.monotonic() - began:.2f} s, with the start of the program")
+            self.assertGreater(count, 0)
+        self.do("where", "/s/f")
