@@ -1,4 +1,4 @@
-"""Measures the archive: `python3 -m archive.measure [ROUNDS [FOLDER]]`, from test/, with UDFBURN.
+"""Measures the archive: `python3 -m archive.measure [ROUNDS [FOLDER]]`, from test/, with UDFBURN. No ROUNDS (0) leave the rates out.
 
 Rates of storing one tree by one, two and four processes, with SQLite and with PostgreSQL, beside restic and borg, in turn; the
 catalogue with 10^7 rows; the catalogue made again of 50 volumes. FOLDER is on the disk that is measured.
@@ -152,8 +152,7 @@ with Catalogue(read(sys.argv[1])) as catalogue:
 
 
 def rebuilding(room: str, volumes: int = 50) -> None:
-    """The catalogue made again of closed volumes: of two that are full and closed, and copies of them under other numbers are no
-    volumes, so all are made."""
+    """The catalogue made again of closed volumes."""
     folder = os.path.join(room, "fifty")
     run(*words_of("init", folder, "--label", "M", "--capacity", "12000", "--quiet"))
     source = os.path.join(room, "many")
@@ -178,7 +177,8 @@ def main() -> int:
     os.environ["TMPDIR"] = tempfile.tempdir = room
     try:
         os.chmod(room, 0o755)
-        rates(room, Server(case), rounds)
+        if rounds:
+            rates(room, Server(case), rounds)
         large(room)
         rebuilding(room)
     finally:

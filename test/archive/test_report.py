@@ -94,6 +94,11 @@ def fill_catalogue(path: str, files: int, a_volume: int = 4000, a_folder: int = 
     """Rows that were made for it: volumes from 2 on, with folders of some files each."""
     base = sqlite3.connect(path)
     base.execute("PRAGMA synchronous = OFF")
+    base.execute("PRAGMA cache_size = -500000")
+    # Rows come faster without indexes, which are made again at the end.
+    indexes = base.execute("SELECT name, sql FROM sqlite_master WHERE type = 'index' AND sql IS NOT NULL").fetchall()
+    for name, _ in indexes:
+        base.execute(f"DROP INDEX {name}")
     columns = [name for _, name, *_ in base.execute("PRAGMA table_info(volume)")]
     (row,) = base.execute("SELECT * FROM volume WHERE number = 1")
     known = dict(zip(columns, row))
@@ -106,6 +111,8 @@ def fill_catalogue(path: str, files: int, a_volume: int = 4000, a_folder: int = 
     )
     base.executemany("INSERT INTO file VALUES (?, ?, ?, ?, ?, ?, ?, ?, NULL, NULL)", (made_row(index, a_volume, a_folder, first) for index in range(files)))
     base.execute("UPDATE archive SET next_volume = ?", (2 + -(-files // a_volume),))
+    for _, statement in indexes:
+        base.execute(statement)
     base.commit()
     base.close()
 
