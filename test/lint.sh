@@ -53,6 +53,7 @@ if have mypy mypy; then
     silent "the client's tests are typed" apart clients/python . -p tests
     silent "the client's bench is typed" apart clients/python . bench.py
     silent 'the fault tests are typed' apart test . -p faults
+    silent 'the tests of the archive are typed' apart test "$top/test:$top/clients/python:$top/test/readers" -p archive
     for file in test/copies/*.py test/readers/*.py test/documents/*.py bench/apply/*.py; do
         silent "$file is typed" apart "$top" "$top/test:$top/test/readers:$top/bench/apply" "$file"
     done

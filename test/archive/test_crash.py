@@ -6,6 +6,7 @@ from __future__ import annotations
 import os
 import random
 import shutil
+import signal
 import subprocess
 import sys
 import time
@@ -154,11 +155,13 @@ class SideBySide(WithArchive):
         make_tree(self.source, 700, 40)
         process = start("add", self.source, "--at", "/s/a", "--archive", self.archive)
         wait_until(lambda: os.path.exists(os.path.join(self.archive, "open", "T-000001.img")))
+        process.send_signal(signal.SIGSTOP)
+        self.assertIsNone(process.poll())
         for at in ("/s/a", "/s/a/b", "/s"):
-            done = self.do("add", self.source, "--at", at, status=None)
-            if process.poll() is None:
-                self.assertEqual(done.status, 1)
-                self.assertIn("another process", done.errors)
+            done = self.do("add", self.source, "--at", at, status=1)
+            self.assertIn("another process", done.errors)
+        process.send_signal(signal.SIGCONT)
+        # What another process fills is left open.
         self.do("close")
         self.assertEqual(process.wait(), 0)
         self.require_agreed()
@@ -172,7 +175,7 @@ class Disk(WithArchive):
         os.mkdir(folder)
         if os.geteuid() != 0 or subprocess.run(["mount", "-t", "tmpfs", "-o", f"size={size}", "none", folder], capture_output=True, check=False).returncode:
             self.skipTest("a file system cannot be mounted here")
-        self.addCleanup(subprocess.run, ["umount", "-l", folder], check=False)
+        self.addCleanup(subprocess.call, ["umount", "-l", folder])
         return folder
 
     def test_the_disk_is_full(self) -> None:

@@ -6,6 +6,7 @@ import os
 import random
 import time
 import unittest
+from typing import Dict, Set
 
 from .support import LARGE, WithArchive, digests, make_tree, start
 from .test_report import fill_catalogue
@@ -25,7 +26,7 @@ class Many(WithArchive):
         self.require_agreed()
         self.assertGreaterEqual(len(self.volumes()), 13)
         # The files of one folder are on one volume.
-        homes = {}
+        homes: Dict[str, Set[str]] = {}
         for row in self.rows():
             homes.setdefault(os.path.dirname(row["path"]), set()).add(row["places"][0]["volume"])
         self.assertEqual({len(volumes) for volumes in homes.values()}, {1})

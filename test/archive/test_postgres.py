@@ -5,6 +5,7 @@ from __future__ import annotations
 import os
 import random
 import shutil
+import signal
 import time
 from typing import Dict, List
 
@@ -36,16 +37,16 @@ class Machines(OnServer):
         first, second = self.machine(1), self.machine(2)
         make_tree(self.source, 400, 1)
         process = start("add", self.source, "--at", "/s/a", "--archive", first)
-        wait_until(lambda: self.server.sql("SELECT 1 FROM path_lock WHERE path = '/s/a'", "archive"))
         wait_until(lambda: self.server.sql("SELECT 1 FROM volume", "archive"))
-        for at in ("/s/a", "/s/a/b", "/s", "/"):
-            if process.poll() is None:
-                done = self.run_in(second, "add", self.source, "--at", at if at != "/" else "/s", status=None)
-                if process.poll() is None:
-                    self.assertEqual(done.status, 1, at)
-                    self.assertIn("another process", done.errors)
+        # It stands still, and has its claims all the same.
+        process.send_signal(signal.SIGSTOP)
+        self.assertIsNone(process.poll())
+        for at in ("/s/a", "/s/a/b", "/s", ""):
+            done = self.run_in(second, "add", self.source, "--at", at, status=1)
+            self.assertIn("another process", done.errors, at)
         # Beside it there is room for another.
         self.run_in(second, "add", self.source, "--at", "/t/a")
+        process.send_signal(signal.SIGCONT)
         self.assertEqual(process.wait(), 0)
         holders = {volume["volume"]: volume["holder"] for volume in self.volumes(first)}
         self.assertEqual(len(set(holders.values())), 2)
@@ -86,9 +87,11 @@ class Machines(OnServer):
         make_tree(self.source, 500, 3)
         process = start("add", self.source, "--at", "/s", "--archive", first)
         wait_until(lambda: self.server.sql("SELECT 1 FROM file", "archive"))
-        done = self.run_in(second, "adopt", "T-000001", status=None)
-        if process.poll() is None:
-            self.assertEqual(done.status, 1)
+        process.send_signal(signal.SIGSTOP)
+        self.assertIsNone(process.poll())
+        done = self.run_in(second, "adopt", "T-000001", status=1)
+        self.assertIn("another process", done.errors)
+        process.send_signal(signal.SIGCONT)
         self.assertEqual(process.wait(), 0)
 
     def test_lost_claims_end_a_run(self) -> None:

@@ -134,6 +134,28 @@ class Copies(WithRemotes):
         self.assertIn("no copy is good", done.errors)
         self.assertEqual(len(damaged), os.path.getsize(self.image(1)))
 
+    def test_what_arrives_is_compared(self) -> None:
+        make_tree(self.source, 10, 47)
+        self.add()
+        # A program rclone that changes a byte of each image that it brings to the local remote.
+        real = shutil.which("rclone")
+        place = self.path("local", "sub", "T-000001.img.new")
+        text = f'#!/bin/sh\n{real} "$@" || exit\n[ "$1" != copyto ] || [ ! -f {place} ] || printf X | dd of={place} bs=1 seek=600000 conv=notrunc 2> /dev/null\n'
+        os.chmod(write(self.path("bin", "rclone"), text.encode()), 0o755)
+        path = os.environ["PATH"]
+        os.environ["PATH"] = self.path("bin") + ":" + path
+        try:
+            done = self.do("close", status=1)
+        finally:
+            os.environ["PATH"] = path
+        self.assertIn("what arrived is not what was sent", done.errors)
+        self.assertEqual(done.last()["copied"], 2)
+        (volume,) = self.volumes()
+        self.assertEqual((volume["state"], len(volume["copies"])), ("closed", 2))
+        # The next run sees that it is wrong, and sends it again.
+        self.assertEqual(self.do("close").last()["copied"], 1)
+        self.do("check", "--remotes")
+
     def test_a_remote_that_is_gone(self) -> None:
         make_tree(self.source, 10, 46)
         self.add()

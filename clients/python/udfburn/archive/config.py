@@ -3,7 +3,7 @@
 from __future__ import annotations
 
 import os
-import tomllib
+from importlib import import_module
 from typing import Any, Dict, List, NamedTuple, Optional, Tuple
 
 from ..ledger_file import make_folder, sync_file, sync_folder
@@ -90,12 +90,14 @@ def read(folder: str) -> Config:
     """The archive of a folder."""
     folder = os.path.realpath(folder)
     where = os.path.join(folder, FILE)
+    # Python has it from 3.11 on.
+    tomllib: Any = import_module("tomllib")
     try:
         with open(where, "rb") as file:
-            table = tomllib.load(file)
+            table: Dict[str, Any] = tomllib.load(file)
     except FileNotFoundError as error:
         raise NoArchive(f"{shown(folder)}: holds no {FILE}: make an archive by 'udfburn-archive init'") from error
-    except (tomllib.TOMLDecodeError, UnicodeDecodeError) as error:
+    except ValueError as error:
         raise BadConfig(f"{shown(where)}: {error}") from error
     return checked(folder, table, shown(where))
 
