@@ -135,6 +135,21 @@ class Commands(WithArchive):
         self.assertEqual((where["volume"], where["state"]), ("T-000001", "open"))
         self.do("where", "/s/b", status=1)
 
+    def test_a_folder_is_listed(self) -> None:
+        self.init()
+        for name in ("a/x/y/1", "a b/2", "a-b/3", "a.b/c/4", "a0/5", "b/6", "c", "é/7", "a/z"):
+            write(os.path.join(self.source, name), b"")
+        self.add()
+
+        def listed(path: str) -> "list[str]":
+            return [line["path"] for line in self.do("ls", path).objects()[:-1]]
+
+        self.assertEqual(listed("/"), ["/s"])
+        self.assertEqual(listed("/s"), ["/s/a", "/s/a b", "/s/a-b", "/s/a.b", "/s/a0", "/s/b", "/s/é", "/s/c"])
+        self.assertEqual(listed("/s/a"), ["/s/a/x", "/s/a/z"])
+        self.assertEqual(listed("/s/c"), ["/s/c"])
+        self.do("ls", "/s/none", status=1)
+
     def test_volumes_that_are_away(self) -> None:
         self.init("--capacity", "4000")
         for index in range(3):

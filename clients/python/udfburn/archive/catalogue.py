@@ -280,6 +280,23 @@ class Catalogue:
             yield folder_back(found)
 
 
+    def children(self, path: Path) -> Iterator[str]:
+        """The names of the folders in a folder, each once. What is below one of them is passed by."""
+        text = folder_text(path) + "/"
+        low, high, than = text, text[:-1] + "0", ">"
+        seen: Dict[str, None] = {}
+        while True:
+            found = self.base.run(f"SELECT path FROM folder WHERE path {than} ? AND path < ? ORDER BY path LIMIT 1", (low, high))
+            if not found:
+                return
+            name = str(found[0][0])[len(text) :].split("/")[0]
+            if name not in seen:
+                seen[name] = None
+                yield name_back(name)
+            # Other names may come between a folder and what is below it, as `a b` does.
+            low, than = (text + name, ">") if found[0][0] == text + name else (text + name + "0", ">=")
+
+
 def folder_text(path: Path) -> str:
     """A folder as the catalogue has it: the root is the empty text."""
     return "".join("/" + kept_name(name) for name in path)

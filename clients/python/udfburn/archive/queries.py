@@ -4,7 +4,7 @@ from __future__ import annotations
 
 import argparse
 from datetime import datetime, timezone
-from typing import Dict, Iterable, List, Optional
+from typing import Dict, List, Optional
 
 from ..errors import UsageError
 from ..protocol import Path
@@ -96,9 +96,8 @@ def list_folder(tell: Tell, arguments: argparse.Namespace, catalogue: Catalogue,
 
 def list_folders(tell: Tell, catalogue: Catalogue, path: Path) -> int:
     """The folders in a folder."""
-    names: Iterable[str] = dict.fromkeys(below[len(path)] for below in catalogue.folders_below(path) if len(below) > len(path))
     count = 0
-    for name in names:
+    for name in sorted(catalogue.children(path)):
         count += 1
         tell.say(f"d {shown_path((name,))[1:]}", kind="folder", path=shown_path(path + (name,)))
     return count

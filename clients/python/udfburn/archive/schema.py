@@ -34,6 +34,7 @@ CREATE TABLE file (
 CREATE INDEX file_path ON file (folder, name);
 CREATE INDEX file_name ON file (name, folder);
 CREATE INDEX file_tail ON file (tail);
+CREATE INDEX file_parts ON file (part_count) WHERE part_count IS NOT NULL;
 CREATE TABLE path_lock (path {text} PRIMARY KEY);
 CREATE TABLE volume_lock (volume BIGINT PRIMARY KEY)
 """

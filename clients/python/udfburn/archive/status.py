@@ -7,8 +7,9 @@ import time
 from typing import Dict, List, NamedTuple, Optional, Tuple
 
 from ..protocol import limits
-from .catalogue import CLOSED, CLOSING, FULL, NEW, Catalogue, Copy, VolumeRow
+from .catalogue import CLOSED, CLOSING, FILE, FULL, NEW, Catalogue, Copy, Held, VolumeRow, folder_back, held_row, is_whole
 from .config import Config
+from .tell import shown_path
 from .tree import MANIFEST
 from .volume import image_of
 
@@ -86,12 +87,9 @@ def lines(config: Config, catalogue: Catalogue) -> List[Line]:
 
 def incomplete(catalogue: Catalogue) -> List[Tuple[str, str]]:
     """Files in parts of which the archive lacks some: their paths, and the volumes of the parts that are there."""
-    from .catalogue import held_row, folder_back, FILE, is_whole, Held
-    from .tell import shown_path
-
     groups: Dict[object, List[Held]] = {}
-    statement = f"SELECT {FILE}, folder.path FROM file JOIN folder ON folder.id = file.folder WHERE file.size > ?"
-    for row in catalogue.base.run(statement, (limits.FILE,)):
+    statement = f"SELECT {FILE}, folder.path FROM file JOIN folder ON folder.id = file.folder WHERE file.part_count IS NOT NULL"
+    for row in catalogue.base.run(statement):
         held = held_row(folder_back(row[-1]), row[:-1])
         groups.setdefault(held.version(), []).append(held)
     lacking = [group for group in groups.values() if not is_whole(group)]
