@@ -31,9 +31,7 @@ impl Descriptor {
         if fd < 0 {
             return Err(DriveFault);
         }
-        Ok(Descriptor::Number(unsafe {
-            os::FromRawFd::from_raw_fd(fd)
-        }))
+        Ok(Descriptor::Number(unsafe { os::FromRawFd::from_raw_fd(fd) }))
     }
 
     /// Of a descriptor that came by its number: one that cannot be set to the length that it has is a fault. It is
