@@ -71,7 +71,7 @@ class Server:
 
     def start(self) -> None:
         """Starts it, and waits until it answers."""
-        words = [os.path.join(self.programs, "postgres"), "-D", self.data, "-k", self.room, "-c", "listen_addresses=", "-c", "max_connections=100"]
+        words = [os.path.join(self.programs, "postgres"), "-D", self.data, "-k", self.room, "-c", "listen_addresses=", "-c", "dynamic_shared_memory_type=mmap"]
         # Its own group: what is killed is the whole server.
         with open(os.path.join(self.room, "log"), "ab") as log:
             self.process = subprocess.Popen(words, stdout=log, stderr=log, preexec_fn=self._as_user(), cwd="/", start_new_session=True)
