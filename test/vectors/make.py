@@ -35,9 +35,9 @@ def written() -> "dict[pathlib.Path, str]":
         vectors = made()
         files[CRATE / "data" / vectors.name] = vectors.text
         answers_ = sum(" -> " in line or line.endswith("->") for line in vectors.lines())
-        printed += f"data/{vectors.name}: {vectors.cases} cases, {answers_} answers, 0 differ\n"
+        printed += f"{vectors.name}: {vectors.cases} cases, {answers_} answers, 0 differ\n"
         cases, count = cases + vectors.cases, count + answers_
-    files[CRATE / "args"] = "".join(f"data/{made().name}\n" for made in FILES)
+    files[CRATE / "args"] = "".join(f"{made().name}\n" for made in FILES)
     files[CRATE / "stdout"] = printed + f"{cases} cases, {count} answers, 0 differ\n"
     return files
 
