@@ -1,12 +1,14 @@
 #!/bin/sh
-# Installs the programs, their manual pages, the unit of systemd, the documents and, where it is there, the Python client.
+# Installs the programs, their manual pages, the unit of systemd, the documents and, where they are there, the Python client and the
+# C library.
 #
 # usage: ./install.sh PREFIX
 #        ./install.sh --uninstall PREFIX
 #
 # PREFIX is an absolute path of plain letters, such as /usr/local. DESTDIR is put in front of each path that is written, and is in none of the
 # files. UDFBURN and UDFBURND name the programs, else those that `rt` built in crates/ are taken. PYTHON_DIR is the folder of the
-# Python package, else PREFIX/lib/udfburn. What was installed is listed in PREFIX/share/doc/udfburn/installed, which is what
+# Python package, else PREFIX/lib/udfburn. LIBRARY names the folder in which packaging/library/build.sh built the C library, which
+# goes to LIBDIR, else PREFIX/lib; without it no library is installed. What was installed is listed in PREFIX/share/doc/udfburn/installed, which is what
 # --uninstall removes, and prints. Images are never touched.
 set -eu
 # Folders that it makes are everybody's to read, as the files are.
@@ -55,6 +57,12 @@ udfburnd=${UDFBURND:-crates/udfburnd/out/udfburnd}
 for program in "$udfburn" "$udfburnd"; do
     [ -x "$program" ] || { echo "install.sh: $program is not there: build it by rt, or name it by UDFBURN and UDFBURND" >&2; exit 1; }
 done
+library=${LIBRARY:-}
+libdir=${LIBDIR:-$prefix/lib}
+if [ -n "$library" ] && ! [ -f "$library/libudfburn.so.0" ]; then
+    echo "install.sh: $library/libudfburn.so.0 is not there: build it by packaging/library/build.sh" >&2
+    exit 1
+fi
 mkdir -p "$root$documents"
 : > "$list.new"
 
@@ -67,12 +75,30 @@ put() {
     echo "$3" >> "$list.new"
 }
 
+# put_library: the C library, its header and what pkg-config reads.
+put_library() {
+    put 644 "$library/libudfburn.so.0" "$libdir/libudfburn.so.0"
+    rm -f "$root$libdir/libudfburn.so"
+    ln -s libudfburn.so.0 "$root$libdir/libudfburn.so"
+    echo "$libdir/libudfburn.so" >> "$list.new"
+    put 644 "$library/libudfburn.a" "$libdir/libudfburn.a"
+    put 644 "$library/libudfburn_drive.a" "$libdir/libudfburn_drive.a"
+    put 644 "$library/udfburn.h" "$prefix/include/udfburn.h"
+    sed -e "s|^prefix=.*|prefix=$prefix|" -e "s|^libdir=.*|libdir=$libdir|" "$library/udfburn.pc" | put 644 - "$libdir/pkgconfig/udfburn.pc"
+    for example in examples/*.c; do
+        [ ! -f "$example" ] || put 644 "$example" "$documents/$example"
+    done
+}
+
 put 755 "$udfburn" "$prefix/bin/udfburn"
 put 755 "$udfburnd" "$prefix/bin/udfburnd"
 for page in man/*.[1-9]; do
     name=$(basename "$page")
-    # The pages of the client and the archive go with the package.
-    case $name in udfburn-client.1 | udfburn-archive.1) [ -d clients/python/udfburn ] || continue ;; esac
+    # The pages of the client, of the archive and of the library go with these.
+    case $name in
+        udfburn-client.1 | udfburn-archive.1) [ -d clients/python/udfburn ] || continue ;;
+        udfburn.3) [ -n "$library" ] || continue ;;
+    esac
     put 644 "$page" "$prefix/share/man/man${page##*.}/$name"
 done
 sed "s|@bindir@|$prefix/bin|g" packaging/systemd/udfburnd@.service | put 644 - "$prefix/lib/systemd/system/udfburnd@.service"
@@ -80,6 +106,8 @@ put 644 packaging/systemd/udfburn.conf "$prefix/lib/sysusers.d/udfburn.conf"
 for page in README.md CHANGELOG.md SECURITY.md LICENSE-MIT LICENSE-APACHE docs/*.md docs/*.svg; do
     [ ! -f "$page" ] || put 644 "$page" "$documents/$(basename "$page")"
 done
+
+[ -z "$library" ] || put_library
 
 if [ -d clients/python/udfburn ]; then
     python=${PYTHON_DIR:-$prefix/lib/udfburn}

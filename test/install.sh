@@ -1,7 +1,8 @@
 #!/bin/sh
-# The installation and the Debian package, each in an empty root; the manual pages, and the unit of systemd.
+# The installation and the Debian packages, each in an empty root; the manual pages, and the unit of systemd.
 #
-# usage: test/install.sh [UDFBURN [UDFBURND]]
+# usage: test/install.sh [UDFBURN [UDFBURND [LIBRARY]]]
+# LIBRARY is the folder in which packaging/library/build.sh built the C library; without it what concerns it is left out.
 # Its last line is 'install: N passed, M failed'. mandoc, strace, lintian and systemd's commands are installed where they are not there
 # and we may; what cannot be had is said, and is a failure where CI=true.
 set -u
@@ -12,11 +13,13 @@ cd "$(dirname "$0")/.." || exit 1
 UDFBURN=$(absolute "${1:-crates/udfburn/out/udfburn}")
 UDFBURND=$(absolute "${2:-crates/udfburnd/out/udfburnd}")
 export UDFBURN UDFBURND
+library=
+if [ $# -ge 3 ]; then library=$(cd "$3" && pwd); fi
 room=$(mktemp -d) || exit 1
 trap 'rm -rf "$room"' EXIT
 trap 'exit 1' HUP INT PIPE TERM
 PATH=$PATH:/usr/sbin:/sbin
-unset DESTDIR PYTHON_DIR
+unset DESTDIR PYTHON_DIR LIBRARY LIBDIR
 passed=0
 failed=0
 
@@ -201,6 +204,65 @@ if command -v dpkg-deb > "$room/which"; then
     fi
 else
     absent dpkg-deb
+fi
+
+# The C library: what it has beside the programs, a program that pkg-config finds it for, and its packages.
+library_files() {
+    for file in libudfburn.so.0 libudfburn.a libudfburn_drive.a pkgconfig/udfburn.pc; do echo "644 $2/$file"; done
+    echo "644 $1/include/udfburn.h"
+    echo "644 $1/share/man/man3/udfburn.3"
+    for example in examples/*.c; do echo "644 $1/share/doc/udfburn/$example"; done
+}
+
+# runs_with FLAGS WORD..: compiles a program with what pkg-config says and these flags, and runs it before these words.
+runs_with() {
+    flags=$1
+    shift
+    # shellcheck disable=SC2046,SC2086
+    cc -o "$room/versioned" "$room/versioned.c" $(PKG_CONFIG_PATH=$room/embedded/lib/pkgconfig pkg-config --cflags --libs $flags udfburn) &&
+        "$@" "$room/versioned" > "$room/found" && diff "$room/version" "$room/found"
+}
+
+if [ -n "$library" ]; then
+    holds 'install.sh names a library that is not there' sh -c '! LIBRARY=/nowhere ./install.sh "$1/none" && [ ! -e "$1/none" ]' - "$room"
+    mkdir "$room/with"
+    holds 'it installs the library' env DESTDIR="$room/with" LIBRARY="$library" LIBDIR=/usr/lib/machine ./install.sh /usr
+    { expected usr; library_files usr usr/lib/machine; } | LC_ALL=C sort -k 2 > "$room/wanted"
+    holds 'it installs these files and the library' same "$room/wanted" files "$room/with"
+    holds 'the linker finds the library' [ "$(readlink "$room/with/usr/lib/machine/libudfburn.so")" = libudfburn.so.0 ]
+    DESTDIR=$room/with ./install.sh --uninstall /usr > "$room/listed" 2> "$room/errors"
+    holds 'nothing is left of the library' [ -z "$(find "$room/with" ! -type d)" ]
+    printf '#include <stdio.h>\n#include <udfburn.h>\nint main(void) { return puts(udfburn_version()) < 0; }\n' > "$room/versioned.c"
+    sed -n 's/^__version__ = "\(.*\)"$/\1/p' clients/python/udfburn/__init__.py > "$room/version"
+    holds 'it installs into a prefix with the library' env LIBRARY="$library" ./install.sh "$room/embedded"
+    need pkg-config pkgconf
+    if command -v pkg-config > "$room/which" && command -v cc > "$room/which"; then
+        holds 'a program is linked with the library' runs_with '' env LD_LIBRARY_PATH="$room/embedded/lib"
+        rm "$room/embedded/lib/libudfburn.so"
+        holds 'a program is linked statically' runs_with --static env
+    fi
+fi
+if [ -n "$library" ] && command -v dpkg-deb > "$room/which"; then
+    holds 'packages are made' env LIBRARY="$library" packaging/deb/build.sh "$room/debs"
+    printf 'libudfburn-dev\nlibudfburn0\nudfburn\n' > "$room/wanted"
+    holds 'there are three' same "$room/wanted" sh -c 'for file in "$1"/*.deb; do dpkg-deb -f "$file" Package; done | sort' - "$room/debs"
+    holds 'the package of the programs is the same' sh -c \
+        'dpkg-deb -c "$1" | sed "s/.* //" > "$3/one" && dpkg-deb -c "$2" | sed "s/.* //" | diff "$3/one" -' - \
+        "$(find "$room/deb" -name '*.deb')" "$(find "$room/debs" -name 'udfburn_*.deb')" "$room"
+    machine=$(gcc -dumpmachine)
+    {
+        library_files usr "usr/lib/$machine" | sed -e 's|\(share/man/.*\)|\1.gz|' -e 's|doc/udfburn/|doc/libudfburn-dev/|'
+        for page in EMBEDDING.md PROTOCOL.md; do echo "644 usr/share/doc/libudfburn-dev/$page"; done
+        for package in libudfburn0 libudfburn-dev; do
+            for file in NEWS.gz changelog.gz copyright; do echo "644 usr/share/doc/$package/$file"; done
+        done
+    } | LC_ALL=C sort -k 2 > "$room/wanted"
+    for package in "$room/debs"/lib*.deb; do dpkg-deb -x "$package" "$room/libraries"; done
+    holds 'the packages of the library have these files' same "$room/wanted" files "$room/libraries"
+    need lintian lintian
+    if command -v lintian > "$room/which"; then
+        holds 'lintian has nothing to say of them' silent lintian --allow-root "$room/debs"/lib*.deb
+    fi
 fi
 
 # The manual pages.

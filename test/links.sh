@@ -11,6 +11,7 @@
 #   `crates/NAME/src/x.rt`   a path from the top of the repository, in code: it is there
 #   src/x.rt, specs/X.antt   a file of some crate, in the text
 #   `FILE`, `name`           a file and what it defines: the name stands in the file
+#   `src/x.rt`, `X.edit`     below a heading that is a crate's name, a file of that crate and an edit that it must refuse
 #   `a::b`, `CamelCase`, `snake_case`   in a document on the code, a name: some source defines the last part
 #   ```antt FILE             a quotation: each line stands in the file, in this order; '..' is for lines left out
 set -u
@@ -42,7 +43,11 @@ function is_name(word) {
 function is_source(word) {
     return word ~ /^[a-z]+\/.*\.(rt|antt|py)$/
 }
-FNR == 1 { quoting = 0; fenced = 0; on_code = (FILENAME ~ /^docs\/(ARCHITECTURE|CHANGING|DECISIONS|GLOSSARY|MEASURED|PROOF|PROVED)\.md$/) }
+# A path of the crate of this heading, from the top of the repository.
+function of_crate(word) {
+    return (crate != "" && word ~ /^(src|specs|proofs)\//) ? "crates/" crate "/" word : word
+}
+FNR == 1 { quoting = 0; fenced = 0; crate = ""; on_code = (FILENAME ~ /^docs\/(ARCHITECTURE|CHANGING|DECISIONS|GLOSSARY|MEASURED|PROOF|PROVED)\.md$/) }
 /^ *```/ {
     if (fenced) { fenced = 0; quoting = 0; next }
     fenced = 1
@@ -59,6 +64,7 @@ fenced {
     }
     next
 }
+/^#+ / { crate = ($0 ~ /^#+ `[a-z_]+`$/) ? substr($2, 2, length($2) - 2) : "" }
 # An indented line is a command or what it shows.
 /^    / { next }
 {
@@ -81,7 +87,8 @@ fenced {
             if (source != "" && parts[i] !~ /^(, |, and | and )$/) source = ""
             continue
         }
-        span = parts[i]
+        span = of_crate(parts[i])
+        if (span ~ /^[a-z_.0-9]+\.edit$/) { told("edit", crate == "" ? "*" : crate, span); source = ""; continue }
         words = split(span, word, " ")
         for (j = 1; j <= words; j++) {
             if (word[j] ~ /^[.A-Za-z_-]+\// && word[j] !~ /[*$]|NAME|\/out\//) told("path", word[j], "")
@@ -117,6 +124,8 @@ find crates \( -name '*.rt' -o -name '*.antt' \) ! -path '*/out/*' -exec cat {} 
 for crate in crates/*/; do
     basename "$crate"
 done >> "$room/defined"
+# What the header of the C library declares.
+grep -o -w 'udfburn_[a-z_]*' library/udfburn.h | sort -u >> "$room/defined"
 
 passed=0
 failed=0
@@ -160,6 +169,13 @@ while IFS="$tab" read -r document line kind first second; do
                 continue
             fi
             if [ -e "$first" ]; then pass; else fail "$where: no file $first"; fi
+            ;;
+        edit)
+            found=
+            for file in crates/$first/must-fail/"$second" test/edits/$first/"$second"; do
+                if [ -e "$file" ]; then found=$file; fi
+            done
+            if [ -n "$found" ]; then pass; else fail "$where: no edit $second in crate $first"; fi
             ;;
         some)
             found=

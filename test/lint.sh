@@ -51,11 +51,12 @@ apart() {
 if have mypy mypy; then
     silent 'the client is typed' apart clients/python . -p udfburn
     silent "the client's tests are typed" apart clients/python . -p tests
-    silent "the client's bench is typed" apart clients/python . bench.py
+    silent "the client's measurements are typed" apart clients/python . bench.py bench_calls.py
     silent 'the fault tests are typed' apart test . -p faults
     silent 'what writes the vectors is typed' apart test/vectors . make.py count.py
     silent 'the tests of the archive are typed' apart test "$top/test:$top/clients/python:$top/test/readers" --config-file ../clients/python/pyproject.toml --python-version 3.11 -p archive
-    for file in test/copies/*.py test/readers/*.py test/documents/*.py bench/apply/*.py; do
+    silent 'the tests of the library are typed' apart test "$top/test:$top/clients/python" --config-file ../clients/python/pyproject.toml -p library
+    for file in test/copies/*.py test/readers/*.py test/documents/*.py bench/apply/*.py bench/cold/*.py; do
         silent "$file is typed" apart "$top" "$top/test:$top/test/readers:$top/bench/apply" "$file"
     done
 fi
@@ -63,7 +64,7 @@ if have pyflakes3 pyflakes3; then
     silent 'nothing in Python is unused' pyflakes3 clients test bench
 fi
 if have shellcheck shellcheck; then
-    for file in .ci/run test/quick install.sh packaging/deb/build.sh packaging/deb/postinst packaging/deb/prerm test/*.sh bench/run bench/small bench/*/run; do
+    for file in .ci/run test/quick install.sh packaging/deb/build.sh packaging/deb/postinst packaging/deb/prerm packaging/library/*.sh test/*.sh bench/run bench/small bench/*/run; do
         silent "$file is clean" shellcheck -S warning "$file"
     done
 fi

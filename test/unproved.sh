@@ -2,6 +2,7 @@
 # Builds a program of the repository without any proof, in one to two minutes, to try a change before it is proved.
 #
 # usage: test/unproved.sh CRATE OUT
+#        test/unproved.sh --module CRATE OUT     stops at the LLVM module, which OUT is then
 # The program that it writes to OUT shows nothing about contracts: use it for tests and timings, and never for a volume that
 # anybody needs. It takes the Rattle kit, a POSIX shell and the tools of a base system.
 #
@@ -11,8 +12,13 @@
 set -eu
 
 cd "$(dirname "$0")/.." || exit 1
+is_module=
+if [ "${1:-}" = --module ]; then
+    is_module=1
+    shift
+fi
 if [ $# -ne 2 ] || ! [ -f "crates/$1/src/main.rt" ]; then
-    echo 'usage: test/unproved.sh CRATE OUT, where CRATE is a program' >&2
+    echo 'usage: test/unproved.sh [--module] CRATE OUT, where CRATE is a program' >&2
     exit 2
 fi
 crate=$1
@@ -56,6 +62,10 @@ done
 if [ -z "$module" ]; then
     cat "$room/said" >&2
     exit 1
+fi
+if [ -n "$is_module" ]; then
+    cp "$module" "$out"
+    exit
 fi
 lib=$kit/toolchain/lib
 "$kit/toolchain/bin/clang" --target=x86_64-unknown-linux-gnu --sysroot="$kit/toolchain" -march=x86-64 -mllvm -no-trap-after-noreturn \

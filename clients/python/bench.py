@@ -1,11 +1,12 @@
-"""1,000 files of 4 KiB through the socket by this client, beside `udfburn apply` on the same frames.
+"""Files through the socket by this client, beside `udfburn apply` on the same frames or beside rsync on the same files.
 
-usage: bench.py [--rounds N] [--quiet US] [--folder FOLDER] [--before CLIENT] UDFBURN UDFBURND
-Rounds in turn; prints each, and the ratios of the medians. The client reads the files from a folder, keeps each request
-and reply in its ledger, and confirms each reply by Stat; `apply` gets the frames of the requests alone. --before names the
-folder clients/python of another state, whose client takes its turn too. On a disk that others use, --quiet 250 counts only
-the rounds before, within and behind which a block was written and synced in 250 microseconds, and tries 20 times as many
-rounds at most.
+usage: bench.py [--files N] [--size BYTES] [--rsync] [--rounds N] [--quiet US] [--folder FOLDER] [--before CLIENT] UDFBURN UDFBURND
+Rounds in turn; prints each, and the ratios of the medians and of the least times. There are 1,000 files of 4 KiB where nothing else
+is said. The client reads the files from a folder, keeps each request and reply in its ledger, and confirms each reply by Stat;
+`apply` gets the frames of the requests alone. With --rsync the client is compared with `rsync -a --fsync` of the folder. Beside the
+times stands what the client wrote: its ledger, since the daemon writes the image. --before names the folder clients/python of
+another state, whose client takes its turn too. On a disk that others use, --quiet 250 counts only the rounds before, within and
+after which a block was written and synced in 250 microseconds, and tries 20 times as many rounds at most.
 """
 
 from __future__ import annotations
@@ -20,46 +21,71 @@ import subprocess
 import sys
 import tempfile
 import time
-from typing import Iterator, List, Tuple
+from functools import partial
+from typing import Callable, Iterator, List, NamedTuple
 
 HERE = os.path.dirname(os.path.abspath(__file__))
 sys.path.insert(0, HERE)
 
 from udfburn.protocol import Create, MakeDir, encode_message, frame  # noqa: E402
 
-FILES, SIZE, FOLDER_NAMES = 1000, 4096, 250
+FOLDER_NAMES = 250
 
 IMPORT = """
 import sys, time
 sys.path.insert(0, sys.argv[1])
 from udfburn import Client, ledger, session, tree
+
+def written():
+    with open("/proc/self/io") as file:
+        return next(int(line.split()[1]) for line in file if line.startswith("wchar"))
+
 print("loaded", flush=True)
 sys.stdin.readline()
-begin = time.perf_counter()
+before, begin = written(), time.perf_counter()
 with Client("unix:" + sys.argv[2], ledger=sys.argv[3]) as client:
     client.put_tree(sys.argv[4], "/")
-print(time.perf_counter() - begin, flush=True)
+print(time.perf_counter() - begin, written() - before, flush=True)
 with Client("unix:" + sys.argv[2], ledger=sys.argv[3]) as client:
     assert not client.verify_tree(sys.argv[4], "/").differences, "all bytes are there"
 """
 """An import by the client of a folder, in a process of its own, which has loaded what it takes before it begins."""
 
 
-def make_sources(room: str) -> Tuple[str, bytes]:
-    """A folder with the files, and the frames that store them."""
-    chance, local, frames, number = random.Random(7), os.path.join(room, "sources"), [], 0
-    for folder in range(FILES // FOLDER_NAMES):
-        os.makedirs(os.path.join(local, f"folder{folder}"))
-    for folder in range(FILES // FOLDER_NAMES):
-        number += 1
-        frames.append(frame(encode_message(MakeDir(7, number, 0, (f"folder{folder}",)))))
-        for name in (f"file{index:03}" for index in range(FOLDER_NAMES)):
-            data = chance.randbytes(SIZE)
-            with open(os.path.join(local, f"folder{folder}", name), "wb") as file:
+class Taken(NamedTuple):
+    """Seconds, and the bytes that a client wrote to its ledger (0 of others)."""
+
+    seconds: float
+    written: int = 0
+
+
+class Sources(NamedTuple):
+    """A folder with files, how many files and folders there are, and the frames that store them."""
+
+    local: str
+    names: int
+    frames: str
+
+
+def make_sources(room: str, files: int, size: int) -> Sources:
+    """A folder with so many files of this size, and a file of the frames that store them."""
+    chance, local, number = random.Random(7), os.path.join(room, "sources"), 0
+    frames = os.path.join(room, "frames")
+    with open(frames, "wb") as sent:
+        for index in range(files):
+            folder, name = f"folder{index // FOLDER_NAMES}", f"file{index % FOLDER_NAMES:03}"
+            if index % FOLDER_NAMES == 0:
+                os.makedirs(os.path.join(local, folder))
+                number += 1
+                sent.write(frame(encode_message(MakeDir(7, number, 0, (folder,)))))
+            data = chance.randbytes(size)
+            with open(os.path.join(local, folder, name), "wb") as file:
                 file.write(data)
             number += 1
-            frames.append(frame(encode_message(Create(7, number, 0, (f"folder{folder}", name), data))))
-    return local, b"".join(frames)
+            sent.write(frame(encode_message(Create(7, number, 0, (folder, name), data))))
+    # What is still to be written of them would be written while something is timed.
+    os.sync()
+    return Sources(local, number, frames)
 
 
 def format_image(udfburn: str, room: str) -> str:
@@ -67,26 +93,34 @@ def format_image(udfburn: str, room: str) -> str:
     image = os.path.join(room, "disc.img")
     if os.path.exists(image):
         os.unlink(image)
-    subprocess.run([udfburn, "format", image, "BENCH", "0", "60000"], check=True, stdout=subprocess.DEVNULL)
+    subprocess.run([udfburn, "format", image, "BENCH", "0", "450000"], check=True, stdout=subprocess.DEVNULL)
     return image
 
 
-def by_apply(udfburn: str, room: str, frames: bytes) -> float:
-    """Seconds of `udfburn apply` on the frames."""
+def by_apply(udfburn: str, room: str, sources: Sources) -> Taken:
+    """`udfburn apply` on the frames."""
     image = format_image(udfburn, room)
-    source = os.path.join(room, "frames")
-    with open(source, "wb") as file:
-        file.write(frames)
-    with open(source, "rb") as file:
+    with open(sources.frames, "rb") as file:
         begin = time.perf_counter()
         done = subprocess.run([udfburn, "apply", image], stdin=file, capture_output=True, check=True)
         seconds = time.perf_counter() - begin
-    assert len(done.stdout) == 10 * (FILES + FILES // FOLDER_NAMES), "each request is answered"
-    return seconds
+    assert len(done.stdout) == 10 * sources.names, "each request is answered"
+    return Taken(seconds)
 
 
-def by_client(package: str, udfburn: str, udfburnd: str, room: str, local: str) -> float:
-    """Seconds of the client of a folder, a new ledger among them, through the socket."""
+def by_rsync(room: str, sources: Sources) -> Taken:
+    """`rsync -a --fsync` of the folder."""
+    target = os.path.join(room, "copied")
+    os.mkdir(target)
+    begin = time.perf_counter()
+    subprocess.run(["rsync", "-a", "--fsync", sources.local + "/", target], check=True)
+    seconds = time.perf_counter() - begin
+    shutil.rmtree(target)
+    return Taken(seconds)
+
+
+def by_client(package: str, udfburn: str, udfburnd: str, room: str, local: str) -> Taken:
+    """The client of a folder, a new ledger among them, through the socket."""
     image, path, ledger = format_image(udfburn, room), os.path.join(room, "socket"), os.path.join(room, "ledger.sqlite")
     daemon = subprocess.Popen([udfburnd, image, path])
     try:
@@ -104,7 +138,8 @@ def by_client(package: str, udfburn: str, udfburnd: str, room: str, local: str) 
         for name in os.listdir(room):
             if name.startswith("ledger"):
                 os.unlink(os.path.join(room, name))
-    return float(told)
+    seconds, written = told.split()
+    return Taken(float(seconds), int(written))
 
 
 def wait_for(path: str) -> None:
@@ -133,63 +168,82 @@ def sync_time(room: str) -> float:
     return statistics.median(times) * 1e6
 
 
-def rounds_of(words: argparse.Namespace, packages: List[str], room: str) -> Iterator[List[float]]:
-    """The seconds of each client and of `apply` in each round that counts."""
-    local, frames = make_sources(room)
+def rounds_of(words: argparse.Namespace, packages: List[str], room: str) -> Iterator[List[Taken]]:
+    """What each client and the other one took in each round that counts."""
     udfburn, udfburnd, counted = os.path.abspath(words.udfburn), os.path.abspath(words.udfburnd), 0
+    sources = make_sources(room, words.files, words.size)
+    calls: List[Callable[[], Taken]] = [partial(by_client, package, udfburn, udfburnd, room, sources.local) for package in packages]
+    calls.append(partial(by_rsync, room, sources) if words.rsync else partial(by_apply, udfburn, room, sources))
 
     def quiet() -> bool:
         return words.quiet is None or sync_time(room) <= words.quiet
 
     for turn in range(words.rounds if words.quiet is None else 20 * words.rounds):
-        times = [0.0] * len(packages)
+        times = [Taken(0.0)] * len(calls)
         if not quiet():
             time.sleep(0.2)
             continue
-        for index in range(len(packages))[:: -1 if turn % 2 else 1]:
-            times[index] = by_client(packages[index], udfburn, udfburnd, room, local)
+        for index in range(len(calls))[:: -1 if turn % 2 else 1]:
+            times[index] = calls[index]()
             if not quiet():
                 break
         else:
-            times.append(by_apply(udfburn, room, frames))
-            if quiet():
-                counted += 1
-                yield times
+            counted += 1
+            yield times
         if counted == words.rounds:
             return
 
 
-def told(times: List[float]) -> str:
-    """The times of clients and of `apply`, with the ratios."""
-    parts = [f"{name} {seconds * 1000:.1f} ms" for name, seconds in zip(("client", "before"), times[:-1])]
-    ratios = ", ".join(f"{seconds / times[-1]:.2f}" for seconds in times[:-1])
-    return ", ".join(parts) + f", apply {times[-1] * 1000:.1f} ms, ratio {ratios}"
+def told(seconds: List[float], other: str) -> str:
+    """The times of clients and of the other one, with the ratios."""
+    parts = [f"{name} {one * 1000:.1f} ms" for name, one in zip(("client", "before"), seconds[:-1])]
+    ratios = ", ".join(f"{one / seconds[-1]:.2f}" for one in seconds[:-1])
+    return ", ".join(parts) + f", {other} {seconds[-1] * 1000:.1f} ms, ratio {ratios}"
 
 
-def main() -> None:
-    """Runs the rounds."""
+def summary(rounds: List[List[Taken]], words: argparse.Namespace, other: str) -> str:
+    """The medians, the least times, and what the ledgers wrote beside the bytes of the files."""
+    columns = [[taken.seconds for taken in column] for column in zip(*rounds)]
+    bytes_of = [statistics.median(taken.written for taken in column) / (words.files * words.size) for column in list(zip(*rounds))[:-1]]
+    ratios = [statistics.median(one / beside for one, beside in zip(column, columns[-1])) for column in columns[:-1]]
+    return (
+        f"{len(rounds)} rounds, load {os.getloadavg()[0]:.1f}; median of their ratios {', '.join(f'{one:.2f}' for one in ratios)};"
+        f" medians: {told([statistics.median(column) for column in columns], other)}; least: {told([min(column) for column in columns], other)};"
+        f" written to the ledger for each byte of the files: {', '.join(f'{one:.3f}' for one in bytes_of)}"
+    )
+
+
+def parsed() -> argparse.Namespace:
+    """The words that were given."""
     parser = argparse.ArgumentParser(usage=(__doc__ or "").split("usage: ")[1])
     parser.add_argument("udfburn")
     parser.add_argument("udfburnd")
+    parser.add_argument("--files", type=int, default=1000)
+    parser.add_argument("--size", type=int, default=4096)
+    parser.add_argument("--rsync", action="store_true")
     parser.add_argument("--rounds", type=int, default=11)
     parser.add_argument("--quiet", type=float)
     parser.add_argument("--folder")
     parser.add_argument("--before")
-    words = parser.parse_args()
+    return parser.parse_args()
+
+
+def main() -> None:
+    """Runs the rounds."""
+    words = parsed()
+    other = "rsync" if words.rsync else "apply"
     room = tempfile.mkdtemp(dir=words.folder)
     packages = [HERE] + ([os.path.abspath(words.before)] if words.before else [])
-    rounds: List[List[float]] = []
+    rounds: List[List[Taken]] = []
     try:
         for times in rounds_of(words, packages, room):
             rounds.append(times)
-            print(f"round {len(rounds)}: {told(times)}", flush=True)
+            print(f"round {len(rounds)}: {told([taken.seconds for taken in times], other)}", flush=True)
     finally:
         shutil.rmtree(room)
     if not rounds:
         raise SystemExit("the disk was never quiet")
-    ratios = ", ".join(f"{statistics.median(times[index] / times[-1] for times in rounds):.2f}" for index in range(len(packages)))
-    medians = told([statistics.median(column) for column in zip(*rounds)])
-    print(f"{len(rounds)} rounds, load {os.getloadavg()[0]:.1f}; median of their ratios {ratios}; medians: {medians}")
+    print(summary(rounds, words, other))
 
 
 if __name__ == "__main__":

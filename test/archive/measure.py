@@ -1,11 +1,13 @@
-"""Measures the archive: `python3 -m archive.measure [ROUNDS [FOLDER]]`, from test/, with UDFBURN. No ROUNDS (0) leave the rates out.
+"""Measures the archive, and prints rows for docs/MEASURED.md: `python3 -m archive.measure [--rounds N] [--folder DIR] [PART..]`.
 
-Rates of storing one tree by one, two and four processes, with SQLite and with PostgreSQL, beside restic and borg, in turn; the
-catalogue with 10^7 rows; the catalogue made again of 50 volumes. FOLDER is on the disk that is measured.
+It is run from test/, with UDFBURN. The parts are `rates` (one tree stored by one, two and four processes, with SQLite and with
+PostgreSQL, beside restic and borg, in turn), `find` (10^7 rows in SQLite), `find-postgresql` (2 x 10^6) and `rebuild` (50 volumes).
+DIR is on the disk that is measured.
 """
 
 from __future__ import annotations
 
+import argparse
 import os
 import shutil
 import statistics
@@ -14,15 +16,18 @@ import sys
 import tempfile
 import time
 import unittest
-from typing import Callable, Dict, List
+from typing import Callable, Dict, List, Sequence
 
 from .servers import Server
 from .support import environment, make_tree, words_of
-from .test_report import fill_catalogue
+from .test_report import fill_catalogue, made_name
 
 FILES = 4000
 SIZE = 4096
-ROWS = 10_000_000
+ROWS, ROWS_POSTGRESQL = 10_000_000, 2_000_000
+VOLUMES = 50
+
+Way = Callable[[], float]
 
 
 class Room(unittest.TestCase):
@@ -30,6 +35,10 @@ class Room(unittest.TestCase):
 
     def runTest(self) -> None:  # noqa: N802
         raise AssertionError
+
+
+def row(*cells: str) -> None:
+    print(f"| {' | '.join(cells)} |", flush=True)
 
 
 def run(*words: str, **extra: str) -> None:
@@ -40,27 +49,29 @@ def archive(folder: str, command: str, *words: str) -> "subprocess.Popen[bytes]"
     return subprocess.Popen([*words_of(command, *words), "--archive", folder, "--quiet"], env=environment(), stdout=subprocess.DEVNULL)
 
 
-def together(processes: "List[subprocess.Popen[bytes]]") -> None:
+def together(processes: "List[subprocess.Popen[bytes]]") -> float:
+    """The seconds until all have ended well."""
+    began = time.monotonic()
     for process in processes:
         if process.wait():
             raise AssertionError("a command failed")
+    return time.monotonic() - began
 
 
-def adding(room: str, source: str, url: str, count: int) -> Callable[[], float]:
+# ---- rates
+
+def adding(room: str, source: str, url: str, count: int, *words: str) -> Way:
     """Stores a tree by so many processes, each a part of it, and gives the seconds."""
     def measured() -> float:
-        folders = []
-        for index in range(count):
-            folder = tempfile.mkdtemp(dir=room)
-            folders.append(folder)
-            words = ["--catalogue", url] if url else []
-            run(*words_of("init", folder, "--label", "M", *words, "--quiet"))
-            if not url:
-                break
+        folders = [tempfile.mkdtemp(dir=room) for _ in range(count if url else 1)]
+        for folder in folders:
+            run(*words_of("init", folder, "--label", "M", *(["--catalogue", url] if url else []), "--quiet"))
         parts = [os.path.join(source, name) for name in sorted(os.listdir(source))]
-        began = time.monotonic()
-        together([archive(folders[index % len(folders)], "add", *parts[index::count], "--at", f"/{time.monotonic_ns()}-{index}/") for index in range(count)])
-        seconds = time.monotonic() - began
+        at = f"/{time.monotonic_ns()}"
+        os.sync()
+        seconds = together(
+            [archive(folders[index % len(folders)], "add", *parts[index::count], "--at", f"{at}-{index}/", *words) for index in range(count)]
+        )
         for folder in folders:
             shutil.rmtree(folder)
         return seconds
@@ -71,6 +82,7 @@ def restic(room: str, source: str) -> float:
     repository = tempfile.mkdtemp(dir=room)
     keys = {"RESTIC_PASSWORD": "x", "RESTIC_REPOSITORY": repository, "XDG_CACHE_HOME": os.path.join(room, "cache")}
     run("restic", "init", "-q", **keys)
+    os.sync()
     began = time.monotonic()
     run("restic", "backup", "-q", source, **keys)
     seconds = time.monotonic() - began
@@ -82,6 +94,7 @@ def borg(room: str, source: str) -> float:
     repository = os.path.join(room, "borg")
     keys = {"BORG_BASE_DIR": os.path.join(room, "borg-base"), "BORG_UNKNOWN_UNENCRYPTED_REPO_ACCESS_IS_OK": "yes"}
     run("borg", "init", "-e", "none", repository, **keys)
+    os.sync()
     began = time.monotonic()
     run("borg", "create", f"{repository}::one", source, **keys)
     seconds = time.monotonic() - began
@@ -89,24 +102,27 @@ def borg(room: str, source: str) -> float:
     return seconds
 
 
-def rates(room: str, server: Server, rounds: int) -> None:
+def rates(case: Room, room: str, rounds: int) -> None:
     """Files a second of each way, in turn."""
     source = os.path.join(room, "source")
     for part in range(8):
         make_flat(os.path.join(source, f"part{part}"), FILES // 8, part)
-    ways: Dict[str, Callable[[], float]] = {}
+    server = Server(case)
+    ways: Dict[str, Way] = {"`add --each`, SQLite, 1 process": adding(room, source, "", 1, "--each")}
     for count in (1, 2, 4):
-        ways[f"SQLite, {count}"] = adding(room, source, "", count)
+        ways[f"`add`, SQLite, {count} {'process' if count == 1 else 'processes'}"] = adding(room, source, "", count)
     for count in (1, 2, 4):
-        ways[f"PostgreSQL, {count}"] = adding(room, source, server.new_base(f"rates{count}"), count)
-    ways["restic backup"] = lambda: restic(room, source)
-    ways["borg create"] = lambda: borg(room, source)
+        ways[f"`add`, PostgreSQL, {count} {'process' if count == 1 else 'processes'}"] = adding(room, source, server.new_base(f"rates{count}"), count)
+    ways["`restic backup`"] = lambda: restic(room, source)
+    ways["`borg create`"] = lambda: borg(room, source)
     found: Dict[str, List[float]] = {name: [] for name in ways}
     for _ in range(rounds):
         for name, way in ways.items():
             found[name].append(FILES / way())
+    row(f"{FILES:,} files of {SIZE // 1024} KiB", "Files a second", f"Least and most of {rounds}")
+    row("---", "---", "---")
     for name, values in found.items():
-        print(f"{name}: {statistics.median(values):.0f} files a second (from {min(values):.0f} to {max(values):.0f})", flush=True)
+        row(name, f"{statistics.median(values):,.0f}", f"{min(values):,.0f} to {max(values):,.0f}")
     shutil.rmtree(source)
 
 
@@ -118,69 +134,152 @@ def make_flat(folder: str, files: int, seed: int) -> None:
             file.write(seed.to_bytes(4, "big") + os.urandom(SIZE - 4))
 
 
-def large(room: str) -> None:
-    """find and where over many rows, in the process, which is started once."""
-    folder = os.path.join(room, "large")
-    run(*words_of("init", folder, "--label", "M", "--quiet"))
-    source = os.path.join(room, "one")
-    os.mkdir(source)
-    with open(os.path.join(source, "f"), "wb") as file:
-        file.write(b"1")
-    together([archive(folder, "add", source)])
-    fill_catalogue(os.path.join(folder, "catalogue.sqlite"), ROWS)
-    size = os.path.getsize(os.path.join(folder, "catalogue.sqlite"))
-    print(f"catalogue of {ROWS:,} files: {size / ROWS:.0f} bytes a file", flush=True)
-    code = """
+# ---- find
+
+ASK = """
 import sys, time
 from udfburn.archive.config import read
 from udfburn.archive.catalogue import Catalogue, versions
 from udfburn.archive.find import find
 from udfburn.archive.names import path_of
+pattern = sys.argv[2]
 with Catalogue(read(sys.argv[1])) as catalogue:
-    for pattern in sys.argv[2:]:
-        for turn in (1, 2):
-            began = time.monotonic()
-            count = len(versions(catalogue.of_path(path_of(pattern[6:])))) if pattern.startswith("where ") else sum(1 for _ in find(catalogue, pattern))
-            print(f"{pattern}: {count} found in {(time.monotonic() - began) * 1000:.1f} ms" + (" (again)" if turn == 2 else ""), flush=True)
+    for turn in range(2):
+        began = time.monotonic()
+        found = versions(catalogue.of_path(path_of(pattern[6:]))) if pattern.startswith("where ") else list(find(catalogue, pattern))
+        print(len(found), (time.monotonic() - began) * 1000)
 """
-    index = 7_654_321
-    name, at = f"name-{index * 7919 % 10_000_019}.bin", index // 32
+"""Asks twice, and prints what was found and how many milliseconds that took."""
+
+
+def patterns(index: int, few: int) -> Dict[str, str]:
+    """Patterns by how they are called, about the file of an index."""
+    name, at = made_name(index), index // 32
     path = f"/made/year-{at // 5000}/month-{at // 400 % 12}/folder-{at}"
-    patterns = [f"where {path}/{name}", name, name[:-6] + "*", "*" + name[-9:], path + "/*", f"{path}/{name[:8]}*"]
-    subprocess.run([sys.executable, "-c", code, folder, *patterns], check=True, env=environment())
+    return {
+        "`where`": f"where {path}/{name}", "`find` of an exact name": name, "`find` of one folder": f"{path}/*", "`find PREFIX*`": f"{name[:-few]}*",
+        "`find *END`": f"*{name[few - 1:]}", "`find *MIDDLE*`, which compares every name": f"*{name[6:-5]}*",
+    }
+
+
+def ask(folder: str, wanted: Dict[str, str], forget: Callable[[], None]) -> None:
+    for name, pattern in wanted.items():
+        forget()
+        done = subprocess.run([sys.executable, "-c", ASK, folder, pattern], check=True, env=environment(), capture_output=True, text=True)
+        (found, cold), (_, warm) = [line.split() for line in done.stdout.splitlines()]
+        row(f"{name}: {int(found):,} found", f"{float(cold):,.1f} ms", f"{float(warm):,.1f} ms")
+
+
+def forget_file(path: str) -> None:
+    """Has the system drop what it keeps of a file."""
+    os.sync()
+    descriptor = os.open(path, os.O_RDONLY)
+    os.posix_fadvise(descriptor, 0, 0, os.POSIX_FADV_DONTNEED)
+    os.close(descriptor)
+
+
+def one_file(room: str, folder: str, *words: str) -> None:
+    """An archive with one file."""
+    run(*words_of("init", folder, "--label", "M", "--quiet", *words))
+    source = os.path.join(room, "one")
+    os.makedirs(source, exist_ok=True)
+    with open(os.path.join(source, "f"), "wb") as file:
+        file.write(b"1")
+    together([archive(folder, "add", source)])
+
+
+def find_sqlite(room: str) -> None:
+    """find and where over many rows, in the process, which is started once."""
+    folder = os.path.join(room, "large")
+    one_file(room, folder)
+    path = os.path.join(folder, "catalogue.sqlite")
+    fill_catalogue(path, ROWS)
+    row(f"{ROWS:,} rows in SQLite, {os.path.getsize(path) / ROWS:.0f} bytes a file", "Cold", "Warm")
+    row("---", "---", "---")
+    ask(folder, patterns(7_654_321, 6), lambda: forget_file(path))
     shutil.rmtree(folder)
 
 
-def rebuilding(room: str, volumes: int = 50) -> None:
+FILL = """
+INSERT INTO folder (id, path) SELECT 1000 + i, '/made/year-' || i / 5000 || '/month-' || i / 400 % 12 || '/folder-' || i
+FROM generate_series(0, {files} / 32) AS i;
+INSERT INTO file (id, folder, name, size, moment, sha256, added)
+SELECT (2 + i / 4000) * 262144 + 10 + i % 4000, 1000 + i / 32, 'name-' || i::bigint * 7919 % 10000019 || '.bin', i % 100000,
+1700000000000000 + i, sha256(int4send(i)), 1700000001000000 FROM generate_series(0, {files} - 1) AS i
+"""
+
+
+def find_postgresql(case: Room, room: str) -> None:
+    server = Server(case)
+    folder = os.path.join(room, "served")
+    one_file(room, folder, "--catalogue", server.new_base("large"))
+    for statement in FILL.format(files=ROWS_POSTGRESQL).split(";\n"):
+        server.sql(statement, "large")
+    server.sql("VACUUM ANALYZE file", "large")
+    server.sql("VACUUM ANALYZE folder", "large")
+    (size,) = server.sql("SELECT sum(pg_total_relation_size(name::regclass)) FROM unnest(ARRAY['file', 'folder']) AS name", "large")[0]
+
+    def forget() -> None:
+        server.stop()
+        for at, _, names in os.walk(server.data):
+            for name in names:
+                forget_file(os.path.join(at, name))
+        server.start()
+
+    row(f"{ROWS_POSTGRESQL:,} rows in PostgreSQL, {size / ROWS_POSTGRESQL:.0f} bytes a file", "Cold", "Warm")
+    row("---", "---", "---")
+    ask(folder, patterns(1_654_321, 7), forget)
+    server.stop()
+
+
+# ---- rebuild
+
+def rebuilding(room: str) -> None:
     """The catalogue made again of closed volumes."""
     folder = os.path.join(room, "fifty")
-    run(*words_of("init", folder, "--label", "M", "--capacity", "12000", "--quiet"))
+    files = VOLUMES * 720
+    run(*words_of("init", folder, "--label", "M", "--capacity", "5700", "--quiet"))
     source = os.path.join(room, "many")
-    make_tree(source, volumes * 900, 5, most=1500)
-    began = time.monotonic()
-    together([archive(folder, "add", source)])
-    print(f"stored {volumes * 900} files in {time.monotonic() - began:.0f} s", flush=True)
-    began = time.monotonic()
-    together([archive(folder, "close")])
-    count = len([name for name in os.listdir(os.path.join(folder, "closed")) if name.endswith(".img")])
-    print(f"closed {count} volumes in {time.monotonic() - began:.0f} s", flush=True)
-    os.unlink(os.path.join(folder, "catalogue.sqlite"))
-    began = time.monotonic()
-    together([archive(folder, "rebuild")])
-    print(f"rebuild of {count} volumes with {volumes * 900} files: {time.monotonic() - began:.1f} s", flush=True)
+    make_tree(source, files, 5, most=1500)
+    stored = together([archive(folder, "add", source)])
+    closed = together([archive(folder, "close")])
+    images = [os.path.join(folder, "closed", name) for name in os.listdir(os.path.join(folder, "closed")) if name.endswith(".img")]
+    row(f"{len(images)} volumes with {files:,} files, {sum(map(os.path.getsize, images)) // 1_000_000:,} MB", "Seconds")
+    row("---", "---")
+    row("`add`", f"{stored:.1f}")
+    row("`close`, which reads each volume three times", f"{closed:.1f}")
+    for name in ("`rebuild` of a lost catalogue", "`rebuild` that finds no difference"):
+        if "lost" in name:
+            for end in ("", "-wal", "-shm"):
+                if os.path.exists(os.path.join(folder, "catalogue.sqlite" + end)):
+                    os.unlink(os.path.join(folder, "catalogue.sqlite" + end))
+        for image in images:
+            forget_file(image)
+        row(name, f"{together([archive(folder, 'rebuild')]):.1f}")
+    shutil.rmtree(folder)
+    shutil.rmtree(source)
 
 
-def main() -> int:
-    rounds = int(sys.argv[1]) if len(sys.argv) > 1 else 3
+def main(words: Sequence[str]) -> int:
+    parser = argparse.ArgumentParser(description=__doc__)
+    parser.add_argument("--rounds", type=int, default=3)
+    parser.add_argument("--folder")
+    parser.add_argument("part", nargs="*")
+    asked = parser.parse_args(words)
     case = Room()
-    room = tempfile.mkdtemp(prefix="measure-", dir=sys.argv[2] if len(sys.argv) > 2 else None)
+    room = tempfile.mkdtemp(prefix="measure-", dir=asked.folder)
     os.environ["TMPDIR"] = tempfile.tempdir = room
+    parts: Dict[str, Callable[[], None]] = {
+        "rates": lambda: rates(case, room, asked.rounds), "find": lambda: find_sqlite(room), "find-postgresql": lambda: find_postgresql(case, room),
+        "rebuild": lambda: rebuilding(room),
+    }
     try:
         os.chmod(room, 0o755)
-        if rounds:
-            rates(room, Server(case), rounds)
-        large(room)
-        rebuilding(room)
+        for name in asked.part or parts:
+            began = time.monotonic()
+            parts[name]()
+            print(f"\n{name}: {time.monotonic() - began:.0f} s\n", file=sys.stderr, flush=True)
+            print(flush=True)
     finally:
         case.doCleanups()
         shutil.rmtree(room, ignore_errors=True)
@@ -188,4 +287,4 @@ def main() -> int:
 
 
 if __name__ == "__main__":
-    sys.exit(main())
+    sys.exit(main(sys.argv[1:]))

@@ -7,7 +7,7 @@ import sqlite3
 import subprocess
 import tomllib
 
-from .support import UDFBURN, WithArchive, digests, make_tree, write
+from .support import UDFBURN, WithArchive, digests, environment, make_tree, words_of, write
 
 
 class Commands(WithArchive):
@@ -116,6 +116,23 @@ class Commands(WithArchive):
         self.assertEqual((last["files"], last["same"]), (1, 49))
         self.assertEqual(self.get_all(), digests(self.source))
 
+    def test_find_looks_nothing_up(self) -> None:
+        """What is printed stands side by side, so no hit takes a read of its own: the other tables may as well be missing."""
+        self.init()
+        paths = [os.path.join(f"d{index}", f"name-{index}.bin") for index in range(100)]
+        for path in paths:
+            write(os.path.join(self.source, path), b"1")
+        self.add()
+        base = sqlite3.connect(os.path.join(self.archive, "catalogue.sqlite"))
+        for table in ("file", "folder"):
+            base.execute(f"DROP TABLE {table}")
+        base.commit()
+        base.close()
+        for pattern in ("name-*", "*.bin", "*me-*"):
+            done = subprocess.run([*words_of("find", pattern), "--archive", self.archive], env=environment(), capture_output=True, text=True)
+            self.assertEqual((done.returncode, done.stderr), (0, ""), pattern)
+            self.assertEqual(sorted(done.stdout.splitlines()), sorted(f"/s/{path}" for path in paths), pattern)
+
     def test_find_and_where(self) -> None:
         self.init()
         for name in ("a/IMG_1.jpg", "a/IMG_2.png", "ab/IMG_1.jpg", "b/note.txt", "img.jpg"):
@@ -190,7 +207,7 @@ class Commands(WithArchive):
         for command in (["status"], ["add", self.source], ["rebuild"], ["close"]):
             done = self.do(*command, status=1)
             self.assertIn("version 99", done.errors)
-        base.execute("UPDATE archive SET version = 1")
+        base.execute("UPDATE archive SET version = 2")
         base.commit()
         other = self.path("other.img")
         subprocess.run([UDFBURN, "format", other, "T-000001", "0", "1000"], check=True, stdout=subprocess.DEVNULL)

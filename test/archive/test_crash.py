@@ -259,7 +259,7 @@ class Catalogues(WithArchive):
         ids = [id for (id,) in base.execute("SELECT id FROM file ORDER BY id")]
         base.execute("DELETE FROM file WHERE id = ?", (ids[3],))
         base.execute("UPDATE file SET size = size + 1 WHERE id = ?", (ids[4],))
-        base.execute("INSERT INTO file SELECT id + 100000, folder, name, tail, size, moment, sha256, added, first_part, part_count FROM file WHERE id = ?", (ids[5],))
+        base.execute("INSERT INTO file SELECT folder, id + 100000, name, size, moment, sha256, added, first_part, part_count FROM file WHERE id = ?", (ids[5],))
         base.commit()
         base.close()
         last = self.do("rebuild", "--dry-run")
@@ -268,4 +268,50 @@ class Catalogues(WithArchive):
         hows = sorted(line["how"] for line in self.do("rebuild").objects() if line["did"] == "differs")
         self.assertEqual([how.split()[0] for how in hows], ["differed", "is", "was"])
         self.assertEqual(self.rows(), before)
+        self.require_agreed()
+
+    def test_a_lost_catalogue_and_a_volume_elsewhere(self) -> None:
+        remote = self.path("remote")
+        os.mkdir(remote)
+        self.init("--copies", remote)
+        for name in ("a", "b"):
+            write(os.path.join(self.source, name), name.encode())
+            self.add()
+            self.do("close")
+        os.unlink(os.path.join(self.archive, "closed", "T-000002.img"))
+        for name in os.listdir(self.archive):
+            if name.startswith("catalogue"):
+                os.unlink(os.path.join(self.archive, name))
+        lines = self.do("rebuild").objects()
+        self.assertEqual([line["volume"] for line in lines if line["did"] == "lacking"], ["T-000002"])
+        self.assertEqual([line["volume"] for line in lines if line["did"] == "unknown"], ["T-000001"])
+        # No other volume gets its number.
+        write(os.path.join(self.source, "c"), b"c")
+        self.add()
+        self.assertEqual([volume["volume"] for volume in self.volumes()], ["T-000001", "T-000003"])
+        shutil.copy(os.path.join(remote, "T-000002.img"), os.path.join(self.archive, "closed"))
+        self.do("rebuild")
+        self.assertEqual(len({row["path"] for row in self.rows()}), 3)
+        self.require_agreed()
+
+    def test_wrong_names_in_the_catalogue(self) -> None:
+        import sqlite3
+
+        self.init()
+        make_tree(self.source, 40, 34)
+        self.add()
+        paths = sorted(line["path"] for line in self.rows())
+        base = sqlite3.connect(os.path.join(self.archive, "catalogue.sqlite"))
+        for table, column in (("by_name", "name"), ("by_ending", "ending")):
+            base.execute(f"DELETE FROM {table} WHERE id IN (SELECT id FROM file ORDER BY id LIMIT 3)")
+            base.execute(f"UPDATE {table} SET {column} = {column} || '~' WHERE id IN (SELECT id FROM file ORDER BY id LIMIT 2 OFFSET 5)")
+        base.commit()
+        base.close()
+        self.assertLess(self.do("find", "*.bin").last()["files"], 40)
+        mended = [line["names"] for line in self.do("rebuild").objects() if line["did"] == "mended"]
+        # Five in each of the two tables.
+        self.assertEqual(mended, [10])
+        for pattern in ("file*", "*.bin", "*e*n*"):
+            found = sorted(line["path"] for line in self.do("find", pattern).objects() if "path" in line)
+            self.assertEqual(found, paths, pattern)
         self.require_agreed()

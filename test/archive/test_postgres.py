@@ -35,10 +35,11 @@ class OnServer(WithArchive):
 class Machines(OnServer):
     def test_one_path_is_one_machine_s(self) -> None:
         first, second = self.machine(1), self.machine(2)
-        make_tree(self.source, 400, 1)
+        make_tree(self.source, 1400, 1)
         process = start("add", self.source, "--at", "/s/a", "--archive", first)
         wait_until(lambda: self.server.sql("SELECT 1 FROM volume", "archive"))
         # It stands still, and has its claims all the same.
+        self.addCleanup(kill, process)
         process.send_signal(signal.SIGSTOP)
         self.assertIsNone(process.poll())
         for at in ("/s/a", "/s/a/b", "/s", ""):
@@ -53,12 +54,12 @@ class Machines(OnServer):
 
     def test_claims_die_with_the_process(self) -> None:
         first, second = self.machine(1), self.machine(2)
-        make_tree(self.source, 300, 2)
+        make_tree(self.source, 1300, 2)
         process = start("add", self.source, "--at", "/s", "--archive", first)
         wait_until(lambda: self.server.sql("SELECT 1 FROM file", "archive"))
         kill(process)
         done = self.run_in(second, "add", self.source, "--at", "/s")
-        self.assertEqual(done.last()["files"] + done.last()["same"], 300)
+        self.assertEqual(done.last()["files"] + done.last()["same"], 1300)
         # The first machine never comes back: its volume is taken over.
         label = next(volume["volume"] for volume in self.volumes(first) if volume["at_hand"])
         self.run_in(second, "adopt", label)
@@ -84,9 +85,10 @@ class Machines(OnServer):
 
     def test_a_volume_in_use_is_not_adopted(self) -> None:
         first, second = self.machine(1), self.machine(2)
-        make_tree(self.source, 500, 3)
+        make_tree(self.source, 1500, 3)
         process = start("add", self.source, "--at", "/s", "--archive", first)
         wait_until(lambda: self.server.sql("SELECT 1 FROM file", "archive"))
+        self.addCleanup(kill, process)
         process.send_signal(signal.SIGSTOP)
         self.assertIsNone(process.poll())
         done = self.run_in(second, "adopt", "T-000001", status=1)
@@ -96,7 +98,7 @@ class Machines(OnServer):
 
     def test_lost_claims_end_a_run(self) -> None:
         first = self.machine(1)
-        make_tree(self.source, 900, 5)
+        make_tree(self.source, 2500, 5)
         before = digests(self.source)
         process = start("add", self.source, "--at", "/s", "--archive", first, "--delete-source")
         wait_until(lambda: self.server.sql("SELECT 1 FROM file", "archive"))
@@ -104,7 +106,7 @@ class Machines(OnServer):
         kept = {row[0] for row in self.server.sql("SELECT id FROM file", "archive")}
         self.assertEqual(process.wait(), 1)
         # Not one row came after the claims were lost, but those of the transaction that was under way.
-        self.assertLessEqual(len(self.server.sql("SELECT id FROM file", "archive")), len(kept) + 256)
+        self.assertLessEqual(len(self.server.sql("SELECT id FROM file", "archive")), len(kept) + 512)
         self.run_in(first, "add", self.source, "--at", "/s", "--delete-source")
         self.assertEqual(self.get_all(first), before)
         self.require_agreed(first)
@@ -240,18 +242,27 @@ class Standby(WithArchive):
         primary.new_base("archive")
         standby = primary.replicate(self)
         url = primary.url("archive", standby)
-        self.init("--catalogue", url)
-        make_tree(self.source, 600, 9)
-        process = start("add", self.source, "--at", "/s", "--archive", self.archive)
+        machines = {self.path(f"machine{index}"): os.path.join(self.source, str(index)) for index in range(MACHINES if LARGE else 2)}
+        for index, (machine, source) in enumerate(machines.items()):
+            self.init("--catalogue", url, archive=machine)
+            make_tree(source, 1500 if LARGE else 800, 9 + index)
+        words = {machine: ("add", source, "--at", f"/s/{os.path.basename(source)}") for machine, source in machines.items()}
+        processes = [start(*words[machine], "--archive", machine) for machine in machines]
         wait_until(lambda: primary.sql("SELECT 1 FROM file", "archive"))
         acknowledged = {row[0] for row in primary.sql("SELECT id FROM file", "archive")}
         primary.kill()
-        process.wait()
+        for process in processes:
+            process.wait()
         standby.promote()
         wait_until(lambda: standby.sql("SELECT pg_is_in_recovery()") == [(False,)])
         there = {row[0] for row in standby.sql("SELECT id FROM file", "archive")}
         self.assertLessEqual(acknowledged, there)
-        last = self.add().last()
-        self.assertEqual(last["files"] + last["same"], 600)
-        self.require_agreed()
-        self.assertEqual(self.get_all(), digests(self.source))
+        for machine, source in machines.items():
+            last = self.run_in(machine, *words[machine]).last()
+            self.assertEqual(last["files"] + last["same"], 1500 if LARGE else 800)
+        found = {row["path"]: row["sha256"] for row in self.rows(next(iter(machines)))}
+        self.assertEqual(found, {"/s/" + os.fsdecode(path): whole for path, (whole, _) in digests(self.source).items()})
+        for machine in machines:
+            self.require_agreed(machine)
+            self.run_in(machine, "close")
+            self.assertEqual(self.run_in(machine, "check", "--data").last()["failures"], [])

@@ -23,7 +23,7 @@ from faults.programs import build
 # Seconds after which a module counts as hanging: many times what one takes, also beside other work.
 LONGEST = 3600.0
 # These take a minute or more, so that they begin first.
-LONG = ("test_power", "test_disk", "load_clients", "test_send")
+LONG = ("test_power", "test_disk", "test_runs", "load_clients", "test_send")
 # What the modules share.
 SUPPORT = "load_support"
 

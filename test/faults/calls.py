@@ -159,6 +159,9 @@ class Discipline:
                 self.wrong(index, "a table's entry goes out before all else was synced")
 
     def cut(self, index: int, record: Record) -> None:
+        if not self.is_read_synced and record.offset == self.length:
+            # A file that came by its descriptor is set to the length that it has, which shows that it can be written.
+            return
         if self.must_cut is None and self.may_cut:
             self.must_cut = self.before_write
         if self.must_cut is None:

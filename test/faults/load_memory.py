@@ -37,6 +37,8 @@ MESSAGES: list[Message] = [
     ("list", "/"),
 ]
 MEMORY_LINES = {b"65 Memory", b"93 Memory"}
+# A connection for which memory is short is closed, and counts as one that was served.
+DAEMON_LINES = MEMORY_LINES | {b"94 Socket"}
 
 
 class Refusing(Case):
@@ -274,7 +276,7 @@ class Applying(Refusing):
                     status = daemon.wait()
                     lines = daemon.errors().splitlines()
                     self.assertIn(status, (0, 1), "it ended with %d" % status)
-                    self.assertLessEqual({line[len(b"udfburnd: "):] for line in lines}, MEMORY_LINES)
+                    self.assertLessEqual({line[len(b"udfburnd: "):] for line in lines}, DAEMON_LINES)
                     if status == 1:
                         short += 1
                         self.assertEqual(len(lines), 1)

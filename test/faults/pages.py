@@ -145,3 +145,39 @@ def losses(disk: Disk, chance: random.Random, count: int) -> Iterator[Loss]:
         length = chance.choice((synced, present, present, present, chance.randint(low, high)))
         left = disk.left(lambda n: [chance.random() < share for _ in range(n)], length, chance, chance.random() < 0.5)
         yield Loss("at random %d, length %d" % (number, length), left)
+
+
+# Of so many unsynced pages every subset is tried.
+FEW = 8
+# Of more pages each of so many is left out alone.
+LEFT_OUT = 10
+
+
+def choices(pages: int, chance: random.Random, count: int) -> Iterator[tuple[str, list[bool]]]:
+    """Which of the pages of a run reach the disk: every subset of a few; of more none, all, all but one, and `count` at random."""
+    if pages <= FEW:
+        for number in range(1 << pages):
+            yield "subset %d" % number, [bool(number >> page & 1) for page in range(pages)]
+        return
+    yield "no page", [False] * pages
+    yield "all pages", [True] * pages
+    yield "only the last page", [False] * (pages - 1) + [True]
+    alone = {0, 1, pages - 2, pages - 1, *chance.sample(range(pages), LEFT_OUT - 4)}
+    for left_out in sorted(alone):
+        yield "all but page %d" % left_out, [page != left_out for page in range(pages)]
+    for number in range(count):
+        share = chance.choice((0.1, 0.5, 0.9))
+        yield "at random %d" % number, [chance.random() < share for _ in range(pages)]
+
+
+def run_losses(disk: Disk, chance: random.Random, count: int) -> Iterator[Loss]:
+    """What a loss of power leaves of a run: any subset of its pages, where the file has its present length; and the synced length, one in
+    between, and all pages with that one."""
+    synced, present = len(disk.disk), len(disk.cache)
+    if disk.is_clean():
+        yield Loss("nothing is unsynced", bytes(disk.disk))
+        return
+    for how, kept in choices(len(disk.dirty), chance, count):
+        yield Loss(how, disk.left(lambda _: kept, present))
+    for length in {synced, chance.randint(min(synced, present), max(synced, present))}:
+        yield Loss("all pages, length %d" % length, disk.left(lambda n: [True] * n, length))

@@ -1,16 +1,14 @@
 """Each call on the image fails in turn: an answer 36, the file is cut back and synced before anything else, and the repeat is done."""
 from __future__ import annotations
 
-import errno
 from pathlib import Path
-from typing import Optional, Sequence
 
 from faults.calls import Discipline
-from faults.case import Case, need_shim
-from faults.log import KINDS, Record, read_log
+from faults.log import read_log
 from faults.pages import Disk
 from faults.programs import built
-from faults.running import Client, Daemon
+from faults.running import Daemon
+from faults.serving import Serving
 from protocol import FAULT, Answer, Model, Request, answers_of, committed, encode, frame, paths_of, query
 
 STREAM = [
@@ -25,72 +23,7 @@ LONG = Request("create", 1, 1, "/long", bytes(range(256)) * 640)
 DEVICE = b"udfburn: 64 Device\n"
 
 
-class Failures(Case):
-    def setUp(self) -> None:
-        super().setUp()
-        need_shim()
-
-    def insisted(self, client: Client, request: Request, most: int = 12) -> tuple[Optional[Answer], int]:
-        """Sends a request until it is answered otherwise than 36; how often it was."""
-        for faults in range(most):
-            answer = client.ask(encode(request))
-            if answer != Answer(FAULT):
-                return answer, faults
-        return answer, most
-
-    def run_with(self, rules: str, requests: Sequence[Request] = STREAM, most: int = 12) -> tuple[list[Record], int]:
-        """A daemon under these rules serves the requests, each until it is done. Everything is as it must be behind it: the answers,
-        the order of calls, the tree, and the tree on a disk that kept nothing that a sync did not promise. How many were faults."""
-        before = self.fresh().read_bytes()
-        model = Model()
-        faults = 0
-        with Daemon(self.folder, log=self.new_log(), rules=rules) as daemon, daemon.client() as client:
-            for request in requests:
-                answer, count = self.insisted(client, request, most)
-                faults += count
-                self.assertEqual(answer, model.answer(request))
-            self.assertEqual(daemon.errors(), b"")
-        records = read_log(self.log_path())
-        followed = Discipline(len(before), self.folder).follow(records, daemon=True)
-        self.assertEqual(followed.faults, [])
-        self.tree_is(model, paths_of(requests))
-        # A failed sync kept nothing, and the power goes right behind the last answer.
-        disk = Disk(before, 4096)
-        for record in records:
-            disk.call(record)
-        self.assertTrue(disk.is_clean())
-        self.path("left.img").write_bytes(bytes(disk.disk))
-        self.tree_is(model, paths_of(requests), "left.img")
-        return records, faults
-
-    def calls(self, requests: Sequence[Request], kinds: Sequence[str]) -> dict[str, int]:
-        records, faults = self.run_with("", requests)
-        self.assertEqual(faults, 0)
-        return {kind: sum(record.kind == kind for record in records) for kind in kinds}
-
-    def opening(self) -> dict[str, int]:
-        """How many calls the opening of an image takes, up to the daemon's first wait for a client."""
-        self.fresh()
-        with Daemon(self.folder, log=self.new_log()) as daemon:
-            with daemon.client() as client:
-                client.end()
-                self.assertIsNone(client.answer())
-            daemon.kill()
-        records = read_log(self.log_path())
-        upto = [record.kind for record in records].index("accept")
-        return {kind: sum(record.kind == kind for record in records[:upto]) for kind in KINDS}
-
-    def cut_behind(self, records: Sequence[Record]) -> None:
-        """Behind the first failure the next call that changes or reads the file cuts it, and the one behind that is a sync."""
-        failed = next(index for index, record in enumerate(records)
-                      if record.kind in ("pwrite", "fsync") and record.error not in (0, errno.EINTR))
-        length = 0
-        for record in records[:failed]:
-            if record.kind == "pwrite" and not record.error:
-                length = max(length, record.offset + record.result)
-        behind = [record for record in records[failed + 1:] if record.kind in ("pread", "pwrite", "ftruncate", "fsync")]
-        self.assertEqual([record.kind for record in behind[:2]], ["ftruncate", "fsync"])
-
+class Failures(Serving):
     def test_each_write(self) -> None:
         for requests in (STREAM, [LONG]):
             calls = self.calls(requests, ["pwrite"])["pwrite"]
@@ -120,14 +53,14 @@ class Failures(Case):
         for number in range(1, calls["pwrite"] + 1):
             for action in ("S1", "S2047", "S2048", "S3000", "E4"):
                 with self.subTest(number=number, action=action):
-                    self.assertEqual(self.run_with("pwrite:%d:%s" % (number, action))[1], 0)
+                    self.assertEqual(self.run_with("pwrite:%d:%s" % (number, action), STREAM)[1], 0)
         for number in range(1, calls["fsync"] + 1):
             with self.subTest(sync=number):
-                self.assertEqual(self.run_with("fsync:%d:E4" % number)[1], 0)
+                self.assertEqual(self.run_with("fsync:%d:E4" % number, STREAM)[1], 0)
         for number in (1, 2, calls["pread"] // 2, calls["pread"]):
             for action in ("S1", "S2047", "E4"):
                 with self.subTest(read=number, action=action):
-                    self.assertEqual(self.run_with("pread:%d:%s" % (number, action))[1], 0)
+                    self.assertEqual(self.run_with("pread:%d:%s" % (number, action), STREAM)[1], 0)
 
     def test_several_in_a_row(self) -> None:
         """Each repeat fails, the cut fails, its sync fails: each of these calls is a fault, and nothing is read or written meanwhile."""
@@ -142,7 +75,7 @@ class Failures(Case):
             ("pwrite:4:P2048E28;ftruncate:1:E5;pwrite:5:E28", 3),
         ):
             with self.subTest(rules):
-                records, seen = self.run_with(rules)
+                records, seen = self.run_with(rules, STREAM)
                 self.assertGreaterEqual(seen, 1)
                 # One request may meet more than one of them, where a failed write is followed by a failed cut.
                 self.assertLessEqual(seen, faults)
@@ -187,7 +120,7 @@ class Failures(Case):
         calls = self.calls(STREAM, ["pread"])["pread"]
         for number in sorted({1, 2, 3, 100, 257, 258, 259, 260, 261, *range(262, calls + 1)}):
             with self.subTest(number=number):
-                records, faults = self.run_with("pread:%d:E5" % number)
+                records, faults = self.run_with("pread:%d:E5" % number, STREAM)
                 self.assertEqual(faults, 1)
                 self.assertFalse(any(record.kind == "ftruncate" for record in records))
 
@@ -198,9 +131,9 @@ class Failures(Case):
         self.assertGreaterEqual(calls - first, len(STREAM))
         for number in range(first + 1, calls + 1):
             with self.subTest(number=number):
-                self.assertEqual(self.run_with("fstat:%d:E5" % number)[1], 1)
+                self.assertEqual(self.run_with("fstat:%d:E5" % number, STREAM)[1], 1)
         with self.subTest("in a row"):
-            self.assertEqual(self.run_with("fstat:%d-%d:E5" % (first + 2, first + 4))[1], 3)
+            self.assertEqual(self.run_with("fstat:%d-%d:E5" % (first + 2, first + 4), STREAM)[1], 3)
 
     def test_opening_to_write(self) -> None:
         """A call of the opening fails: 64, nothing was read, and nothing was written."""

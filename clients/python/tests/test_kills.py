@@ -17,6 +17,7 @@ from typing import Any, Dict, Iterator, List, Optional, Set
 import udfburn
 from udfburn import Client
 from udfburn import protocol as p
+from udfburn.ledger_records import LARGE
 from udfburn.operations import Operation
 from udfburn.tree import Options, put_all
 
@@ -32,14 +33,14 @@ BATCH, BATCHES = 100, 40
 CODE = os.path.dirname(udfburn.__file__)
 NAMES = (
     "session.py", "recognition.py", "identity.py", "ledger.py", "ledger_file.py", "ledger_records.py", "ledger_schema.py", "tree.py", "connection.py", "line.py",
-    "seal.py",
+    "seal.py", "sources.py", "ahead.py", "library.py",
 )
 TRACED = {os.path.join(CODE, name) for name in NAMES}
 
 
 def content(index: int) -> bytes:
-    """The bytes of a file: each has its own."""
-    return random.Random(index).randbytes(index * 7 % 3000)
+    """The bytes of a file: each has its own. Of some the ledger keeps where they are, and not the bytes."""
+    return random.Random(index).randbytes(LARGE + index % 9 if index % 16 == 3 else index * 7 % 3000)
 
 
 class DaemonKilled(WithPrograms):

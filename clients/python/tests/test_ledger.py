@@ -18,7 +18,7 @@ from unittest import mock
 
 from udfburn import Client, errors as e
 from udfburn import protocol as p
-from udfburn.ledger import LOG_BYTES, Ledger, Lock, Pending, Reply, Volume as Known
+from udfburn.ledger import LOG_BYTES, Ledger, Lock, MemoryLedger, Pending, Reply, Volume as Known
 from udfburn.ledger_records import facts_of
 from udfburn.operations import Operation
 from udfburn.tree import Options, put_all
@@ -53,6 +53,28 @@ class Ledgers(WithServer):
         timer.start()
         Ledger(self.ledger, wait=PATIENCE).close()
         timer.join()
+
+    def test_a_ledger_in_memory(self) -> None:
+        """What one in memory has of a volume is taken over by another ledger of the same client, which then goes on."""
+        with self.client() as client:
+            client.create("/before", b"0")
+            number = client.session().ledger.client
+        kept = MemoryLedger(number)
+        with Client(f"unix:{self.server.path}", ledger=kept, timeout=PATIENCE) as other:
+            for index in range(7):
+                other.create(f"/f{index}", b"%d" % index)
+            there = other.session().volume()
+            sent = kept.sent(there)
+            with closing(Ledger(self.ledger)) as ledger:
+                (volume,) = ledger.volumes()
+                ledger.take(volume, kept)
+                self.assertEqual([one.path for one in ledger.sent(volume)], ["/before"] + [f"/f{index}" for index in range(7)])
+                self.assertEqual(ledger.sent(volume)[1:], sent)
+                self.assertEqual(ledger.latest(volume), sent[-1].number)
+                self.assertEqual(ledger.pending(volume), [])
+        self.assertEqual(kept.files(), set())
+        with self.client() as client:
+            self.assertEqual(client.create("/after", b"1"), 9)
 
     def test_the_client_stays(self) -> None:
         first = Ledger(self.ledger)
@@ -90,7 +112,7 @@ class Ledgers(WithServer):
         base("names.sqlite", "CREATE TABLE ledger (what, ever)")
         base("none.sqlite", "CREATE TABLE ledger (version, client)")
         base("words.sqlite", "CREATE TABLE ledger (version, client)", "INSERT INTO ledger VALUES (1, 'me')")
-        base("newer.sqlite", "CREATE TABLE ledger (version, client)", "INSERT INTO ledger VALUES (3, '5')")
+        base("newer.sqlite", "CREATE TABLE ledger (version, client)", "INSERT INTO ledger VALUES (4, '5')")
         os.mkdir(os.path.join(room, "folder"))
         os.mkfifo(os.path.join(room, "pipe"))
 
@@ -100,7 +122,7 @@ class Ledgers(WithServer):
         before = found()
         self.assertEqual(len(before), 11)
         for name in before:
-            with self.assertRaisesRegex(e.LedgerError, "version 2" if name == "newer.sqlite" else "is no ledger .*--ledger", msg=name):
+            with self.assertRaisesRegex(e.LedgerError, "version 3" if name == "newer.sqlite" else "is no ledger .*--ledger", msg=name):
                 Ledger(os.path.join(room, name))
             self.assertEqual(found(), before, name)
         with self.assertRaises(e.LedgerError):
@@ -212,7 +234,7 @@ class Ledgers(WithServer):
             made[there] += 1
             if there:
                 base = sqlite3.connect(path)
-                self.assertEqual(base.execute("SELECT * FROM ledger").fetchall(), [(2, "5")])
+                self.assertEqual(base.execute("SELECT * FROM ledger").fetchall(), [(3, "5")])
                 base.close()
             Ledger(path, client=5 if there else 7, wait=0.0).close()
             self.assertEqual(sorted(os.listdir(room)), ["ledger.sqlite", "ledger.sqlite.lock"])

@@ -1,7 +1,7 @@
-"""A ledger of version 1, as the client of that version wrote it: it becomes one of version 2 and loses nothing.
+"""Ledgers of earlier versions, as the clients of those versions wrote them: they become ledgers of this version and lose nothing.
 
 `ledger_v1.sql` has one volume that was met by two ways in turn, which that client kept as three, another volume, and a request
-without a reply.
+without a reply. `ledger_v2.sql` has one volume with six requests that were done, and two without a reply.
 """
 
 from __future__ import annotations
@@ -29,6 +29,7 @@ from .test_session import WithServer
 HERE = os.path.dirname(os.path.abspath(__file__))
 CLIENT = 77
 ROWS = "SELECT volume, number, path, code, commit_number, confirmed FROM request ORDER BY volume, number"
+FRAMES = "SELECT id, payload FROM frame ORDER BY id"
 
 
 def first_volume() -> Volume:
@@ -54,10 +55,12 @@ class Migration(WithServer):
         self.addCleanup(self.one.close)
         self.link = os.path.join(self.room, "one", "link")
         os.link(self.one.path, self.link)
-        self.write_ledger()
+        self.write_ledger("ledger_v1.sql")
 
-    def write_ledger(self) -> None:
-        with open(os.path.join(HERE, "ledger_v1.sql"), encoding="utf-8") as file:
+    def write_ledger(self, name: str) -> None:
+        if os.path.exists(self.ledger):
+            os.unlink(self.ledger)
+        with open(os.path.join(HERE, name), encoding="utf-8") as file:
             script = file.read().replace("@", self.room)
         with closing(sqlite3.connect(self.ledger)) as base:
             base.executescript(script)
@@ -73,7 +76,7 @@ class Migration(WithServer):
         return made
 
     def test_nothing_is_lost(self) -> None:
-        rows, frames = self.asked(ROWS), self.asked("SELECT * FROM frame ORDER BY id")
+        rows, frames = self.asked(ROWS), self.asked(FRAMES)
         with closing(Ledger(self.ledger)) as ledger:
             self.assertEqual(ledger.client, CLIENT)
             self.assertEqual([volume.latest for volume in ledger.volumes()], [6, 1, 8, 9])
@@ -82,10 +85,28 @@ class Migration(WithServer):
             (pending,) = ledger.pending(ledger.volumes()[3])
             self.assertEqual((pending.number, pending.path), (10, "/pending"))
         self.assertEqual(self.asked(ROWS), rows)
-        self.assertEqual(self.asked("SELECT * FROM frame ORDER BY id"), frames)
-        self.assertEqual(self.asked("SELECT version FROM ledger"), [(2,)])
+        self.assertEqual(self.asked(FRAMES), frames)
+        self.assertEqual(self.asked("SELECT version FROM ledger"), [(3,)])
         Ledger(self.ledger).close()
         self.assertEqual(self.asked(ROWS), rows)
+
+    def test_of_version_2(self) -> None:
+        """What it has is there as it was, and its frames, which have all their data, are sent as they are."""
+        self.write_ledger("ledger_v2.sql")
+        everything, frames = "SELECT * FROM request ORDER BY number", self.asked(FRAMES)
+        rows = self.asked(everything)
+        Ledger(self.ledger).close()
+        self.assertEqual(self.asked("SELECT version FROM ledger"), [(3,)])
+        self.assertEqual((self.asked(everything), self.asked(FRAMES)), (rows, frames))
+        self.one.volume = Volume()
+        self.one.volume.answer(p.MakeDir(CLIENT, 1, 10, ("d",)))
+        for index in range(5):
+            self.one.volume.answer(p.Create(CLIENT, 2 + index, 100 + index, ("d", f"f{index}"), b"x" * index))
+        with self.by(self.one.path) as client:
+            self.assertEqual(client.resume(), [(7, "/first", p.Code.DONE, 7), (8, "/second", p.Code.DONE, 8)])
+            self.assertEqual(client.create("/next", b""), 9)
+        self.assertEqual(self.one.volume.files()[("first",)], bytes(range(64)))
+        self.assertEqual(self.one.volume.files()[("second",)], b"pending bytes")
 
     def test_what_the_last_frames_say_is_kept(self) -> None:
         with closing(Ledger(self.ledger)) as ledger:
@@ -183,7 +204,7 @@ class Migration(WithServer):
             with closing(Ledger(self.ledger)) as ledger:
                 self.assertEqual([volume.latest for volume in ledger.volumes()], [6, 1, 8, 9])
             self.assertEqual(self.asked(ROWS), rows)
-        self.assertEqual(versions, {1, 2})
+        self.assertEqual(versions, {1, 3})
         self.assertGreater(lines, 50)
 
 

@@ -20,7 +20,7 @@ from .test_session import PACKAGE, WithServer
 
 HERE = os.path.dirname(os.path.abspath(__file__))
 RECORD = struct.Struct("<4Iq")
-PENDING = "SELECT number, payload FROM request JOIN frame ON frame.id = volume * 4 + number % 4 WHERE code IS NULL"
+PENDING = "SELECT number, payload, origin, start, size FROM request JOIN frame ON frame.id = volume * 4 + number % 4 WHERE code IS NULL"
 CONFIRMED = "SELECT path FROM request WHERE code = 0 AND confirmed"
 
 
@@ -132,11 +132,15 @@ class Order(WithServer):
         self.sources = os.path.join(self.room, "sources")
         os.makedirs(self.sources)
         chance = random.Random(6)
+        self.stored: Dict[str, bytes] = {}
         for index in range(self.FILES):
-            # Some take one page of the ledger, some several, and one more than a socket takes at once.
-            size = 600_000 if index == 17 else chance.randrange(9000)
-            with open(os.path.join(self.sources, f"f{index}"), "wb") as file:
-                file.write(chance.randbytes(size))
+            # Some take one page of the ledger, some several, and some so many that it keeps only where their bytes are: one of these
+            # is more than a socket takes at once.
+            size = {5: 70_000, 17: 600_000, 18: 70_000}.get(index, chance.randrange(9000))
+            path = os.path.join(self.sources, f"f{index}")
+            self.stored[path] = chance.randbytes(size)
+            with open(path, "wb") as file:
+                file.write(self.stored[path])
 
     def logged(self, *words: str) -> List[Call]:
         """Imports in a process of its own, and gives its calls on the ledger, its removals and what it sent."""
@@ -168,6 +172,15 @@ class Order(WithServer):
             for name in os.listdir(room):
                 os.unlink(os.path.join(room, name))
 
+    def kept_payload(self, row: Tuple[object, ...]) -> object:
+        """The payload that a row of a pending request leads to, with the data of its source where it has none itself."""
+        _, payload, origin, start, size = row
+        if origin is None:
+            return payload
+        assert isinstance(payload, bytes) and isinstance(origin, bytes) and isinstance(start, int) and isinstance(size, int)
+        self.led += 1
+        return payload + self.stored[os.fsdecode(origin)][start : start + size]
+
     def check_sent(self, states: List[Files], payload: bytes, sent: Set[int]) -> None:
         """A request that goes out is pending in every state, with at most three others."""
         request = request_of(payload)
@@ -175,7 +188,7 @@ class Order(WithServer):
             return
         sent.add(request.number)
         for state in states:
-            pending: Dict[object, object] = {row[0]: row[1] for row in self.asked(state, PENDING)}
+            pending: Dict[object, object] = {row[0]: self.kept_payload(row) for row in self.asked(state, PENDING)}
             self.assertEqual(pending.get(request.number), payload, f"request {request.number} was sent before it was kept")
             self.assertLessEqual(len(pending), 4)
 
@@ -183,7 +196,7 @@ class Order(WithServer):
         """A file of the ledger's name is a whole ledger in every state."""
         for state in states:
             if os.path.join(self.room, "kept", "ledger.sqlite") in state:
-                self.assertEqual(len(self.asked(state, "SELECT client FROM ledger WHERE version = 2")), 1)
+                self.assertEqual(len(self.asked(state, "SELECT client FROM ledger WHERE version = 3")), 1)
                 self.whole += 1
 
     def follow(self, calls: List[Call]) -> "tuple[Set[int], Set[str]]":
@@ -212,9 +225,11 @@ class Order(WithServer):
         return sent, removed
 
     def check(self, *words: str) -> None:
-        self.whole = 0
+        self.whole = self.led = 0
         sent, removed = self.follow(self.logged(*words))
         self.assertGreater(self.whole, 3)
+        # Each of the three in each state in which it is pending.
+        self.assertGreaterEqual(self.led, 9)
         self.assertEqual(sent, set(range(1, self.FILES + 2)))
         self.assertEqual(removed, {f"/x/f{index}" for index in range(self.FILES)})
         self.assertEqual(len(self.volume.files()), self.FILES)

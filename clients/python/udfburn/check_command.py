@@ -22,26 +22,26 @@ if TYPE_CHECKING:
 
 CAUSES = {
     21: "its tag: the block changed, or is not the one that was written there",
-    22: "its strategy is not the one of this format",
-    23: "its file type is none of a directory, a file and a table",
-    24: "a field that always says the same says something else",
-    25: "its size, its blocks or its lengths do not agree, or are above the limits",
+    22: "its strategy is not that of this format",
+    23: "its file type is not a directory, a file or a table",
+    24: "a field with a fixed value has another one",
+    25: "its size, blocks or lengths do not agree, or exceed the limits",
     26: "its extent is not valid",
     27: "a byte after the descriptor is not zero",
-    31: "an identifier's tag, check or fixed field",
-    32: "the directory above is not named first, or is named twice",
-    33: "bytes that are no name, or another spelling of one",
-    34: "a name is there twice",
+    31: "an identifier's tag, CRC or fixed field is wrong",
+    32: "the parent directory is not named first, or is named twice",
+    33: "bytes that are not a name, or another encoding of one",
+    34: "a name occurs twice",
     35: "an identifier crosses the end of its block",
     36: "padding is not as the layout has it",
     37: "the data ends inside an identifier or goes on after the last one",
     41: "a length, the reserved field, or the number of the entry before",
-    42: "the label is none",
+    42: "the label is not valid",
     43: "a revision of UDF is not 2.01",
-    44: "the record of the clients",
+    44: "the clients' records are wrong",
     45: "a client has two records",
     46: "a block number is not below the table's own, or the root is missing",
-    47: "the count of entries, or the next unique ID",
+    47: "the count of entries or the next unique ID is wrong",
 }
 """What the program's causes mean: 21 to 27 of a file entry, 31 to 37 of a directory's data, 41 to 47 of a table's data."""
 
@@ -50,14 +50,14 @@ def add(subs: Subs) -> None:
     """The words of this command."""
     words = command(
         subs, "check", check, "check an image",
-        "Has the program udfburn look at every node after each commit, and its own reader at the newest state, and says what they found;"
-        " with --data also whether each file has the bytes that were stored. The image is only read.", volume=False,
+        "The program udfburn examines every node after each commit, and an independent reader examines the newest state. With --data,"
+        " every file is compared with the digests of what was stored. The image is only read.", volume=False,
     )
-    words.add_argument("image_path", metavar="IMAGE", help="the image that is checked")
-    words.add_argument("path", nargs="?", metavar="PATH", help="with --data: the file or directory that is read (/)")
-    words.add_argument("--data", action="store_true", help="read every byte of each file, and compare it with the manifests on the volume and the ledger")
-    words.add_argument("--ledger", metavar="LEDGER", help="a ledger that sent to the volume: its last commit is expected, and its digests compared (with --data the user's own, where it is there)")
-    words.add_argument("--expect", metavar="COMMIT", type=commit_number, help="the volume has this commit at least; else that is reported")
+    words.add_argument("image_path", metavar="IMAGE", help="the image to check")
+    words.add_argument("path", nargs="?", metavar="PATH", help="with --data: the file or directory to read (default: /)")
+    words.add_argument("--data", action="store_true", help="also read every byte of each file, and compare it with the manifests on the volume and with the ledger")
+    words.add_argument("--ledger", metavar="LEDGER", help="a ledger that was used with this volume: its last commit must be there, and with --data its digests are compared (default with --data: the user's own, if it exists)")
+    words.add_argument("--expect", metavar="COMMIT", type=commit_number, help="report an error unless the volume has this commit")
 
 
 def check(arguments: argparse.Namespace) -> int:
@@ -113,7 +113,7 @@ def in_words(line: str) -> str:
         kind = {2: "a file entry or the file set descriptor", 3: "the data of a directory", 4: "the data of a table"}.get(cause // 10, "a structure")
         return f"block {block}: {kind} is damaged, cause {cause}: {CAUSES.get(cause, 'see docs/OPERATIONS.md')}"
     if "66 NotFormatted" in line:
-        return "holds no volume: no table's entry is found in it"
+        return "holds no volume: no VAT ICB is found in it"
     if "67 Damaged" in line:
         return f"is damaged ({line})"
     return line

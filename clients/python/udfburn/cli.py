@@ -24,15 +24,16 @@ LONG = """examples:
   udfburn-client verify photos /photos --image disc.img
   udfburn-client status disc.img
 
-statuses: 0 all is done, 1 something is not, 2 the words are no command,
+exit status: 0 everything is done, 1 something is not, 2 usage error,
 130 interrupted.
-environment: UDFBURN (the program udfburn), UDFBURN_SOCKET, UDFBURN_LEDGER."""
+environment: UDFBURN (the program udfburn), UDFBURN_LIBRARY (the C library),
+UDFBURN_SOCKET, UDFBURN_LEDGER."""
 
 
 def parser() -> argparse.ArgumentParser:
     """The words of each command."""
     top = argparse.ArgumentParser(
-        prog="udfburn-client", description="Puts files and folders on a UDF volume, once and for certain.",
+        prog="udfburn-client", description="Stores files and folders on a UDF volume, each once and for certain.",
         epilog=LONG, formatter_class=argparse.RawDescriptionHelpFormatter,
     )
     top.add_argument("--version", action="version", version=f"udfburn-client {__version__}")

@@ -3,7 +3,7 @@
 from __future__ import annotations
 
 from contextlib import contextmanager
-from typing import TYPE_CHECKING, Generator, Iterable, Iterator, List, Optional, Tuple, Type, Union
+from typing import TYPE_CHECKING, Dict, Generator, Iterable, Iterator, List, Optional, Tuple, Type, Union
 
 from .connection import Way
 from .errors import MISSES, REFUSALS, Exists, IsDirectory, NotDirectory, NotFound, Refused, UdfburnError, UsageError
@@ -16,25 +16,27 @@ from .protocol import (
 
 if TYPE_CHECKING:
     from .digests import Files, Known, KnownWhole
+    from .ledger import Ledger
     from .session import Session
 
 
 class Client:
-    """A volume behind a daemon's socket (`unix:PATH`) or in an image (`image:PATH`, by the program `udfburn apply`).
+    """A volume behind a daemon's socket (`unix:PATH`), or in an image: with the program `udfburn apply` (`image:PATH`), or in this process
+    with the C library (`library:PATH`).
 
     `ledger` is the file that keeps numbers, frames and replies; it is opened with the first request, and made where
-    it is missing. `client` is this ledger's number at the volume, which is drawn once where none is given. A volume
+    it is missing. A `Ledger` that is open already is taken too, and closed with the client. `client` is this ledger's number at the volume, which is drawn once where none is given. A volume
     keeps 64 clients for its life, so use one ledger a machine.
 
     A conversation is begun with a call and ended behind it, since a daemon serves one after another; `held` keeps it
-    for several calls.
+    for several calls. The library holds an image from the first call until `close`.
     """
 
     def __init__(
         self,
         connect: str,
         client: Optional[int] = None,
-        ledger: Optional[str] = None,
+        ledger: "Union[str, Ledger, None]" = None,
         program: Optional[str] = None,
         patience: float = 10.0,
         timeout: float = 120.0,
@@ -45,7 +47,7 @@ class Client:
         self.way = Way(connect, program)
         self.line = Line(self.way, patience, timeout)
         self._wanted = client
-        self._ledger_path = ledger
+        self._ledger = ledger
         self._patience = patience
         self._shared = shared
         self._session: Optional[Session] = None
@@ -72,7 +74,7 @@ class Client:
             yield self
         finally:
             self._held -= 1
-            if not self._held:
+            if not self._held and self.way.library is None:
                 self.line.drop()
 
     def session(self) -> Session:
@@ -81,7 +83,10 @@ class Client:
             from .ledger import Ledger, default_path
             from .session import Session
 
-            self._session = Session(self.line, Ledger(self._ledger_path or default_path(), self._wanted, self._patience), self._shared)
+            ledger = self._ledger
+            if not isinstance(ledger, Ledger):
+                ledger = Ledger(ledger or default_path(), self._wanted, self._patience)
+            self._session = Session(self.line, ledger, self._shared)
         return self._session
 
     # ---- requests
@@ -149,12 +154,21 @@ class Client:
         return made
 
     def resume(self) -> List[Tuple[int, str, Code, int]]:
-        """Finishes what an earlier process began: number, path, code and commit of each request that was pending."""
+        """Finishes what an earlier process began: number, path, code and commit of each request that was pending. One whose source changed
+        or is gone has the code ROOT, if the volume did not have it already; `take_not_stored` names it."""
         with self.held():
             session = self.session()
             self.line.get()
             paths = {waiting.number: waiting.path for waiting in session.ledger.pending(session.volume())}
             return [(number, paths[number], reply.code, reply.commit) for number, reply in session.recover().items()]
+
+    def take_not_stored(self) -> Dict[int, str]:
+        """The paths of pending requests that were not sent again, since their sources changed or are gone, by their numbers. Each is given
+        once."""
+        if self._session is None:
+            return {}
+        taken, self._session.not_stored = self._session.not_stored, {}
+        return taken
 
     def forget(self) -> List[str]:
         """Drops what is pending, and learns the latest number of this client anew; gives the dropped paths."""

@@ -16,6 +16,8 @@ from .words import patience_of
 
 def way_of(arguments: argparse.Namespace) -> str:
     """Where the volume is."""
+    if arguments.library:
+        return by_library(arguments)
     if arguments.image:
         check_word(os.path.abspath(arguments.image))
     if arguments.socket:
@@ -27,17 +29,35 @@ def way_of(arguments: argparse.Namespace) -> str:
     raise UsageError("name the volume by --socket PATH or --image PATH")
 
 
+def by_library(arguments: argparse.Namespace) -> str:
+    """The volume that this process opens with the C library."""
+    if arguments.socket or not arguments.image:
+        raise UsageError("--library opens an image in this process: give --image PATH, and no --socket")
+    return f"library:{arguments.image}"
+
+
 def progress_of(arguments: argparse.Namespace) -> Progress:
     """What the command prints on."""
     progress: Progress = arguments.progress
     return progress
 
 
-def writer(arguments: argparse.Namespace) -> Client:
-    """A client with its ledger."""
-    client = Client(way_of(arguments), arguments.client, arguments.ledger, arguments.program, shared=arguments.shared, **patience_of(arguments))
-    client.line.image = arguments.image or client.line.image
-    return client
+NOT_STORED = "was not stored, since its source changed or is gone: store it again"
+"""What is told of a request that an earlier command began and that could not be sent again."""
+
+
+@contextmanager
+def writer(arguments: argparse.Namespace) -> Iterator[Client]:
+    """A client with its ledger. What it could not finish of earlier commands is told at its end."""
+    with Client(
+        way_of(arguments), arguments.client, arguments.ledger, arguments.program, shared=arguments.shared, **patience_of(arguments)
+    ) as client:
+        client.line.image = arguments.image or client.line.image
+        try:
+            yield client
+        finally:
+            for number, path in client.take_not_stored().items():
+                progress_of(arguments).note(f"number {number} of an earlier command, {path}: {NOT_STORED}", did="not stored", number=number, path=path)
 
 
 @contextmanager
@@ -55,9 +75,10 @@ def reader(arguments: argparse.Namespace) -> Iterator[Client]:
                 return
     from . import past
 
-    program = find_program(arguments.program)
-    with past.front(arguments.image, program, commit) as copy:
-        with Client(f"image:{copy}", program=program, **patience_of(arguments)) as client:
+    # Only the program knows the addresses of earlier commits.
+    program = find_program(arguments.program) if commit is not None or not arguments.library else None
+    with past.front(arguments.image, program or "", commit) as copy:
+        with Client(f"{'library' if arguments.library else 'image'}:{copy}", program=program, **patience_of(arguments)) as client:
             yield client
 
 
@@ -76,4 +97,4 @@ def taken(client: Client) -> bool:
         client.line.patience.seconds = patience
 
 
-__all__ = ["progress_of", "reader", "way_of", "writer"]
+__all__ = ["NOT_STORED", "progress_of", "reader", "way_of", "writer"]

@@ -1,4 +1,4 @@
-"""The ways to a volume: a daemon's socket, or the program `udfburn apply` on an image."""
+"""The ways to a volume: a daemon's socket, or an image with the program `udfburn apply` or the C library."""
 
 from __future__ import annotations
 
@@ -9,13 +9,20 @@ import socket
 import struct
 import time
 from contextlib import suppress
-from typing import IO, List, Optional, Union
+from typing import IO, TYPE_CHECKING, List, Optional, Union
 
 from .errors import ProgramFailed, UsageError
 from .protocol import Answer, Frames, decode_answer, is_bytes, shown
 
+if TYPE_CHECKING:
+    from .library import Library
+
 PIECE = 1 << 18
 """Bytes that are read or written at once."""
+
+
+SENT = 1 << 20
+"""Bytes that may be on their way to a daemon, as far as the system lets them."""
 
 
 class Lost(Exception):
@@ -86,6 +93,10 @@ class Connection:
         """The image at the other end, where it is known."""
         return None
 
+    def opener(self) -> Optional[int]:
+        """The process that has the image open for this conversation. None over a socket."""
+        return None
+
     def _feed(self) -> None:
         self._take(self._read(PIECE))
 
@@ -136,6 +147,8 @@ class UnixConnection(Connection):
     def __init__(self, path: str, timeout: float = 120.0):
         super().__init__(timeout)
         self.socket = socket.socket(socket.AF_UNIX, socket.SOCK_STREAM)
+        # As much as may be: what is on its way while the daemon is at work need not be sent afterwards.
+        self.socket.setsockopt(socket.SOL_SOCKET, socket.SO_SNDBUF, SENT)
         # With a limit, a daemon that has too many clients waiting is an error and no pause without an end.
         self.socket.settimeout(self.timeout)
         try:
@@ -230,6 +243,9 @@ class ImageConnection(Connection):
         self._await_end()
         self.errors.close()
 
+    def opener(self) -> Optional[int]:
+        return self.process.pid
+
     def _await_end(self) -> None:
         """Waits for the program's end. One that does not come is killed, as by a loss of power: what it answered stays."""
         import subprocess
@@ -271,21 +287,25 @@ class ImageConnection(Connection):
 # ---- connects
 
 class Way:
-    """Where a volume is: `unix:PATH` of a daemon's socket, or `image:PATH`."""
+    """Where a volume is: behind a daemon's socket (`unix:PATH`), or in an image that is written by the program (`image:PATH`) or by the C
+    library (`library:PATH`). `kind` is `image` for both of these; `library` is None for the program.
+    """
 
     def __init__(self, connect: str, program: Optional[str] = None):
         kind, colon, path = connect.partition(":")
-        if not colon or kind not in ("unix", "image") or not path:
-            raise UsageError(f"{connect!r} is neither unix:PATH nor image:PATH")
-        self.kind = kind
+        if not colon or kind not in ("unix", "image", "library") or not path:
+            raise UsageError(f"{connect!r} is neither unix:PATH nor image:PATH nor library:PATH")
+        self.kind = "unix" if kind == "unix" else "image"
+        self.name = kind
         self.path = os.path.abspath(path)
+        self.library = library() if kind == "library" else None
         if kind == "image":
             check_word(self.path)
-        # A socket takes none, but the image that is looked at beside it does.
+        # Without `image:` the program is used only to look at an image: for its history, and for the blocks that are left.
         self.program = find_program(program) if kind == "image" else program
 
     def __str__(self) -> str:
-        return f"{self.kind}:{shown(self.path)}"
+        return f"{self.name}:{shown(self.path)}"
 
     def key(self) -> Union[str, bytes]:
         """The way's name in a ledger, by the file behind links; as bytes where these are not UTF-8."""
@@ -295,10 +315,21 @@ class Way:
         """A new conversation, or `Lost`. `timeout` is the longest wait in it, in seconds."""
         if self.kind == "unix":
             return UnixConnection(self.path, timeout)
-        assert self.program
         if not os.path.isfile(self.path):
-            raise ProgramFailed(f"{self.path}: {os.strerror(errno.ENOENT)}, or no regular file")
+            raise ProgramFailed(f"{shown(self.path)}: {os.strerror(errno.ENOENT)}, or no regular file")
+        if self.library:
+            from .library import LibraryConnection
+
+            return LibraryConnection(self.path, self.library, timeout)
+        assert self.program
         return ImageConnection(self.path, self.program, timeout)
+
+
+def library() -> Library:
+    """The C library. Its module is loaded only if it is used."""
+    from .library import find_library
+
+    return find_library()
 
 
 def key_of(kind: str, path: str) -> Union[str, bytes]:
@@ -318,14 +349,14 @@ def find_program(program: Optional[str] = None) -> str:
 
     found = program or os.environ.get("UDFBURN") or which("udfburn")
     if not found:
-        raise UsageError("the program udfburn is not on the PATH: name it by --program or in UDFBURN")
+        raise UsageError("the program udfburn is not on the PATH: give it by --program or UDFBURN")
     return os.path.abspath(found) if os.sep in found else found
 
 
 def check_word(word: str) -> None:
     """Raises where the program would not take a word: it takes UTF-8."""
     if is_bytes(word):
-        raise UsageError(f"{shown(word)}: is not UTF-8, and the program udfburn takes no other path: name it by a link whose path is")
+        raise UsageError(f"{shown(word)}: is not UTF-8, and the program udfburn accepts no other path: use a link whose path is")
 
 
 def run_program(program: str, words: List[str]) -> bytes:

@@ -7,6 +7,10 @@ from typing import Dict, Optional, Type
 from .protocol import AnswerCode, BadAnswer, Code, InvalidName, InvalidPath
 
 
+DAMAGE = "the image holds no volume or a damaged one: see 'udfburn check IMAGE', and the page on damage in docs/OPERATIONS.md"
+"""What is said of an image that cannot be opened as a volume."""
+
+
 class UdfburnError(Exception):
     """Anything that this package refuses or fails at."""
 
@@ -25,7 +29,7 @@ class Refused(UdfburnError):
 
 
 class NoParent(Refused):
-    text = "the parent is no directory of the tree (mkdir -p makes it)"
+    text = "the parent is not a directory (mkdir -p makes it)"
 
 
 class NotFound(Refused):
@@ -53,7 +57,7 @@ class IntoItself(Refused):
 
 
 class IsRoot(Refused):
-    text = "the root is neither made, replaced, moved nor removed"
+    text = "the root cannot be made, replaced, moved or removed"
 
 
 class TooDeep(Refused):
@@ -61,11 +65,11 @@ class TooDeep(Refused):
 
 
 class DirectoryFull(Refused):
-    text = "the directory above has 512 names, the most that one has"
+    text = "the directory has 512 names, which is the limit"
 
 
 class TooMany(Refused):
-    text = "the volume has 4,096 files and directories, the most that one has"
+    text = "the volume has 4,096 files and directories, which is the limit"
 
 
 REFUSALS: Dict[Code, Type[Refused]] = {
@@ -210,7 +214,7 @@ class UsageError(UdfburnError):
 
 
 __all__ = [
-    "AnswerCode", "BadAnswer", "ClientsFull", "Code", "ConnectionFailed", "CopyWentOn", "Damaged", "Differs", "DirectoryFull",
+    "AnswerCode", "BadAnswer", "DAMAGE", "ClientsFull", "Code", "ConnectionFailed", "CopyWentOn", "Damaged", "Differs", "DirectoryFull",
     "DiskFull", "DoesNotFit", "DriveFailed", "EmptyVolume", "Exists", "FileDiffers", "ForeignReply", "Full", "IntoItself", "InvalidName",
     "InvalidPath", "IsDirectory", "IsRoot", "LedgerBusy", "LedgerError", "MISSES", "NoParent", "NotCommitted", "NotDirectory",
     "NotEmpty", "NotFound", "NumberUsedElsewhere", "OtherVolume", "OutOfMemory", "OutputFailed", "ProgramFailed", "REFUSALS",

@@ -9,7 +9,7 @@ import os
 from contextlib import contextmanager
 from typing import TYPE_CHECKING, Iterator, Optional
 
-from .connection import Connection, ImageConnection, Lost
+from .connection import Connection, Lost
 from .errors import Damaged
 from .ledger_records import Identity, Mark
 from .protocol import shown
@@ -28,7 +28,7 @@ class Looked:
         self._volume = volume
         self._name = name
         if volume.label is None or volume.moment is None or volume.capacity is None:
-            raise Damaged(f"{name}: its front does not say label, moment and capacity: see 'udfburn check'")
+            raise Damaged(f"{name}: its volume header does not give label, moment and capacity: see 'udfburn check'")
         self.identity = Identity(volume.label, volume.moment, volume.capacity)
         self._newest = self._table(volume.last_entry())
         self.commit = self._newest.commit
@@ -78,13 +78,14 @@ def looked_at(path: str) -> Iterator[Looked]:
 
 
 def opened_path(connection: Connection, path: str) -> str:
-    """A path of the very file that the program of a conversation has open, whatever has its name by now.
+    """A path of the very file that a conversation has open, whatever has its name by now.
 
     `Lost` where the name is another file's. Where the system does not show the files of a process, it is the name.
     """
-    if not isinstance(connection, ImageConnection):
+    process = connection.opener()
+    if process is None:
         return path
-    folder = f"/proc/{connection.process.pid}/fd"
+    folder = f"/proc/{process}/fd"
     try:
         named, descriptors = os.stat(path), os.listdir(folder)
     except OSError:

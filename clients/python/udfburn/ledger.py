@@ -15,7 +15,9 @@ from typing import Any, Dict, Iterable, Iterator, List, Mapping, Optional, Seque
 
 from .errors import LedgerError
 from .ledger_file import Lock, connect, default_path, is_there, lengthen, make_folder, remove, sync_file, sync_folder
-from .ledger_records import FACTS, Identity, Mark, Pending, Reply, Sent, Volume, facts_row, row_facts
+from .ledger_records import (
+    FACTS, GIVEN_UP, ORIGIN, Identity, Mark, Pending, Reply, Sent, Volume, facts_row, origin_row, row_facts, row_origin,
+)
 from .ledger_schema import SCHEMA, VERSION, statements, upgrade
 from .protocol import limits
 
@@ -39,17 +41,24 @@ UPDATE volume SET label = ?, formatted = ?, capacity = ?, mark_commit = ?, mark_
 """
 
 PENDING = f"""
-SELECT number, payload, path, {', '.join(FACTS)} FROM request JOIN frame ON frame.id = volume * 4 + number % 4
+SELECT number, payload, path, {', '.join((*FACTS, *ORIGIN))} FROM request JOIN frame ON frame.id = volume * 4 + number % 4
 WHERE volume = ?1 AND number > (SELECT max(number) FROM request WHERE volume = ?1) - 4 AND code IS NULL ORDER BY number
 """
 """What has no reply: it is among the last four. Four payloads are kept for a volume, each in the place of an older one."""
 
-KEPT_FRAME = "INSERT INTO frame VALUES (?, ?) ON CONFLICT (id) DO UPDATE SET payload = excluded.payload"
+KEPT_FRAME = f"""
+INSERT INTO frame (id, payload, {', '.join(ORIGIN)}) VALUES (?, ?{', ?' * len(ORIGIN)}) ON CONFLICT (id) DO UPDATE
+SET payload = excluded.payload, {', '.join(f'{name} = excluded.{name}' for name in ORIGIN)}
+"""
 """Writes a payload over an older one, in the pages of that where both have one size."""
+
+NO_ORIGIN = f"UPDATE frame SET {', '.join(f'{name} = ?' for name in ORIGIN)} WHERE id = ?"
 
 ASKED = f"INSERT INTO request (volume, number, path, {', '.join(FACTS)}) VALUES (?, ?, ?{', ?' * len(FACTS)})"
 
-SENT = f"SELECT number, path, code, commit_number, confirmed, {', '.join(FACTS)} FROM request"
+SENT_COLUMNS = ("number", "path", "code", "commit_number", "confirmed", *FACTS)
+
+SENT = f"SELECT {', '.join(SENT_COLUMNS)} FROM request"
 
 LAST_COMMIT = """
 SELECT max(coalesce((SELECT commit_number FROM request WHERE volume = ? AND code IS NOT NULL ORDER BY number DESC LIMIT 1), 0),
@@ -124,15 +133,15 @@ class Ledger:
         if not base.execute("SELECT 1 FROM sqlite_master").fetchone():
             return None
         version, client = base.execute("SELECT version, client FROM ledger").fetchone()
-        if version not in (1, VERSION):
+        if not 0 < version <= VERSION:
             raise LedgerError(f"{self.path}: has version {version}, and this program writes version {VERSION}")
         number = int(client)
         if wanted is not None and wanted != number:
             raise LedgerError(
                 f"{self.path}: is the ledger of client {client}, not {wanted}: leave --client out, or name another ledger"
             )
-        if version == 1:
-            upgrade(base)
+        if version < VERSION:
+            upgrade(base, version)
         return number
 
     def _make(self, wanted: Optional[int]) -> None:
@@ -210,7 +219,7 @@ class Ledger:
         """Keeps a volume that is met for the first time: the number that it knows of this client, and the codes and commits of the
         replies that it keeps, by their numbers."""
         if latest >= LAST - limits.REPLIES:
-            raise LedgerError(f"client {self.client} has no numbers left: make a new ledger")
+            raise LedgerError(f"client {self.client} has no numbers left: use a new ledger")
         with self._transaction():
             made = self._base.execute("INSERT INTO volume (way, latest, made) VALUES (?, ?, ?)", (way, latest, time.time())).lastrowid
             self._base.executemany("INSERT INTO found VALUES (?, ?, ?, ?)", [(made, number, *reply) for number, reply in replies.items()])
@@ -259,8 +268,7 @@ class Ledger:
     def pending(self, volume: Volume) -> List[Pending]:
         """The requests without a reply, in order of their numbers."""
         self.set_back()
-        rows = self._base.execute(PENDING, (volume.id,))
-        return [Pending(number, payload, path, row_facts(path, facts)) for number, payload, path, *facts in rows]
+        return [pending_of(row) for row in self._base.execute(PENDING, (volume.id,))]
 
     def latest(self, volume: Volume) -> int:
         """The number of the last request with a reply."""
@@ -290,8 +298,7 @@ class Ledger:
         same; whatever else is done with the ledger first sets it back."""
         self.set_back()
         try:
-            if not self._roomy:
-                self._make_room()
+            self.make_room()
             # Else the log would be taken over at the end of a transaction, behind which the program waits for requests.
             if self._logged > LOG_PAGES * 7 // 8:
                 self._base.execute("PRAGMA wal_checkpoint").fetchall()
@@ -303,8 +310,10 @@ class Ledger:
             # `record` meets the same trouble, and tells of it.
             self.set_back()
 
-    def _make_room(self) -> None:
-        """Lengthens the log at once, where it would grow by each transaction. Zeros behind its last page are none to SQLite."""
+    def make_room(self) -> None:
+        """Lengthens the log once, where it would grow by each transaction. Zeros behind its last page are none to SQLite."""
+        if self._roomy:
+            return
         self._roomy = True
         try:
             lengthen(self.path + "-wal", LOG_BYTES)
@@ -325,7 +334,7 @@ class Ledger:
             [(int(r.code), r.commit, r.confirmed, volume.id, r.number) for r in replies],
         )
         self._base.executemany(ASKED, [(volume.id, r.number, r.path, *facts_row(r.facts)) for r in requests])
-        self._base.executemany(KEPT_FRAME, [(volume.id * 4 + r.number % 4, r.payload) for r in requests])
+        self._base.executemany(KEPT_FRAME, [(volume.id * 4 + r.number % 4, r.payload, *origin_row(r.origin)) for r in requests])
         self._logged += 2 + sum([len(r.payload) // 4000 for r in requests])
 
     @contextmanager
@@ -363,6 +372,23 @@ class Ledger:
             self._base.execute("DELETE FROM request WHERE volume = ? AND code IS NULL", (volume.id,))
         return gone
 
+    def give_up(self, volume: Volume, waiting: Iterable[Pending]) -> None:
+        """Keeps that the data of pending requests is not looked for any more, whatever is found where it was later."""
+        with self._transaction():
+            self._base.executemany(NO_ORIGIN, [(*origin_row(GIVEN_UP), volume.id * 4 + pending.number % 4) for pending in waiting])
+
+    def take(self, volume: Volume, other: "MemoryLedger") -> None:
+        """Keeps all that a ledger in memory has of a volume, as one: requests, their replies, and the commit that it is known by."""
+        theirs, *_ = other.volumes()
+        columns = ", ".join(SENT_COLUMNS)
+        rows = other._base.execute(f"SELECT {columns} FROM request WHERE volume = ? AND code IS NOT NULL", (theirs.id,)).fetchall()
+        frames = other._base.execute(f"SELECT id % 4, payload, {', '.join(ORIGIN)} FROM frame").fetchall()
+        with self._transaction():
+            self._base.executemany(f"INSERT INTO request (volume, {columns}) VALUES (?{', ?' * len(SENT_COLUMNS)})", [(volume.id, *row) for row in rows])
+            self._base.executemany(KEPT_FRAME, [(volume.id * 4 + place, *kept) for place, *kept in frames])
+            if theirs.identity is not None and theirs.mark is not None:
+                self._base.execute(IDENTIFIED, (*theirs.identity, *theirs.mark, volume.id))
+
     def history(self, volume: Volume) -> List[Tuple[int, str, Optional[int], Optional[int], bool]]:
         """Each request that is kept: number, path, code, commit, and whether the tree agreed."""
         return [(sent.number, sent.path, sent.code, sent.commit, sent.confirmed) for sent in self.sent(volume)]
@@ -374,6 +400,29 @@ class Ledger:
         return [Sent(n, path, row_facts(path, facts), code, commit, bool(ok)) for n, path, code, commit, ok, *facts in rows]
 
 
+class MemoryLedger(Ledger):
+    """A ledger that ends with its process: for requests to a copy of an image that ends with it too. What it says of them is taken
+    over by the ledger of the image, where the copy's blocks are."""
+
+    def __init__(self, client: int):
+        self.path, self.client = ":memory:", client
+        self._base = sqlite3.connect(self.path, isolation_level=None)
+        for statement in statements(SCHEMA):
+            self._base.execute(statement)
+        self._base.execute("INSERT INTO ledger VALUES (?, ?)", (VERSION, str(client)))
+        # There is no log to make room in, or to take over.
+        self._logged, self._roomy = 0, True
+        self._foreseen = None
+
+    def files(self) -> Set[Tuple[int, int]]:
+        """None."""
+        return set()
+
+    def close(self) -> None:
+        """Forgets all."""
+        self._base.close()
+
+
 def volume_of(row: Sequence[Any]) -> Volume:
     """The volume of a row."""
     number, way, latest, unsettled, label, formatted, capacity, commit, address, check = row
@@ -382,4 +431,10 @@ def volume_of(row: Sequence[Any]) -> Volume:
     return Volume(number, way, latest, bool(unsettled), identity, mark)
 
 
-__all__ = ["LOG_BYTES", "Ledger", "Lock", "Pending", "Reply", "Volume", "default_path"]
+def pending_of(row: Sequence[Any]) -> Pending:
+    """The request of a row."""
+    number, payload, path, *rest = row
+    return Pending(number, payload, path, row_facts(path, tuple(rest[: len(FACTS)])), row_origin(tuple(rest[len(FACTS) :])))
+
+
+__all__ = ["LOG_BYTES", "Ledger", "Lock", "MemoryLedger", "Pending", "Reply", "Volume", "default_path"]

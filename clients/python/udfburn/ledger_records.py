@@ -2,9 +2,10 @@
 
 from __future__ import annotations
 
+import os
 from typing import NamedTuple, Optional, Union
 
-from .operations import Deed, Whole, deed_of
+from .operations import Deed, Origin, Whole, deed_of
 from .protocol import AnyRequest, Create, Kind, Replace, path_of, show
 
 
@@ -57,12 +58,17 @@ class Facts(NamedTuple):
 
 
 class Pending(NamedTuple):
-    """A request without a reply: its number, its payload, the path it speaks of, and what it asks for."""
+    """A request without a reply: its number, its payload, the path it speaks of, and what it asks for.
+
+    Where there is an `origin` the payload has no data: what the origin has goes after it, if its digest is that of the facts. An origin
+    without a file (`GIVEN_UP`) says that the data is not looked for any more.
+    """
 
     number: int
     payload: bytes
     path: str
     facts: Optional[Facts] = None
+    origin: Optional[Origin] = None
 
 
 class Reply(NamedTuple):
@@ -103,6 +109,32 @@ def digest(data: bytes) -> bytes:
     return sha256(data).digest()
 
 
+LARGE = 1 << 14
+"""Bytes of data from which on a ledger keeps where the data can be read again, and its digest, in place of the data. To keep it would
+write it twice more, to the ledger's log and to the ledger, which have pages of 4 KiB: from four of them on an import takes a fifth to a
+half longer for that. Less is kept whole, since then a repeat needs no other file."""
+
+GIVEN_UP = Origin("", 0, 0, 0)
+"""The origin of data that was not found, and that no later process finds either."""
+
+ORIGIN = ("origin", "start", "size_then", "modified")
+"""The columns of an origin."""
+
+
+def origin_row(origin: Optional[Origin]) -> "tuple[object, ...]":
+    """The values of these columns."""
+    return (None,) * len(ORIGIN) if origin is None else (os.fsencode(origin.local), *origin[1:])
+
+
+def row_origin(row: "tuple[object, ...]") -> Optional[Origin]:
+    """The origin of these columns."""
+    local, start, size, modified = row
+    if local is None:
+        return None
+    assert isinstance(local, bytes) and isinstance(start, int) and isinstance(size, int) and isinstance(modified, int)
+    return Origin(os.fsdecode(local), start, size, modified)
+
+
 FACTS = ("kind", "target", "size", "moment", "sha256", "whole_path", "whole_size", "whole_sha256")
 """The columns of a request's facts."""
 
@@ -132,5 +164,6 @@ def row_facts(path: str, row: "tuple[object, ...]") -> Optional[Facts]:
 
 
 __all__ = [
-    "FACTS", "Facts", "Identity", "Mark", "Pending", "Reply", "Sent", "Volume", "digest", "facts_of", "facts_row", "row_facts",
+    "FACTS", "Facts", "GIVEN_UP", "Identity", "LARGE", "Mark", "ORIGIN", "Pending", "Reply", "Sent", "Volume", "digest", "facts_of", "facts_row",
+    "origin_row", "row_facts", "row_origin",
 ]

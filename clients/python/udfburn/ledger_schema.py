@@ -1,4 +1,4 @@
-"""The tables of a ledger, and how a ledger of version 1 becomes one of version 2."""
+"""The tables of a ledger, and how one of an earlier version becomes one of this version."""
 
 from __future__ import annotations
 
@@ -7,7 +7,7 @@ import sqlite3
 from .ledger_records import FACTS, facts_of, facts_row
 from .protocol import Fault, Request, decode_message, limits
 
-VERSION = 2
+VERSION = 3
 
 SCHEMA = """
 CREATE TABLE ledger (version INTEGER NOT NULL, client TEXT NOT NULL);
@@ -49,10 +49,19 @@ CREATE TABLE request (
     whole_sha256 BLOB,
     PRIMARY KEY (volume, number)
 ) WITHOUT ROWID;
-CREATE TABLE frame (id INTEGER PRIMARY KEY, payload BLOB NOT NULL);
+CREATE TABLE frame (id INTEGER PRIMARY KEY, payload BLOB NOT NULL, origin BLOB, start INTEGER, size_then INTEGER, modified INTEGER);
 """
 """`way` says which volume is at each way; several may lead to one. `found` has the replies that a volume kept when it was first met,
-of requests that this ledger did not send. The four frames of a volume are those of its last four requests."""
+of requests that this ledger did not send. The four frames of a volume are those of its last four requests. One with an `origin` has no
+data: that local file, of this size and time of modification, has it from its byte `start` on."""
+
+ORIGINS = """
+ALTER TABLE frame ADD COLUMN origin BLOB;
+ALTER TABLE frame ADD COLUMN start INTEGER;
+ALTER TABLE frame ADD COLUMN size_then INTEGER;
+ALTER TABLE frame ADD COLUMN modified INTEGER;
+"""
+"""What makes version 3 of version 2."""
 
 UPGRADE = """
 ALTER TABLE volume ADD COLUMN unsettled INTEGER NOT NULL DEFAULT 0;
@@ -94,14 +103,17 @@ def statements(script: str) -> "list[str]":
     return [statement for statement in (part.strip() for part in script.split(";\n")) if statement]
 
 
-def upgrade(base: sqlite3.Connection) -> None:
-    """Makes a ledger of version 1 one of version 2, all at once or not at all. What the frames of the last four requests say is kept
-    beside them; of older ones version 1 has the path and the reply alone."""
+def upgrade(base: sqlite3.Connection, version: int) -> None:
+    """Makes a ledger of an earlier version one of this version, all at once or not at all. What the frames of the last four requests say
+    is kept beside them; of older ones version 1 has the path and the reply alone."""
     base.execute("BEGIN IMMEDIATE")
     try:
-        for statement in statements(UPGRADE):
+        if version == 1:
+            for statement in statements(UPGRADE):
+                base.execute(statement)
+            keep_facts(base)
+        for statement in statements(ORIGINS):
             base.execute(statement)
-        keep_facts(base)
         base.execute("UPDATE ledger SET version = ?", (VERSION,))
         base.execute("COMMIT")
     finally:

@@ -10,7 +10,7 @@ from typing import Callable, Deque, Generator, Iterable, Iterator, List, Optiona
 
 from .connection import Connection, Lost, Way
 from .disk import room_left
-from .errors import ConnectionFailed, Damaged, DiskFull, DriveFailed, OutOfMemory, UdfburnError, UsageError
+from .errors import DAMAGE, ConnectionFailed, Damaged, DiskFull, DriveFailed, OutOfMemory, UdfburnError, UsageError
 from .protocol import (
     DAMAGED, FAULT, MEMORY, Answer, BadAnswer, Bare, Data, Gap, Get, List as ListQuery, Malformed, Names, Node, Query, Committed,
     Stale, encode_message, frame, shown,
@@ -30,8 +30,6 @@ COMMIT = 1_500_000
 
 QUERIES = 16
 """Queries that are under way at once."""
-
-DAMAGE = "the image holds no volume or a damaged one: see 'udfburn check IMAGE', and the page on damage in docs/OPERATIONS.md"
 
 
 class Patience:
@@ -127,8 +125,8 @@ class Line:
         self.patience.wait(ConnectionFailed, f"{self.way}: {why}")
 
     def over(self) -> bool:
-        """Whether it is time to let others have a turn."""
-        return self._connection is not None and time.monotonic() - self._opened > self._turn
+        """Whether it is time to let others have a turn. An image that is open with the library stays open until it is closed."""
+        return self._connection is not None and self.way.library is None and time.monotonic() - self._opened > self._turn
 
     def troubled(self, answer: Answer) -> bool:
         """Pauses where an answer says that the program is troubled: then what was asked is to be asked again."""
@@ -147,7 +145,7 @@ class Line:
     def _why_fault(self) -> Tuple[Type[UdfburnError], str]:
         """What is likely to be wrong with a drive that fails."""
         if self.image is None:
-            return DriveFailed, "the drive fails, or its disk is full: see the disk that the daemon's image is on"
+            return DriveFailed, "the drive fails, or its disk is full: check the disk with the daemon's image"
         left = room_left(self.image)
         if left is not None and left < COMMIT:
             return DiskFull, f"the disk is full that {shown(self.image)} is on: {left:,} bytes are left there. Make room; 'resume', or the same command, goes on"

@@ -29,11 +29,22 @@ class Whole(NamedTuple):
     sha256: bytes
 
 
+class Origin(NamedTuple):
+    """Where the data of a request can be read again: from a byte of a local file that has this size and this time of modification, in
+    nanoseconds."""
+
+    local: str
+    start: int
+    size: int
+    modified: int
+
+
 class Operation(NamedTuple):
     """What a request is to do. `tag` is for whoever made it.
 
     `sha256` is that of the data, where whoever made it has reckoned it already; else it is reckoned when the request is made. `whole`
-    is given with the last part of a file in parts.
+    is given with the last part of a file in parts. `origin` is given where the data came from a local file: then the ledger keeps large
+    data by its digest alone.
     """
 
     kind: Type[AnyRequest]
@@ -44,6 +55,7 @@ class Operation(NamedTuple):
     tag: Any = None
     sha256: Optional[bytes] = None
     whole: Optional[Whole] = None
+    origin: Optional[Origin] = None
 
     def request(self, client: int, number: int) -> AnyRequest:
         """The request of a client under a number."""
@@ -199,6 +211,6 @@ def below(known: Mapping[Path, object], path: Path) -> List[Path]:
 
 
 __all__ = [
-    "Deed", "Expected", "Operation", "Outcome", "Whole", "after", "after_all", "below", "clamped", "confirmed", "deed_of", "now", "paths_of", "refused",
+    "Deed", "Expected", "Operation", "Origin", "Outcome", "Whole", "after", "after_all", "below", "clamped", "confirmed", "deed_of", "now", "paths_of", "refused",
     "surely",
 ]

@@ -75,7 +75,7 @@ class Progress:
     def bytes_only(self) -> None:
         """Only bytes of a file go to the standard output."""
         if self.as_json:
-            raise UsageError("the standard output takes the bytes of a file or lines of JSON, and not both")
+            raise UsageError("the standard output can take the bytes of a file or lines of JSON, but not both")
         if self.closed:
             raise OutputFailed("the standard output is closed")
         self.quiet = True

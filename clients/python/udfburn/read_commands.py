@@ -21,49 +21,49 @@ if TYPE_CHECKING:
     from .fetch import Fetched
     from .words import Subs
 
-PAST: Dict[str, Any] = dict(metavar="COMMIT", type=commit_number, help="read the tree as it was after a commit of 'udfburn log' (with --image)")
+PAST: Dict[str, Any] = dict(metavar="COMMIT", type=commit_number, help="read the tree as it was after this commit of 'udfburn log' (needs --image)")
 
 
 def add(subs: Subs) -> None:
     """The words of these commands."""
     add_get(subs)
     listing = command(subs, "ls", ls, "list a directory", "Each line has d for a directory or f for a file, and the name.")
-    listing.add_argument("path", nargs="?", default="/", metavar="PATH", help="a directory, or a file (/)")
-    listing.add_argument("-l", dest="long", action="store_true", help="kind, bytes or names, moment, name")
-    listing.add_argument("-R", dest="recursive", action="store_true", help="all directories below, too")
+    listing.add_argument("path", nargs="?", default="/", metavar="PATH", help="a directory or a file (default: /)")
+    listing.add_argument("-l", dest="long", action="store_true", help="long form: kind, size, time and name")
+    listing.add_argument("-R", dest="recursive", action="store_true", help="also list all directories below")
     listing.add_argument("--as-of", **PAST)
     compare = command(
         subs, "verify", verify, "compare a local file or folder with what is stored",
-        "Reads each byte, and names what is missing or differs; the status is 1 then.",
+        "Reads every byte and names what is missing or differs. The status is 1 then.",
     )
     compare.add_argument("local", metavar="LOCAL", help="the local file or folder")
-    compare.add_argument("path", metavar="PATH", help="the path that it was stored at")
-    compare.add_argument("--split", action="store_true", help="large files are stored in parts")
-    compare.add_argument("--skip-odd", action="store_true", help="leave out and name what cannot be stored")
-    compare.add_argument("--escape", action="store_true", help="names that UDF cannot spell are stored under another spelling")
-    compare.add_argument("--exact", action="store_true", help="names that are only on the volume are differences too")
+    compare.add_argument("path", metavar="PATH", help="the path where it was stored")
+    compare.add_argument("--split", action="store_true", help="large files were stored in parts")
+    compare.add_argument("--skip-odd", action="store_true", help="leave out what cannot be stored, and name it")
+    compare.add_argument("--escape", action="store_true", help="names that UDF cannot encode were stored with --escape")
+    compare.add_argument("--exact", action="store_true", help="report names that are only on the volume, too")
     compare.add_argument("--as-of", **PAST)
     picture = command(
         subs, "map", draw, "draw the medium of an image as a strip",
-        "Writes an SVG picture: the blocks of each commit, by 'udfburn log', what is left, and the files and directories after each"
-        " commit. The image is only read, also while a daemon writes to it.", volume=False,
+        "Writes an SVG picture: the blocks of each commit of 'udfburn log', what is left, and the files and directories after each"
+        " commit. The image is only read; a daemon may write to it meanwhile.", volume=False,
     )
-    picture.add_argument("image_path", metavar="IMAGE", help="the image that is drawn")
-    picture.add_argument("output", metavar="OUT.svg", help="the picture's file; an earlier picture is replaced, and nothing else")
+    picture.add_argument("image_path", metavar="IMAGE", help="the image to draw")
+    picture.add_argument("output", metavar="OUT.svg", help="the SVG file; replaces an earlier picture, but no other file")
 
 
 def add_get(subs: Subs) -> None:
     """The words of `get`."""
     words = command(
-        subs, "get", get, "copy a file, or with -r a directory, from the volume",
-        "A local file has its name once all its bytes are on the disk, and at the end all names are there too. Interrupted, the same"
-        " line goes on: files that are there whole are compared, and not written anew.",
+        subs, "get", get, "copy a file, or a directory with -r, from the volume",
+        "A local file gets its name after all its bytes are on the disk; at the end all names are on the disk, too. The same command"
+        " continues what was interrupted: complete files are compared, and not written again.",
     )
-    words.add_argument("path", metavar="PATH", help="the file or directory on the volume, from the root on")
-    words.add_argument("local", metavar="LOCAL", help="the new file or folder; - is the standard output")
-    words.add_argument("-r", "--recursive", action="store_true", help="copy a directory with all below it")
-    words.add_argument("--split", action="store_true", help="read NAME.000, NAME.001 and on as one file NAME")
-    words.add_argument("--force", action="store_true", help="replace local files that are there")
+    words.add_argument("path", metavar="PATH", help="the file or directory on the volume, beginning with /")
+    words.add_argument("local", metavar="LOCAL", help="the new file or folder; - means the standard output")
+    words.add_argument("-r", "--recursive", action="store_true", help="copy a directory with everything below it")
+    words.add_argument("--split", action="store_true", help="treat a file in parts (NAME.000, NAME.001, ..) as one file NAME")
+    words.add_argument("--force", action="store_true", help="replace existing local files")
     words.add_argument("--as-of", **PAST)
 
 

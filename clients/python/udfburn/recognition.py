@@ -11,12 +11,11 @@ from typing import Dict, List, NamedTuple, Optional, Sequence, Tuple
 
 from .connection import Connection, Lost
 from .errors import (
-    CopyWentOn, Damaged, EmptyVolume, LedgerError, NumberUsedElsewhere, OtherVolume, VolumeBehind,
+    DAMAGE, CopyWentOn, Damaged, EmptyVolume, LedgerError, NumberUsedElsewhere, OtherVolume, VolumeBehind,
 )
 from .identity import Looked
 from .ledger import Ledger
 from .ledger_records import Sent, Volume
-from .line import DAMAGE
 from .operations import Deed, Expected, after_all
 from .protocol import (
     DAMAGED, FAULT, MEMORY, Answer, BadAnswer, Code, Committed, Gap, Message, Node, Path, Remove, Stale, Stat, encode_message, frame,

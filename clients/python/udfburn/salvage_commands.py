@@ -19,25 +19,25 @@ if TYPE_CHECKING:
 
 def add(subs: Subs) -> None:
     """The words of these commands."""
-    text = "copy out all that can be read of a volume, also of a damaged one"
+    text = "copy everything that can be read out of a volume, even a damaged one"
     words = subs.add_parser(
         "salvage", help=text,
-        description=f"{text[0].upper()}{text[1:]}. It reads an image, a device or a disc by itself, takes each file that can be read, and"
-        " names each that cannot. Nothing is written to IMAGE. The status is 0 only where each file has the digest that is kept of it.",
+        description=f"{text[0].upper()}{text[1:]}. Reads an image, a device or a disc without the program udfburn, copies each file that can be read,"
+        " and names each one that cannot. Nothing is written to IMAGE. The status is 0 only if each file has the digest that is kept of it.",
     )
     words.set_defaults(run=salvage)
     add_image(words)
-    words.add_argument("folder", metavar="DIR", nargs="?", help="the folder that files are written into; nothing that is there is replaced")
-    words.add_argument("--list", action="store_true", help="report, and write nothing")
-    words.add_argument("--at", metavar="COMMIT", type=commit_number, help="the state after this commit, and not the newest")
-    words.add_argument("--ledger", metavar="PATH", help="the ledger that stored the files: their digests are compared too")
-    words.add_argument("--accept-unproved", action="store_true", help="status 0 also where no digest covers a file")
+    words.add_argument("folder", metavar="DIR", nargs="?", help="the folder to write into; no existing file is replaced")
+    words.add_argument("--list", action="store_true", help="only report, write nothing")
+    words.add_argument("--at", metavar="COMMIT", type=commit_number, help="take the state after this commit instead of the newest")
+    words.add_argument("--ledger", metavar="PATH", help="the ledger that stored the files: compare its digests, too")
+    words.add_argument("--accept-unproved", action="store_true", help="status 0 even if no digest covers a file")
     add_output(words)
-    text = "print the commits of an image, also of a damaged one"
+    text = "print the commits of an image, even a damaged one"
     words = subs.add_parser(
         "log", help=text,
-        description=f"{text[0].upper()}{text[1:]}: a line for each, the newest first, as 'udfburn log' prints it. What is broken is marked after it, and"
-        " the status is 1 then.",
+        description=f"{text[0].upper()}{text[1:]}. Prints a line for each commit, the newest first, in the form of 'udfburn log'. Broken ones are marked,"
+        " and the status is 1 then.",
     )
     words.set_defaults(run=log)
     add_image(words)
@@ -47,7 +47,7 @@ def add(subs: Subs) -> None:
 def add_image(words: argparse.ArgumentParser) -> None:
     """The words that name what is read."""
     words.add_argument("image_path", metavar="IMAGE", help="an image, a block device or a disc (/dev/sr0)")
-    words.add_argument("--map", metavar="MAPFILE", help="the map of ddrescue: blocks that it did not read count as missing")
+    words.add_argument("--map", metavar="MAPFILE", help="the map file of ddrescue: blocks that it could not read count as missing")
 
 
 def salvage(arguments: argparse.Namespace) -> int:

@@ -348,7 +348,7 @@ class Tree:
             name = names.get(entry.location)
             called = f", and its name is {name.name}" if name is not None and name.unique == entry.unique else ""
             path = (LOST_AND_FOUND, f"{entry.unique}.unfinished")
-            why = f"the commit that wrote it has no table's entry: it was cut, or its last block is lost{called}"
+            why = f"the commit that wrote it has no VAT ICB: it was interrupted, or its last block is lost{called}"
             self.items.append(Item(path, path, Kind.FILE, entry.location, Version(entry, at, None), None, why, True))
 
     def _names_at(self, at: int) -> Iterator[Identifier]:

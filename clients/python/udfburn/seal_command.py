@@ -16,9 +16,9 @@ if TYPE_CHECKING:
 def add(subs: Subs) -> None:
     """The words of this command."""
     words = command(
-        subs, "seal", seal, "write the SHA-256 of all files of a directory beside them",
-        "Makes the directory a bag of RFC 8493, whose payload is below PATH/data. Each byte is read back, and compared with what the ledger"
-        " sent. Nothing is written where all of it is there.", ledger=True,
+        subs, "seal", seal, "write the SHA-256 of all files of a directory next to them",
+        "Turns the directory into a bag (RFC 8493) whose payload is below PATH/data. Every byte is read back and compared with what the"
+        " ledger sent. If everything is there already, nothing is written.", ledger=True,
     )
     words.add_argument("path", metavar="PATH", help="a directory on the volume")
     add_manifest_only(words)
@@ -28,7 +28,7 @@ def add_manifest_only(words: argparse.ArgumentParser) -> None:
     """The option by which no bag is made."""
     words.add_argument(
         "--manifest-only", action="store_true",
-        help="write manifest-sha256.txt as sha256sum does, beside the files of PATH; in each directory where one would pass a mebibyte",
+        help="write only manifest-sha256.txt, as sha256sum does, next to the files of PATH; one in each directory if a single one would exceed a mebibyte",
     )
 
 

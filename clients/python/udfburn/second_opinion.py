@@ -34,7 +34,7 @@ def opinion_of(image: str) -> Opinion:
         try:
             state = volume.state()
         except NoVolume as error:
-            raise Damaged(f"{shown(image)}: holds no volume: no table's entry is found in it") from error
+            raise Damaged(f"{shown(image)}: holds no volume: no VAT ICB is found in it") from error
         note_front(medium, read_front(medium), volume.notes)
         state.check()
         return Opinion(volume.notes.all(), state.table.commit, medium.blocks - state.table.address - 1)

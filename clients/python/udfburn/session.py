@@ -13,23 +13,28 @@ from contextlib import contextmanager
 from typing import Deque, Dict, Iterable, Iterator, List, NamedTuple, Optional, Tuple
 
 from .connection import Connection, Lost
-from .errors import ClientsFull, Damaged, ForeignReply, Full, NotCommitted, NumberUsedElsewhere, Rejected, UdfburnError
+from .errors import DAMAGE, ClientsFull, Damaged, ForeignReply, Full, NotCommitted, NumberUsedElsewhere, Rejected, UdfburnError
 from .identity import Looked, looked_at, opened_path
 from .ledger import Ledger
-from .ledger_records import Pending, Reply, Volume, facts_of
-from .line import DAMAGE, Line
-from .operations import Operation, Outcome, after_all, confirmed, deed_of, paths_of, surely
+from .ledger_records import GIVEN_UP, LARGE, Pending, Reply, Volume, digest, facts_of
+from .line import Line
+from .operations import Deed, Operation, Outcome, after_all, confirmed, deed_of, paths_of, surely
 from .protocol import (
-    CLIENTS_FULL, DAMAGED, FAULT, FULL, MEMORY, Answer, AnyRequest, BadAnswer, Code, Committed, Gap, Malformed, Path, Stale, Stat,
-    decode_answer, decode_message, encode_answer, encode_message, frame, limits, show,
+    CLIENTS_FULL, DAMAGED, FAULT, FULL, MEMORY, Answer, BadAnswer, Code, Committed, Gap, Malformed, Path, Remove, Stale, Stat,
+    decode_answer, decode_message, encode_answer, encode_message, frame, limits, prefix, show,
 )
 from .recognition import Meeting, Recognizer, see
+from .sources import data_again
 
 PART = limits.REPLIES // 2
 """Requests that are kept and sent as one. While their replies and the next ones are kept, the program works on the others."""
 
 AT_ONCE = 1 << 17
 """Bytes of requests under way and of those behind them up to which the answers to a part are likely to come as one piece."""
+
+
+Done = Dict[int, Tuple[Deed, Committed]]
+"""What was done of pending requests, by their numbers."""
 
 
 class Flight:
@@ -42,15 +47,23 @@ class Flight:
         self.operation = operation
         self.request = operation.request(client, number)
         facts = facts_of(self.request, operation.sha256, operation.whole)
-        self.pending = Pending(number, encode_message(self.request), show(self.request.path), facts)
+        self.payload = encode_message(self.request)
+        self.pending = Pending(number, self.payload, show(self.request.path), facts)
+        if operation.origin is not None and len(operation.data) >= LARGE:
+            self.pending = self.pending._replace(payload=self.payload[: -len(operation.data)], origin=operation.origin)
         self.paths = paths_of(self.request)
-        self.frames = frame(self.pending.payload) + b"".join([frame(encode_message(Stat(path))) for path in self.paths])
+        # In pieces, since each copy of a mebibyte takes time.
+        self.frames = [prefix(self.payload), self.payload, *(frame(encode_message(Stat(path))) for path in self.paths)]
         self.sure = surely(self.request)
         self.reply: Optional[Committed] = None
         self.said: List[bytes] = []
 
     def number(self) -> int:
         return self.pending.number
+
+    def size(self) -> int:
+        """The bytes that go out."""
+        return sum(map(len, self.frames))
 
     def agrees(self, reply: Committed) -> bool:
         """Whether the answers to the questions agree with the reply."""
@@ -114,6 +127,10 @@ class Session:
         self._commit = 0
         self._forgetting = False
         self._foreseen: Optional[Foreseen] = None
+        # The payloads of requests without a reply of which the ledger has no data, by their numbers.
+        self._payloads: Dict[int, bytes] = {}
+        self.not_stored: Dict[int, str] = {}
+        """The paths of requests that were not committed before their data was gone, by their numbers."""
         # A conversation that was begun without a greeting knows no numbers.
         line.drop()
         line.greet, line.part = self._greet, self._part
@@ -157,6 +174,7 @@ class Session:
         known = self.ledger.volume(self.way)
         waiting = self.ledger.pending(known) if known else []
         self._forgetting = True
+        self._payloads.clear()
         try:
             self.line.drop()
             self.line.get()
@@ -188,7 +206,7 @@ class Session:
         known = self.ledger.volume(self.way)
         if known is None or not self.ledger.pending(known):
             return {}
-        done: List[Tuple[AnyRequest, Committed]] = []
+        done: Done = {}
         while True:
             try:
                 connection = self.line.get()
@@ -197,26 +215,52 @@ class Session:
                     self._repeat(connection, waiting[0], done)
                     continue
                 self._confirm(connection, done)
-                return {request.number: reply for request, reply in done}
+                return {number: reply for number, (_, reply) in done.items()}
             except Lost as lost:
                 self.line.lost(str(lost))
             except NotCommitted as error:
                 error.replies = self._confirmed_despite(done)  # type: ignore[attr-defined]
                 raise
 
-    def _repeat(self, connection: Connection, waiting: Pending, done: List[Tuple[AnyRequest, Committed]]) -> None:
-        """Sends a request again, and keeps its reply."""
-        connection.send(frame(waiting.payload))
+    def _repeat(self, connection: Connection, waiting: Pending, done: Done) -> None:
+        """Sends a request again, and keeps its reply. One whose data is gone is never sent: a removal of the root takes its number, which
+        changes nothing. Where the volume has the request already the reply is that of the request."""
+        payload = self._payload(waiting)
+        if payload is None:
+            self._give_up(waiting)
+        connection.send(frame(payload or encode_message(Remove(self.ledger.client, waiting.number, 0, ()))))
         answer = connection.answer()
         if self.line.troubled(answer):
             return
         if isinstance(answer, Committed):
             self._check_commit(answer)
             self.ledger.record(self.volume(), [Reply(waiting.number, answer.code, answer.commit, False)], [])
+            self._payloads.pop(waiting.number, None)
             self.line.patience.progress()
-            done.append((decode_message(waiting.payload), answer))  # type: ignore[arg-type]
+            if payload is None and answer.code is Code.ROOT:
+                self.not_stored[waiting.number] = waiting.path
+            done[waiting.number] = deed_in(waiting), answer
             return
         self._not_committed(answer, waiting)
+
+    def _payload(self, waiting: Pending) -> Optional[bytes]:
+        """The payload of a request, byte for byte as it was sent; None where its data is gone, or is other data by now."""
+        if waiting.origin is None:
+            return waiting.payload
+        facts = waiting.facts
+        assert facts is not None and facts.sha256 is not None
+        sent = self._payloads.get(waiting.number, b"")
+        if sent.startswith(waiting.payload) and digest(sent[len(waiting.payload) :]) == facts.sha256:
+            return sent
+        data = data_again(waiting.origin, facts.deed.size, facts.sha256) if waiting.origin != GIVEN_UP else None
+        return None if data is None else waiting.payload + data
+
+    def _give_up(self, waiting: Pending) -> None:
+        """Gives up the data of a request and, since the file is not the one that was stored, of those after it from the same file: else
+        a file in parts would lack one in its middle."""
+        same = [other for other in self.ledger.pending(self.volume()) if other.origin is not None and waiting.origin is not None
+                and other.origin.local == waiting.origin.local]
+        self.ledger.give_up(self.volume(), same)
 
     def _not_committed(self, answer: Answer, waiting: Pending) -> None:
         """Raises what an answer means that is no reply. What is known to be committed never gives its number back."""
@@ -241,24 +285,24 @@ class Session:
         assert isinstance(answer, Malformed)
         raise Rejected(f"{waiting.path}: the program calls the request malformed, {int(answer.cause)} {answer.cause.name}")
 
-    def _confirm(self, connection: Connection, done: List[Tuple[AnyRequest, Committed]]) -> None:
+    def _confirm(self, connection: Connection, done: Done) -> None:
         """Sees that the tree has what replies say that came behind a lost conversation."""
-        wanted = after_all([(deed_of(request), reply.code) for request, reply in done])
+        wanted = after_all([(deed, reply.code) for deed, reply in done.values()])
         for path, expected in wanted.items():
             connection.send(frame(encode_message(Stat(path))))
             answer = connection.answer()
             if answer in (FAULT, MEMORY):
-                raise Lost("the program is troubled")
+                raise Lost("the program failed")
             if not expected.agrees(answer):
                 raise self._foreign(path, answer)
-        self.ledger.confirm(self.volume(), [request.number for request, _ in done])
+        self.ledger.confirm(self.volume(), done)
 
-    def _confirmed_despite(self, done: List[Tuple[AnyRequest, Committed]]) -> Dict[int, Committed]:
+    def _confirmed_despite(self, done: Done) -> Dict[int, Committed]:
         """The replies that came before a request which was not committed, where the tree agrees with them."""
         while True:
             try:
                 self._confirm(self.line.get(), done)
-                return {request.number: reply for request, reply in done}
+                return {number: reply for number, (_, reply) in done.items()}
             except Lost as lost:
                 self.line.lost(str(lost))
 
@@ -336,11 +380,14 @@ class Session:
             assert flight.reply
             replies.append(flight.reply)
         self.ledger.record(self.volume(), kept(finished, replies), [flight.pending for flight in fresh])
+        for flight in finished:
+            self._payloads.pop(flight.number(), None)
+        self._payloads.update({flight.number(): flight.payload for flight in fresh if flight.pending.origin is not None})
 
     def _sent(self, connection: Connection, fresh: List[Flight]) -> bool:
         """Sends requests with their questions. Whether the conversation lasted."""
         try:
-            connection.send(b"".join([flight.frames for flight in fresh]))
+            connection.send(b"".join([piece for flight in fresh for piece in flight.frames]))
             return True
         except Lost:
             return False
@@ -349,7 +396,10 @@ class Session:
         """Makes ready what is kept next, where the first part of a full window is likely to be done and answered at once."""
         self._foreseen = None
         first, fresh = list(window)[:PART], list(supply.ahead)
-        if len(window) < limits.REPLIES or not fresh or sum([len(flight.frames) for flight in (*window, *fresh)]) > AT_ONCE:
+        if len(window) < limits.REPLIES or not fresh:
+            return
+        if sum([flight.size() for flight in (*window, *fresh)]) > AT_ONCE:
+            self.ledger.make_room()
             return
         answers: List[bytes] = []
         replies: List[Committed] = []
@@ -431,6 +481,13 @@ class Session:
                 yield Outcome(flight.operation, reply.code, reply.commit, flight.number())
         if error is not None:
             raise error
+
+
+def deed_in(waiting: Pending) -> Deed:
+    """What a request does that has no reply yet."""
+    if waiting.facts is not None:
+        return waiting.facts.deed
+    return deed_of(decode_message(waiting.payload))  # type: ignore[arg-type]
 
 
 def kept(flights: Iterable[Flight], replies: Iterable[Committed]) -> List[Reply]:

@@ -10,7 +10,8 @@ from typing import Dict, Iterator, List, NamedTuple, Optional
 from .errors import SourceChanged, SourceError
 from .escape import encode
 from .notkept import NotKept
-from .operations import clamped
+from .ledger_records import digest
+from .operations import Origin, clamped
 from .protocol import NameFault, Path, is_bytes, limits, name_fault, shown
 
 
@@ -178,7 +179,7 @@ def await_tick(status: os.stat_result) -> None:
 def unchanged(source: Source, status: os.stat_result) -> None:
     """Raises where a file is not the one that was seen, or is not as it was."""
     if not stat.S_ISREG(status.st_mode) or not source.identity.still(status):
-        raise SourceChanged(f"{shown(source.local)}: changed while it was read, or since it was first seen: store it again")
+        raise SourceChanged(f"{shown(source.local)}: changed while it was read, or after it was first seen: store it again")
 
 
 def exactly(descriptor: int, count: int) -> bytes:
@@ -218,6 +219,28 @@ def read_parts(source: Source) -> Iterator[bytes]:
     yield part
 
 
+def origin_of(source: Source, start: int) -> Origin:
+    """Where the bytes of a file from one on can be read again."""
+    return Origin(os.path.abspath(source.local), start, source.identity.size, source.identity.modified)
+
+
+def data_again(origin: Origin, count: int, sha256: bytes) -> Optional[bytes]:
+    """So many bytes from there, where the file is as it was and they have this digest; else None."""
+    try:
+        descriptor = open_to_read(origin.local)
+        try:
+            status = os.fstat(descriptor)
+            if not stat.S_ISREG(status.st_mode) or (status.st_size, status.st_mtime_ns) != (origin.size, origin.modified):
+                return None
+            os.lseek(descriptor, origin.start, os.SEEK_SET)
+            data = exactly(descriptor, count)
+        finally:
+            os.close(descriptor)
+    except OSError:
+        return None
+    return data if digest(data) == sha256 else None
+
+
 def delete(source: Source) -> None:
     """Deletes a file, where it is the one that was read, as it was then."""
     try:
@@ -227,4 +250,4 @@ def delete(source: Source) -> None:
         raise SourceError(f"{shown(source.local)}: {error.strerror}") from error
 
 
-__all__ = ["Folder", "Identity", "Scan", "Source", "delete", "read_parts", "scan", "shown"]
+__all__ = ["Folder", "Identity", "Scan", "Source", "data_again", "delete", "origin_of", "read_parts", "scan", "shown"]

@@ -46,7 +46,7 @@ def of_image(image: str) -> Status:
         try:
             state = volume.state()
         except NoVolume as error:
-            raise Damaged(f"{shown(image)}: holds no volume: no table's entry is found in it") from error
+            raise Damaged(f"{shown(image)}: holds no volume: no VAT ICB is found in it") from error
         table = state.table
         total = sum(node.size for node in state.walk() if node.kind is Kind.FILE)
         left = max(volume.capacity - medium.blocks, 0) if volume.capacity is not None else None

@@ -6,14 +6,15 @@ from collections import deque
 from contextlib import closing, suppress
 from typing import TYPE_CHECKING, Callable, Deque, Iterable, Iterator, List, Optional, Tuple, Type
 
+from .ahead import Ahead
 from .client import Client, refusal
 from .connection import find_program
-from .errors import Differs, DoesNotFit, SourceError, TooLarge, UsageError
+from .errors import Differs, DoesNotFit, SourceError, UsageError
 from .jobs import Job, Options, Summary, reads_back, same_parts
 from .operations import Operation, Outcome, now
 from .preflight import Plan, Present, plan, refuse_sizes
 from .protocol import AnyRequest, Code, Create, Get, MakeDir, Node, NodeKind, Path, Replace, Stat, limits, show
-from .sources import Folder, Scan, delete, read_parts, scan, shown
+from .sources import Folder, Scan, delete, origin_of, scan, shown
 from .split import stored_paths
 from .stale import Stale, find_stale
 from .walk import Told, look, quiet, remove_paths, remove_tree, walk
@@ -43,6 +44,7 @@ class Importer:
         self.present = Present()
         self.same: List[Job] = []
         self._kept: List[Job] = []
+        self._ahead = Ahead()
 
     def plan(self, jobs: Iterable[Tuple[str, Path]]) -> Plan:
         """Looks at what is to be stored and at what is there, and raises `DoesNotFit` with all that stands against it."""
@@ -105,11 +107,14 @@ class Importer:
         """Stores what was planned."""
         if self.options.dry_run:
             return self._tell_plan(planned)
-        with self.client.held():
-            self._make(planned)
-            self._finish_same(planned)
-            for chunk in self._chunks(Job(source, paths, planned.kept.get(source.path)) for source, paths in planned.files):
-                self._chunk(chunk, planned)
+        try:
+            with self.client.held():
+                self._make(planned)
+                self._finish_same(planned)
+                for chunk in self._chunks(Job(source, paths, planned.kept.get(source.path)) for source, paths in planned.files):
+                    self._chunk(chunk, planned)
+        finally:
+            self._ahead.close()
         return self.summary
 
     def _chunks(self, jobs: Iterable[Job]) -> Iterator[List[Job]]:
@@ -176,17 +181,17 @@ class Importer:
 
     def _operations(self, jobs: List[Job]) -> Iterator[Operation]:
         """The requests of files, which are read as they are sent. One that cannot be read is left out."""
-        for job in jobs:
-            try:
-                for index, (path, part) in enumerate(zip(job.paths, read_parts(job.source))):
-                    whole = job.take(part)
-                    if job.same.get(index) == job.digests[-1]:
-                        job.done += 1
-                        continue
-                    kind: Type[AnyRequest] = Replace if path in self.present.kinds else Create
-                    yield Operation(kind, path, self._moment(job.source.moment()), part, tag=(job, index), sha256=job.digests[-1], whole=whole)
-            except (SourceError, TooLarge) as error:
-                job.fail(str(error))
+        for job, index, data, taken in self._ahead.parts(jobs):
+            whole = taken()
+            sha256, path = job.digests[index], job.paths[index]
+            if job.same.get(index) == sha256:
+                job.done += 1
+                continue
+            kind: Type[AnyRequest] = Replace if path in self.present.kinds else Create
+            yield Operation(
+                kind, path, self._moment(job.source.moment()), data, tag=(job, index), sha256=sha256, whole=whole,
+                origin=origin_of(job.source, index * limits.FILE),
+            )
 
     def _store(self, jobs: List[Job], outcomes: Iterator[Outcome]) -> None:
         """Takes the outcomes. A path that another client made or removed meanwhile is tried the other way, a few times."""

@@ -13,7 +13,7 @@ from .errors import ProgramFailed, SourceError, UsageError
 from .operations import now
 from .progress import Progress, moment, plural, size
 from .protocol import limits, shown, spelled_size
-from .words import add_volume, command
+from .words import add_library, add_volume, command
 
 if TYPE_CHECKING:
     from .status import Status
@@ -30,18 +30,19 @@ def add(subs: Subs) -> None:
     """The words of these commands."""
     new = command(
         subs, "format", format_image, "make a volume on an image",
-        "The image is new or empty. Its moment tells it from all other volumes, so it is that of now unless another is given.", volume=False,
+        "The image must be new or empty. The moment of the format distinguishes it from all other volumes.", volume=False,
     )
-    new.add_argument("image_path", metavar="IMAGE", help="the image's file, which is made where it is missing")
-    new.add_argument("--label", metavar="TEXT", help="the volume's name, at most 30 characters (the name of the file without its extension)")
-    new.add_argument("--capacity", metavar="N", type=capacity, default=CAPACITY, help="blocks of 2,048 bytes, from 512 to 450,000, or a size such as 700MiB (359,844 blocks, a CD-R of 80 minutes)")
-    new.add_argument("--moment", metavar="MOMENT", type=moment_of, help="the moment of the format: microseconds from 1970, or as 2026-11-26T22:00:00Z (now)")
+    new.add_argument("image_path", metavar="IMAGE", help="the image file; created if it is missing")
+    add_library(new)
+    new.add_argument("--label", metavar="TEXT", help="the volume's name, at most 30 characters (default: the file name without its extension)")
+    new.add_argument("--capacity", metavar="N", type=capacity, default=CAPACITY, help="blocks of 2,048 bytes, from 512 to 450,000, or a size such as 700MiB (default: 359,844 blocks, a CD-R of 80 minutes)")
+    new.add_argument("--moment", metavar="MOMENT", type=moment_of, help="the moment of the format: microseconds from 1970, or a time such as 2026-11-26T22:00:00Z (default: now)")
     state = command(
-        subs, "status", status, "say what a volume is, and what it has left",
-        "Of an image all is told. Over a socket a daemon tells the tree alone, and what cannot be known is named.", volume=False,
+        subs, "status", status, "show what a volume is, and what it has left",
+        "For an image everything is known. Over a socket only the tree is known, and the rest is named as unknown.", volume=False,
     )
-    state.add_argument("where", nargs="?", metavar="IMAGE|SOCKET", help="the image, or the socket of a daemon (else --socket, --image or UDFBURN_SOCKET)")
-    add_volume(state.add_argument_group("the volume in other words"))
+    state.add_argument("where", nargs="?", metavar="IMAGE|SOCKET", help="the image, or the socket of a daemon (default: --socket, --image or UDFBURN_SOCKET)")
+    add_volume(state.add_argument_group("other ways to name the volume"))
 
 
 # ---- format
@@ -52,7 +53,7 @@ def capacity(text: str) -> int:
     digits = text[: len(text) - len(letters)]
     power = UNITS.get(letters.upper(), 11 if not letters else None)
     if not digits.isascii() or not digits or power is None or len(digits) > 12:
-        raise argparse.ArgumentTypeError(f"{text!r} is no capacity: one is a count of blocks, or a size such as 700MiB")
+        raise argparse.ArgumentTypeError(f"{text!r} is not a valid capacity: give a number of blocks, or a size such as 700MiB")
     blocks = (int(digits) << power) // limits.BLOCK
     least, most = limits.CAPACITY
     if not least <= blocks <= most:
@@ -70,7 +71,7 @@ def moment_of(text: str) -> int:
         try:
             when = datetime.fromisoformat(text[:-1] + "+00:00" if text.endswith(("Z", "z")) else text)
         except ValueError:
-            raise argparse.ArgumentTypeError(f"{text!r} is no moment: one is a count of microseconds from 1970, or as 2026-11-26T22:00:00Z") from None
+            raise argparse.ArgumentTypeError(f"{text!r} is not a valid moment: give microseconds from 1970, or a time such as 2026-11-26T22:00:00Z") from None
         when = when if when.tzinfo else when.replace(tzinfo=timezone.utc)
         found = (when - datetime(1970, 1, 1, tzinfo=timezone.utc)) // timedelta(microseconds=1)
     if not 0 <= found < limits.MOMENT:
@@ -93,9 +94,9 @@ def label_fault(label: str) -> Optional[str]:
     from .sources import why_not
 
     if not label or "\0" in label:
-        return "is no label: one has a character at least, and no NUL"
+        return "is not a valid label: a label has at least one character, and no NUL"
     # What cannot be spelled cannot be spelled as a name either; slashes and dots are well in a label.
-    fault = why_not("x" + label.replace("/", "x")) if spelled_size(label) <= 31 else f"takes {spelled_size(label)} bytes as it is spelled on the medium, and a label has at most 31"
+    fault = why_not("x" + label.replace("/", "x")) if spelled_size(label) <= 31 else f"takes {spelled_size(label)} bytes encoded, and a label has at most 31"
     return fault.replace("its name", "the label") if fault else None
 
 
@@ -104,12 +105,10 @@ def format_image(arguments: argparse.Namespace) -> int:
     image: str = arguments.image_path
     label = label_of(arguments)
     when = now() if arguments.moment is None else arguments.moment
-    program = find_program(arguments.program)
-    check_word(os.path.abspath(image))
-    try:
-        run_program(program, ["format", os.path.abspath(image), label, str(when), str(arguments.capacity)])
-    except ProgramFailed as error:
-        raise SourceError(why_not_formatted(image, str(error))) from error
+    if arguments.library:
+        format_by_library(image, label, when, arguments.capacity)
+    else:
+        format_by_program(image, label, when, arguments)
     progress_of(arguments).result(
         f"formatted {shown(image)}: {label}, {moment(when)}, {arguments.capacity:,} blocks ({size(arguments.capacity * limits.BLOCK)})",
         path=shown(image), label=label, moment=when, capacity=arguments.capacity,
@@ -117,14 +116,34 @@ def format_image(arguments: argparse.Namespace) -> int:
     return 0
 
 
+def format_by_program(image: str, label: str, when: int, arguments: argparse.Namespace) -> None:
+    """Makes a volume with the program udfburn."""
+    program = find_program(arguments.program)
+    check_word(os.path.abspath(image))
+    try:
+        run_program(program, ["format", os.path.abspath(image), label, str(when), str(arguments.capacity)])
+    except ProgramFailed as error:
+        raise SourceError(why_not_formatted(image, str(error))) from error
+
+
+def format_by_library(image: str, label: str, when: int, blocks: int) -> None:
+    """Makes a volume with the C library."""
+    from .library import Refused, find_library
+
+    try:
+        find_library().format(os.path.realpath(image), label, when, blocks)
+    except Refused as refused:
+        raise SourceError(why_not_formatted(image, refused.name)) from refused
+
+
 def why_not_formatted(image: str, line: str) -> str:
-    """What the program's line means for who formats."""
-    if "61 NotBlank" in line:
+    """What the program's line, or the library's status, means for whoever formats."""
+    if "61 NotBlank" in line or line == "UDFBURN_VOLUME":
         return (
             f"{shown(image)}: holds something already, and stays as it is. Take another name; or, where it is what a format left that was"
             " cut short, remove it, or give that format's own --label, --capacity and --moment"
         )
-    if "64 Device" in line:
+    if "64 Device" in line or line == "UDFBURN_DEVICE":
         return f"{shown(image)}: cannot be made or written: its folder is missing, its disk is full or fails, or another program has it ({line})"
     return f"{shown(image)}: {line}"
 
@@ -137,7 +156,7 @@ def where_of(arguments: argparse.Namespace) -> Tuple[Optional[str], Optional[str
     where = arguments.where
     if where is not None:
         if image or path:
-            raise UsageError("name the volume once: as IMAGE or SOCKET, or by --image and --socket")
+            raise UsageError("give the volume once: as IMAGE or SOCKET, or by --image and --socket")
         if where.startswith(("unix:", "image:")):
             kind, where = where.split(":", 1)
         else:
@@ -146,7 +165,7 @@ def where_of(arguments: argparse.Namespace) -> Tuple[Optional[str], Optional[str
     elif not image and not path:
         path = os.environ.get("UDFBURN_SOCKET")
     if not image and not path:
-        raise UsageError("name the volume: an image or the socket of a daemon")
+        raise UsageError("give a volume: an image, or the socket of a daemon")
     return image, path
 
 

@@ -4,7 +4,7 @@ from __future__ import annotations
 
 import argparse
 import math
-from typing import TYPE_CHECKING, Any, Callable, Dict, Optional
+from typing import TYPE_CHECKING, Any, Callable, Dict, Optional, Union
 
 from .protocol import limits
 
@@ -46,13 +46,13 @@ def client_number(text: str) -> int:
 def commit_number(text: str) -> int:
     """The number of a commit."""
     if not (text.isascii() and text.isdecimal() and int(text) < 1 << 32):
-        raise argparse.ArgumentTypeError(f"{text!r} is no commit: one is a number from 0 on")
+        raise argparse.ArgumentTypeError(f"{text!r} is not a valid commit: give a number from 0 on")
     return int(text)
 
 
 def add_output(sub: argparse.ArgumentParser) -> None:
     """The options of what a command prints."""
-    sub.add_argument("--json", action="store_true", help="a line of JSON for each step, each failure, and the result at the end")
+    sub.add_argument("--json", action="store_true", help="print a line of JSON for each step and each failure, and one with the result at the end")
     sub.add_argument("--quiet", action="store_true", help="print nothing but errors")
 
 
@@ -65,21 +65,27 @@ def command(
     where = sub.add_argument_group("the volume")
     if volume:
         add_volume(where)
-    where.add_argument("--program", metavar="PATH", help="the program udfburn (else UDFBURN of the environment, else on the PATH)")
+    where.add_argument("--program", metavar="PATH", help="the program udfburn (default: $UDFBURN, or the one on the PATH)")
     if ledger:
-        where.add_argument("--ledger", metavar="PATH", help="the file of numbers and replies: one a machine (~/.local/state/udfburn/ledger.sqlite)")
-        where.add_argument("--client", metavar="N", type=client_number, help="the number of a new ledger at the volume, which is drawn else")
-        where.add_argument("--shared", action="store_true", help="other clients change the same paths: do not take that for another volume")
-        sub.add_argument("--dry-run", action="store_true", help="say what would be done, and do nothing")
+        where.add_argument("--ledger", metavar="PATH", help="the ledger, one for each machine (default: ~/.local/state/udfburn/ledger.sqlite)")
+        where.add_argument("--client", metavar="N", type=client_number, help="the client number of a new ledger (default: random)")
+        where.add_argument("--shared", action="store_true", help="other clients change the same paths; do not take their changes for another volume")
+        sub.add_argument("--dry-run", action="store_true", help="print what would be done, and do nothing")
     add_output(sub)
     return sub
 
 
 def add_volume(where: "argparse._ArgumentGroup") -> None:
     """The options that name a volume, and how long is waited for it."""
-    where.add_argument("--socket", metavar="PATH", help="the socket of a daemon (else --image, else UDFBURN_SOCKET of the environment)")
-    where.add_argument("--image", metavar="PATH", help="an image, by the program udfburn; beside --socket it is looked at for the blocks that are left")
-    where.add_argument("--wait", metavar="SECONDS", type=seconds, default=None, help="the longest wait for what is busy, gone or silent (10, for an answer 120)")
+    where.add_argument("--socket", metavar="PATH", help="the socket of a daemon (default: --image, or $UDFBURN_SOCKET)")
+    where.add_argument("--image", metavar="PATH", help="an image, written by the program udfburn; with --socket, only looked at to see how many blocks are left")
+    add_library(where)
+    where.add_argument("--wait", metavar="SECONDS", type=seconds, default=None, help="the longest wait without progress (default: 10, and 120 for an answer)")
+
+
+def add_library(where: "Union[argparse.ArgumentParser, argparse._ArgumentGroup]") -> None:
+    """The option for the C library."""
+    where.add_argument("--library", action="store_true", help="open the image in this process, with the C library (from UDFBURN_LIBRARY, or where the system finds it)")
 
 
 def patience_of(arguments: argparse.Namespace) -> Dict[str, Any]:
@@ -90,4 +96,4 @@ def patience_of(arguments: argparse.Namespace) -> Dict[str, Any]:
     return {"patience": wait, "timeout": min(max(wait, 1.0), LONGEST)}
 
 
-__all__ = ["ANSWER", "Run", "WAIT", "add_output", "add_volume", "client_number", "command", "commit_number", "patience_of", "seconds"]
+__all__ = ["ANSWER", "Run", "WAIT", "add_library", "add_output", "add_volume", "client_number", "command", "commit_number", "patience_of", "seconds"]

@@ -8,7 +8,7 @@ from typing import TYPE_CHECKING, List, Tuple
 
 from . import notkept
 from .client import Client
-from .commands import progress_of, writer
+from .commands import NOT_STORED, progress_of, writer
 from .errors import UsageError
 from .escape import encode
 from .manifest import MANIFEST, PAYLOAD
@@ -28,47 +28,47 @@ if TYPE_CHECKING:
 def add(subs: Subs) -> None:
     """The words of these commands."""
     add_put(subs)
-    mkdir_words = command(subs, "mkdir", mkdir, "make directories", "Each is made once, whatever is repeated.", ledger=True)
-    mkdir_words.add_argument("path", nargs="+", metavar="PATH", help="a new directory, from the root on: /a/b")
-    mkdir_words.add_argument("-p", "--parents", action="store_true", help="make missing directories above; one that is there is no error")
-    move = command(subs, "mv", mv, "rename or move a file or a directory", "What is there is never replaced.", ledger=True)
-    move.add_argument("path", metavar="FROM", help="the file or directory, which goes with all below it")
-    move.add_argument("to", metavar="TO", help="the new path; with a slash at its end the directory that FROM goes into")
+    mkdir_words = command(subs, "mkdir", mkdir, "make directories", "Each one is made once, however often the command is repeated.", ledger=True)
+    mkdir_words.add_argument("path", nargs="+", metavar="PATH", help="a new directory, such as /a/b")
+    mkdir_words.add_argument("-p", "--parents", action="store_true", help="also make missing parents; an existing directory is no error")
+    move = command(subs, "mv", mv, "rename or move a file or a directory", "An existing file or directory is never replaced.", ledger=True)
+    move.add_argument("path", metavar="FROM", help="the file or directory; everything below it moves with it")
+    move.add_argument("to", metavar="TO", help="the new path; with a slash at its end, the directory to move FROM into")
     remove = command(
         subs, "rm", rm, "remove files and directories",
-        "The blocks stay on the medium: --as-of of 'get', 'ls' and 'verify' still reads them.", ledger=True,
+        "The blocks stay on the medium: 'get', 'ls' and 'verify' still read them with --as-of.", ledger=True,
     )
-    remove.add_argument("path", nargs="+", metavar="PATH", help="a file, an empty directory, or with -r any directory")
-    remove.add_argument("-r", "--recursive", action="store_true", help="remove directories with all below them")
+    remove.add_argument("path", nargs="+", metavar="PATH", help="a file or an empty directory; any directory with -r")
+    remove.add_argument("-r", "--recursive", action="store_true", help="remove directories with everything below them")
     remove.add_argument("--split", action="store_true", help="remove a file in parts by its own name")
     again = command(
         subs, "resume", resume, "finish what an earlier command began",
-        "Sends again, under its number, what the ledger has without a reply; each command that changes the tree does so first.", ledger=True,
+        "Sends each request again that has no reply in the ledger, under its number. Every command that changes the tree does this first.", ledger=True,
     )
-    again.add_argument("--forget", action="store_true", help="drop what is pending, and learn this client's latest number anew")
+    again.add_argument("--forget", action="store_true", help="drop requests without a reply, and go on with the volume that is there")
 
 
 def add_put(subs: Subs) -> None:
     """The words of `put`."""
     words = command(
         subs, "put", put, "store files and folders",
-        "Looks first whether all of it fits, and says at once what does not. Files whose bytes are there already are left alone, so the"
-        " same line finishes what was interrupted, and stores only what changed since.", ledger=True,
+        "First checks that everything fits, and names all that does not. Files whose bytes are already there are left alone, so the same"
+        " command finishes what was interrupted, and later stores only what has changed.", ledger=True,
     )
-    words.add_argument("local", nargs="+", metavar="LOCAL", help="a file, or with -r a folder")
-    words.add_argument("path", metavar="PATH", help="what LOCAL becomes; with a slash at its end, or several LOCALs, the directory that they go into")
-    words.add_argument("-r", "--recursive", action="store_true", help="store folders with all that is in them")
-    words.add_argument("-p", "--parents", action="store_true", help="make missing directories above")
-    words.add_argument("--split", action="store_true", help="store files above a mebibyte in parts: NAME.000, NAME.001 and on; above 400 MiB NAME.parts/00/000 and on")
-    words.add_argument("--rewrite", action="store_true", help="store files anew whose bytes are there already")
-    words.add_argument("--skip-same", action="store_true", help="leave files alone whose bytes are there already, which is the default")
-    words.add_argument("--skip-odd", action="store_true", help="leave out and name what cannot be stored: symbolic links, pipes, sockets, devices, and names that UDF cannot spell")
-    words.add_argument("--escape", action="store_true", help="store names that UDF cannot spell under another spelling, which 'get' undoes")
-    words.add_argument("--delete-source", action="store_true", help="delete a local file once its reply is in the ledger and confirmed")
-    words.add_argument("--verify", action="store_true", help="read the bytes of each file back, before it is deleted")
-    words.add_argument("--seal", action="store_true", help="seal PATH afterwards, as 'seal' does: LOCAL is stored as PATH/data, and sources are deleted last")
+    words.add_argument("local", nargs="+", metavar="LOCAL", help="a file, or a folder with -r")
+    words.add_argument("path", metavar="PATH", help="the path of LOCAL on the volume; with a slash at its end, or with several LOCALs, the directory to put them into")
+    words.add_argument("-r", "--recursive", action="store_true", help="store folders with everything in them")
+    words.add_argument("-p", "--parents", action="store_true", help="make missing parent directories")
+    words.add_argument("--split", action="store_true", help="store files above a mebibyte in parts: NAME.000, NAME.001, ..; above 400 MiB NAME.parts/00/000, ..")
+    words.add_argument("--rewrite", action="store_true", help="store files again even if their bytes are already there")
+    words.add_argument("--skip-same", action="store_true", help="leave files alone whose bytes are already there (the default)")
+    words.add_argument("--skip-odd", action="store_true", help="leave out what cannot be stored, and name it: symbolic links, pipes, sockets, devices, and names that UDF cannot encode")
+    words.add_argument("--escape", action="store_true", help="store names that UDF cannot encode in an escaped form, which 'get' restores")
+    words.add_argument("--delete-source", action="store_true", help="delete a local file after its reply is in the ledger and confirmed")
+    words.add_argument("--verify", action="store_true", help="read the bytes of each file back, before its source is deleted")
+    words.add_argument("--seal", action="store_true", help="seal PATH afterwards, as 'seal' does; LOCAL is stored as PATH/data, and sources are deleted last")
     add_manifest_only(words)
-    words.add_argument("--moment", choices=("mtime", "now"), default="mtime", help="the moment that files get: when they were modified, or now")
+    words.add_argument("--moment", choices=("mtime", "now"), default="mtime", help="the time that files get: their time of modification, or now")
 
 
 def targets(locals_: List[str], path: str, escape: bool) -> List[Tuple[str, Path]]:
@@ -97,7 +97,7 @@ def put(arguments: argparse.Namespace) -> int:
     if arguments.manifest_only and not arguments.seal:
         raise UsageError("--manifest-only goes with --seal")
     if arguments.rewrite and arguments.skip_same:
-        raise UsageError("--rewrite stores anew what --skip-same leaves alone")
+        raise UsageError("--rewrite stores again what --skip-same leaves alone")
     fields = ("recursive", "parents", "split", "rewrite", "skip_odd", "escape", "delete_source", "verify", "dry_run", "moment", "image")
     options = Options(**{name: getattr(arguments, name) for name in fields}, delete_last=arguments.seal)
     options = options._replace(parents=options.parents or arguments.seal)
@@ -152,7 +152,7 @@ def seal_stored(client: Client, importer: Importer, arguments: argparse.Namespac
         progress.told("would seal", path, 0, 0)
         return ""
     if importer.summary.failures:
-        importer.summary.failures.append(f"{show(path)}: is not sealed, since not all was stored, and no source was deleted")
+        importer.summary.failures.append(f"{show(path)}: is not sealed, because not everything was stored; no source was deleted")
         return ""
     words = seal_words(seal(client, path, arguments.manifest_only, told=progress.told))
     importer.delete_kept()
@@ -248,8 +248,9 @@ def resume(arguments: argparse.Namespace) -> int:
             forget(client, progress)
             return 0
         done = client.resume()
+        lost = client.take_not_stored()
         for number, path, code, commit in done:
-            how = "done" if not code else f"refused: {code.name}"
+            how = NOT_STORED if number in lost else "done" if not code else f"refused: {code.name}"
             progress.say(f"number {number}, {path}: {how}, commit {commit}", did="resumed", number=number, path=path, code=int(code), commit=commit)
         progress.result(f"pending were {plural(len(done), 'request', 'requests')}", count=len(done))
     return 0

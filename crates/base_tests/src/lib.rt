@@ -1,6 +1,6 @@
-//! Tests of what stands below the codecs or beside them, by topic: the plain program of the model, drives, messages, and the
-//! words of the programs. They stand in a crate of their own, so that each of those crates is proved once; they use what is
-//! public.
+//! Tests of what stands below the codecs or beside them, by topic: the plain program of the model, drives, media,
+//! messages, and the words of the programs. They stand in a crate of their own, so that each of those crates is proved
+//! once; they use what is public.
 #![tactic(auto)]
 
 #[cfg(test)]
@@ -9,6 +9,8 @@ mod command_lines;
 mod drives;
 #[cfg(test)]
 mod files;
+#[cfg(test)]
+mod images;
 #[cfg(test)]
 mod messages;
 #[cfg(test)]

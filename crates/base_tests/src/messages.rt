@@ -20,7 +20,7 @@ fn cause_of(message: &Message<'_>) -> Option<u16> {
     }
 }
 
-/// What is answered to a kind with no field behind it.
+/// What is answered to a kind with no field after it.
 fn cause_of_kind(kind: u8) -> u16 {
     match kind {
         1..=5 | 16..=18 => 53,

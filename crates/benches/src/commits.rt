@@ -6,7 +6,7 @@ use drive::{Drive, MemDrive};
 use std::io;
 use store::Store;
 
-/// The files behind which 50 commits are timed.
+/// The files after which 50 commits are timed.
 const STARTS: [u32; 5] = [10, 100, 1_000, 2_000, 4_000];
 
 /// How many commits are timed.

@@ -21,7 +21,7 @@ struct Work<'p> {
     packets: u32,
 }
 
-/// Writes and syncs packets one behind the other, as a program would that keeps no record of them: the time on the clock.
+/// Writes and syncs packets one after the other, as a program would that keeps no record of them: the time on the clock.
 fn plain(rt: &HostRuntime, work: Work<'_>) -> io::Result<u128> {
     let file = File::create(rt, "plain.img")?;
     let start = Instant::now(rt)?;

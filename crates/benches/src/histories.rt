@@ -76,7 +76,7 @@ impl Medium {
     }
 }
 
-/// A medium with so many files, and so many commits behind them.
+/// A medium with so many files, and so many commits after them.
 fn medium_of(alloc: Global, files: u32, commits: u32) -> io::Result<Medium> {
     let mut volume = Volume::create(alloc, MemDrive::new(alloc, 450_000, Vec::new(alloc)))?;
     for file in 0..files {
@@ -92,7 +92,7 @@ fn medium_of(alloc: Global, files: u32, commits: u32) -> io::Result<Medium> {
     Ok(medium)
 }
 
-/// Looks at the states behind some commits, each by itself and with shared nodes read once.
+/// Looks at the states after some commits, each by itself and with shared nodes read once.
 fn look(
     rt: &HostRuntime,
     report: Report,

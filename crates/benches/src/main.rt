@@ -1,7 +1,7 @@
 //! What the layers take, beside plain work on the same bytes.
 //!
-//! The words are names of benches, each with a count behind it, as `crc 4 dir 2`; each bench says what it counts. What was
-//! done is printed, which is the same in each run. With `--times` as the first word what it took stands behind that: processor
+//! The words are names of benches, each with a count after it, as `crc 4 dir 2`; each bench says what it counts. What was
+//! done is printed, which is the same in each run. With `--times` as the first word, the time it took follows: processor
 //! time in microseconds, or memory. `drive` and `memory` write an image in the folder where the program runs, and remove it.
 #![tactic(auto)]
 

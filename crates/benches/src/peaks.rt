@@ -8,7 +8,7 @@ use std::{fs, io};
 /// How many files the tree gets.
 const FILES: u32 = 4_084;
 
-/// The files behind which it is told what was taken, beside the last one.
+/// The files after which the memory taken is printed; it is also printed after the last one.
 const MARKS: [u32; 5] = [10, 100, 1_000, 2_000, 4_083];
 
 /// Ends a line with the greatest memory that the program has had, as the system tells it, where that is wanted.

@@ -74,7 +74,7 @@ fn copy_often(alloc: Global, bytes: &[u8], rounds: u32) -> io::Result<usize> {
     Ok(count)
 }
 
-/// How many blocks the clear starts are behind the first place, in all.
+/// How many blocks the clear starts are after the first place, in all.
 fn start_often(bytes: &[u8], rounds: u32) -> u64 {
     let mut count = 0u64;
     if bytes.len() <= MEBIBYTE {

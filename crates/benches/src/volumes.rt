@@ -56,7 +56,7 @@ impl<D: Drive + Drop> Volume<D> {
         self.drive.next().map_err(|_| wrong())
     }
 
-    /// The drive, behind the last request.
+    /// The drive, after the last request.
     pub fn into_drive(self) -> D {
         self.drive
     }

@@ -24,7 +24,7 @@ pub(crate) fn moment() -> Result<Timestamp, Fail> {
     Ok(Timestamp::of(0).ok_or("the first moment")?)
 }
 
-/// Adds a block behind the others.
+/// Adds a block after the others.
 pub(crate) fn add(drive: &mut MemDrive, block: &Block) -> Result<(), Fail> {
     let next = drive.next()?;
     if next >= drive.capacity() {
@@ -109,7 +109,7 @@ pub(crate) fn table_block(alloc: Global, numbers: Numbers, entries: &[u32]) -> R
     Ok(block_of(&bytes))
 }
 
-/// The block that begins with the first 2,048 of these bytes, with zeros behind them.
+/// The block that begins with the first 2,048 of these bytes, with zeros after them.
 pub(crate) fn block_of(bytes: &[u8]) -> Block {
     let size = bytes.len().min(2048);
     let mut block = [0; 2048];
@@ -170,7 +170,7 @@ pub(crate) fn file(unique: u64, at: u32) -> Result<Block, Fail> {
     Ok(encode_fe(&entry, at))
 }
 
-/// The blocks of a format behind the front, at the addresses 257 to 261.
+/// The blocks of a format after the front, at the addresses 257 to 261.
 pub(crate) fn formatted(rt: &impl Abort, alloc: Global) -> Result<[Block; 5], Fail> {
     Ok([
         file_set()?,

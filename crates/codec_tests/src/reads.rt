@@ -48,7 +48,7 @@ fn shared_state(
     }
 }
 
-/// How many reads a state takes behind another one, as the first read that is not missed where it fails tells.
+/// How many reads a state takes after another one, found by the first read whose failure is not noticed.
 fn reads_behind(alloc: Global, drive: &mut MemDrive, before: u32, at: u32) -> Result<u64, Fail> {
     for reads in 0..300u64 {
         let mut known = Known::new(alloc);
@@ -71,7 +71,7 @@ fn what_two_states_share_is_read_once(rt: HostRuntime) -> Result<(), Fail> {
     assert!(rt; reads_behind(alloc, &mut drive, 268, 266)? == 3);
     // Beside these the root that they do not share, its entry and its data.
     assert!(rt; reads_behind(alloc, &mut drive, 266, 261)? == 5);
-    // And the file, which comes behind the format.
+    // And the file, which comes after the format.
     assert!(rt; reads_behind(alloc, &mut drive, 261, 266)? == 6);
     Ok(())
 }

@@ -38,7 +38,7 @@ all_given : (added : List (List (List ℕ))) (rest blocks : List (List ℕ)) →
 all_given added rest blocks order none = sym (append-nil (joined added)) ∙ ap (λ (bs : List (List ℕ)). joined added ++ bs) (sym none) ∙ order
 
 -- blocks behind others that were all written
-pub runs_then : {failed : Bool} {J J1 J2 : List Event} {W W1 W2 : List (List (List ℕ))} {at next : ℕ} {bs cs : List (List ℕ)} → J1 ≡ J ++ written at bs → next ≡ at + length bs → Runs at bs false J W J1 W1 → Runs next cs failed J1 W1 J2 W2 → Runs at (bs ++ cs) failed J W J2 W2
+pub runs_then : {failed : Bool} {J J1 J2 : List Event} {W V U : List (List (List ℕ))} {at next : ℕ} {bs cs : List (List ℕ)} → J1 ≡ J ++ written at bs → next ≡ at + length bs → Runs at bs false J W J1 V → Runs next cs failed J1 V J2 U → Runs at (bs ++ cs) failed J W J2 U
 runs_then {J = J} {J1 = J1} {J2 = J2} {W = W} {at = at} {next = next} {bs = bs} {cs = cs} is place p q =
     let all : joined p.added ≡ bs = all_given p.added p.rest bs p.order (p.whole refl) in
     record {
@@ -77,11 +77,11 @@ module _ (at d : ℕ) (all p : List (List ℕ)) (le : d + length p ≤ length al
   pub packet_written : (J J1 J2 : List Event) → J1 ≡ J ++ written at (take d all) → J2 ≡ J1 ++ written (at + d) p → J2 ≡ J ++ written at (take (d + length p) all)
   packet_written J J1 J2 k k' = written_after J J1 J2 at (at + d) (take d all) p k begun k' ∙ ap (λ (bs : List (List ℕ)). J ++ written at bs) longer_front
 
-  pub packet_runs : {failed : Bool} {J J1 J2 : List Event} {W W1 W2 : List (List (List ℕ))} → J1 ≡ J ++ written at (take d all) → Runs at (take d all) false J W J1 W1 → Runs (at + d) p failed J1 W1 J2 W2 → Runs at (take (d + length p) all) failed J W J2 W2
+  pub packet_runs : {failed : Bool} {J J1 J2 : List Event} {W V U : List (List (List ℕ))} → J1 ≡ J ++ written at (take d all) → Runs at (take d all) false J W J1 V → Runs (at + d) p failed J1 V J2 U → Runs at (take (d + length p) all) failed J W J2 U
   packet_runs k r q = runs_as longer_front (runs_then k begun r q)
 
   -- or it failed
-  pub packet_broken : {J J1 J2 : List Event} {W W1 W2 : List (List (List ℕ))} → J1 ≡ J ++ written at (take d all) → Runs at (take d all) false J W J1 W1 → Runs (at + d) p true J1 W1 J2 W2 → Runs at all true J W J2 W2
+  pub packet_broken : {J J1 J2 : List Event} {W V U : List (List (List ℕ))} → J1 ≡ J ++ written at (take d all) → Runs at (take d all) false J W J1 V → Runs (at + d) p true J1 V J2 U → Runs at all true J W J2 U
   packet_broken k r q = runs_as (take-append-drop (d + length p) all) (runs_longer (drop (d + length p) all) (packet_runs k r q))
 
 -- what is left of two lists behind the first

@@ -190,7 +190,7 @@ pub(crate) fn open_to_read<R: Files<File = File>>(rt: &R, path: &str) -> Result<
 }
 
 /// Syncs the folder in which the file at this path stands, so that a loss of power does not take its name.
-pub(crate) fn sync_folder<R: Files<File = File>>(rt: &R, path: &str) -> Result<(), DriveFault> {
+pub fn sync_folder<R: Files<File = File>>(rt: &R, path: &str) -> Result<(), DriveFault> {
     let folder = match path.rsplit_once('/') {
         Some(("", _)) => "/",
         Some((folder, _)) => folder,

@@ -11,3 +11,4 @@ pub mod Pieces
 pub mod Rows
 pub mod Next
 pub mod Fronts
+pub mod Lending

@@ -1,6 +1,6 @@
 //! One message, answered.
 
-ghost use Rattle.std.specs.Prelude.{◌≡◌, ◌⊎◌, ℕ, Some, None, Ok, Err, IsTrue, IfOk, IfErr, OnErr, false};
+ghost use Rattle.std.specs.Prelude.{◌≡◌, ◌⊎◌, ℕ, Some, None, Ok, Err, IsTrue, IfOk, IfErr, OnOk, OnErr, false, option_copied};
 ghost use Rattle.model.specs.Session.{State};
 ghost use Rattle.model.specs.Tree.{Path};
 ghost use Rattle.drive.specs.Reads.{Reads};
@@ -11,7 +11,8 @@ ghost use Rattle.request.specs.declared.message.Message.TheVariants as messages;
 ghost use Rattle.request.specs.declared.message.Query.TheVariants as queries;
 ghost use Rattle.store.specs.Agrees.{Agrees};
 ghost use Rattle.store.specs.Calls.{Knows};
-ghost use Rattle.engine.specs.Situation.{IsReady, AddsBlocks, HoldsNothing, seen_on, situation_on};
+ghost use Rattle.store.specs.declared.store.Store.{Store};
+ghost use Rattle.engine.specs.Situation.{IsReady, IsOpen, AddsBlocks, HoldsNothing, seen_on, situation_on};
 ghost use Rattle.engine.specs.Answered.{Answered, due_of, IsDue, IsNothingThere, CanBeTold, FailsOrIsDamaged, faults};
 ghost use Rattle.engine.specs.Called.{Calls, IsDealt, IsQueried, failed, refused, get_refused, list_refused, stat_refused};
 ghost use Rattle.engine.specs.Steps.{HoldsState};
@@ -69,6 +70,37 @@ impl Engine {
                 Err(fault) => failure(fault),
             },
         }
+    }
+
+    /// Opens the store where none is open, or where a write failed. Nothing is written.
+    pub fn open<D: Drive>(&mut self, alloc: Global, drive: &mut D) -> Result<(), StoreFault>
+        requires { IsReady (seen_on D.Drive self.old drive.old) }
+        ensures open { OnOk result ((store : Store) × IsOpen (seen_on D.Drive self.new drive.new) store) }
+        ensures closed { OnErr result (self.new.store ≡ None) }
+        // A state that stands is known then, and only a failure or want of memory keeps it from being opened.
+        ensures holds { (volume : ℕ) (S : State) → IsTrue (D.honest drive.new) → HoldsState volume S (seen_on D.Drive self.old drive.old) → HoldsState volume S (seen_on D.Drive self.new drive.new) }
+        ensures short { (volume : ℕ) (S : State) → IsTrue (D.honest drive.new) → HoldsState volume S (seen_on D.Drive self.old drive.old) → IfErr result IsShortage }
+        // Where nothing stands nothing is opened.
+        ensures nothing { IsTrue (D.honest drive.new) → HoldsNothing (seen_on D.Drive self.old drive.old) → OnOk result ⊥ }
+        // Where it is open nothing is done.
+        ensures stays { (kept : Store) → IsOpen (seen_on D.Drive self.old drive.old) kept → (self.new ≡ self.old) × (drive.new ≡ drive.old) }
+        ensures ready { IsReady (seen_on D.Drive self.new drive.new) }
+        ensures reads { Reads D.Drive (devices result) drive.old drive.new }
+    {
+        match self.take_open(alloc, drive) {
+            Ok(store) => {
+                self.store = Some(store);
+                Ok(())
+            }
+            Err(fault) => Err(fault),
+        }
+    }
+
+    /// The store that is kept, if one is.
+    pub fn store(&self) -> Option<&Store>
+        ensures { option_copied result ≡ self.now.store }
+    {
+        self.store.as_ref()
     }
 
     /// Takes the store out: the one that is open, or one that is opened now.

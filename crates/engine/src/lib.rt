@@ -5,12 +5,14 @@
 #![tactic(auto)]
 
 mod engine;
+mod held;
 mod laws;
 mod runs;
 mod serving;
 mod streams;
 
 pub use engine::Engine;
+pub use held::answer_held;
 pub use laws::{calls_are_steps, losses_are_survived, runs_hold, steps_hold};
 pub use runs::{Delivery, run};
 pub use serving::{ServeFault, serve};

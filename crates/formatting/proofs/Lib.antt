@@ -1,2 +1,3 @@
 pub mod FormatJournals
 pub mod NewVolumes
+pub mod Beginnings

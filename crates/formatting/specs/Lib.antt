@@ -1,1 +1,2 @@
 pub mod NewVolume
+pub mod Beginning

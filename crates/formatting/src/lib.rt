@@ -6,6 +6,8 @@
 #![tactic(auto)]
 
 mod formatting;
+mod images;
 mod parts;
 
 pub use formatting::{format, one_format};
+pub use images::require_beginning;

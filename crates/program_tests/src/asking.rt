@@ -1,6 +1,7 @@
 //! Programs that are run, and what they told.
 
-use programs::{command, daemon};
+use media::{FileMedia, Media};
+use programs::{Sockets, command_on, daemon_on};
 use std::fs;
 use std::test::Fail;
 
@@ -11,6 +12,10 @@ pub(crate) const CREATE: [u8; 42] =
 /// A request to make the directory `/d`, of client 7 under number 2.
 pub(crate) const MAKE: [u8; 33] =
     *b"\x1d\0\0\0\x03\x07\0\0\0\0\0\0\0\x02\0\0\0\0\0\0\0\0\0\0\0\0\0\0\0\x01\x01\0d";
+
+/// A request to remove the file `/a`, of client 7 under number 3.
+pub(crate) const REMOVE: [u8; 33] =
+    *b"\x1d\0\0\0\x05\x07\0\0\0\0\0\0\0\x03\0\0\0\0\0\0\0\0\0\0\0\0\0\0\0\x01\x01\0a";
 
 /// What a program told, and its status.
 #[derive(Drop)]
@@ -29,12 +34,17 @@ impl Told {
     }
 }
 
-/// Runs `udfburn` on these words and this input.
-pub(crate) fn run(rt: &HostRuntime, words: &[&str], input: &[u8]) -> Told {
+/// Runs `udfburn` on these words and this input, over the images of a medium.
+pub(crate) fn run_on<M: Media>(
+    rt: &HostRuntime,
+    media: &mut M,
+    words: &[&str],
+    input: &[u8],
+) -> Told {
     let mut reader = input;
     let mut output = Vec::new(rt.alloc());
     let mut errors = Vec::new(rt.alloc());
-    let status = command(rt, words, &mut reader, &mut output, &mut errors);
+    let status = command_on(rt, media, words, &mut reader, &mut output, &mut errors);
     Told {
         status,
         output,
@@ -42,10 +52,21 @@ pub(crate) fn run(rt: &HostRuntime, words: &[&str], input: &[u8]) -> Told {
     }
 }
 
-/// Runs `udfburnd` on these words.
+/// Runs `udfburn` on these words and this input, over files.
+pub(crate) fn run(rt: &HostRuntime, words: &[&str], input: &[u8]) -> Told {
+    run_on(rt, &mut FileMedia::new(rt), words, input)
+}
+
+/// Runs `udfburnd` on these words, over files.
 pub(crate) fn run_daemon(rt: &HostRuntime, words: &[&str]) -> Told {
     let mut errors = Vec::new(rt.alloc());
-    let status = daemon(rt, words, &mut errors);
+    let status = daemon_on(
+        rt,
+        &mut FileMedia::new(rt),
+        &mut Sockets::new(rt),
+        words,
+        &mut errors,
+    );
     Told {
         status,
         output: Vec::new(rt.alloc()),

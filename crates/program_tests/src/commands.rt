@@ -111,32 +111,6 @@ fn a_refused_label_leaves_an_empty_image(rt: HostRuntime) -> Result<(), Fail> {
 }
 
 #[test]
-fn a_tree_is_read(rt: HostRuntime) -> Result<(), Fail> {
-    let image = "tree.img";
-    formatted(&rt, image)?;
-    let told = run(&rt, &["ls", image, "/"], b"");
-    assert!(rt; told.is(0, b"", b""));
-    let told = run(&rt, &["apply", image], &CREATE);
-    assert!(rt; told.is(0, &[6, 0, 0, 0, 0, 0, 1, 0, 0, 0], b""));
-    let told = run(&rt, &["apply", image], &MAKE);
-    assert!(rt; told.is(0, &[6, 0, 0, 0, 0, 0, 2, 0, 0, 0], b""));
-    let rows: [(&[&str], u8, &[u8], &[u8]); 6] = [
-        (&["ls", image, "/"], 0, b"f a\nd d\n", b""),
-        (&["ls", image, "/d"], 0, b"", b""),
-        (&["get", image, "/a"], 0, b"hello", b""),
-        (&["get", image, "/d"], 1, b"", b"udfburn: 97 IsDirectory\n"),
-        (&["ls", image, "/a"], 1, b"", b"udfburn: 98 NotDirectory\n"),
-        (&["get", image, "/d/x"], 1, b"", b"udfburn: 96 NotFound\n"),
-    ];
-    for (words, status, output, errors) in rows {
-        let told = run(&rt, words, b"");
-        assert!(rt; told.is(status, output, errors));
-    }
-    fs::remove_file(&rt, image)?;
-    Ok(())
-}
-
-#[test]
 fn a_damage_is_named(rt: HostRuntime) -> Result<(), Fail> {
     let image = "damaged.img";
     formatted(&rt, image)?;

@@ -3,9 +3,9 @@
 use crate::asking::{CREATE, formatted, run, run_daemon};
 use drive::FileDrive;
 use engine::{Engine, ServeFault};
-use programs::{Fault, copy_answers, send_frames, serve_one};
+use programs::{Fault, Listener, Sockets, copy_answers, send_frames, serve_one};
 use std::fs;
-use std::os::unix::net::{UnixListener, UnixStream};
+use std::os::unix::net::UnixStream;
 use std::test::Fail;
 
 #[test]
@@ -50,14 +50,23 @@ fn a_connection_is_served(rt: HostRuntime) -> Result<(), Fail> {
     let (image, socket) = ("served.img", "served.socket");
     let _ = fs::remove_file(&rt, socket);
     formatted(&rt, image)?;
-    let listener = UnixListener::bind(&rt, socket)?;
+    let mut listener = Sockets::new(&rt);
+    listener.listen(socket)?;
     let mut drive = FileDrive::open(&rt, image, 450_000)?;
     let mut engine = Engine::new();
     // The second connection repeats the request, and gets the reply that is kept.
     for _ in 0..2 {
         let mut stream = UnixStream::connect(&rt, socket)?;
         send_frames(rt.alloc(), &mut stream, &mut CREATE.as_slice())?;
-        serve_one(rt.alloc(), &listener.accept()?.0, &mut engine, &mut drive)?;
+        let (input, output) = listener.accept(rt.alloc())?;
+        serve_one(
+            rt.alloc(),
+            &mut listener,
+            input,
+            output,
+            &mut engine,
+            &mut drive,
+        )?;
         let mut answers = Vec::new(rt.alloc());
         copy_answers(rt.alloc(), &mut stream, &mut answers)?;
         assert_eq!(rt;
@@ -78,18 +87,35 @@ fn a_client_that_goes_away(rt: HostRuntime) -> Result<(), Fail> {
     let (image, socket) = ("away.img", "away.socket");
     let _ = fs::remove_file(&rt, socket);
     formatted(&rt, image)?;
-    let listener = UnixListener::bind(&rt, socket)?;
+    let mut listener = Sockets::new(&rt);
+    listener.listen(socket)?;
     let mut drive = FileDrive::open(&rt, image, 450_000)?;
     let mut engine = Engine::new();
     let mut gone = UnixStream::connect(&rt, socket)?;
     send_frames(rt.alloc(), &mut gone, &mut CREATE.as_slice())?;
     drop(gone);
-    let served = serve_one(rt.alloc(), &listener.accept()?.0, &mut engine, &mut drive);
+    let (input, output) = listener.accept(rt.alloc())?;
+    let served = serve_one(
+        rt.alloc(),
+        &mut listener,
+        input,
+        output,
+        &mut engine,
+        &mut drive,
+    );
     assert!(rt; served == Err(Fault::Stream(ServeFault::Write)));
     // The next connection is served, and the request that was sent is known.
     let mut stream = UnixStream::connect(&rt, socket)?;
     send_frames(rt.alloc(), &mut stream, &mut CREATE.as_slice())?;
-    serve_one(rt.alloc(), &listener.accept()?.0, &mut engine, &mut drive)?;
+    let (input, output) = listener.accept(rt.alloc())?;
+    serve_one(
+        rt.alloc(),
+        &mut listener,
+        input,
+        output,
+        &mut engine,
+        &mut drive,
+    )?;
     let mut answers = Vec::new(rt.alloc());
     copy_answers(rt.alloc(), &mut stream, &mut answers)?;
     assert_eq!(rt;

@@ -1,13 +1,9 @@
 //! The commits of an image, and what is found of damaged ones.
 
-use crate::asking::{CREATE, MAKE, formatted, run};
+use crate::asking::{CREATE, formatted, run};
 use std::fs::{self, File, OpenOptions};
 use std::io::{Seek, SeekFrom, Write};
 use std::test::Fail;
-
-/// A request to remove the file `/a`, of client 7 under number 3.
-const REMOVE: [u8; 33] =
-    *b"\x1d\0\0\0\x05\x07\0\0\0\0\0\0\0\x03\0\0\0\0\0\0\0\0\0\0\0\0\0\0\0\x01\x01\0a";
 
 /// The frame of a request, sent to an image.
 fn send(rt: &HostRuntime, image: &str, frame: &[u8]) -> Result<(), Fail> {
@@ -16,29 +12,6 @@ fn send(rt: &HostRuntime, image: &str, frame: &[u8]) -> Result<(), Fail> {
     } else {
         Err(Fail::new("no answer"))
     }
-}
-
-#[test]
-fn commits_are_listed(rt: HostRuntime) -> Result<(), Fail> {
-    let image = "log.img";
-    formatted(&rt, image)?;
-    let log = run(&rt, &["log", image], b"");
-    assert!(rt; log.is(0, b"0 261 0 1\n", b""));
-    send(&rt, image, &CREATE)?;
-    let log = run(&rt, &["log", image], b"");
-    assert!(rt; log.is(0, b"1 266 1 1\n0 261 0 1\n", b""));
-    let check = run(&rt, &["check", image], b"");
-    assert!(rt; check.is(0, b"sound 1\n", b""));
-    // A repeat commits nothing.
-    send(&rt, image, &CREATE)?;
-    send(&rt, image, &MAKE)?;
-    send(&rt, image, &REMOVE)?;
-    let log = run(&rt, &["log", image], b"");
-    assert!(rt; log.is(0, b"3 276 0 2\n2 272 1 2\n1 266 1 1\n0 261 0 1\n", b""));
-    let check = run(&rt, &["check", image], b"");
-    assert!(rt; check.is(0, b"sound 3\n", b""));
-    fs::remove_file(&rt, image)?;
-    Ok(())
 }
 
 /// Puts one byte of an image in the place of another.

@@ -1,4 +1,4 @@
-//! Tests of the programs on words, streams, files and sockets. They stand in a crate of their own, so that `programs` is
+//! Tests of the programs on words, streams, images and sockets. They stand in a crate of their own, so that `programs` is
 //! proved once; they use what is public.
 #![tactic(auto)]
 
@@ -12,5 +12,7 @@ mod daemons;
 mod faults;
 #[cfg(test)]
 mod history;
+#[cfg(test)]
+mod images;
 #[cfg(test)]
 mod streams;

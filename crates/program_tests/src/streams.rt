@@ -1,7 +1,8 @@
 //! Streams of `udfburn` that fail, and that come byte by byte.
 
 use crate::asking::{CREATE, Told, formatted, run};
-use programs::{command, copy_answers, send_frames};
+use media::{FileMedia, MemMedia};
+use programs::{command_on, copy_answers, send_frames};
 use std::io::{Error, ErrorKind, Read, Write};
 use std::os::unix::net::UnixStream;
 use std::test::Fail;
@@ -68,8 +69,9 @@ fn an_input_that_fails(rt: HostRuntime) -> Result<(), Fail> {
     let mut reader = Single(&CREATE);
     let mut output = Vec::new(rt.alloc());
     let mut errors = Vec::new(rt.alloc());
-    let status = command(
+    let status = command_on(
         &rt,
+        &mut MemMedia::new(rt.alloc()),
         &["apply", "mem:3000"],
         &mut reader,
         &mut output,
@@ -103,7 +105,15 @@ fn an_output_that_fails(rt: HostRuntime) -> Result<(), Fail> {
             bytes: Vec::new(rt.alloc()),
             left,
         };
-        let status = command(&rt, words, &mut reader, &mut writer, &mut errors);
+        let mut media = FileMedia::new(&rt);
+        let status = command_on(
+            &rt,
+            &mut media,
+            words,
+            &mut reader,
+            &mut writer,
+            &mut errors,
+        );
         assert_eq!(rt; status, 1);
         assert_eq!(rt; writer.bytes.len(), left);
         assert_eq!(rt; errors.as_slice(), line.as_slice());

@@ -2,8 +2,7 @@
 use Rattle.std.proofs.Common.{◌≡◌, ◌↔◌, ℕ, ◌<◌, ◌≤◌, min, List, [], length, codes, Bool, true, Option, None, Result, Ok, Err, refl, sym, ap, ◌∙◌, subst, arith, drop, IsTrue, IsSome, IsNone, inr}
 use Rattle.std.specs.Prelude.{IsErrAnd}
 use Rattle.drive.specs.Journal.{Event, held, Once}
-use Rattle.drive.specs.FileDrive.{journal_of, writes_of, failures_of, capacity_of, honest_of, BeginsWith}
-use Rattle.drive.specs.declared.file.FileDrive.{FileDrive}
+use Rattle.drive.specs.declared.Drive.{Ghosts}
 use Rattle.drive.proofs.Once.{once-written}
 use Rattle.request.specs.declared.answer.Answer.{Answer}
 use Rattle.request.specs.declared.message.Message.{Message}
@@ -18,7 +17,7 @@ use Rattle.recover.specs.declared.fault.StoreFault.TheVariants as stores
 use Rattle.formatting.specs.NewVolume.{words_on, IsFormatted, IsFormatRefused}
 use Rattle.formatting.proofs.NewVolumes.{format_long}
 use Rattle.store.specs.declared.store.Store.{Store}
-use Rattle.engine.specs.Situation.{Situation, situation, with_store}
+use Rattle.engine.specs.Situation.{Situation, situation, situation_on, with_store}
 use Rattle.engine.specs.Steps.{HoldsState}
 use Rattle.engine.specs.Said.{said_answers}
 use Rattle.engine.specs.Served.{AllAnswered, ServedHolds, ServesAll, ServesUntil, brought}
@@ -28,7 +27,8 @@ use Rattle.engine.proofs.Served.{answered_counted}
 use Rattle.programs.specs.declared.fault.Fault.{Fault}
 use Rattle.programs.specs.declared.fault.Fault.TheVariants.{Usage, Path, Socket, Store as Stored, Stream}
 use Rattle.programs.specs.Applied.{Applies, AppliesAll, AppliesUntil, AppliesToImage, IsRunOfNew, IsUnmade, AnswersAll, AnswersUntil, AnswersInMemory}
-use Rattle.programs.proofs.Opening.{begins_on, keeps_self}
+use Rattle.programs.specs.Images.{Images, IsOpened, IsPutBack, IsThere}
+use Rattle.programs.proofs.Opening.{keeps_self, on_media}
 
 -- ---- an engine that is new begins with no store
 
@@ -45,9 +45,10 @@ applied_until {T} (Err f) fault store kept J failures capacity honest writes beh
     (kept, subst (λ (s : Option Store). ServesUntil fault (situation s J failures capacity honest writes) (with_store kept behind) i l o w) e h)
 
 -- the same on an image that was opened
-pub applied_to_image : {T : Type 0} (outcome : Result T Fault) (d : FileDrive) (behind : Situation) (i l o w : Option (List ℕ)) → (image : List (List ℕ)) × BeginsWith image d → capacity_of d ≡ 450000
-    → Applies outcome (situation None (journal_of d) (failures_of d) (capacity_of d) (honest_of d) (writes_of d)) behind i l o w → AppliesToImage outcome i l o w
-applied_to_image outcome d behind i l o w begins size h = inr (begins_on 450000 (λ before after. Applies outcome before after i l o w) d behind begins size h)
+pub applied_to_image : {T D : Type 0} (drive : Ghosts D) (image : List ℕ) (outcome : Result T Fault) (d e : D) (before between behind : Images) (i l o w : Option (List ℕ))
+    → IsOpened drive IsThere 450000 image d before between → IsPutBack drive image e between behind → Applies outcome (situation_on drive None d) (situation_on drive None e) i l o w
+    → AppliesToImage image outcome before behind i l o w
+applied_to_image drive image outcome d e before between behind i l o w opened back h = inr (on_media drive IsThere 450000 image (λ first last. Applies outcome first last i l o w) d e before between behind opened back h)
 
 -- ---- a new volume on a drive that was blank and is honest
 

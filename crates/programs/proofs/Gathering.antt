@@ -21,8 +21,8 @@ use Rattle.programs.specs.Connections.{ServesFront}
 use Rattle.programs.specs.Copies.{Sends, SendsSome}
 use Rattle.programs.specs.FaultLines.{Reports}
 use Rattle.programs.specs.Status.{status_of}
-use Rattle.programs.specs.Images.{OnImage, Unopened}
-use Rattle.programs.specs.NewVolumes.{IsBegun, Makes, MakesOnImage, Unbegun}
+use Rattle.programs.specs.Images.{Images, IsThere, IsThereOrMade, OnMedia, Unmade, Unopened}
+use Rattle.programs.specs.NewVolumes.{Makes, MakesOn, MakesOnImage}
 use Rattle.programs.specs.Lines.{formatted_text}
 use Rattle.programs.specs.Questions.{Question, Shows, ShowsImage, ShowsPath}
 use Rattle.programs.specs.Questions.Question.{Names_at, Bytes_at, Commits, Soundness}
@@ -39,13 +39,22 @@ keeps_trans (Some xs) None c h k = absurd h
 keeps_trans (Some xs) (Some ys) None h k = absurd k
 keeps_trans (Some xs) (Some ys) (Some zs) h k = k ∙ h
 
-on_image : (capacity : ℕ) (P Q : Situation → Situation → Type 0) → ((before behind : Situation) → P before behind → Q before behind) → OnImage capacity P → OnImage capacity Q
-on_image capacity P Q f h = record { image = h.image; count = h.count; fits = h.fits; once = h.once; behind = h.behind; did = f _ h.behind h.did }
+on_image : (Finds : Option (List Event) → List Event → Type 0) (capacity : ℕ) (path : List ℕ) (P Q : Situation → Situation → Type 0) (old new : Images) → ((before behind : Situation) → P before behind → Q before behind)
+    → OnMedia Finds capacity path P old new → OnMedia Finds capacity path Q old new
+on_image Finds capacity path P Q old new f h = record {
+  journal = h.journal;
+  once = h.once;
+  last = h.last;
+  did = f _ h.last h.did;
+  found = h.found;
+  left = h.left;
+  others = h.others;
+  drive_honest = h.drive_honest;
+  honest = h.honest;
+  agreed = h.agreed;
+}
 
 module _ (i l o v w : Option (List ℕ)) (kept : Keeps v w) where
-  unopened_kept : {T : Type 0} (outcome : Result T Fault) → Unopened outcome o v → Unopened outcome o w
-  unopened_kept outcome h = record { fault = h.fault; unwritten = keeps_trans o v w h.unwritten kept }
-
   makes_kept : {T : Type 0} (label : List ℕ) (moment capacity : ℕ) (outcome : Result T Fault) (J K : List Event) (honest : Bool) → Makes label moment capacity outcome J K honest o v → Makes label moment capacity outcome J K honest o w
   makes_kept label moment capacity (Ok x) J K honest h = (h.0, keeps_on o v w formatted_text h.1 kept)
   makes_kept label moment capacity (Err Usage) J K honest h = h
@@ -56,15 +65,9 @@ module _ (i l o v w : Option (List ℕ)) (kept : Keeps v w) where
   makes_kept label moment capacity (Err (Stream streams.Write)) J K honest h = (h.0, front_kept o v w formatted_text h.1 kept)
   makes_kept label moment capacity (Err (Stream streams.Memory)) J K honest h = h
 
-  made_kept : {T : Type 0} (label : List ℕ) (moment capacity : ℕ) (outcome : Result T Fault) → MakesOnImage label moment capacity outcome o v → MakesOnImage label moment capacity outcome o w
-  made_kept label moment capacity outcome (inl h) = inl (unopened_kept outcome h)
-  made_kept label moment capacity outcome (inr (inl h)) =
-      inr (inl (on_image capacity (λ before behind. Unbegun label moment capacity outcome before behind o v) (λ before behind. Unbegun label moment capacity outcome before behind o w)
-      (λ before behind k. record { refused = k.refused; why = k.why; journal = k.journal; unwritten = keeps_trans o v w k.unwritten kept }) h))
-  made_kept label moment capacity outcome (inr (inr h)) =
-      inr (inr (on_image capacity (λ before behind. IsBegun capacity label moment before.journal × Makes label moment capacity outcome before.journal behind.journal behind.honest o v)
-      (λ before behind. IsBegun capacity label moment before.journal × Makes label moment capacity outcome before.journal behind.journal behind.honest o w)
-      (λ before behind k. (k.0, makes_kept label moment capacity outcome before.journal behind.journal behind.honest k.1)) h))
+  made_on_kept : {T : Type 0} (label : List ℕ) (moment capacity : ℕ) (outcome : Result T Fault) (before behind : Situation) → MakesOn label moment capacity outcome before behind o v → MakesOn label moment capacity outcome before behind o w
+  made_on_kept label moment capacity outcome before behind (inl k) = inl (record { refused = k.refused; why = k.why; journal = k.journal; unwritten = keeps_trans o v w k.unwritten kept })
+  made_on_kept label moment capacity outcome before behind (inr k) = inr (k.0, makes_kept label moment capacity outcome before.journal behind.journal behind.honest k.1)
 
   serves_kept : (before behind : Situation) → ServesAll before behind i l o v → ServesAll before behind i l o w
   serves_kept before behind h = record {
@@ -125,10 +128,6 @@ module _ (i l o v w : Option (List ℕ)) (kept : Keeps v w) where
   applies_kept (Err (Store fault)) before behind h = h
   applies_kept (Err (Stream fault)) before behind (store, h) = (store, until_kept fault before (with_store store behind) h)
 
-  applied_kept : {T : Type 0} (outcome : Result T Fault) → AppliesToImage outcome i l o v → AppliesToImage outcome i l o w
-  applied_kept outcome (inl (h, same)) = inl (unopened_kept outcome h, same)
-  applied_kept outcome (inr h) = inr (on_image 450000 (λ before behind. Applies outcome before behind i l o v) (λ before behind. Applies outcome before behind i l o w) (applies_kept outcome) h)
-
   answers_kept : {T : Type 0} (outcome : Result T Fault) (capacity : ℕ) → AnswersInMemory outcome capacity i l o v → AnswersInMemory outcome capacity i l o w
   answers_kept (Ok x) capacity h = record {
     bytes = h.bytes;
@@ -170,17 +169,6 @@ module _ (i l o v w : Option (List ℕ)) (kept : Keeps v w) where
   shows_kept question (Err (Stream streams.Write)) capacity J honest h = record { bytes = h.bytes; front = front_kept o v w h.bytes h.front kept; said = h.said }
   shows_kept question (Err (Stream streams.Memory)) capacity J honest h = h
 
-  shown_kept : {T : Type 0} (question : Question) (outcome : Result T Fault) → ShowsImage question outcome o v → ShowsImage question outcome o w
-  shown_kept question outcome (inl h) = inl (unopened_kept outcome h)
-  shown_kept question outcome (inr h) =
-      inr (on_image 450000 (λ before behind. (behind.journal ≡ before.journal) × Shows question outcome before.capacity before.journal behind.honest o v)
-      (λ before behind. (behind.journal ≡ before.journal) × Shows question outcome before.capacity before.journal behind.honest o w)
-      (λ before behind k. (k.0, shows_kept question outcome before.capacity before.journal behind.honest k.1)) h)
-
-  path_kept : {T : Type 0} (question : tree.Path → Question) (text : List ℕ) (outcome : Result T Fault) → ShowsPath question text outcome o v → ShowsPath question text outcome o w
-  path_kept question text outcome (inl (h, k)) = inl (h, keeps_trans o v w k kept)
-  path_kept question text outcome (inr (path, is, reads, h)) = inr (path, is, reads, shown_kept (question path) outcome h)
-
   sent_kept : SendsSome i l o v → SendsSome i l o w
   sent_kept h = record { sent = h.sent; consumed = h.consumed; came = h.came; front = front_kept o v w h.came h.front kept }
 
@@ -195,15 +183,43 @@ module _ (i l o v w : Option (List ℕ)) (kept : Keeps v w) where
   sends_kept (Err (Stream streams.Write)) h = sent_kept h
   sends_kept (Err (Stream streams.Memory)) h = h
 
-  does_kept : {T : Type 0} (task : Task) (outcome : Result T Fault) → Does task outcome i l o v → Does task outcome i l o w
-  does_kept (Format label moment capacity) outcome h = (h.0, made_kept label moment capacity outcome h.1)
-  does_kept Apply_to_image outcome h = applied_kept outcome h
-  does_kept (Apply_in_memory capacity) outcome h = answers_kept outcome capacity h
-  does_kept (List_names path) outcome h = (h.0, path_kept Names_at path outcome h.1)
-  does_kept (Get_bytes path) outcome h = (h.0, path_kept Bytes_at path outcome h.1)
-  does_kept Log outcome h = (h.0, shown_kept Commits outcome h.1)
-  does_kept Check outcome h = (h.0, shown_kept Soundness outcome h.1)
-  does_kept Send outcome h = sends_kept outcome h
+-- the same of the images that it was done on
+module _ (old new : Images) (i l o v w : Option (List ℕ)) (kept : Keeps v w) where
+  unopened_kept : {T : Type 0} (outcome : Result T Fault) → Unopened outcome old new o v → Unopened outcome old new o w
+  unopened_kept outcome h = record { fault = h.fault; unwritten = keeps_trans o v w h.unwritten kept; untouched = h.untouched }
+
+  unmade_kept : {T : Type 0} (path : List ℕ) (outcome : Result T Fault) → Unmade path outcome old new o v → Unmade path outcome old new o w
+  unmade_kept path outcome h = record { fault = h.fault; unwritten = keeps_trans o v w h.unwritten kept; made = h.made }
+
+  made_kept : {T : Type 0} (image label : List ℕ) (moment capacity : ℕ) (outcome : Result T Fault) → MakesOnImage image label moment capacity outcome old new o v → MakesOnImage image label moment capacity outcome old new o w
+  made_kept image label moment capacity outcome (inl h) = inl (unmade_kept image outcome h)
+  made_kept image label moment capacity outcome (inr h) =
+      inr (on_image IsThereOrMade capacity image (λ before behind. MakesOn label moment capacity outcome before behind o v) (λ before behind. MakesOn label moment capacity outcome before behind o w) old new (made_on_kept i l o v w kept label moment capacity outcome) h)
+
+  applied_kept : {T : Type 0} (image : List ℕ) (outcome : Result T Fault) → AppliesToImage image outcome old new i l o v → AppliesToImage image outcome old new i l o w
+  applied_kept image outcome (inl (h, same)) = inl (unopened_kept outcome h, same)
+  applied_kept image outcome (inr h) = inr (on_image IsThere 450000 image (λ before behind. Applies outcome before behind i l o v) (λ before behind. Applies outcome before behind i l o w) old new (applies_kept i l o v w kept outcome) h)
+
+  shown_kept : {T : Type 0} (question : Question) (image : List ℕ) (outcome : Result T Fault) → ShowsImage question image outcome old new o v → ShowsImage question image outcome old new o w
+  shown_kept question image outcome (inl h) = inl (unopened_kept outcome h)
+  shown_kept question image outcome (inr h) =
+      inr (on_image IsThere 450000 image (λ before behind. (behind.journal ≡ before.journal) × Shows question outcome before.capacity before.journal behind.honest o v)
+      (λ before behind. (behind.journal ≡ before.journal) × Shows question outcome before.capacity before.journal behind.honest o w) old new
+      (λ before behind k. (k.0, shows_kept i l o v w kept question outcome before.capacity before.journal behind.honest k.1)) h)
+
+  path_kept : {T : Type 0} (question : tree.Path → Question) (image text : List ℕ) (outcome : Result T Fault) → ShowsPath question image text outcome old new o v → ShowsPath question image text outcome old new o w
+  path_kept question image text outcome (inl (h, same, k)) = inl (h, same, keeps_trans o v w k kept)
+  path_kept question image text outcome (inr (path, is, reads, h)) = inr (path, is, reads, shown_kept (question path) image outcome h)
+
+  does_kept : {T : Type 0} (task : Task) (outcome : Result T Fault) → Does task outcome old new i l o v → Does task outcome old new i l o w
+  does_kept (Format image label moment capacity) outcome h = (h.0, made_kept image label moment capacity outcome h.1)
+  does_kept (Apply_to_image image) outcome h = applied_kept image outcome h
+  does_kept (Apply_in_memory capacity) outcome h = (h.0, answers_kept i l o v w kept outcome capacity h.1)
+  does_kept (List_names image path) outcome h = (h.0, path_kept Names_at image path outcome h.1)
+  does_kept (Get_bytes image path) outcome h = (h.0, path_kept Bytes_at image path outcome h.1)
+  does_kept (Log image) outcome h = (h.0, shown_kept Commits image outcome h.1)
+  does_kept (Check image) outcome h = (h.0, shown_kept Soundness image outcome h.1)
+  does_kept Send outcome h = (h.0, sends_kept i l o v w kept outcome h.1)
 
 -- ---- a writer with a buffer
 
@@ -231,29 +247,29 @@ done_well (Ok x) done = refl
 done_well (Err fault) done = refused_not 0 fault (sym done) refl
 
 -- the same by what the calls say that lead there
-module _ (task : Task) (status : ℕ) (i l e f : Option (List ℕ)) {O : Type 0} (contents : O → Option (List ℕ)) (output first last inner : O) (waiting waited rest bytes : List ℕ)
+module _ (task : Task) (status : ℕ) (old new : Images) (i l e f : Option (List ℕ)) {O : Type 0} (contents : O → Option (List ℕ)) (output first last inner : O) (waiting waited rest bytes : List ℕ)
     (begins : first ≡ output) (empty : waiting ≡ []) (taken : inner ≡ last) (left : rest ≡ waited) (same : bytes ≡ rest)
-    (h : Ends task status i l (append_known (contents first) waiting) (append_known (contents last) waited) e f) where
-  begun : Ends task status i l (contents output) (append_known (contents last) waited) e f
-  begun = subst (λ (o : Option (List ℕ)). Ends task status i l o (append_known (contents last) waited) e f)
+    (h : Ends task status old new i l (append_known (contents first) waiting) (append_known (contents last) waited) e f) where
+  begun : Ends task status old new i l (contents output) (append_known (contents last) waited) e f
+  begun = subst (λ (o : Option (List ℕ)). Ends task status old new i l o (append_known (contents last) waited) e f)
       (ap (λ (x : O). append_known (contents x) waiting) begins ∙ nothing_waits (contents output) waiting empty) h
 
-  there : Ends task status i l (contents output) (append_known (contents inner) bytes) e f
-  there = subst (λ (v : Option (List ℕ)). Ends task status i l (contents output) v e f)
+  there : Ends task status old new i l (contents output) (append_known (contents inner) bytes) e f
+  there = subst (λ (v : Option (List ℕ)). Ends task status old new i l (contents output) v e f)
       (ap (λ (x : O). append_known (contents x) waited) (sym taken) ∙ ap (λ (b : List ℕ). append_known (contents inner) b) (sym (same ∙ left))) begun
 
-  gathered_all : (now : Option (List ℕ)) → Appends (contents inner) now bytes → Ends task status i l (contents output) now e f
+  gathered_all : (now : Option (List ℕ)) → Appends (contents inner) now bytes → Ends task status old new i l (contents output) now e f
   gathered_all now put = record {
     outcome = there.outcome;
-    does = does_kept i l (contents output) (append_known (contents inner) bytes) now (written_out (contents inner) now bytes put) task there.outcome there.does;
+    does = does_kept old new i l (contents output) (append_known (contents inner) bytes) now (written_out (contents inner) now bytes put) task there.outcome there.does;
     status_is = there.status_is;
     reports = there.reports;
   }
 
-  pub gathered_done : (now : Option (List ℕ)) → Appends (contents inner) now bytes → status ≡ 0 → Ends task 0 i l (contents output) now e f
-  gathered_done now put done = subst (λ (n : ℕ). Ends task n i l (contents output) now e f) done (gathered_all now put)
+  pub gathered_done : (now : Option (List ℕ)) → Appends (contents inner) now bytes → status ≡ 0 → Ends task 0 old new i l (contents output) now e f
+  gathered_done now put done = subst (λ (n : ℕ). Ends task n old new i l (contents output) now e f) done (gathered_all now put)
 
-  pub gathered_part : (now : Option (List ℕ)) → PutsFront (contents inner) now bytes → HasFront task status i l (contents output) now e f
+  pub gathered_part : (now : Option (List ℕ)) → PutsFront (contents inner) now bytes → HasFront task status old new i l (contents output) now e f
   gathered_part now put = record {
     outcome = there.outcome;
     gathered = append_known (contents inner) bytes;
@@ -267,7 +283,7 @@ module _ (task : Task) (status : ℕ) (i l e f : Option (List ℕ)) {O : Type 0}
 
   -- it went well, and then the output failed, which was said
   pub gathered_failed : (now : Option (List ℕ)) (fault : ServeFault) (last_status : ℕ) (told : Option (List ℕ)) → PutsFront (contents inner) now bytes → status ≡ 0 → fault ≡ streams.Write
-      → last_status ≡ 1 → Reports {T = Unit {0}} (codes "udfburn") (Err (Stream fault)) f told → HasFront task last_status i l (contents output) now e told
+      → last_status ≡ 1 → Reports {T = Unit {0}} (codes "udfburn") (Err (Stream fault)) f told → HasFront task last_status old new i l (contents output) now e told
   gathered_failed now fault last_status told put done write is reports = record {
     outcome = there.outcome;
     gathered = append_known (contents inner) bytes;
@@ -281,7 +297,7 @@ module _ (task : Task) (status : ℕ) (i l e f : Option (List ℕ)) {O : Type 0}
         (subst (λ (x : ServeFault). Reports {T = Unit {0}} (codes "udfburn") (Err (Stream x)) f told) write reports);
   }
 
-  pub gathered_whole : (now : Option (List ℕ)) → Appends (contents inner) now bytes → HasFront task status i l (contents output) now e f
+  pub gathered_whole : (now : Option (List ℕ)) → Appends (contents inner) now bytes → HasFront task status old new i l (contents output) now e f
   gathered_whole now put = gathered_part now (whole_front (contents inner) now bytes put)
 
 -- ---- where nothing is written

@@ -7,9 +7,12 @@ pub mod Texts
 pub mod Saying
 pub mod Printing
 pub mod Going
+pub mod Reading
 pub mod Ending
 pub mod Gathering
+pub mod Hearing
 pub mod Telling
 pub mod Beginnings
 pub mod Framing
 pub mod Tallies
+pub mod Processes

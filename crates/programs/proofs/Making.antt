@@ -1,18 +1,18 @@
 -- A volume was made, or it was refused.
-use Rattle.std.proofs.Common.{◌≡◌, ℕ, List, Bool, Option, Result, Ok, Err, sym, subst, inl, inr}
-use Rattle.std.specs.Prelude.{IsErrAnd, IsErr, IfErr}
+use Rattle.std.proofs.Common.{◌≡◌, ℕ, List, Bool, Option, None, Result, Ok, Err, refl, sym, subst, inl, inr}
+use Rattle.std.specs.Prelude.{IsErrAnd}
 use Rattle.drive.specs.Journal.{Event}
-use Rattle.drive.specs.FileDrive.{journal_of, capacity_of, BeginsWith}
-use Rattle.drive.specs.declared.file.FileDrive.{FileDrive}
+use Rattle.drive.specs.declared.Drive.{Ghosts}
 use Rattle.formatting.specs.NewVolume.{words_on, IsFormatted, IsFormatRefused}
 use Rattle.recover.specs.declared.fault.StoreFault.{StoreFault}
-use Rattle.engine.specs.Situation.{Situation}
+use Rattle.engine.specs.Situation.{situation_on}
 use Rattle.engine.specs.declared.serving.ServeFault.TheVariants as streams
 use Rattle.programs.specs.declared.fault.Fault.{Fault}
 use Rattle.programs.specs.declared.fault.Fault.TheVariants.{Usage, Path, Socket, Store, Stream}
+use Rattle.programs.specs.Images.{Images, IsOpened, IsPutBack, IsThereOrMade}
 use Rattle.programs.specs.Lines.{Puts, formatted_text}
-use Rattle.programs.specs.NewVolumes.{Makes, MakesOnImage, IsBegun, IsUnbegun, Unbegun}
-use Rattle.programs.proofs.Opening.{begins_on, keeps_self}
+use Rattle.programs.specs.NewVolumes.{Makes, MakesOn, MakesOnImage, IsBegun, IsUnbegun}
+use Rattle.programs.proofs.Opening.{keeps_self, on_media}
 
 pub makes_put : {T : Type 0} (label : List ℕ) (moment capacity : ℕ) (outcome : Result T Fault) (J K : List Event) (honest : Bool) (o w : Option (List ℕ)) → Puts outcome o w formatted_text
     → IsFormatted capacity (words_on capacity label moment) J K honest → Makes label moment capacity outcome J K honest o w
@@ -33,24 +33,25 @@ makes_refused {T} label moment capacity (Err f) J K honest o fault is refused =
 
 -- ---- on an image that was opened
 
-pub unbegun_image : {T : Type 0} (label : List ℕ) (moment capacity : ℕ) (outcome : Result T Fault) (d : FileDrive) (behind : Situation) (o : Option (List ℕ)) → (image : List (List ℕ)) × BeginsWith image d → capacity_of d ≡ capacity
-    → IsErr outcome → IfErr outcome (IsUnbegun capacity label moment (journal_of d)) → behind.journal ≡ journal_of d → MakesOnImage label moment capacity outcome o o
-unbegun_image label moment capacity outcome d behind o begins size is why journal =
-    inr (inl (begins_on capacity (λ before after. Unbegun label moment capacity outcome before after o o) d behind begins size (record { refused = is; why = why; journal = journal; unwritten = keeps_self o })))
+-- what is left there after the last whole block is refused, by the fault of the command
+pub unbegun_on : {T D : Type 0} (drive : Ghosts D) (label : List ℕ) (moment : ℕ) (outcome : Result T Fault) (fault : Fault) (d e : D) (o : Option (List ℕ)) → IsErrAnd outcome (λ f. f ≡ fault) → IsUnbegun (drive.capacity d) label moment (drive.journal d) fault
+    → drive.journal e ≡ drive.journal d → MakesOn label moment (drive.capacity d) outcome (situation_on drive None d) (situation_on drive None e) o o
+unbegun_on drive label moment (Ok x) fault d e o is why journal = absurd is
+unbegun_on drive label moment (Err f) fault d e o is why journal =
+    inl (record { refused = refl; why = subst (λ (g : Fault). IsUnbegun (drive.capacity d) label moment (drive.journal d) g) (sym is) why; journal = journal; unwritten = keeps_self o })
 
--- the fault of what is left there is that of the command
-pub unbegun_why : {T : Type 0} (label : List ℕ) (moment capacity room : ℕ) (outcome : Result T Fault) (journal : List Event) (fault : Fault) → room ≡ capacity → IsErrAnd outcome (λ f. f ≡ fault)
-    → IsUnbegun room label moment journal fault → IfErr outcome (IsUnbegun capacity label moment journal)
-unbegun_why label moment capacity room (Ok x) journal fault size is why = absurd is
-unbegun_why label moment capacity room (Err f) journal fault size is why =
-    subst (λ (g : Fault). IsUnbegun capacity label moment journal g) (sym is) (subst (λ (n : ℕ). IsUnbegun n label moment journal fault) size why)
+pub makes_on : {T D : Type 0} (drive : Ghosts D) (label : List ℕ) (moment room : ℕ) (outcome : Result T Fault) (before : List Event) (d e : D) (o w : Option (List ℕ)) → room ≡ drive.capacity d → before ≡ drive.journal d
+    → IsBegun (drive.capacity d) label moment (drive.journal d) → Makes label moment room outcome before (drive.journal e) (drive.honest e) o w
+    → MakesOn label moment (drive.capacity d) outcome (situation_on drive None d) (situation_on drive None e) o w
+makes_on drive label moment room outcome before d e o w same journal begun h = inr (
+  begun,
+  subst (λ (n : ℕ). Makes label moment n outcome (drive.journal d) (drive.journal e) (drive.honest e) o w) same
+      (subst (λ (j : List Event). Makes label moment room outcome j (drive.journal e) (drive.honest e) o w) journal h),
+)
 
-pub makes_image : {T : Type 0} (label : List ℕ) (moment capacity room : ℕ) (outcome : Result T Fault) (d : FileDrive) (J : List Event) (behind : Situation) (o w : Option (List ℕ)) → (image : List (List ℕ)) × BeginsWith image d → capacity_of d ≡ capacity
-    → room ≡ capacity_of d → J ≡ journal_of d → IsBegun (capacity_of d) label moment (journal_of d) → Makes label moment room outcome J behind.journal behind.honest o w → MakesOnImage label moment capacity outcome o w
-makes_image label moment capacity room outcome d J behind o w begins size same journal begun h =
-    inr (inr (begins_on capacity (λ before after. IsBegun capacity label moment before.journal × Makes label moment capacity outcome before.journal after.journal after.honest o w) d behind begins size (
-      subst (λ (n : ℕ). IsBegun n label moment (journal_of d)) size begun,
-      subst (λ (n : ℕ). Makes label moment n outcome (journal_of d) behind.journal behind.honest o w) size
-          (subst (λ (n : ℕ). Makes label moment n outcome (journal_of d) behind.journal behind.honest o w) same
-          (subst (λ (j : List Event). Makes label moment room outcome j behind.journal behind.honest o w) journal h)),
-    )))
+pub makes_image : {T D : Type 0} (drive : Ghosts D) (image label : List ℕ) (moment capacity : ℕ) (outcome : Result T Fault) (d e : D) (before between behind : Images) (o w : Option (List ℕ))
+    → IsOpened drive IsThereOrMade capacity image d before between → IsPutBack drive image e between behind → MakesOn label moment (drive.capacity d) outcome (situation_on drive None d) (situation_on drive None e) o w
+    → MakesOnImage image label moment capacity outcome before behind o w
+makes_image drive image label moment capacity outcome d e before between behind o w opened back h =
+    inr (on_media drive IsThereOrMade capacity image (λ first last. MakesOn label moment capacity outcome first last o w) d e before between behind opened back
+    (subst (λ (n : ℕ). MakesOn label moment n outcome (situation_on drive None d) (situation_on drive None e) o w) opened.fresh.size h))

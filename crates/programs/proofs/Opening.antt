@@ -1,56 +1,51 @@
--- What is done on the drive over an image that was opened.
-use Rattle.std.proofs.Common.{◌≡◌, ◌==◌, ℕ, ◌≤◌, Bool, true, false, List, Option, Some, None, Result, Ok, Err, refl, sym, ◌∙◌, ap, subst}
-use Rattle.std.specs.Prelude.{IsErrAnd, IfErr}
-use Rattle.std.proofs.lemmas.Bool.{false≢true}
+-- What is done on the drive of an image, from its opening until it is put back.
+use Rattle.std.proofs.Common.{◌≡◌, ℕ, true, List, [], Option, Some, None, Result, Ok, Err, refl, ◌∙◌, ap, subst}
+use Rattle.std.specs.Prelude.{IsErrAnd}
 use Rattle.std.specs.Io.KnownBytes.{Keeps}
-use Rattle.drive.specs.Note.{fitted}
-use Rattle.drive.specs.FileDrive.{journal_of, writes_of, failures_of, capacity_of, honest_of, BeginsWith}
-use Rattle.drive.specs.declared.file.FileDrive.{FileDrive}
-use Rattle.drive.proofs.Once.{once-written}
+use Rattle.drive.specs.Journal.{Event}
+use Rattle.drive.specs.declared.Drive.{Ghosts}
+use Rattle.media.specs.Held.{IsFresh}
 use Rattle.recover.specs.declared.fault.StoreFault.TheVariants.{Device}
-use Rattle.engine.specs.Situation.{Situation, situation}
+use Rattle.engine.specs.Situation.{Situation, situation, situation_on}
 use Rattle.programs.specs.declared.fault.Fault.{Fault}
-use Rattle.programs.specs.declared.fault.Fault.TheVariants.{Usage, Path, Socket, Store, Stream}
-use Rattle.programs.specs.Images.{IsUnchanged, OnImage, Unopened, opened}
+use Rattle.programs.specs.declared.fault.Fault.TheVariants.{Store}
+use Rattle.programs.specs.Images.{AreUntouched, Images, IsOpened, IsPutBack, MayBeMade, OnMedia, Unmade, Unopened}
 
 pub keeps_self : (a : Option (List ℕ)) → Keeps a a
 keeps_self None = tt
 keeps_self (Some xs) = refl
 
-pub begins_on : (capacity : ℕ) (Did : Situation → Situation → Type 0) (d : FileDrive) (behind : Situation) → (image : List (List ℕ)) × BeginsWith image d → capacity_of d ≡ capacity
-    → Did (situation None (journal_of d) (failures_of d) (capacity_of d) (honest_of d) (writes_of d)) behind → OnImage capacity Did
-begins_on capacity Did d behind (image, begins) size did =
-    let count : ℕ = begins.journal.0 in
-    let honest : honest_of d ≡ true = ap (λ (n : ℕ). n == 0) begins.misreads in
-    let same : situation None (journal_of d) (failures_of d) (capacity_of d) (honest_of d) (writes_of d) ≡ opened capacity count image =
-    λ i. situation None (begins.journal.2 i) (begins.failures i) (size i) (honest i) (begins.writes i) in
-    record {
-      image = image;
-      count = count;
-      fits = subst (λ (n : ℕ). count ≤ n) size begins.journal.1;
-      once = once-written 0 (fitted count image);
-      behind = behind;
-      did = subst (λ (s : Situation). Did s behind) same did;
-    }
+pub untouched : (images : Images) → AreUntouched images images
+untouched images = record { same = λ _. refl; honest = refl }
+
+-- what a drive was as it was taken out
+opened_as : {D : Type 0} (drive : Ghosts D) (capacity : ℕ) (d : D) → IsFresh drive capacity d → situation_on drive None d ≡ situation None (drive.journal d) 0 capacity true []
+opened_as drive capacity d h i = situation None (drive.journal d) (h.failures i) (h.size i) (h.honest i) (h.writes i)
+
+pub on_media : {D : Type 0} (drive : Ghosts D) (Finds : Option (List Event) → List Event → Type 0) (capacity : ℕ) (path : List ℕ) (Did : Situation → Situation → Type 0) (d e : D) (before between behind : Images)
+    → IsOpened drive Finds capacity path d before between → IsPutBack drive path e between behind → Did (situation_on drive None d) (situation_on drive None e) → OnMedia Finds capacity path Did before behind
+on_media drive Finds capacity path Did d e before between behind opened back did = record {
+  journal = drive.journal d;
+  once = opened.fresh.once;
+  last = situation_on drive None e;
+  did = subst (λ (s : Situation). Did s (situation_on drive None e)) (opened_as drive capacity d opened.fresh) did;
+  found = λ honest. opened.found (back.honest honest);
+  left = back.held;
+  others = λ other differs. back.others other differs ∙ opened.others other differs;
+  drive_honest = back.drive_honest;
+  honest = λ honest. opened.honest (back.honest honest);
+  agreed = λ there honest. back.agreed honest ∙ opened.agreed there;
+}
 
 -- the fault of the opening is that of the command
-pub unopened : {T : Type 0} (outcome : Result T Fault) (fault : Fault) (output : Option (List ℕ)) → IsErrAnd outcome (λ f. f ≡ fault) → fault ≡ Store Device → Unopened outcome output output
-unopened (Ok x) fault output is device = absurd is
-unopened (Err f) fault output is device = record { fault = ap (λ (g : Fault). Err g) (is ∙ device); unwritten = keeps_self output }
+same_fault : {T : Type 0} (outcome : Result T Fault) (fault : Fault) → IsErrAnd outcome (λ f. f ≡ fault) → fault ≡ Store Device → outcome ≡ Err (Store Device)
+same_fault (Ok x) fault is device = absurd is
+same_fault (Err f) fault is device = ap (λ (g : Fault). Err g) (is ∙ device)
 
-abbrev is_socket : Fault → Bool
-is_socket Usage = false
-is_socket Path = false
-is_socket Socket = true
-is_socket (Store fault) = false
-is_socket (Stream fault) = false
+pub unopened : {T : Type 0} (outcome : Result T Fault) (fault : Fault) (before behind : Images) (output : Option (List ℕ)) → IsErrAnd outcome (λ f. f ≡ fault) → fault ≡ Store Device → AreUntouched before behind
+    → Unopened outcome before behind output output
+unopened outcome fault before behind output is device same = record { fault = same_fault outcome fault is device; unwritten = keeps_self output; untouched = same }
 
--- where the image cannot be had no socket is asked for
-pub no_socket : {T : Type 0} (outcome : Result T Fault) (fault : Fault) → IsErrAnd outcome (λ f. f ≡ fault) → fault ≡ Store Device → IfErr outcome (λ f. f ≡ Socket → OnImage 450000 IsUnchanged)
-no_socket (Ok x) fault is device = tt
-no_socket (Err f) fault is device = λ socket. absurd (false≢true (ap is_socket (sym (is ∙ device) ∙ socket)))
-
--- and where the socket cannot, the image was had
-pub had_image : {T : Type 0} (outcome : Result T Fault) → OnImage 450000 IsUnchanged → IfErr outcome (λ f. f ≡ Socket → OnImage 450000 IsUnchanged)
-had_image (Ok x) image = tt
-had_image (Err f) image = λ socket. image
+pub unmade : {T : Type 0} (path : List ℕ) (outcome : Result T Fault) (fault : Fault) (before behind : Images) (output : Option (List ℕ)) → IsErrAnd outcome (λ f. f ≡ fault) → fault ≡ Store Device → MayBeMade path before behind
+    → Unmade path outcome before behind output output
+unmade path outcome fault before behind output is device made = record { fault = same_fault outcome fault is device; unwritten = keeps_self output; made = made }

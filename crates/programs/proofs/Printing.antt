@@ -2,8 +2,7 @@
 use Rattle.std.proofs.Common.{◌≡◌, ◌⊎◌, ℕ, ◌+◌, Bool, false, List, length, Option, Result, Ok, Err, refl, sym, ap, subst, ◌∙◌, inl, inr}
 use Rattle.std.specs.Prelude.{IsTrue, IsErrAnd}
 use Rattle.drive.specs.Journal.{Event, Once, held}
-use Rattle.drive.specs.FileDrive.{journal_of, capacity_of, BeginsWith}
-use Rattle.drive.specs.declared.file.FileDrive.{FileDrive}
+use Rattle.drive.specs.declared.Drive.{Ghosts}
 use Rattle.model.specs.Session.{State}
 use Rattle.model.specs.Tree.{Path, Tree}
 use Rattle.durability.specs.Runs.{told}
@@ -26,15 +25,15 @@ use Rattle.store.specs.Queries.{IsQueryRefused as QueryRefused}
 use Rattle.store.specs.Shows.{Shows as TreeShows}
 use Rattle.store.proofs.Knowing.{shows}
 use Rattle.store.proofs.Queried.{gets, lists}
-use Rattle.engine.specs.Situation.{Situation}
 use Rattle.engine.specs.declared.serving.ServeFault.TheVariants as streams
 use Rattle.programs.specs.declared.fault.Fault.{Fault}
 use Rattle.programs.specs.declared.fault.Fault.TheVariants as faults
+use Rattle.programs.specs.Images.{Images, IsOpened, IsPutBack, IsThere}
 use Rattle.programs.specs.Lines.{Puts, names_text, commits_text, sound_text}
 use Rattle.programs.specs.Questions.{Question, Says, Refuses, IsQuestionAnswered, IsQuestionRefused, Shows, ShowsImage, ShowsPath}
 use Rattle.programs.specs.Questions.Question.{Names_at, Bytes_at, Commits, Soundness}
 use Rattle.programs.specs.Status.{IsPathTold}
-use Rattle.programs.proofs.Opening.{begins_on, keeps_self}
+use Rattle.programs.proofs.Opening.{keeps_self, on_media, untouched}
 
 -- ---- by the outcome
 
@@ -155,17 +154,19 @@ module _ (capacity : ℕ) (J : List Event) (store : Store) where
 
 -- ---- on an image
 
-pub shows_image : {T : Type 0} (question : Question) (outcome : Result T Fault) (d : FileDrive) (behind : Situation) (o w : Option (List ℕ)) → (image : List (List ℕ)) × BeginsWith image d → capacity_of d ≡ 450000
-    → behind.journal ≡ journal_of d → Shows question outcome (capacity_of d) (journal_of d) behind.honest o w → ShowsImage question outcome o w
-shows_image question outcome d behind o w begins size journal h =
-    inr (begins_on 450000 (λ before after. (after.journal ≡ before.journal) × Shows question outcome before.capacity before.journal after.honest o w) d behind begins size (journal, h))
+pub shows_image : {T D : Type 0} (drive : Ghosts D) (question : Question) (image : List ℕ) (outcome : Result T Fault) (d e : D) (before between behind : Images) (o w : Option (List ℕ))
+    → IsOpened drive IsThere 450000 image d before between → IsPutBack drive image e between behind → drive.journal e ≡ drive.journal d
+    → Shows question outcome (drive.capacity d) (drive.journal d) (drive.honest e) o w → ShowsImage question image outcome before behind o w
+shows_image drive question image outcome d e before between behind o w opened back journal h =
+    inr (on_media drive IsThere 450000 image (λ first last. (last.journal ≡ first.journal) × Shows question outcome first.capacity first.journal last.honest o w) d e before between behind opened back (journal, h))
 
-pub shows_path : {T : Type 0} (question : Path → Question) (text : List ℕ) (path : Path) (outcome : Result T Fault) (o w : Option (List ℕ)) → IsPath path × (text ≡ path_text path) → ShowsImage (question path) outcome o w → ShowsPath question text outcome o w
-shows_path question text path outcome o w is h = inr (path, is.0, is.1, h)
+pub shows_path : {T : Type 0} (question : Path → Question) (image text : List ℕ) (path : Path) (outcome : Result T Fault) (before behind : Images) (o w : Option (List ℕ)) → IsPath path × (text ≡ path_text path)
+    → ShowsImage (question path) image outcome before behind o w → ShowsPath question image text outcome before behind o w
+shows_path question image text path outcome before behind o w is h = inr (path, is.0, is.1, h)
 
-pub path_unread : {T : Type 0} (question : Path → Question) (text : List ℕ) (fault : PathFault) (outcome : Result T Fault) (o : Option (List ℕ)) → IsErrAnd outcome (IsPathTold fault)
-    → (fault ≡ paths.Path → (path : Path) → IsPath path → text ≡ path_text path → ⊥) → ShowsPath question text outcome o o
-path_unread question text paths.Path (Ok x) o is only = absurd is
-path_unread question text paths.Memory (Ok x) o is only = absurd is
-path_unread question text paths.Path (Err f) o is only = inl (inl (ap (λ (g : Fault). Err g) is, only refl), keeps_self o)
-path_unread question text paths.Memory (Err f) o is only = inl (inr (ap (λ (g : Fault). Err g) is), keeps_self o)
+pub path_unread : {T : Type 0} (question : Path → Question) (image text : List ℕ) (fault : PathFault) (outcome : Result T Fault) (images : Images) (o : Option (List ℕ)) → IsErrAnd outcome (IsPathTold fault)
+    → (fault ≡ paths.Path → (path : Path) → IsPath path → text ≡ path_text path → ⊥) → ShowsPath question image text outcome images images o o
+path_unread question image text paths.Path (Ok x) images o is only = absurd is
+path_unread question image text paths.Memory (Ok x) images o is only = absurd is
+path_unread question image text paths.Path (Err f) images o is only = inl (inl (ap (λ (g : Fault). Err g) is, only refl), untouched images, keeps_self o)
+path_unread question image text paths.Memory (Err f) images o is only = inl (inr (ap (λ (g : Fault). Err g) is), untouched images, keeps_self o)

@@ -1,6 +1,7 @@
 -- What a program said in the end, by its outcome.
-use Rattle.std.proofs.Common.{◌≡◌, ◌⊎◌, ℕ, ◌≤◌, List, [], ◌∷◌, ◌++◌, codes, Option, Result, Ok, Err, refl, sym, subst, inl, inr, arith}
-use Rattle.std.specs.Prelude.{IfErr, OnErr, OnOk}
+use Rattle.std.proofs.Common.{◌≡◌, ℕ, ◌≤◌, List, [], ◌∷◌, ◌++◌, codes, Option, None, Result, Ok, Err, refl, sym, ◌∙◌, subst, inl, inr, arith}
+use Rattle.std.specs.Prelude.{IfErr, IsErrAnd, OnErr, OnOk}
+use Rattle.drive.specs.declared.Drive.{Ghosts}
 use Rattle.command_line.specs.declared.daemon.DaemonWords.{DaemonWords}
 use Rattle.command_line.specs.declared.daemon.WordsFault.{WordsFault}
 use Rattle.command_line.specs.declared.daemon.WordsFault.TheVariants as faults
@@ -9,12 +10,13 @@ use Rattle.engine.specs.Streams.{PutsFront}
 use Rattle.recover.specs.declared.fault.StoreFault.TheVariants as stores
 use Rattle.programs.specs.declared.fault.Fault.{Fault}
 use Rattle.programs.specs.declared.fault.Fault.TheVariants.{Usage, Path, Socket, Store, Stream}
-use Rattle.engine.specs.Situation.{Situation}
+use Rattle.engine.specs.Situation.{Situation, situation_on}
 use Rattle.programs.specs.Connections.{LeavesConnection}
 use Rattle.programs.specs.FaultLines.{Reports, TellsOutcome, fault_line}
-use Rattle.programs.specs.Refusals.{IsDaemonTold, IsEarly, IsLeaving, RefusesDaemon, SaysEach, SaysFaults, TellsEarly, TellsRefusal}
-use Rattle.programs.specs.Images.{IsUnchanged, OnImage}
+use Rattle.programs.specs.Refusals.{IsDaemonTold, IsEarly, IsLeaving, OnAsked, RefusesDaemon, SaysEach, SaysFaults, ServesImage, TellsEarly, TellsRefusal}
+use Rattle.programs.specs.Images.{AreUntouched, Images, IsOpened, IsPutBack, IsThere, IsUnchanged}
 use Rattle.programs.specs.Status.{AreWordsTold, fault_status, status_of}
+use Rattle.programs.proofs.Opening.{on_media, untouched}
 
 pub refused : (fault : Fault) → 1 ≤ fault_status fault
 refused Usage = omega arith
@@ -44,26 +46,51 @@ refused_not status fault is done = let least = refused fault in absurd (omega (a
 -- ---- a daemon that served nothing
 
 -- its words were read, and what they name cannot be had
-pub unserved : {T : Type 0} (words : List (List ℕ)) (asked : DaemonWords) (outcome : Result T Fault) → AsksDaemon words asked → IfErr outcome (λ fault. (fault ≡ Socket) ⊎ (fault ≡ Store stores.Device))
-    → IfErr outcome (λ fault. fault ≡ Socket → OnImage 450000 IsUnchanged) → IfErr outcome (RefusesDaemon words)
-unserved words asked (Ok x) asks h image = tt
-unserved words asked (Err fault) asks (inl h) image = subst (λ (f : Fault). RefusesDaemon words f) (sym h) ((asked, asks), image h)
-unserved words asked (Err fault) asks (inr h) image = subst (λ (f : Fault). RefusesDaemon words f) (sym h) (inr (refl, (asked, asks)))
+pub unserved : {T : Type 0} (words : List (List ℕ)) (asked : DaemonWords) (Did : Situation → Situation → Type 0) (outcome : Result T Fault) (old new : Images) → AsksDaemon words asked → ServesImage asked.image.now Did outcome old new
+    → IfErr outcome (λ fault. RefusesDaemon words fault old new)
+unserved words asked Did (Ok x) old new asks h = tt
+unserved words asked Did (Err Usage) old new asks h = absurd h
+unserved words asked Did (Err Path) old new asks h = h
+unserved words asked Did (Err Socket) old new asks h = (asked, asks, h)
+unserved words asked Did (Err (Store fault)) old new asks h = (h.0, inr (h.1, (asked, asks)))
+unserved words asked Did (Err (Stream fault)) old new asks h = h
+
+-- or it served, what they name
+pub served_asked : {T : Type 0} (words : List (List ℕ)) (asked : DaemonWords) (Did : DaemonWords → Situation → Situation → Type 0) (outcome : Result T Fault) (old new : Images) → AsksDaemon words asked → ServesImage asked.image.now (Did asked) outcome old new
+    → OnOk outcome (OnAsked words Did old new)
+served_asked words asked Did (Ok x) old new asks h = (asked, asks, h)
+served_asked words asked Did (Err fault) old new asks h = tt
 
 -- or they are others, or memory is short for them
-pub unasked : (words : List (List ℕ)) (told : WordsFault) (fault : Fault) → AreWordsTold told fault → (told ≡ faults.Usage → (asked : DaemonWords) → AsksDaemon words asked → ⊥) → RefusesDaemon words fault
-unasked words faults.Usage fault is none = subst (λ (f : Fault). RefusesDaemon words f) (sym is) (none refl)
-unasked words faults.Memory fault is none = subst (λ (f : Fault). RefusesDaemon words f) (sym is) (inl refl)
+pub unasked : (words : List (List ℕ)) (told : WordsFault) (fault : Fault) (images : Images) → AreWordsTold told fault → (told ≡ faults.Usage → (asked : DaemonWords) → AsksDaemon words asked → ⊥) → RefusesDaemon words fault images images
+unasked words faults.Usage fault images is none = subst (λ (f : Fault). RefusesDaemon words f images images) (sym is) (untouched images, none refl)
+unasked words faults.Memory fault images is none = subst (λ (f : Fault). RefusesDaemon words f images images) (sym is) (untouched images, inl refl)
 
-pub tells_refusal : (words : List (List ℕ)) (outcome : Result (Unit {0}) Fault) (status : ℕ) (e d f : Option (List ℕ)) → IfErr outcome (RefusesDaemon words) → OnErr outcome (d ≡ e) → status ≡ status_of outcome → Reports (codes "udfburnd") outcome d f
-    → 1 ≤ status → TellsRefusal words status e f
-tells_refusal words (Ok x) status e d f refuses quiet is reports least = absurd (omega (arith, is, least))
-tells_refusal words (Err fault) status e d f refuses quiet is reports least =
+pub tells_refusal : (words : List (List ℕ)) (outcome : Result (Unit {0}) Fault) (status : ℕ) (old new : Images) (e d f : Option (List ℕ)) → IfErr outcome (λ fault. RefusesDaemon words fault old new) → OnErr outcome (d ≡ e) → status ≡ status_of outcome → Reports (codes "udfburnd") outcome d f
+    → 1 ≤ status → TellsRefusal words status old new e f
+tells_refusal words (Ok x) status old new e d f refuses quiet is reports least = absurd (omega (arith, is, least))
+tells_refusal words (Err fault) status old new e d f refuses quiet is reports least =
     record { fault = fault; refuses = refuses; status_is = is; line = subst (λ (x : Option (List ℕ)). PutsFront x f (fault_line (codes "udfburnd") fault)) quiet reports }
 
 -- so the process says why it served nothing
-pub told_refusal : (words : List (List ℕ)) (status : ℕ) (e f : Option (List ℕ)) → TellsRefusal words status e f → IsDaemonTold status e f
-told_refusal words status e f h = inr (words, h)
+pub told_refusal : (words : List (List ℕ)) (status : ℕ) (old new : Images) (e f : Option (List ℕ)) → TellsRefusal words status old new e f → IsDaemonTold status old new e f
+told_refusal words status old new e f h = inr (words, h)
+
+-- ---- on the image of a daemon
+
+-- the socket cannot be had
+pub serves_unheard : {T D : Type 0} (drive : Ghosts D) (image : List ℕ) (Did : Situation → Situation → Type 0) (outcome : Result T Fault) (d e : D) (before between behind : Images) → IsOpened drive IsThere 450000 image d before between
+    → IsPutBack drive image e between behind → IfErr outcome (λ fault. fault ≡ Socket) → OnErr outcome (IsUnchanged (situation_on drive None d) (situation_on drive None e)) → OnOk outcome (Did (situation_on drive None d) (situation_on drive None e))
+    → ServesImage image Did outcome before behind
+serves_unheard drive image Did (Ok x) d e before between behind opened back refused unchanged run = on_media drive IsThere 450000 image Did d e before between behind opened back run
+serves_unheard {T} drive image Did (Err fault) d e before between behind opened back refused unchanged run =
+    subst (λ (f : Fault). ServesImage {T = T} image Did (Err f) before behind) (sym refused) (on_media drive IsThere 450000 image IsUnchanged d e before between behind opened back unchanged)
+
+-- the image cannot
+pub serves_unopened : {T : Type 0} (image : List ℕ) (Did : Situation → Situation → Type 0) (outcome : Result T Fault) (fault : Fault) (before behind : Images) → IsErrAnd outcome (λ f. f ≡ fault) → fault ≡ Store stores.Device → AreUntouched before behind
+    → ServesImage image Did outcome before behind
+serves_unopened {T} image Did (Ok x) fault before behind is device same = absurd is
+serves_unopened {T} image Did (Err f) fault before behind is device same = subst (λ (g : Fault). ServesImage {T = T} image Did (Err g) before behind) (sym (is ∙ device)) (same, refl)
 
 -- a fault was said before anything was begun
 pub told_early : (name : List ℕ) (status : ℕ) (fault : Fault) (e d f : Option (List ℕ)) → IsEarly fault → d ≡ e → status ≡ fault_status fault → Reports {T = Unit {0}} name (Err fault) d f → TellsEarly name status e f

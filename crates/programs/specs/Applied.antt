@@ -27,7 +27,7 @@ use Rattle.engine.specs.Served.{AllAnswered, IsCutOff, LeftBy, ServesAll, Serves
 use Rattle.engine.specs.declared.serving.ServeFault.{ServeFault}
 use Rattle.programs.specs.declared.fault.Fault.{Fault}
 use Rattle.programs.specs.declared.fault.Fault.TheVariants.{Usage, Path, Socket, Store as Stored, Stream}
-use Rattle.programs.specs.Images.{OnImage, Unopened}
+use Rattle.programs.specs.Images.{Images, IsThere, OnMedia, Unopened}
 
 -- All messages of the input were answered, or the first ones up to where this fault came. Which store is open behind them is not told.
 abbrev pub AppliesAll : Situation → Situation → Option (List ℕ) → Option (List ℕ) → Option (List ℕ) → Option (List ℕ) → Type 0
@@ -45,10 +45,10 @@ Applies (Err Socket) before behind input left output written = ⊥
 Applies (Err (Stored fault)) before behind input left output written = ⊥
 Applies (Err (Stream fault)) before behind input left output written = AppliesUntil fault before behind input left output written
 
--- the same on an image
-abbrev pub AppliesToImage : {T : Type 0} → Result T Fault → Option (List ℕ) → Option (List ℕ) → Option (List ℕ) → Option (List ℕ) → Type 0
-AppliesToImage outcome input left output written =
-    (Unopened outcome output written × (left ≡ input)) ⊎ OnImage GREATEST_CAPACITY (λ before behind. Applies outcome before behind input left output written)
+-- the same on the image at a path
+abbrev pub AppliesToImage : {T : Type 0} → List ℕ → Result T Fault → Images → Images → Option (List ℕ) → Option (List ℕ) → Option (List ℕ) → Option (List ℕ) → Type 0
+AppliesToImage image outcome old new input left output written =
+    (Unopened outcome old new output written × (left ≡ input)) ⊎ OnMedia IsThere GREATEST_CAPACITY image (λ before behind. Applies outcome before behind input left output written) old new
 
 -- ---- a volume in memory, whose drive is honest: no premise is left
 

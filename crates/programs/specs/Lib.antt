@@ -6,9 +6,12 @@ pub mod Lines
 pub mod FaultLines
 pub mod Applied
 pub mod Connections
+pub mod Outputs
+pub mod Listening
 pub mod Refusals
 pub mod NewVolumes
 pub mod Questions
 pub mod Tasks
 pub mod Counting
 pub mod Counted
+pub mod Processes

@@ -12,7 +12,7 @@ use Rattle.engine.specs.declared.serving.ServeFault.TheVariants as stream
 use Rattle.engine.specs.Situation.{Situation}
 use Rattle.programs.specs.declared.fault.Fault.{Fault}
 use Rattle.programs.specs.declared.fault.Fault.TheVariants.{Usage, Path, Socket, Store, Stream}
-use Rattle.programs.specs.Images.{OnImage, Unopened}
+use Rattle.programs.specs.Images.{Images, IsThereOrMade, OnMedia, Unmade}
 use Rattle.programs.specs.Lines.{formatted_text}
 
 -- The format was finished, so that on an honest drive the new volume stands, and then that was printed. Where the format is
@@ -60,16 +60,20 @@ IsUnbegun capacity label moment journal fault =
 abbrev pub IsBegun : ℕ → List ℕ → ℕ → List Event → Type 0
 IsBegun capacity label moment journal = (part : List ℕ) × (length part < BLOCK_BYTES) × ((part ≡ []) ⊎ Begins (words_on capacity label moment) (next_of journal) part)
 
--- what is left behind the last whole block of an image was refused, and nothing was done
+-- what is left after the last whole block of an image was refused, and nothing was done
 pub record Unbegun {T : Type 0} (label : List ℕ) (moment capacity : ℕ) (outcome : Result T Fault) (before behind : Situation) (output written : Option (List ℕ)) : Type 0 where
   pub refused : IsErr outcome
   pub why : IfErr outcome (IsUnbegun capacity label moment before.journal)
   pub journal : behind.journal ≡ before.journal
   pub unwritten : Keeps output written
 
--- the same on an image
-abbrev pub MakesOnImage : {T : Type 0} → List ℕ → ℕ → ℕ → Result T Fault → Option (List ℕ) → Option (List ℕ) → Type 0
-MakesOnImage label moment capacity outcome output written =
-    Unopened outcome output written
-    ⊎ (OnImage capacity (λ before behind. Unbegun label moment capacity outcome before behind output written)
-    ⊎ OnImage capacity (λ before behind. IsBegun capacity label moment before.journal × Makes label moment capacity outcome before.journal behind.journal behind.honest output written))
+-- a volume was made, or what is left after the last whole block of the image was refused
+abbrev pub MakesOn : {T : Type 0} → List ℕ → ℕ → ℕ → Result T Fault → Situation → Situation → Option (List ℕ) → Option (List ℕ) → Type 0
+MakesOn label moment capacity outcome before behind output written =
+    Unbegun label moment capacity outcome before behind output written
+    ⊎ (IsBegun capacity label moment before.journal × Makes label moment capacity outcome before.journal behind.journal behind.honest output written)
+
+-- the same on the image at a path, which is made where it is missing
+abbrev pub MakesOnImage : {T : Type 0} → List ℕ → List ℕ → ℕ → ℕ → Result T Fault → Images → Images → Option (List ℕ) → Option (List ℕ) → Type 0
+MakesOnImage image label moment capacity outcome old new output written =
+    Unmade image outcome old new output written ⊎ OnMedia IsThereOrMade capacity image (λ before behind. MakesOn label moment capacity outcome before behind output written) old new

@@ -22,7 +22,7 @@ use Rattle.engine.specs.Streams.{PutsFront}
 use Rattle.engine.specs.declared.serving.ServeFault.TheVariants as stream
 use Rattle.programs.specs.declared.fault.Fault.{Fault}
 use Rattle.programs.specs.declared.fault.Fault.TheVariants as faults
-use Rattle.programs.specs.Images.{OnImage, Unopened}
+use Rattle.programs.specs.Images.{AreUntouched, Images, IsThere, OnMedia, Unopened}
 use Rattle.programs.specs.Lines.{names_text, commits_text, sound_text}
 
 -- what is asked of a volume
@@ -87,18 +87,18 @@ Shows question (Err (faults.Stream stream.Read)) capacity journal honest output 
 Shows question (Err (faults.Stream stream.Write)) capacity journal honest output written = PrintsFront question capacity journal honest output written
 Shows question (Err (faults.Stream stream.Memory)) capacity journal honest output written = ⊥
 
--- the same on an image, to which nothing is written
-abbrev pub ShowsImage : {T : Type 0} → Question → Result T Fault → Option (List ℕ) → Option (List ℕ) → Type 0
-ShowsImage question outcome output written =
-    Unopened outcome output written
-    ⊎ OnImage GREATEST_CAPACITY (λ before behind. (behind.journal ≡ before.journal) × Shows question outcome before.capacity before.journal behind.honest output written)
+-- the same on the image at a path, to which nothing is written
+abbrev pub ShowsImage : {T : Type 0} → Question → List ℕ → Result T Fault → Images → Images → Option (List ℕ) → Option (List ℕ) → Type 0
+ShowsImage question image outcome old new output written =
+    Unopened outcome old new output written
+    ⊎ OnMedia IsThere GREATEST_CAPACITY image (λ before behind. (behind.journal ≡ before.journal) × Shows question outcome before.capacity before.journal behind.honest output written) old new
 
 -- The text is that of no path, or there was no memory for it.
 abbrev pub IsUnread : {T : Type 0} → List ℕ → Result T Fault → Type 0
 IsUnread text outcome = ((outcome ≡ Err faults.Path) × ((path : Path) → IsPath path → text ≡ path_text path → ⊥)) ⊎ (outcome ≡ Err (faults.Store Memory))
 
 -- the same of a path by its text
-abbrev pub ShowsPath : {T : Type 0} → (Path → Question) → List ℕ → Result T Fault → Option (List ℕ) → Option (List ℕ) → Type 0
-ShowsPath question text outcome output written =
-    (IsUnread text outcome × Keeps output written)
-    ⊎ ((path : Path) × IsPath path × (text ≡ path_text path) × ShowsImage (question path) outcome output written)
+abbrev pub ShowsPath : {T : Type 0} → (Path → Question) → List ℕ → List ℕ → Result T Fault → Images → Images → Option (List ℕ) → Option (List ℕ) → Type 0
+ShowsPath question image text outcome old new output written =
+    (IsUnread text outcome × AreUntouched old new × Keeps output written)
+    ⊎ ((path : Path) × IsPath path × (text ≡ path_text path) × ShowsImage (question path) image outcome old new output written)

@@ -1,32 +1,46 @@
 -- Why a program began nothing, or a daemon served nothing, what it says of its connections, and how.
-use Rattle.std.specs.Prelude.{◌≡◌, ◌⊎◌, ⊤, ℕ, List, [], ◌∷◌, codes, Option}
+use Rattle.std.specs.Prelude.{◌≡◌, ◌⊎◌, ⊤, ℕ, List, [], ◌∷◌, codes, Option, Result, Ok, Err}
 use Rattle.limits.specs.declared.TheConstants.{GREATEST_CAPACITY}
 use Rattle.command_line.specs.declared.daemon.DaemonWords.{DaemonWords}
 use Rattle.command_line.specs.Daemon.{AsksDaemon}
+use Rattle.engine.specs.Situation.{Situation}
 use Rattle.engine.specs.Streams.{PutsFront}
 use Rattle.recover.specs.declared.fault.StoreFault.TheVariants as stores
 use Rattle.programs.specs.declared.fault.Fault.{Fault}
 use Rattle.programs.specs.declared.fault.Fault.TheVariants.{Usage, Path, Socket, Store, Stream}
 use Rattle.programs.specs.FaultLines.{fault_line}
-use Rattle.programs.specs.Images.{IsUnchanged, OnImage}
+use Rattle.programs.specs.Images.{AreUntouched, Images, IsThere, IsUnchanged, OnMedia}
 use Rattle.programs.specs.Status.{fault_status}
 
 -- these are words of the daemon
 abbrev pub AreDaemonWords : List (List ℕ) → Type 0
 AreDaemonWords words = (asked : DaemonWords) × AsksDaemon words asked
 
+-- these are words of the daemon, and this was done on the drive of the image that they name
+abbrev pub OnAsked : List (List ℕ) → (DaemonWords → Situation → Situation → Type 0) → Images → Images → Type 0
+OnAsked words Did old new = (asked : DaemonWords) × AsksDaemon words asked × OnMedia IsThere GREATEST_CAPACITY asked.image.now (Did asked) old new
+
 -- They are none, memory is short to read them, or what they name cannot be had: the image, or then the socket.
-abbrev pub RefusesDaemon : List (List ℕ) → Fault → Type 0
-RefusesDaemon words Usage = (asked : DaemonWords) → AsksDaemon words asked → ⊥
-RefusesDaemon words Path = ⊥
-RefusesDaemon words Socket = AreDaemonWords words × OnImage GREATEST_CAPACITY IsUnchanged
-RefusesDaemon words (Store fault) = (fault ≡ stores.Memory) ⊎ ((fault ≡ stores.Device) × AreDaemonWords words)
-RefusesDaemon words (Stream fault) = ⊥
+abbrev pub RefusesDaemon : List (List ℕ) → Fault → Images → Images → Type 0
+RefusesDaemon words Usage old new = AreUntouched old new × ((asked : DaemonWords) → AsksDaemon words asked → ⊥)
+RefusesDaemon words Path old new = ⊥
+RefusesDaemon words Socket old new = OnAsked words (λ asked. IsUnchanged) old new
+RefusesDaemon words (Store fault) old new = AreUntouched old new × ((fault ≡ stores.Memory) ⊎ ((fault ≡ stores.Device) × AreDaemonWords words))
+RefusesDaemon words (Stream fault) old new = ⊥
+
+-- by the outcome, of the image at this path: this was done, the socket could not be had, or the image could not
+abbrev pub ServesImage : {T : Type 0} → List ℕ → (Situation → Situation → Type 0) → Result T Fault → Images → Images → Type 0
+ServesImage image Did (Ok x) old new = OnMedia IsThere GREATEST_CAPACITY image Did old new
+ServesImage image Did (Err Usage) old new = ⊥
+ServesImage image Did (Err Path) old new = ⊥
+ServesImage image Did (Err Socket) old new = OnMedia IsThere GREATEST_CAPACITY image IsUnchanged old new
+ServesImage image Did (Err (Store fault)) old new = AreUntouched old new × (fault ≡ stores.Device)
+ServesImage image Did (Err (Stream fault)) old new = ⊥
 
 -- this is its status, and the line that is said of it, or a front where the stream fails
-pub record TellsRefusal (words : List (List ℕ)) (status : ℕ) (errors told : Option (List ℕ)) : Type 0 where
+pub record TellsRefusal (words : List (List ℕ)) (status : ℕ) (old new : Images) (errors told : Option (List ℕ)) : Type 0 where
   pub fault : Fault
-  pub refuses : RefusesDaemon words fault
+  pub refuses : RefusesDaemon words fault old new
   pub status_is : status ≡ fault_status fault
   pub line : PutsFront errors told (fault_line (codes "udfburnd") fault)
 
@@ -61,5 +75,6 @@ pub record TellsEarly (name : List ℕ) (status : ℕ) (errors told : Option (Li
   pub line : PutsFront errors told (fault_line name fault)
 
 -- why the process of a daemon served nothing: before it had its words, or with these
-abbrev pub IsDaemonTold : ℕ → Option (List ℕ) → Option (List ℕ) → Type 0
-IsDaemonTold status errors told = TellsEarly (codes "udfburnd") status errors told ⊎ ((words : List (List ℕ)) × TellsRefusal words status errors told)
+abbrev pub IsDaemonTold : ℕ → Images → Images → Option (List ℕ) → Option (List ℕ) → Type 0
+IsDaemonTold status old new errors told =
+    (AreUntouched old new × TellsEarly (codes "udfburnd") status errors told) ⊎ ((words : List (List ℕ)) × TellsRefusal words status old new errors told)

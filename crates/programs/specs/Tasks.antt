@@ -10,47 +10,59 @@ use Rattle.programs.specs.declared.fault.Fault.TheVariants.{Stream}
 use Rattle.programs.specs.Applied.{AppliesToImage, AnswersInMemory}
 use Rattle.programs.specs.Copies.{Sends}
 use Rattle.programs.specs.FaultLines.{Reports}
+use Rattle.programs.specs.Images.{AreUntouched, Images}
 use Rattle.programs.specs.NewVolumes.{MakesOnImage}
 use Rattle.programs.specs.Questions.{ShowsImage, ShowsPath}
 use Rattle.programs.specs.Questions.Question.{Names_at, Bytes_at, Commits, Soundness}
 use Rattle.programs.specs.Status.{status_of}
 
 pub data Task : Type 0 where
-  Format : (label : List ℕ) (moment capacity : ℕ) → Task
-  Apply_to_image : Task
+  Format : (image label : List ℕ) (moment capacity : ℕ) → Task
+  Apply_to_image : (image : List ℕ) → Task
   Apply_in_memory : (capacity : ℕ) → Task
-  List_names : (path : List ℕ) → Task
-  Get_bytes : (path : List ℕ) → Task
-  Log : Task
-  Check : Task
+  List_names : (image path : List ℕ) → Task
+  Get_bytes : (image path : List ℕ) → Task
+  Log : (image : List ℕ) → Task
+  Check : (image : List ℕ) → Task
   Send : Task
 
--- which file or socket is meant makes no difference that a clause could name
+-- which socket is meant makes no difference that a clause could name
 abbrev pub task_of : Command → Task
-task_of (commands.Format image label moment capacity) = Format label.now moment capacity
-task_of (commands.Apply (Image path)) = Apply_to_image
+task_of (commands.Format image label moment capacity) = Format image.now label.now moment capacity
+task_of (commands.Apply (Image path)) = Apply_to_image path.now
 task_of (commands.Apply (Memory capacity)) = Apply_in_memory capacity
-task_of (commands.List image path) = List_names path.now
-task_of (commands.Get image path) = Get_bytes path.now
-task_of (commands.Log image) = Log
-task_of (commands.Check image) = Check
+task_of (commands.List image path) = List_names image.now path.now
+task_of (commands.Get image path) = Get_bytes image.now path.now
+task_of (commands.Log image) = Log image.now
+task_of (commands.Check image) = Check image.now
 task_of (commands.Send socket) = Send
 
--- what was done, by the outcome
-abbrev pub Does : {T : Type 0} → Task → Result T Fault → Option (List ℕ) → Option (List ℕ) → Option (List ℕ) → Option (List ℕ) → Type 0
-Does (Format label moment capacity) outcome input left output written = (left ≡ input) × MakesOnImage label moment capacity outcome output written
-Does Apply_to_image outcome input left output written = AppliesToImage outcome input left output written
-Does (Apply_in_memory capacity) outcome input left output written = AnswersInMemory outcome capacity input left output written
-Does (List_names path) outcome input left output written = (left ≡ input) × ShowsPath Names_at path outcome output written
-Does (Get_bytes path) outcome input left output written = (left ≡ input) × ShowsPath Bytes_at path outcome output written
-Does Log outcome input left output written = (left ≡ input) × ShowsImage Commits outcome output written
-Does Check outcome input left output written = (left ≡ input) × ShowsImage Soundness outcome output written
-Does Send outcome input left output written = Sends outcome input left output written
+-- what was done, by the outcome: of the images that are held, and of what is read and written
+abbrev pub Does : {T : Type 0} → Task → Result T Fault → Images → Images → Option (List ℕ) → Option (List ℕ) → Option (List ℕ) → Option (List ℕ) → Type 0
+Does (Format image label moment capacity) outcome old new input left output written = (left ≡ input) × MakesOnImage image label moment capacity outcome old new output written
+Does (Apply_to_image image) outcome old new input left output written = AppliesToImage image outcome old new input left output written
+Does (Apply_in_memory capacity) outcome old new input left output written = AreUntouched old new × AnswersInMemory outcome capacity input left output written
+Does (List_names image path) outcome old new input left output written = (left ≡ input) × ShowsPath Names_at image path outcome old new output written
+Does (Get_bytes image path) outcome old new input left output written = (left ≡ input) × ShowsPath Bytes_at image path outcome old new output written
+Does (Log image) outcome old new input left output written = (left ≡ input) × ShowsImage Commits image outcome old new output written
+Does (Check image) outcome old new input left output written = (left ≡ input) × ShowsImage Soundness image outcome old new output written
+Does Send outcome old new input left output written = AreUntouched old new × Sends outcome input left output written
+
+-- a command that writes to no image
+abbrev pub IsReading : Task → Type 0
+IsReading (Format image label moment capacity) = ⊥
+IsReading (Apply_to_image image) = ⊥
+IsReading (Apply_in_memory capacity) = ⊤
+IsReading (List_names image path) = ⊤
+IsReading (Get_bytes image path) = ⊤
+IsReading (Log image) = ⊤
+IsReading (Check image) = ⊤
+IsReading Send = ⊤
 
 -- There is an outcome by which that was done. It has this status, and a fault's line was said.
-pub record Ends (task : Task) (status : ℕ) (input left output written errors told : Option (List ℕ)) : Type 0 where
+pub record Ends (task : Task) (status : ℕ) (old new : Images) (input left output written errors told : Option (List ℕ)) : Type 0 where
   pub outcome : Result (Unit {0}) Fault
-  pub does : Does task outcome input left output written
+  pub does : Does task outcome old new input left output written
   pub status_is : status ≡ status_of outcome
   pub reports : Reports (codes "udfburn") outcome errors told
 
@@ -66,10 +78,10 @@ IsToldAs outcome told = (told ≡ outcome) ⊎ (IsOk outcome × (told ≡ Err (S
 
 -- Something was done by an outcome, and of what was written with it a front is there. The status and the line are those of
 -- what is told of it.
-pub record HasFront (task : Task) (status : ℕ) (input left output written errors told : Option (List ℕ)) : Type 0 where
+pub record HasFront (task : Task) (status : ℕ) (old new : Images) (input left output written errors told : Option (List ℕ)) : Type 0 where
   pub outcome : Result (Unit {0}) Fault
   pub gathered : Option (List ℕ)
-  pub does : Does task outcome input left output gathered
+  pub does : Does task outcome old new input left output gathered
   pub front : IsFrontOf gathered written
   pub told_as : Result (Unit {0}) Fault
   pub is_told : IsToldAs outcome told_as
@@ -77,15 +89,15 @@ pub record HasFront (task : Task) (status : ℕ) (input left output written erro
   pub reports : Reports (codes "udfburn") told_as errors told
 
 -- There are words of a command, and all was done that they ask for.
-pub record IsDone (input left output written errors told : Option (List ℕ)) : Type 0 where
+pub record IsDone (old new : Images) (input left output written errors told : Option (List ℕ)) : Type 0 where
   pub words : List (List ℕ)
   pub asked : Command
   pub asks : Asks words asked
-  pub ends : Ends (task_of asked) 0 input left output written errors told
+  pub ends : Ends (task_of asked) 0 old new input left output written errors told
 
 -- There are words of a command, and of what was written for them a front is there.
-pub record IsBegun (status : ℕ) (input left output written errors told : Option (List ℕ)) : Type 0 where
+pub record IsBegun (status : ℕ) (old new : Images) (input left output written errors told : Option (List ℕ)) : Type 0 where
   pub words : List (List ℕ)
   pub asked : Command
   pub asks : Asks words asked
-  pub front : HasFront (task_of asked) status input left output written errors told
+  pub front : HasFront (task_of asked) status old new input left output written errors told

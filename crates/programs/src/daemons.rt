@@ -1,128 +1,174 @@
 //! The program `udfburnd`.
 
-ghost use Rattle.limits.specs.declared.TheConstants.{GREATEST_CAPACITY};
-ghost use Rattle.std.specs.Prelude.{◌≡◌, ◌⊎◌, ◌≤◌, map, IfErr, OnOk, OnErr, IfNone, IfSome, IsSomeAnd};
+ghost use Rattle.std.specs.Prelude.{◌≡◌, ◌≤◌, ◌-◌, ◌^◌, None, unwrap_or, map, IfErr, OnOk, OnErr, IfNone, IfSome, IsSomeAnd};
 ghost use Rattle.drive.specs.Reads.{Follows};
 ghost use Rattle.engine.specs.Situation.{IsReady, seen_on, situation_on};
 ghost use Rattle.engine.specs.Served.{ServesAll};
-ghost use Rattle.programs.specs.Connections.{GoesOn, AreOneRun, LeavesConnection, LeavesStream};
-ghost use Rattle.programs.specs.Images.{IsUnchanged, OnImage};
-ghost use Rattle.programs.specs.Refusals.{AreDaemonWords, RefusesDaemon, SaysFaults, TellsRefusal};
+ghost use Rattle.programs.specs.Connections.{GoesOn, LeavesConnection, LeavesStream};
+ghost use Rattle.programs.specs.Images.{IsUnchanged, images_on};
+ghost use Rattle.programs.specs.Listening.{EndsOne, LetsGo, ServesRun, heard_on};
+ghost use Rattle.programs.specs.Outputs.{IsBlank};
+ghost use Rattle.programs.specs.Refusals.{OnAsked, RefusesDaemon, SaysFaults, ServesImage, TellsRefusal};
 ghost use Rattle.programs.specs.Status.{IsRefusal};
 
 use crate::fault::{Fault, report};
-use crate::images::open_image;
+use crate::images::{open_image, put_back};
+use crate::listening::Listener;
 use command_line::{DaemonWords, read_daemon};
 use drive::Drive;
 use engine::{Engine, ServeFault, put_all, serve};
+use media::Media;
 use std::alloc::Global;
-use std::fs::{File, Files};
 use std::io::{BufWriter, Read, Write};
-use std::net::Net;
-use std::os::unix::net::{UnixListener, UnixStream};
+use std::thread;
 use std::time::{Clock, Duration};
-use std::{io, thread};
 use store::StoreFault;
 
 /// The name under which the daemon's lines stand.
 const NAME: &str = "udfburnd";
 
-/// How long a client may neither send a byte nor take one, in seconds.
-const PATIENCE: u64 = 60;
-
-/// How many bytes of an answer are given to a socket at once.
-const PIECE_BYTES: usize = 8192;
-
 /// How long the daemon waits where it could not have a connection, in milliseconds.
 const PAUSE: u64 = 100;
 
-/// Serves an image on a socket, one connection after another. It answers the status, and says on `errors` why it was
-/// refused and why a connection was left. The first of the words is the program's own name.
-pub fn daemon<R, E>(rt: &R, words: &[&str], errors: &mut E) -> u8
+/// Serves an image of the media on a socket, one connection of a listener after another. It answers the status, and says on
+/// `errors` why it was refused and why a connection was left. The first of the words is the program's own name.
+pub fn daemon_on<M, L, R, E>(
+    rt: &R,
+    media: &mut M,
+    listener: &mut L,
+    words: &[&str],
+    errors: &mut E,
+) -> u8
 where
-    R: Files<File = File> + Net + Clock + AllocGlobal,
+    M: Media,
+    L: Listener,
+    R: Clock + AllocGlobal,
     E: Write,
     ensures status { result ≤ 2 }
-    // Where it ends by itself, its words are those of a daemon, and all connections were one run.
-    ensures asks { result ≡ 0 → AreDaemonWords (map (λ w. w.now) words.now) }
-    ensures run { result ≡ 0 → OnImage GREATEST_CAPACITY AreOneRun }
+    // Where it ends by itself, its words are those of a daemon, and so many connections as they say were served on the image
+    // that they name, one after another, as one run.
+    ensures run { result ≡ 0 → OnAsked (map (λ w. w.now) words.now) (λ asked. ServesRun (unwrap_or asked.connections (2 ^ 64 - 1)) (heard_on L.Listener listener.old) (heard_on L.Listener listener.new)) (images_on M.Media media.old) (images_on M.Media media.new) }
     // What it said then is why connections could not be had, or were left.
     ensures said { result ≡ 0 → SaysFaults (E.contents errors.old) (E.contents errors.new) }
-    // Where it was refused, it said why, and nothing else.
-    ensures tells { 1 ≤ result → TellsRefusal (map (λ w. w.now) words.now) result (E.contents errors.old) (E.contents errors.new) }
+    // Where it was refused, it said why, and nothing else, and asked for no connection.
+    ensures tells { 1 ≤ result → TellsRefusal (map (λ w. w.now) words.now) result (images_on M.Media media.old) (images_on M.Media media.new) (E.contents errors.old) (E.contents errors.new) }
+    ensures unheard { 1 ≤ result → heard_on L.Listener listener.new ≡ heard_on L.Listener listener.old }
 {
-    let outcome = serve_words(rt, words, errors);
+    let outcome = serve_words(rt, media, listener, words, errors);
     report(NAME, outcome, errors)
 }
 
 /// Serves what the words say, if they are those of a daemon.
-fn serve_words<R, E>(rt: &R, words: &[&str], errors: &mut E) -> Result<(), Fault>
+fn serve_words<M, L, R, E>(
+    rt: &R,
+    media: &mut M,
+    listener: &mut L,
+    words: &[&str],
+    errors: &mut E,
+) -> Result<(), Fault>
 where
-    R: Files<File = File> + Net + Clock + AllocGlobal,
+    M: Media,
+    L: Listener,
+    R: Clock + AllocGlobal,
     E: Write,
-    ensures asks { OnOk result (AreDaemonWords (map (λ w. w.now) words.now)) }
-    ensures run { OnOk result (OnImage GREATEST_CAPACITY AreOneRun) }
+    ensures run { OnOk result (OnAsked (map (λ w. w.now) words.now) (λ asked. ServesRun (unwrap_or asked.connections (2 ^ 64 - 1)) (heard_on L.Listener listener.old) (heard_on L.Listener listener.new)) (images_on M.Media media.old) (images_on M.Media media.new)) }
     ensures said { OnOk result (SaysFaults (E.contents errors.old) (E.contents errors.new)) }
-    ensures refused { IfErr result (RefusesDaemon (map (λ w. w.now) words.now)) }
+    ensures refused { IfErr result (λ fault. RefusesDaemon (map (λ w. w.now) words.now) fault (images_on M.Media media.old) (images_on M.Media media.new)) }
     ensures unsaid { OnErr result (E.contents errors.new ≡ E.contents errors.old) }
+    ensures unheard { OnErr result (heard_on L.Listener listener.new ≡ heard_on L.Listener listener.old) }
 {
     match read_daemon(rt.alloc(), words) {
-        Ok(asked) => serve_all(rt, &asked, errors),
+        Ok(asked) => serve_image(rt, media, listener, &asked, errors),
         Err(fault) => Err(Fault::from(fault)),
     }
 }
 
-/// Serves connections on an image, until as many came as the words say.
-fn serve_all<R, E>(rt: &R, asked: &DaemonWords<'_>, errors: &mut E) -> Result<(), Fault>
+/// Serves connections on an image, until as many came as the words say. The image comes first: where the socket cannot be had,
+/// it was opened, and nothing was done to it.
+fn serve_image<M, L, R, E>(
+    rt: &R,
+    media: &mut M,
+    listener: &mut L,
+    asked: &DaemonWords<'_>,
+    errors: &mut E,
+) -> Result<(), Fault>
 where
-    R: Files<File = File> + Net + Clock + AllocGlobal,
+    M: Media,
+    L: Listener,
+    R: Clock + AllocGlobal,
     E: Write,
-    ensures refused { IfErr result (λ fault. (fault ≡ Fault.Socket) ⊎ (fault ≡ Fault.Store StoreFault.Device)) }
-    // The image comes first: where the socket cannot be had, it was opened, and nothing was done to it.
-    ensures image { IfErr result (λ fault. fault ≡ Fault.Socket → OnImage GREATEST_CAPACITY IsUnchanged) }
-    // All of them together are one run.
-    ensures run { OnOk result (OnImage GREATEST_CAPACITY AreOneRun) }
+    ensures serves { ServesImage asked.now.image.now (ServesRun (unwrap_or asked.now.connections (2 ^ 64 - 1)) (heard_on L.Listener listener.old) (heard_on L.Listener listener.new)) result (images_on M.Media media.old) (images_on M.Media media.new) }
     ensures said { OnOk result (SaysFaults (E.contents errors.old) (E.contents errors.new)) }
     ensures unsaid { OnErr result (E.contents errors.new ≡ E.contents errors.old) }
+    ensures unheard { OnErr result (heard_on L.Listener listener.new ≡ heard_on L.Listener listener.old) }
 {
-    let mut drive = open_image(rt, asked.image)?;
-    let listener = listen(rt, asked.socket)?;
-    let connections = asked.connections.unwrap_or(u64::MAX);
-    serve_each(rt, &listener, &mut drive, connections, errors);
-    Ok(())
+    let mut drive = open_image(media, asked.image)?;
+    let served = serve_all(rt, listener, asked, &mut drive, errors);
+    put_back(media, asked.image, drive);
+    served
 }
 
-/// Serves so many connections, each from where the one before it left the engine and the drive.
-fn serve_each<R, D, E>(
+/// Serves connections on a drive, if the socket can be had.
+fn serve_all<L, R, D, E>(
     rt: &R,
-    listener: &UnixListener,
+    listener: &mut L,
+    asked: &DaemonWords<'_>,
     drive: &mut D,
-    connections: u64,
     errors: &mut E,
-)
+) -> Result<(), Fault>
 where
+    L: Listener,
     R: Clock + AllocGlobal,
     D: Drive,
     E: Write,
-    ensures run { AreOneRun (situation_on D.Drive None drive.old)
-        (situation_on D.Drive None drive.new) }
+    ensures refused { IfErr result (λ fault. fault ≡ Fault.Socket) }
+    ensures unchanged { OnErr result (IsUnchanged (situation_on D.Drive None drive.old) (situation_on D.Drive None drive.new)) }
+    ensures run { OnOk result (ServesRun (unwrap_or asked.now.connections (2 ^ 64 - 1)) (heard_on L.Listener listener.old) (heard_on L.Listener listener.new) (situation_on D.Drive None drive.old) (situation_on D.Drive None drive.new)) }
+    ensures said { OnOk result (SaysFaults (E.contents errors.old) (E.contents errors.new)) }
+    ensures unsaid { OnErr result (E.contents errors.new ≡ E.contents errors.old) }
+    ensures unheard { OnErr result (heard_on L.Listener listener.new ≡ heard_on L.Listener listener.old) }
+{
+    listen(listener, asked.socket)?;
+    let connections = asked.connections.unwrap_or(u64::MAX);
+    serve_each(rt, listener, drive, connections, errors);
+    Ok(())
+}
+
+/// Listens at the path of a socket.
+fn listen<L: Listener>(listener: &mut L, socket: &str) -> Result<(), Fault>
+    ensures refused { IfErr result (λ fault. fault ≡ Fault.Socket) }
+    ensures unheard { heard_on L.Listener listener.new ≡ heard_on L.Listener listener.old }
+{
+    match listener.listen(socket) {
+        Ok(()) => Ok(()),
+        Err(_) => Err(Fault::Socket),
+    }
+}
+
+/// Serves so many connections, each from where the one before it left the engine and the drive.
+fn serve_each<L, R, D, E>(rt: &R, listener: &mut L, drive: &mut D, connections: u64, errors: &mut E)
+where
+    L: Listener,
+    R: Clock + AllocGlobal,
+    D: Drive,
+    E: Write,
+    ensures run { ServesRun connections (heard_on L.Listener listener.old) (heard_on L.Listener listener.new) (situation_on D.Drive None drive.old) (situation_on D.Drive None drive.new) }
     ensures said { SaysFaults (E.contents errors.old) (E.contents errors.new) }
 {
     let mut engine = Engine::new();
     let mut left = connections;
+    let mut tries: u64 = 0;
     let mut is_told = false;
-    for _ in 0..u64::MAX {
-        if left == 0 {
-            return;
-        }
-        let Ok((stream, _)) = listener.accept() else {
+    while left > 0 && tries < u64::MAX {
+        tries += 1;
+        let Ok((input, output)) = listener.accept(rt.alloc()) else {
             // It goes on failing while descriptors are short, so it is told once, and waited out.
             tell_once(is_told, errors);
             is_told = true;
             thread::sleep(rt, Duration::from_millis(PAUSE));
             continue;
         };
-        let served = serve_one(rt.alloc(), &stream, &mut engine, drive);
+        let served = serve_one(rt.alloc(), listener, input, output, &mut engine, drive);
         // The daemon goes on: what was told already is all that there is to a connection's fault.
         report(NAME, served, errors);
         left -= 1;
@@ -140,26 +186,13 @@ fn tell_once<E: Write>(is_told: bool, errors: &mut E)
     report(NAME, Err(Fault::Socket), errors);
 }
 
-/// A listener at this path, where nothing may be yet. No path is an address that no client could name.
-fn listen<R>(rt: &R, socket: &str) -> Result<UnixListener, Fault>
-where
-    R: Files<File = File> + Net,
-    ensures { IfErr result (λ fault. fault ≡ Fault.Socket) }
-{
-    if socket.is_empty() {
-        return Err(Fault::Socket);
-    }
-    match UnixListener::bind(rt, socket) {
-        Ok(listener) => Ok(listener),
-        Err(_) => Err(Fault::Socket),
-    }
-}
-
-/// Answers the messages of a connection. A client that neither sends a byte nor takes one for a minute is left, so that it
-/// keeps nobody waiting.
-pub fn serve_one<D: Drive>(
+/// Answers the messages of a connection that was just given, and ends it. A client that neither sends a byte nor takes one for
+/// a minute is left, so that it keeps nobody waiting.
+pub fn serve_one<L: Listener, D: Drive>(
     alloc: Global,
-    stream: &UnixStream,
+    listener: &mut L,
+    input: L::Input,
+    output: L::Output,
     engine: &mut Engine,
     drive: &mut D,
 ) -> Result<(), Fault>
@@ -171,14 +204,22 @@ pub fn serve_one<D: Drive>(
     // Or nothing was, by the fault that it is left with.
     ensures left { IfErr result (λ fault. LeavesConnection fault (seen_on D.Drive engine.old drive.old) (seen_on D.Drive engine.new drive.new)) }
     ensures refusal { IfErr result IsRefusal }
+    // Where the bytes are known, they tell which messages, and what was written of the answers.
+    ensures ends { IsBlank (L.Output.contents output) → EndsOne result (L.Input.remaining input) (heard_on L.Listener listener.old) (heard_on L.Listener listener.new) (seen_on D.Drive engine.old drive.old) (seen_on D.Drive engine.new drive.new) }
 {
-    let patience = Some(Duration::from_secs(PATIENCE));
-    if stream.set_read_timeout(patience).is_err() || stream.set_write_timeout(patience).is_err() {
+    if listener.limit(&input).is_err() {
+        listener.end(output);
         return Err(Fault::Socket);
     }
-    let mut reader = stream;
-    let (served, _) = serve_stream(alloc, &mut reader, Pieces(stream), engine, drive);
-    served
+    let mut input = input;
+    let (served, output) = serve_stream(alloc, &mut input, output, engine, drive);
+    match output {
+        Some(output) => {
+            listener.end(output);
+            served
+        }
+        None => served,
+    }
 }
 
 /// Answers the messages of the input on an output that is written many bytes at a time. It answers how that ended and the
@@ -204,6 +245,8 @@ where
     // Else the first of them were, as far as the fault tells, and a front of their answers is written.
     ensures front { IfErr result.0 (λ fault. IfSome result.1 (λ written. LeavesStream fault (seen_on D.Drive engine.old drive.old) (seen_on D.Drive engine.new drive.new) (I.remaining input.old) (I.remaining input.new) (O.contents output) (O.contents written))) }
     ensures left { IfErr result.0 (λ fault. LeavesConnection fault (seen_on D.Drive engine.old drive.old) (seen_on D.Drive engine.new drive.new)) }
+    // Where the output was let go nothing was done.
+    ensures let_go { IfNone result.1 (LetsGo result.0 (seen_on D.Drive engine.old drive.old) (seen_on D.Drive engine.new drive.new)) }
     ensures unread { IfNone result.1 (I.remaining input.new ≡ I.remaining input.old) }
 {
     let mut writer = match BufWriter::new(alloc, output) {
@@ -223,22 +266,5 @@ where
             let _ = put_all(&mut output, &rest);
             (Err(Fault::Stream(fault)), Some(output))
         }
-    }
-}
-
-/// The writing half of a connection, a piece at a time. A socket takes a piece whole or not at all, so that no call waits
-/// behind a part that was taken.
-#[derive(Drop)]
-struct Pieces<W: Write + Drop>(W);
-
-impl<W: Write + Drop> Write for Pieces<W> {
-    ghost contents = { λ pieces. W.contents pieces.0 };
-
-    fn write(&mut self, bytes: &[u8]) -> io::Result<usize> {
-        self.0.write(&bytes[..bytes.len().min(PIECE_BYTES)])
-    }
-
-    fn flush(&mut self) -> io::Result<()> {
-        self.0.flush()
     }
 }

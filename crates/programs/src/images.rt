@@ -1,57 +1,63 @@
-//! The image files on which volumes lie.
+//! The images of the media on which volumes lie.
 
 ghost use Rattle.limits.specs.declared.TheConstants.{GREATEST_CAPACITY};
-ghost use Rattle.std.specs.Prelude.{◌≡◌, List, ℕ, IfOk, IfErr};
-ghost use Rattle.drive.specs.FileDrive.{capacity_of, BeginsWith};
-ghost use Rattle.programs.specs.Status.{IsRefusal};
+ghost use Rattle.std.specs.Prelude.{◌≡◌, IfErr, IfOk, IsTrue, OnErr, OnOk};
+ghost use Rattle.programs.specs.Images.{AreUntouched, IsOpened, IsPutBack, IsThere, IsThereOrMade, MayBeMade, images_on};
 
 use crate::fault::Fault;
-use drive::FileDrive;
-use std::fs::{File, Files};
+use media::Media;
 use store::StoreFault;
 
 /// The greatest capacity of a volume, in blocks.
 const GREATEST_CAPACITY: u32 = limits::GREATEST_CAPACITY;
 
-/// The image at this path, to write it.
-pub(crate) fn open_image<R: Files<File = File>>(rt: &R, path: &str) -> Result<FileDrive, Fault>
-    ensures refusal { IfErr result IsRefusal }
+/// Takes out the image at this path, to write it.
+pub(crate) fn open_image<M: Media>(media: &mut M, path: &str) -> Result<M::Drive, Fault>
     ensures device { IfErr result (λ fault. fault ≡ Fault.Store StoreFault.Device) }
-    ensures image { IfOk result (λ drive. (image : List (List ℕ)) × BeginsWith image drive) }
-    ensures capacity { IfOk result (λ drive. capacity_of drive ≡ GREATEST_CAPACITY) }
+    ensures untouched { OnErr result (AreUntouched (images_on M.Media media.old) (images_on M.Media media.new)) }
+    ensures opened { IfOk result (λ drive. IsOpened M.Drive.Drive IsThere GREATEST_CAPACITY path.now drive (images_on M.Media media.old) (images_on M.Media media.new)) }
+    ensures place { OnOk result (IsTrue (M.takes_back media.new path.now)) }
 {
-    match FileDrive::open(rt, path, GREATEST_CAPACITY) {
+    match media.open(path, GREATEST_CAPACITY) {
         Ok(drive) => Ok(drive),
         Err(_) => Err(Fault::Store(StoreFault::Device)),
     }
 }
 
-/// The image at this path, to read it.
-pub(crate) fn read_image<R: Files<File = File>>(rt: &R, path: &str) -> Result<FileDrive, Fault>
-    ensures refusal { IfErr result IsRefusal }
+/// Takes out the image at this path, to read it.
+pub(crate) fn read_image<M: Media>(media: &mut M, path: &str) -> Result<M::Drive, Fault>
     ensures device { IfErr result (λ fault. fault ≡ Fault.Store StoreFault.Device) }
-    ensures image { IfOk result (λ drive. (image : List (List ℕ)) × BeginsWith image drive) }
-    ensures capacity { IfOk result (λ drive. capacity_of drive ≡ GREATEST_CAPACITY) }
+    ensures untouched { OnErr result (AreUntouched (images_on M.Media media.old) (images_on M.Media media.new)) }
+    ensures opened { IfOk result (λ drive. IsOpened M.Drive.Drive IsThere GREATEST_CAPACITY path.now drive (images_on M.Media media.old) (images_on M.Media media.new)) }
+    ensures place { OnOk result (IsTrue (M.takes_back media.new path.now)) }
 {
-    match FileDrive::open_to_read(rt, path, GREATEST_CAPACITY) {
+    match media.open_to_read(path, GREATEST_CAPACITY) {
         Ok(drive) => Ok(drive),
         Err(_) => Err(Fault::Store(StoreFault::Device)),
     }
 }
 
-/// The image at this path, to write it, of at most so many blocks, which is made where it is missing.
-pub(crate) fn create_image<R: Files<File = File>>(
-    rt: &R,
+/// Takes out the image at this path, to write it, of at most so many blocks, which is made where it is missing.
+pub(crate) fn create_image<M: Media>(
+    media: &mut M,
     path: &str,
     capacity: u32,
-) -> Result<FileDrive, Fault>
-    ensures refusal { IfErr result IsRefusal }
+) -> Result<M::Drive, Fault>
     ensures device { IfErr result (λ fault. fault ≡ Fault.Store StoreFault.Device) }
-    ensures image { IfOk result (λ drive. (image : List (List ℕ)) × BeginsWith image drive) }
-    ensures capacity { IfOk result (λ drive. capacity_of drive ≡ capacity) }
+    ensures made { OnErr result (MayBeMade path.now (images_on M.Media media.old) (images_on M.Media media.new)) }
+    ensures opened { IfOk result (λ drive. IsOpened M.Drive.Drive IsThereOrMade capacity path.now drive (images_on M.Media media.old) (images_on M.Media media.new)) }
+    ensures place { OnOk result (IsTrue (M.takes_back media.new path.now)) }
 {
-    match FileDrive::create(rt, path, capacity) {
+    match media.create(path, capacity) {
         Ok(drive) => Ok(drive),
         Err(_) => Err(Fault::Store(StoreFault::Device)),
     }
+}
+
+/// Puts a drive back in its place.
+pub(crate) fn put_back<M: Media>(media: &mut M, path: &str, drive: M::Drive)
+    requires { IsTrue (M.takes_back media.old path.now) }
+    ensures { IsPutBack M.Drive.Drive path.now drive (images_on M.Media media.old) (images_on M.Media media.new) }
+{
+    media.put_back(path, drive);
 }

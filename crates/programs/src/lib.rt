@@ -1,8 +1,8 @@
 //! What the two programs do with their words, streams and files.
 //!
-//! `command` is the program `udfburn` and `daemon` is `udfburnd`, but for the process itself: each is given its words and its
-//! streams, and answers a status. Statuses and lines are those of docs/OPERATIONS.md. What a volume holds and how it changes
-//! is left to the crates below.
+//! `command_on` is the program `udfburn` and `daemon_on` is `udfburnd`, but for the process itself: each is given its words, its
+//! streams and the media on which its images are, and answers a status. Statuses and lines are those of docs/OPERATIONS.md.
+//! What a volume holds and how it changes is left to the crates below.
 #![tactic(auto)]
 
 mod commands;
@@ -12,15 +12,19 @@ mod fault;
 mod images;
 mod laws;
 mod lines;
+mod listening;
 mod process;
 mod questions;
 mod requests;
 mod sending;
+mod sockets;
 mod volumes;
 
-pub use commands::command;
-pub use daemons::{daemon, serve_one};
+pub use commands::command_on;
+pub use daemons::{daemon_on, serve_one};
 pub use fault::{Fault, report};
-pub use laws::frames_are_messages;
+pub use laws::{frames_are_messages, processes_are_runs};
+pub use listening::{Listener, NoConnection};
 pub use process::{run_command, run_daemon};
 pub use sending::{copy_answers, send_frames};
+pub use sockets::{Incoming, Outgoing, Pieces, Sockets};

@@ -1,18 +1,19 @@
 //! The process of a program: its words and its standard streams.
 
-ghost use Rattle.limits.specs.declared.TheConstants.{GREATEST_CAPACITY};
-ghost use Rattle.std.specs.Prelude.{◌≡◌, ◌≤◌, map, codes, IfErr, IfNone, IfOk, IfSome, IsSomeAnd, OnErr};
+ghost use Rattle.std.specs.Prelude.{◌≡◌, ◌≤◌, ◌-◌, ◌^◌, unwrap_or, map, codes, IfErr, IfNone, IfOk, IfSome, IsSomeAnd, OnErr};
 ghost use Rattle.command_line.specs.Commands.{Asks};
-ghost use Rattle.programs.specs.Connections.{AreOneRun};
 ghost use Rattle.programs.specs.FaultLines.{TellsOutcome};
-ghost use Rattle.programs.specs.Images.{OnImage};
-ghost use Rattle.programs.specs.Refusals.{IsDaemonTold, IsEarly, SaysFaults, TellsEarly};
+ghost use Rattle.programs.specs.Images.{AreUntouched, images_on};
+ghost use Rattle.programs.specs.Listening.{ServesRun, heard_on};
+ghost use Rattle.programs.specs.Refusals.{IsDaemonTold, IsEarly, OnAsked, SaysFaults, TellsEarly};
 ghost use Rattle.programs.specs.Tasks.{Ends, HasFront, IsBegun, IsDone, IsFrontOf, task_of};
 
-use crate::commands::command;
-use crate::daemons::daemon;
+use crate::commands::command_on;
+use crate::daemons::daemon_on;
 use crate::fault::{Fault, report};
+use crate::listening::Listener;
 use engine::put_all;
+use media::Media;
 use std::alloc::Global;
 use std::env;
 use std::env::Env;
@@ -28,25 +29,34 @@ const COMMAND_NAME: &str = "udfburn";
 
 /// `udfburn` on the words of the process and these streams. It answers the status, and the output where that was not let go.
 #[tactic(auto, using(crate::proofs::Telling::refused_not))]
-pub fn run_command<R, I, O, E>(rt: &R, input: &mut I, output: O, errors: &mut E) -> (u8, Option<O>)
+pub fn run_command<M, R, I, O, E>(
+    rt: &R,
+    media: &mut M,
+    input: &mut I,
+    output: O,
+    errors: &mut E,
+) -> (u8, Option<O>)
 where
+    M: Media,
     R: Files<File = File> + Net + Env + AllocGlobal,
     I: Read,
     O: Write + Drop,
     E: Write,
     ensures tells { TellsOutcome (codes "udfburn") result.0 (E.contents errors.old) (E.contents errors.new) }
     // At status 0 there are words of a command, and all is written that was done of what they ask for.
-    ensures done { result.0 ≡ 0 → IsSomeAnd result.1 (λ written. IsDone (I.remaining input.old) (I.remaining input.new) (O.contents output) (O.contents written) (E.contents errors.old) (E.contents errors.new)) }
+    ensures done { result.0 ≡ 0 → IsSomeAnd result.1 (λ written. IsDone (images_on M.Media media.old) (images_on M.Media media.new) (I.remaining input.old) (I.remaining input.new) (O.contents output) (O.contents written) (E.contents errors.old) (E.contents errors.new)) }
     // At status 1 there are such words too where the output was not let go, and a front is written.
-    ensures begun { result.0 ≤ 1 → IfSome result.1 (λ written. IsBegun result.0 (I.remaining input.old) (I.remaining input.new) (O.contents output) (O.contents written) (E.contents errors.old) (E.contents errors.new)) }
+    ensures begun { result.0 ≤ 1 → IfSome result.1 (λ written. IsBegun result.0 (images_on M.Media media.old) (images_on M.Media media.new) (I.remaining input.old) (I.remaining input.new) (O.contents output) (O.contents written) (E.contents errors.old) (E.contents errors.new)) }
     // Of other words nothing is read, and nothing is written.
     ensures unread { result.0 ≡ 2 → I.remaining input.new ≡ I.remaining input.old }
     ensures unwritten { result.0 ≡ 2 → IfSome result.1 (λ written. IsFrontOf (O.contents output) (O.contents written)) }
-    // Where the output was let go nothing was read, and it says why nothing was begun.
+    ensures untouched { result.0 ≡ 2 → AreUntouched (images_on M.Media media.old) (images_on M.Media media.new) }
+    // Where the output was let go nothing was read and no image changed, and it says why nothing was begun.
     ensures let_go { IfNone result.1 (I.remaining input.new ≡ I.remaining input.old) }
+    ensures left { IfNone result.1 (AreUntouched (images_on M.Media media.old) (images_on M.Media media.new)) }
     ensures early { IfNone result.1 (TellsEarly (codes "udfburn") result.0 (E.contents errors.old) (E.contents errors.new)) }
 {
-    match try_command(rt, input, output, errors) {
+    match try_command(rt, media, input, output, errors) {
         Ok(ended) => ended,
         Err(fault) => (report(COMMAND_NAME, Err(fault), errors), None),
     }
@@ -54,63 +64,74 @@ where
 
 /// `udfburnd` on the words of the process. It answers the status.
 #[tactic(auto, using(crate::proofs::Telling::refused_not))]
-pub fn run_daemon<R, E>(rt: &R, errors: &mut E) -> u8
+pub fn run_daemon<M, L, R, E>(rt: &R, media: &mut M, listener: &mut L, errors: &mut E) -> u8
 where
-    R: Files<File = File> + Net + Clock + Env + AllocGlobal,
+    M: Media,
+    L: Listener,
+    R: Files<File = File> + Clock + Env + AllocGlobal,
     E: Write,
     ensures status { result ≤ 2 }
-    // Where it ends by itself, all connections were one run.
-    ensures run { result ≡ 0 → OnImage GREATEST_CAPACITY AreOneRun }
+    // Where it ends by itself, there are words of a daemon, and as many connections as they say were served on the image that
+    // they name, as one run.
+    ensures run { result ≡ 0 → (words : _) × OnAsked words (λ asked. ServesRun (unwrap_or asked.connections (2 ^ 64 - 1)) (heard_on L.Listener listener.old) (heard_on L.Listener listener.new)) (images_on M.Media media.old) (images_on M.Media media.new) }
     // What it said then is why connections could not be had, or were left.
     ensures said { result ≡ 0 → SaysFaults (E.contents errors.old) (E.contents errors.new) }
-    // Where it was refused, it said why, and nothing else.
-    ensures tells { 1 ≤ result → IsDaemonTold result (E.contents errors.old) (E.contents errors.new) }
+    // Where it was refused, it said why, and nothing else, and asked for no connection.
+    ensures unheard { 1 ≤ result → heard_on L.Listener listener.new ≡ heard_on L.Listener listener.old }
+    ensures tells { 1 ≤ result → IsDaemonTold result (images_on M.Media media.old) (images_on M.Media media.new) (E.contents errors.old) (E.contents errors.new) }
 {
-    match try_daemon(rt, errors) {
+    match try_daemon(rt, media, listener, errors) {
         Ok(status) => status,
         Err(fault) => report("udfburnd", Err(fault), errors),
     }
 }
 
-fn try_command<R, I, O, E>(
+fn try_command<M, R, I, O, E>(
     rt: &R,
+    media: &mut M,
     input: &mut I,
     output: O,
     errors: &mut E,
 ) -> Result<(u8, Option<O>), Fault>
 where
+    M: Media,
     R: Files<File = File> + Net + Env + AllocGlobal,
     I: Read,
     O: Write + Drop,
     E: Write,
     ensures unsaid { IfErr result (λ _. E.contents errors.new ≡ E.contents errors.old) }
     ensures tells { IfOk result (λ ended. TellsOutcome (codes "udfburn") ended.0 (E.contents errors.old) (E.contents errors.new)) }
-    ensures done { IfOk result (λ ended. ended.0 ≡ 0 → IsSomeAnd ended.1 (λ written. IsDone (I.remaining input.old) (I.remaining input.new) (O.contents output) (O.contents written) (E.contents errors.old) (E.contents errors.new))) }
-    ensures begun { IfOk result (λ ended. ended.0 ≤ 1 → IfSome ended.1 (λ written. IsBegun ended.0 (I.remaining input.old) (I.remaining input.new) (O.contents output) (O.contents written) (E.contents errors.old) (E.contents errors.new))) }
+    ensures done { IfOk result (λ ended. ended.0 ≡ 0 → IsSomeAnd ended.1 (λ written. IsDone (images_on M.Media media.old) (images_on M.Media media.new) (I.remaining input.old) (I.remaining input.new) (O.contents output) (O.contents written) (E.contents errors.old) (E.contents errors.new))) }
+    ensures begun { IfOk result (λ ended. ended.0 ≤ 1 → IfSome ended.1 (λ written. IsBegun ended.0 (images_on M.Media media.old) (images_on M.Media media.new) (I.remaining input.old) (I.remaining input.new) (O.contents output) (O.contents written) (E.contents errors.old) (E.contents errors.new))) }
     ensures unheard { OnErr result (I.remaining input.new ≡ I.remaining input.old) }
     ensures unread { IfOk result (λ ended. ended.0 ≡ 2 → I.remaining input.new ≡ I.remaining input.old) }
     ensures unwritten { IfOk result (λ ended. ended.0 ≡ 2 → IfSome ended.1 (λ written. IsFrontOf (O.contents output) (O.contents written))) }
     ensures refused { IfErr result IsEarly }
+    ensures unopened { OnErr result (AreUntouched (images_on M.Media media.old) (images_on M.Media media.new)) }
+    ensures untouched { IfOk result (λ ended. ended.0 ≡ 2 → AreUntouched (images_on M.Media media.old) (images_on M.Media media.new)) }
     ensures let_go { IfOk result (λ ended. IfNone ended.1 (I.remaining input.new ≡ I.remaining input.old)) }
+    ensures left { IfOk result (λ ended. IfNone ended.1 (AreUntouched (images_on M.Media media.old) (images_on M.Media media.new))) }
     ensures early { IfOk result (λ ended. IfNone ended.1 (TellsEarly (codes "udfburn") ended.0 (E.contents errors.old) (E.contents errors.new))) }
 {
     hold_standard_streams(rt)?;
     let words = own_words(rt)?;
     let texts = texts(rt.alloc(), &words)?;
-    Ok(gathered(rt, behind_name(&texts), input, output, errors))
+    Ok(gathered(rt, media, behind_name(&texts), input, output, errors))
 }
 
-/// `command` on an output that is written many bytes at a time. What waits in the end is written then. It answers the status
+/// `command_on` with an output that is written many bytes at a time. What waits in the end is written then. It answers the status
 /// and the output, but for one that was let go for want of memory.
-fn gathered<R, I, O, E>(
+fn gathered<M, R, I, O, E>(
     rt: &R,
+    media: &mut M,
     words: &[&str],
     input: &mut I,
     output: O,
     errors: &mut E,
 ) -> (u8, Option<O>)
 where
-    R: Files<File = File> + Net + AllocGlobal,
+    M: Media,
+    R: Net + AllocGlobal,
     I: Read,
     O: Write + Drop,
     E: Write,
@@ -118,14 +139,16 @@ where
     ensures asks { result.0 ≤ 1 → IfSome result.1 (λ _. (asked : _) × Asks (map (λ w. w.now) words.now) asked) }
     ensures kept { result.0 ≡ 0 → IsSomeAnd result.1 (λ _. (asked : _) × Asks (map (λ w. w.now) words.now) asked) }
     // At status 0 all is written that was done, and else a front of it.
-    ensures all { (asked : _) → Asks (map (λ w. w.now) words.now) asked → result.0 ≡ 0 → IsSomeAnd result.1 (λ written. Ends (task_of asked) 0 (I.remaining input.old) (I.remaining input.new) (O.contents output) (O.contents written) (E.contents errors.old) (E.contents errors.new)) }
+    ensures all { (asked : _) → Asks (map (λ w. w.now) words.now) asked → result.0 ≡ 0 → IsSomeAnd result.1 (λ written. Ends (task_of asked) 0 (images_on M.Media media.old) (images_on M.Media media.new) (I.remaining input.old) (I.remaining input.new) (O.contents output) (O.contents written) (E.contents errors.old) (E.contents errors.new)) }
     // Of other words nothing is read, and nothing is written.
     ensures unread { result.0 ≡ 2 → I.remaining input.new ≡ I.remaining input.old }
     ensures unwritten { result.0 ≡ 2 → IfSome result.1 (λ written. IsFrontOf (O.contents output) (O.contents written)) }
-    // Where the output was let go nothing is read, since memory is short.
+    ensures untouched { result.0 ≡ 2 → AreUntouched (images_on M.Media media.old) (images_on M.Media media.new) }
+    // Where the output was let go nothing is read and no image changed, since memory is short.
     ensures let_go { IfNone result.1 (I.remaining input.new ≡ I.remaining input.old) }
+    ensures left { IfNone result.1 (AreUntouched (images_on M.Media media.old) (images_on M.Media media.new)) }
     ensures early { IfNone result.1 (TellsEarly (codes "udfburn") result.0 (E.contents errors.old) (E.contents errors.new)) }
-    ensures front { (asked : _) → Asks (map (λ w. w.now) words.now) asked → IfSome result.1 (λ written. HasFront (task_of asked) result.0 (I.remaining input.old) (I.remaining input.new) (O.contents output) (O.contents written) (E.contents errors.old) (E.contents errors.new)) }
+    ensures front { (asked : _) → Asks (map (λ w. w.now) words.now) asked → IfSome result.1 (λ written. HasFront (task_of asked) result.0 (images_on M.Media media.old) (images_on M.Media media.new) (I.remaining input.old) (I.remaining input.new) (O.contents output) (O.contents written) (E.contents errors.old) (E.contents errors.new)) }
 {
     let mut writer = match BufWriter::new(rt.alloc(), output) {
         Ok(writer) => writer,
@@ -134,7 +157,7 @@ where
             return (report(COMMAND_NAME, refused, errors), None);
         }
     };
-    let status = command(rt, words, input, &mut writer, errors);
+    let status = command_on(rt, media, words, input, &mut writer, errors);
     let (mut output, rest) = writer.into_parts();
     match put_all(&mut output, &rest) {
         Ok(()) => (status, Some(output)),
@@ -147,21 +170,31 @@ where
     }
 }
 
-fn try_daemon<R, E>(rt: &R, errors: &mut E) -> Result<u8, Fault>
+fn try_daemon<M, L, R, E>(
+    rt: &R,
+    media: &mut M,
+    listener: &mut L,
+    errors: &mut E,
+) -> Result<u8, Fault>
 where
-    R: Files<File = File> + Net + Clock + Env + AllocGlobal,
+    M: Media,
+    L: Listener,
+    R: Files<File = File> + Clock + Env + AllocGlobal,
     E: Write,
     ensures unsaid { IfErr result (λ _. E.contents errors.new ≡ E.contents errors.old) }
     ensures status { IfOk result (λ status. status ≤ 2) }
-    ensures run { IfOk result (λ status. status ≡ 0 → OnImage GREATEST_CAPACITY AreOneRun) }
+    ensures run { IfOk result (λ status. status ≡ 0 → (words : _) × OnAsked words (λ asked. ServesRun (unwrap_or asked.connections (2 ^ 64 - 1)) (heard_on L.Listener listener.old) (heard_on L.Listener listener.new)) (images_on M.Media media.old) (images_on M.Media media.new)) }
+    ensures unopened { OnErr result (AreUntouched (images_on M.Media media.old) (images_on M.Media media.new)) }
     ensures said { IfOk result (λ status. status ≡ 0 → SaysFaults (E.contents errors.old) (E.contents errors.new)) }
     ensures refused { IfErr result IsEarly }
-    ensures tells { IfOk result (λ status. 1 ≤ status → IsDaemonTold status (E.contents errors.old) (E.contents errors.new)) }
+    ensures unasked { OnErr result (heard_on L.Listener listener.new ≡ heard_on L.Listener listener.old) }
+    ensures unheard { IfOk result (λ status. 1 ≤ status → heard_on L.Listener listener.new ≡ heard_on L.Listener listener.old) }
+    ensures tells { IfOk result (λ status. 1 ≤ status → IsDaemonTold status (images_on M.Media media.old) (images_on M.Media media.new) (E.contents errors.old) (E.contents errors.new)) }
 {
     hold_standard_streams(rt)?;
     let words = own_words(rt)?;
     let texts = texts(rt.alloc(), &words)?;
-    Ok(daemon(rt, &texts, errors))
+    Ok(daemon_on(rt, media, listener, &texts, errors))
 }
 
 /// Puts a descriptor of the root folder in the place of each standard stream that is closed. So no file that is opened later

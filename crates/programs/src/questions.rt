@@ -1,74 +1,87 @@
 //! What is printed of the volume on an image. Nothing is written to it.
 
 ghost use Rattle.std.specs.Prelude.{◌≡◌, IfErr, IsTrue};
+ghost use Rattle.programs.specs.Images.{images_on};
 ghost use Rattle.programs.specs.Questions.{Shows, ShowsImage, ShowsPath};
 ghost use Rattle.programs.specs.Questions.Question.{Names_at, Bytes_at, Commits, Soundness};
 ghost use Rattle.programs.specs.Status.{IsRefusal};
 
 use crate::fault::Fault;
-use crate::images::read_image;
+use crate::images::{put_back, read_image};
 use crate::lines::{commit_lines, name_lines, put, sound_line};
 use drive::Drive;
+use media::Media;
 use request::Path;
 use std::alloc::Global;
-use std::fs::{File, Files};
 use std::io::Write;
 use store::Store;
 
 /// The names in a directory of the volume on an image.
-pub(crate) fn list_image<R: Files<File = File> + AllocGlobal, O: Write>(
-    rt: &R,
+pub(crate) fn list_image<M: Media, O: Write>(
+    alloc: Global,
+    media: &mut M,
     image: &str,
     path: &str,
     output: &mut O,
 ) -> Result<(), Fault>
     ensures refusal { IfErr result IsRefusal }
-    ensures shows { ShowsPath Names_at path.now result (O.contents output.old) (O.contents output.new) }
+    ensures shows { ShowsPath Names_at image.now path.now result (images_on M.Media media.old) (images_on M.Media media.new) (O.contents output.old) (O.contents output.new) }
 {
-    let path = Path::parse(rt.alloc(), path)?;
-    let mut drive = read_image(rt, image)?;
-    list(rt.alloc(), &mut drive, &path, output)
+    let path = Path::parse(alloc, path)?;
+    let mut drive = read_image(media, image)?;
+    let shown = list(alloc, &mut drive, &path, output);
+    put_back(media, image, drive);
+    shown
 }
 
 /// The bytes of a file of the volume on an image.
-pub(crate) fn get_image<R: Files<File = File> + AllocGlobal, O: Write>(
-    rt: &R,
+pub(crate) fn get_image<M: Media, O: Write>(
+    alloc: Global,
+    media: &mut M,
     image: &str,
     path: &str,
     output: &mut O,
 ) -> Result<(), Fault>
     ensures refusal { IfErr result IsRefusal }
-    ensures shows { ShowsPath Bytes_at path.now result (O.contents output.old) (O.contents output.new) }
+    ensures shows { ShowsPath Bytes_at image.now path.now result (images_on M.Media media.old) (images_on M.Media media.new) (O.contents output.old) (O.contents output.new) }
 {
-    let path = Path::parse(rt.alloc(), path)?;
-    let mut drive = read_image(rt, image)?;
-    get(rt.alloc(), &mut drive, &path, output)
+    let path = Path::parse(alloc, path)?;
+    let mut drive = read_image(media, image)?;
+    let shown = get(alloc, &mut drive, &path, output);
+    put_back(media, image, drive);
+    shown
 }
 
 /// The commits of the volume on an image.
-pub(crate) fn log_image<R: Files<File = File> + AllocGlobal, O: Write>(
-    rt: &R,
+pub(crate) fn log_image<M: Media, O: Write>(
+    alloc: Global,
+    media: &mut M,
     image: &str,
     output: &mut O,
 ) -> Result<(), Fault>
     ensures refusal { IfErr result IsRefusal }
-    ensures shows { ShowsImage Commits result (O.contents output.old) (O.contents output.new) }
+    ensures shows { ShowsImage Commits image.now result (images_on M.Media media.old) (images_on M.Media media.new) (O.contents output.old) (O.contents output.new) }
 {
-    let mut drive = read_image(rt, image)?;
-    log(rt.alloc(), &mut drive, output)
+    let mut drive = read_image(media, image)?;
+    let shown = log(alloc, &mut drive, output);
+    put_back(media, image, drive);
+    shown
 }
 
 /// Whether the state after each commit stands, on an image.
-pub(crate) fn check_image<R: Files<File = File> + AllocGlobal, O: Write>(
-    rt: &R,
+pub(crate) fn check_image<M: Media, O: Write>(
+    alloc: Global,
+    media: &mut M,
     image: &str,
     output: &mut O,
 ) -> Result<(), Fault>
     ensures refusal { IfErr result IsRefusal }
-    ensures shows { ShowsImage Soundness result (O.contents output.old) (O.contents output.new) }
+    ensures shows { ShowsImage Soundness image.now result (images_on M.Media media.old) (images_on M.Media media.new) (O.contents output.old) (O.contents output.new) }
 {
-    let mut drive = read_image(rt, image)?;
-    check(rt.alloc(), &mut drive, output)
+    let mut drive = read_image(media, image)?;
+    let shown = check(alloc, &mut drive, output);
+    put_back(media, image, drive);
+    shown
 }
 
 /// The names in a directory, each in a line behind a letter that tells its kind.

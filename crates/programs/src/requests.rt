@@ -4,14 +4,15 @@ ghost use Rattle.limits.specs.declared.TheConstants.{GREATEST_CAPACITY};
 ghost use Rattle.std.specs.Prelude.{◌≤◌, IfErr};
 ghost use Rattle.engine.specs.Situation.{situation_on};
 ghost use Rattle.programs.specs.Applied.{Applies, AppliesToImage, AnswersInMemory};
+ghost use Rattle.programs.specs.Images.{images_on};
 ghost use Rattle.programs.specs.Status.{IsRefusal};
 
 use crate::fault::Fault;
-use crate::images::open_image;
+use crate::images::{open_image, put_back};
 use drive::{Drive, MemDrive};
 use engine::{Engine, serve};
+use media::Media;
 use std::alloc::Global;
-use std::fs::{File, Files};
 use std::io::{Read, Write};
 use store::format;
 
@@ -19,21 +20,24 @@ use store::format;
 const MEMORY_LABEL: &str = "MEM";
 
 /// Answers the messages of the input on the volume of an image.
-pub(crate) fn apply_to_image<R, I, O>(
-    rt: &R,
+pub(crate) fn apply_to_image<M, I, O>(
+    alloc: Global,
+    media: &mut M,
     image: &str,
     input: &mut I,
     output: &mut O,
 ) -> Result<(), Fault>
 where
-    R: Files<File = File> + AllocGlobal,
+    M: Media,
     I: Read,
     O: Write,
     ensures refusal { IfErr result IsRefusal }
-    ensures applies { AppliesToImage result (I.remaining input.old) (I.remaining input.new) (O.contents output.old) (O.contents output.new) }
+    ensures applies { AppliesToImage image.now result (images_on M.Media media.old) (images_on M.Media media.new) (I.remaining input.old) (I.remaining input.new) (O.contents output.old) (O.contents output.new) }
 {
-    let mut drive = open_image(rt, image)?;
-    apply(rt.alloc(), &mut drive, input, output)
+    let mut drive = open_image(media, image)?;
+    let applied = apply(alloc, &mut drive, input, output);
+    put_back(media, image, drive);
+    applied
 }
 
 /// Answers the messages of the input on a new volume in memory.

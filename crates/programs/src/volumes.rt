@@ -1,24 +1,26 @@
 //! New volumes on images.
 
 ghost use Rattle.std.specs.Prelude.{◌≡◌, ◌<◌, IfErr, OnOk};
-ghost use Rattle.drive.specs.FileDrive.{journal_of, capacity_of, honest_of};
+ghost use Rattle.engine.specs.Situation.{situation_on};
 ghost use Rattle.formatting.specs.NewVolume.{words_on};
-ghost use Rattle.programs.specs.NewVolumes.{Begins, IsBegun, IsNoPart, IsUnbegun, Makes, MakesOnImage};
+ghost use Rattle.programs.specs.Images.{images_on};
+ghost use Rattle.programs.specs.NewVolumes.{Begins, IsBegun, IsNoPart, IsUnbegun, Makes, MakesOn, MakesOnImage};
 ghost use Rattle.programs.specs.Status.{IsRefusal};
 
 use crate::fault::Fault;
-use crate::images::create_image;
+use crate::images::{create_image, put_back};
 use crate::lines::put;
-use drive::{Drive, FileDrive, MemDrive};
+use drive::{Drive, MemDrive};
+use media::Media;
 use std::alloc::Global;
-use std::fs::{File, Files};
 use std::io::Write;
 use store::{StoreFault, format};
 
 /// Makes a volume on an image, which is made where it is missing, or finishes one that the same words began. Then it says
 /// so.
-pub(crate) fn format_image<R: Files<File = File> + AllocGlobal, O: Write>(
-    rt: &R,
+pub(crate) fn format_image<M: Media, O: Write>(
+    alloc: Global,
+    media: &mut M,
     image: &str,
     label: &str,
     moment: u64,
@@ -27,11 +29,29 @@ pub(crate) fn format_image<R: Files<File = File> + AllocGlobal, O: Write>(
 ) -> Result<(), Fault>
     requires { moment < 4_102_444_800_000_000 }
     ensures refusal { IfErr result IsRefusal }
-    ensures makes { MakesOnImage label.now moment capacity result (O.contents output.old) (O.contents output.new) }
+    ensures makes { MakesOnImage image.now label.now moment capacity result (images_on M.Media media.old) (images_on M.Media media.new) (O.contents output.old) (O.contents output.new) }
 {
-    let mut drive = create_image(rt, image, capacity)?;
-    require_beginning(rt.alloc(), &mut drive, label, moment)?;
-    make(rt.alloc(), &mut drive, label, moment, output)
+    let mut drive = create_image(media, image, capacity)?;
+    let made = make_or_finish(alloc, media, &mut drive, label, moment, output);
+    put_back(media, image, drive);
+    made
+}
+
+/// Makes a volume on a drive of the media, where no other bytes are left after its last whole block.
+fn make_or_finish<M: Media, O: Write>(
+    alloc: Global,
+    media: &M,
+    drive: &mut M::Drive,
+    label: &str,
+    moment: u64,
+    output: &mut O,
+) -> Result<(), Fault>
+    requires { moment < 4_102_444_800_000_000 }
+    ensures refusal { IfErr result IsRefusal }
+    ensures makes { MakesOn label.now moment (M.Drive.capacity drive.old) result (situation_on M.Drive.Drive None drive.old) (situation_on M.Drive.Drive None drive.new) (O.contents output.old) (O.contents output.new) }
+{
+    require_beginning(alloc, media, drive, label, moment)?;
+    make(alloc, drive, label, moment, output)
 }
 
 /// Makes a volume on a drive, and says so.
@@ -50,24 +70,25 @@ fn make<D: Drive, O: Write>(
     put(output, b"formatted\n")
 }
 
-/// Refuses a file whose bytes behind its last whole block do not begin the next block of a format with these words. A drive
+/// Refuses an image whose bytes after its last whole block do not begin the next block of a format with these words. A drive
 /// counts whole blocks alone, so that the format does not see them.
-fn require_beginning(
+fn require_beginning<M: Media>(
     alloc: Global,
-    drive: &mut FileDrive,
+    media: &M,
+    drive: &mut M::Drive,
     label: &str,
     moment: u64,
 ) -> Result<(), Fault>
     requires { moment < 4_102_444_800_000_000 }
     ensures refusal { IfErr result IsRefusal }
-    ensures journal { journal_of drive.new ≡ journal_of drive.old }
-    ensures capacity { capacity_of drive.new ≡ capacity_of drive.old }
-    ensures honest { honest_of drive.new ≡ honest_of drive.old }
-    ensures begun { OnOk result (IsBegun (capacity_of drive.old) label.now moment (journal_of drive.old)) }
-    ensures refused { IfErr result (IsUnbegun (capacity_of drive.old) label.now moment (journal_of drive.old)) }
+    ensures journal { M.Drive.journal drive.new ≡ M.Drive.journal drive.old }
+    ensures capacity { M.Drive.capacity drive.new ≡ M.Drive.capacity drive.old }
+    ensures honest { M.Drive.honest drive.new ≡ M.Drive.honest drive.old }
+    ensures begun { OnOk result (IsBegun (M.Drive.capacity drive.old) label.now moment (M.Drive.journal drive.old)) }
+    ensures refused { IfErr result (IsUnbegun (M.Drive.capacity drive.old) label.now moment (M.Drive.journal drive.old)) }
 {
     let mut part = [0; 2048];
-    let Ok(count) = drive.part(&mut part) else {
+    let Ok(count) = media.part(drive, &mut part) else {
         return Err(Fault::Store(StoreFault::Device));
     };
     if count == 0 {

@@ -199,14 +199,18 @@ fn frame_length(bytes: &[u8]) -> Option<usize>
     Some(u32::from_le_bytes([front[0], front[1], front[2], front[3]]) as usize)
 }
 
-/// Moves the bytes between the two numbers to the front.
+/// Moves the bytes between the two numbers to the front. They are no more than those before them, so that they are copied as one:
+/// `copy_within` moves them one by one.
 fn forget(bytes: &mut Vec<u8>, taken: usize, end: usize)
     requires from { taken ≤ end }
     requires to { end ≤ vec_len bytes.old }
+    requires apart { end - taken ≤ taken }
     ensures len { vec_len bytes.new ≡ vec_len bytes.old }
     ensures held { take (end - taken) bytes.new.items ≡ drop taken (take end bytes.old.items) }
 {
-    bytes.copy_within(taken..end, 0);
+    let count = end - taken;
+    let (front, rest) = bytes.split_at_mut(taken);
+    front[..count].copy_from_slice(&rest[..count]);
 }
 
 /// Makes room for so many bytes behind the first ones. Zeros are written only where there was none.

@@ -5,7 +5,7 @@ use std::alloc::Global;
 use std::fmt::Write;
 use words::show_bytes;
 
-/// The answers in the bytes of a stream, parted by a semicolon, and what is left behind the last whole one as bytes.
+/// The answers in the bytes of a stream, parted by a semicolon, and what is left after the last whole one as bytes.
 pub fn told(alloc: Global, stream: &[u8]) -> Result<String, Trouble> {
     let mut text = String::new(alloc);
     let mut rest = stream;
@@ -29,7 +29,7 @@ pub fn told(alloc: Global, stream: &[u8]) -> Result<String, Trouble> {
     Ok(text)
 }
 
-/// The payload of the first frame, and what is behind it.
+/// The payload of the first frame, and what is after it.
 fn first_frame(bytes: &[u8]) -> Option<(&[u8], &[u8])> {
     let (head, rest) = bytes.split_first_chunk::<4>()?;
     rest.split_at_checked(u32::from_le_bytes(*head) as usize)
@@ -84,7 +84,7 @@ fn tell_data(body: &[u8], out: &mut String) -> Result<(), Trouble> {
     Ok(())
 }
 
-/// The names in a directory, each behind a letter for its kind.
+/// The names in a directory, each after a letter for its kind.
 fn tell_names(body: &[u8], out: &mut String) -> Result<(), Trouble> {
     let (count, names) = body.split_at(body.len().min(2));
     write!(out, "names {}", little(count))?;

@@ -52,7 +52,7 @@ impl Plain {
         }))
     }
 
-    /// The program behind a request that is new, and the answer.
+    /// The program after a request that is new, and the answer.
     fn apply(self, alloc: Global, change: Change) -> Result<(Plain, String), Trouble> {
         match self.state.apply(alloc, change.plain()) {
             Ok((state, reply)) => Ok((Plain { state }, replied(alloc, reply)?)),
@@ -162,7 +162,7 @@ struct Expected {
     text: String,
 }
 
-/// What the plain program has behind a commit.
+/// What the plain program has after a commit.
 #[derive(Drop)]
 struct Mark {
     commit: u32,
@@ -333,7 +333,7 @@ impl Beside {
         compare_tree(self.alloc, machine, None, &tree)
     }
 
-    /// In one of four falls of the die, cuts the medium behind some of the blocks of the last commit, from none to all, up to
+    /// In one of four falls of the die, cuts the medium after some of the blocks of the last commit, from none to all, up to
     /// three times. Where a block is lost so is the commit, and its request is put again.
     pub fn lose(&mut self, machine: &mut Machine) -> Result<String, Trouble> {
         let alloc = self.alloc;
@@ -367,7 +367,7 @@ impl Beside {
         Ok(String::from_str(alloc, SAME)?)
     }
 
-    /// A new request, in whose commit the power is lost. The state before it stands, or the one behind it where the last block
+    /// A new request, in whose commit the power is lost. The state before it is recovered, or the one after it where the last block
     /// is there. Then the request is put again.
     pub fn tear(&mut self, machine: &mut Machine) -> Result<String, Trouble> {
         let old = self.plain()?.tree(self.alloc)?;
@@ -458,7 +458,7 @@ impl Beside {
         compare_tree(self.alloc, machine, Some(snapshot), &mark.tree)
     }
 
-    /// The states behind the marked commits.
+    /// The states after the marked commits.
     pub fn marks(&self, machine: &mut Machine) -> Result<String, Trouble> {
         for index in 0..self.marks.len() {
             let snapshot = machine.as_of(self.marks[index].commit)?;

@@ -31,7 +31,7 @@ pub struct Change {
 }
 
 impl Change {
-    /// `CLIENT[@MOMENT] NUMBER PATH`, and behind them `PATH` or the bytes.
+    /// `CLIENT[@MOMENT] NUMBER PATH`, and after them `PATH` or the bytes.
     pub fn read(alloc: Global, action: Action, words: &[&str]) -> Result<Change, Trouble> {
         let [client, order, path, rest @ ..] = words else {
             return Err(Trouble::Line("no request"));
@@ -106,7 +106,7 @@ impl Change {
     }
 }
 
-/// The names of a path behind the root's `/`. `n*16` is sixteen names `n`.
+/// The names of a path after the root's `/`. `n*16` is sixteen names `n`.
 fn read_path(alloc: Global, word: &str) -> Result<Vec<String>, Trouble> {
     let names = word.strip_prefix("/").ok_or(Trouble::Line("no path"))?;
     let mut path = Vec::new(alloc);

@@ -20,7 +20,7 @@ const MOMENT_LIMIT: u64 = 4_102_444_800_000_000;
 /// How many calls of the drive `Machine::burn` makes.
 const CALLS_TO_BURN: u64 = 2;
 
-/// What is read where a block did not reach the medium and one behind it did.
+/// What is read where a block did not reach the medium and one after it did.
 const UNWRITTEN: Block = [0; 2048];
 
 /// A store where one is open, or else an engine, and the drive that either is lent.
@@ -109,7 +109,7 @@ impl Machine {
         Ok(copy)
     }
 
-    /// A drive with the first blocks of the medium, and behind them for each choice the block that lies there or one of zeros.
+    /// A drive with the first blocks of the medium, and after them for each choice the block that lies there or one of zeros.
     pub fn torn(&self, whole: usize, choices: &[bool]) -> Result<Machine, Trouble> {
         let mut copy = Machine::blank(self.alloc, self.drive.capacity());
         for (address, block) in self.drive.journal() {
@@ -130,7 +130,7 @@ impl Machine {
         self.drive.capacity()
     }
 
-    /// Writes a block behind the others.
+    /// Writes a block after the others.
     pub fn burn(&mut self, block: &Block) -> Result<(), Trouble> {
         self.store = None;
         self.engine = Engine::new();
@@ -252,7 +252,7 @@ impl Machine {
     }
 }
 
-/// What is left of a block that lies so far behind those that are whole, or among them.
+/// What is left of a block that lies so far after those that are whole, or among them.
 fn left_of(block: &Block, behind: Option<usize>, choices: &[bool]) -> Option<Block> {
     let Some(place) = behind else {
         return Some(*block);

@@ -26,7 +26,7 @@ impl Script {
         self.lines.get(index)?.text.strip_prefix("scenario ")
     }
 
-    /// The line behind the scenario that begins with a line.
+    /// The line after the scenario that begins with a line.
     pub fn end_of_scenario(&self, index: usize) -> usize {
         let mut next = index.saturating_add(1);
         for at in next..self.lines.len() {

@@ -178,7 +178,7 @@ impl<'s> Stage<'s> {
         self.play_step(words, wanted)
     }
 
-    /// Goes on behind the block that begins with a line.
+    /// Goes on after the block that begins with a line.
     fn leave_out(&mut self, at: usize) -> Result<(), Trouble> {
         let end = self.script.end_of_block(at)?;
         if let Some(block) = self.open.last_mut() {
@@ -187,7 +187,7 @@ impl<'s> Stage<'s> {
         Ok(())
     }
 
-    /// Plays the lines behind this one once for each value of a name, where `2..5` is 2, 3 and 4.
+    /// Plays the lines after this one once for each value of a name, where `2..5` is 2, 3 and 4.
     fn enter_each(&mut self, at: usize, name: &str, words: &[&str]) -> Result<(), Trouble> {
         let alloc = self.alloc;
         let end = self.script.end_of_block(at)?;

@@ -40,7 +40,7 @@ pub enum MediumStep<'w> {
     Same(&'w str),
 }
 
-/// The bytes of a stream, how many come at first, how many at once behind them, behind how many it fails, and for how many
+/// The bytes of a stream, how many come at first, how many at once after them, after how many it fails, and for how many
 /// bytes of answers there is room.
 #[derive(Drop)]
 pub struct Stream {
@@ -199,7 +199,7 @@ fn read_medium<'w>(
     }
 }
 
-/// A block that begins with these bytes, with zeros behind them.
+/// A block that begins with these bytes, with zeros after them.
 fn read_block(alloc: Global, words: &[&str]) -> Result<Block, Trouble> {
     let mut bytes = Vec::new(alloc);
     read_bytes(words, &mut bytes)?;

@@ -268,6 +268,10 @@ impl Store {
     }
 }
 
+/// How many blocks below a table's entry the drive is told of. A commit's directories and tables lie right below its table's entry, and
+/// the commit before it below those; one of a small file has some ten blocks.
+const AHEAD: u32 = 64;
+
 /// The state after each commit stands, from the one whose table's entry stands at `at` back to the format. The chain is walked
 /// once: each table is that of a state, and what two states that follow one another have alike is read once.
 fn check_states<D: Drive>(alloc: Global, drive: &mut D, at: u32) -> Result<(), StoreFault>
@@ -283,6 +287,7 @@ fn check_states<D: Drive>(alloc: Global, drive: &mut D, at: u32) -> Result<(), S
     let mut vat = newest;
     while let Some(number) = vat.previous {
         let there = number + PARTITION_START;
+        drive.read_soon(there.saturating_sub(AHEAD), AHEAD);
         let State { vat: before, .. } = state_sharing(alloc, drive, &mut known, there)?;
         if u64::from(before.sessions.commits) + 1 != u64::from(vat.sessions.commits) {
             return Err(damaged(there, cause::CHAIN));

@@ -67,6 +67,27 @@ impl Store {
         self.is_stopped
     }
 
+    /// The address of the newest table's entry.
+    pub fn table(&self) -> u32
+        ensures { result ≡ self.now.at }
+    {
+        self.at
+    }
+
+    /// Of the volume, in blocks.
+    pub fn capacity(&self) -> u32
+        ensures { result ≡ self.now.capacity }
+    {
+        self.capacity
+    }
+
+    /// What the newest table says.
+    pub fn newest(&self) -> &Vat
+        ensures { result.now ≡ self.now.vat }
+    {
+        &self.vat
+    }
+
     /// The greatest number of encoded blocks that were held at once, since the store was opened.
     pub fn most_held(&self) -> usize
         ensures { result ≡ self.now.most_held }

@@ -1,10 +1,13 @@
-//! The program `udfburnd`: `programs::daemon` on the words of the process.
+//! The program `udfburnd`: `programs::daemon_on` over files and a socket, on the words of the process.
 #![tactic(auto)]
 
-use programs::run_daemon;
+use media::FileMedia;
+use programs::{Sockets, run_daemon};
 use std::process::ExitCode;
 
 fn main(rt: HostRuntime) -> ExitCode {
+    let mut media = FileMedia::new(&rt);
+    let mut sockets = Sockets::new(&rt);
     let mut errors = rt.stderr();
-    ExitCode::from(run_daemon(&rt, &mut errors))
+    ExitCode::from(run_daemon(&rt, &mut media, &mut sockets, &mut errors))
 }

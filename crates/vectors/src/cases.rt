@@ -157,7 +157,7 @@ impl Reader {
         Ok(())
     }
 
-    /// Puts other bytes in the place of a block, with zeros behind them.
+    /// Puts other bytes in the place of a block, with zeros after them.
     fn put(&mut self, address: usize, words: &[&str]) -> Result<(), Trouble> {
         let mut block = Vec::new(self.alloc);
         self.read(words, &mut block)?;

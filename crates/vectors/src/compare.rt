@@ -69,7 +69,7 @@ pub fn answer(
     }
 }
 
-/// The block that begins with the first 2,048 of these bytes, with zeros behind them.
+/// The block that begins with the first 2,048 of these bytes, with zeros after them.
 pub fn block_of(bytes: &[u8]) -> Block {
     let size = bytes.len().min(2048);
     let mut block = [0; 2048];
@@ -77,7 +77,7 @@ pub fn block_of(bytes: &[u8]) -> Block {
     block
 }
 
-/// The blocks that hold these bytes, with zeros behind them.
+/// The blocks that hold these bytes, with zeros after them.
 pub fn blocks_of(alloc: Global, bytes: &[u8]) -> Result<Vec<Block>, Trouble> {
     let mut blocks = Vec::new(alloc);
     for piece in bytes.chunks(2048) {

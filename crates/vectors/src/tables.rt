@@ -56,7 +56,7 @@ fn tell_record(record: &Record, out: &mut String) -> Result<(), Trouble> {
     Ok(())
 }
 
-/// The entries; eight and more that are unused behind one another are a run.
+/// The entries; eight and more that are unused one after another are a run.
 fn tell_entries(entries: &[Option<u32>], out: &mut String) -> Result<(), Trouble> {
     out.push_str(" entries")?;
     let mut unused = 0usize;

@@ -77,7 +77,7 @@ fn spelling(alloc: Global, bytes: &[u8]) -> Result<String, Trouble> {
     told(alloc, &text)
 }
 
-/// The spelling of a text, behind a byte that stays.
+/// The spelling of a text, after a byte that stays.
 fn spelled(alloc: Global, text: &str) -> Result<String, Trouble> {
     let mut out = vec![in alloc; 7u8]?;
     match compress(text, &mut out) {
@@ -164,7 +164,7 @@ fn labelled(alloc: Global, text: &str) -> Result<String, Trouble> {
     }
 }
 
-/// The label behind the sixteen digits of a volume set identifier (UDF 2.01 2.2.2.5), behind these.
+/// The label after the sixteen digits of a volume set identifier (UDF 2.01 2.2.2.5), after these.
 fn set_identifier(alloc: Global, bytes: &[u8]) -> Result<String, Trouble> {
     if bytes.is_empty() || bytes.len() > 256 {
         return Err(Trouble::Line("no dstring is so long"));

@@ -23,7 +23,7 @@ fn drive_of(alloc: Global, medium: &Medium) -> Result<MemDrive, Trouble> {
     Ok(drive)
 }
 
-/// Adds a block behind the others.
+/// Adds a block after the others.
 fn add(drive: &mut MemDrive, block: &Block) -> Result<(), Trouble> {
     let next = drive.next()?;
     if next >= drive.capacity() {

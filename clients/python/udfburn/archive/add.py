@@ -30,6 +30,8 @@ class Options(NamedTuple):
 
     delete_source: bool = False
     skip_odd: bool = False
+    each: bool = False
+    """Whether each file is acknowledged by itself, and not with its batch."""
 
 
 class Summary:
@@ -63,7 +65,9 @@ class Adder:
         with closing(claims):
             for _, path in sorted(wanted, key=lambda pair: pair[1]):
                 claims.path(path)
-            filler = Filler(self.config, self.catalogue, claims, self.tell, run_text(wanted), self._kept, self._failed)
+            filler = Filler(
+                self.config, self.catalogue, claims, self.tell, run_text(wanted), self._kept, self._failed, not self.options.each,
+            )
             with closing(filler), closing(self.deleter):
                 for local, path in wanted:
                     self._below(local, path, filler)

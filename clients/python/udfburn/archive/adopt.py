@@ -9,6 +9,7 @@ from typing import List, Optional
 
 from ..ledger_file import sync_file, sync_folder
 from ..sources import shown
+from .batch import sound_length
 from .catalogue import CLOSED, FULL, NEW, OPEN, Catalogue, VolumeRow
 from .claims import Claims
 from .close import SIDECARS, beside
@@ -83,8 +84,12 @@ def copy_to(image: str, target: str, closed: bool) -> None:
                 sync_file(beside(target, end))
     new = target + ".new"
     shutil.copyfile(image, new)
+    length = sound_length(image)
+    if length is not None:
+        # The machine died while it wrote a tail.
+        os.truncate(new, min(length, os.path.getsize(new)))
     sync_file(new)
-    if print_of_file(new, fresh=True) != print_of_file(image):
+    if print_of_file(new, fresh=True) != print_of_file(image, most=length):
         raise VolumeDiffers(f"{shown(new)}: is not what {shown(image)} is: it was written meanwhile, or a disk fails")
     if closed:
         os.chmod(new, 0o444)

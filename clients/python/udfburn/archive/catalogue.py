@@ -15,7 +15,7 @@ from .base import Base, Row, open_base
 from .config import Config
 from .errors import CatalogueError
 from .names import kept_name, name_back
-from .schema import COMMITS, TAIL, VERSION, statements
+from .schema import COMMITS, VERSION, statements
 
 OPEN, FULL, CLOSING, CLOSED, NEW = "open", "full", "closing", "closed", "new"
 """The states of a volume. NEW has its number and maybe no image yet."""
@@ -89,11 +89,16 @@ INSERT INTO volume ({VOLUME}) VALUES ({", ".join("?" * len(VolumeRow._fields))})
 {", ".join(f"{name} = excluded.{name}" for name in VolumeRow._fields[1:])}
 """
 KEPT_FILE = """
-INSERT INTO file (id, folder, name, tail, size, moment, sha256, added, first_part, part_count) VALUES (?, ?, ?, ?, ?, ?, ?, ?, ?, ?)
-ON CONFLICT (id) DO UPDATE SET folder = excluded.folder, name = excluded.name, tail = excluded.tail, size = excluded.size,
-moment = excluded.moment, sha256 = excluded.sha256, added = excluded.added, first_part = excluded.first_part,
-part_count = excluded.part_count
+INSERT INTO file (id, folder, name, size, moment, sha256, added, first_part, part_count) VALUES (?, ?, ?, ?, ?, ?, ?, ?, ?)
+ON CONFLICT (id) DO UPDATE SET folder = excluded.folder, name = excluded.name, size = excluded.size, moment = excluded.moment,
+sha256 = excluded.sha256, added = excluded.added, first_part = excluded.first_part, part_count = excluded.part_count
 """
+KEPT_NAME = """
+INSERT INTO {table} ({column}, path, id, part_count) VALUES (?, ?, ?, ?)
+ON CONFLICT ({column}, path, id) DO UPDATE SET part_count = excluded.part_count
+"""
+NAMES = (("by_name", "name"), ("by_ending", "ending"))
+"""The tables of names, and the column by which each is sorted: the name, and the name from its end."""
 FILE = "file.id, file.name, file.size, file.moment, file.sha256, file.added, file.first_part, file.part_count"
 
 
@@ -153,7 +158,7 @@ class Catalogue:
         try:
             with self.base.transaction():
                 version = self._version() or 0
-                for statement in statements(version, self.base.text, self.base.blob, self.base.serial) if version < VERSION else ():
+                for statement in statements(self.base.engine, version, self.base.text, self.base.blob, self.base.serial) if version < VERSION else ():
                     self.base.run(statement)
                 if not version:
                     values = (str(uuid.uuid4()), VERSION, self.config.label, 1)
@@ -217,10 +222,12 @@ class Catalogue:
             self.save(volume)
 
     def replace(self, volume: VolumeRow, rows: Sequence[Held]) -> None:
-        """Has these files in the place of all that the catalogue had of a volume, as one."""
+        """Has these files in the place of all that the catalogue had of a volume, as one. Rows that stay as they are are not written."""
         with self.base.transaction():
-            self.base.run("DELETE FROM file WHERE id >= ? AND id < ?", (volume.number * COMMITS, (volume.number + 1) * COMMITS))
-            self._insert(rows)
+            old = {held.id(): held for held in self.of_volume(volume.number)}
+            new = {held.id(): held for held in rows}
+            self._delete([held for id, held in old.items() if new.get(id) != held])
+            self._insert([held for id, held in new.items() if old.get(id) != held])
             self.keep_numbers_above(volume.number)
             self.save(volume)
 
@@ -229,10 +236,36 @@ class Catalogue:
         folders = {text: self._folder_id(text) for text in sorted({folder_text(row.path[:-1]) for row in rows})}
         kept = []
         for row in rows:
-            name = kept_name(row.path[-1])
             folder = folders[folder_text(row.path[:-1])]
-            kept.append((row.id(), folder, name, name[::-1][:TAIL], row.size, row.moment, row.sha256, row.added, row.first, row.parts))
+            kept.append((row.id(), folder, kept_name(row.path[-1]), row.size, row.moment, row.sha256, row.added, row.first, row.parts))
         self.base.many(KEPT_FILE, kept)
+        for table, column in NAMES if self.base.has_names else ():
+            self.base.many(KEPT_NAME.format(table=table, column=column), sorted((*name_key(column, row), row.parts) for row in rows))
+
+    def _delete(self, rows: Sequence[Held]) -> None:
+        self.base.many("DELETE FROM file WHERE id = ?", [(row.id(),) for row in rows])
+        for table, column in NAMES if self.base.has_names else ():
+            self.base.many(f"DELETE FROM {table} WHERE {column} = ? AND path = ? AND id = ?", [name_key(column, row) for row in rows])
+
+    def mend_names(self) -> int:
+        """Has the tables of names agree with the files; gives how many rows did not."""
+        if not self.base.has_names:
+            return 0
+        with self.base.transaction():
+            return sum(self._mend(table, column) for table, column in NAMES)
+
+    def _mend(self, table: str, column: str) -> int:
+        name = "name" if column == "name" else "reverse(name)"
+        files = f"SELECT {name} AS {column}, path, file.id AS id, part_count FROM folder JOIN file ON file.folder = folder.id"
+        same = " AND ".join(f"one.{field} IS other.{field}" for field in (column, "path", "id", "part_count"))
+        stale = f"""FROM {table} AS one WHERE NOT EXISTS (SELECT 1 FROM file JOIN folder ON folder.id = file.folder
+        WHERE file.id = one.id AND {name} = one.{column} AND path = one.path AND part_count IS one.part_count)"""
+        missing = f"FROM ({files}) AS one WHERE NOT EXISTS (SELECT 1 FROM {table} AS other WHERE {same})"
+        found = [int(self.base.run(f"SELECT count(*) {what}")[0][0]) for what in (stale, missing)]
+        if any(found):
+            self.base.run(f"DELETE {stale}")
+            self.base.run(f"INSERT INTO {table} SELECT * {missing}")
+        return max(found)
 
     def _folder_id(self, text: str) -> int:
         """The id of a folder, which is made where it is missing."""
@@ -260,8 +293,12 @@ class Catalogue:
 
     def of_path(self, path: Path) -> List[Held]:
         """The rows of a path, the newest first."""
-        statement = f"SELECT {FILE} FROM file JOIN folder ON folder.id = file.folder WHERE folder.path = ? AND file.name = ?"
-        rows = [held_row(path[:-1], row) for row in self.base.run(statement, (folder_text(path[:-1]), kept_name(path[-1])))] if path else []
+        if not path:
+            return []
+        folder, name = folder_text(path[:-1]), kept_name(path[-1])
+        statement = f"""SELECT {FILE} FROM folder JOIN file ON file.folder = folder.id WHERE folder.path = ?
+        AND file.id IN (SELECT id FROM by_name WHERE name = ? AND path = ?)"""
+        rows = [held_row(path[:-1], row) for row in self.base.run(statement, (folder, name, folder))]
         return sorted(rows, key=order, reverse=True)
 
     def of_volume(self, number: int) -> List[Held]:
@@ -278,7 +315,6 @@ class Catalogue:
         statement = "SELECT path FROM folder WHERE path = ? OR (path >= ? AND path < ?) ORDER BY path"
         for (found,) in self.base.run(statement, (text, low, high)):
             yield folder_back(found)
-
 
     def children(self, path: Path) -> Iterator[str]:
         """The names of the folders in a folder, each once. What is below one of them is passed by."""
@@ -305,6 +341,12 @@ def folder_text(path: Path) -> str:
 def folder_back(text: str) -> Path:
     """The folder that the catalogue has."""
     return tuple(name_back(name) for name in text.split("/")[1:])
+
+
+def name_key(column: str, row: Held) -> Tuple[str, str, int]:
+    """The key of a file in a table of names."""
+    name = kept_name(row.path[-1])
+    return name if column == "name" else name[::-1], folder_text(row.path[:-1]), row.id()
 
 
 def held_row(folder: Path, row: Row) -> Held:

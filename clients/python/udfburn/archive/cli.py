@@ -66,6 +66,7 @@ def add_writers(subs: "Subs") -> None:
     add.add_argument("folder", nargs="+", metavar="FOLDER")
     add.add_argument("--at", default="/", metavar="PATH", help="where it is in the archive: one FOLDER becomes PATH; with a slash at its end each gets its own name below (/)")
     add.add_argument("--delete-source", action="store_true", help="deletes each file once archive.toml lets it")
+    add.add_argument("--each", action="store_true", help="writes each file to the disk before the next one, and not in batches: slower, and takes no memory")
     add.add_argument("--skip-odd", action="store_true", help="links, pipes, sockets and devices, which are left out, are no failure")
 
     close = command(subs, "close", "writes the bag's tag files, ends the image, and sends it to each remote")

@@ -75,8 +75,9 @@ class Closer:
         source = self.config.path("open", row.label + ".img")
         if os.path.isfile(source):
             row = self._finish(row)
-            self._end(source)
-            self._keep_beside(source, target)
+            with closing(Contents(source)) as contents:
+                self._end(source, contents)
+                self._keep_beside(source, target, contents)
             # The image comes last, so what is in the folder `closed` has all that belongs to it.
             os.rename(source, target)
             sync_folder(os.path.dirname(target))
@@ -154,10 +155,9 @@ class Closer:
         node = contents.nodes.get((BAG_INFO,))
         return read_fields(contents.bytes_of(node)).get("Bagging-Date") if node is not None else None
 
-    def _end(self, image: str) -> None:
+    def _end(self, image: str, contents: Contents) -> None:
         """Ends the image after its last table's entry, looks at all of it, and makes it read-only."""
-        with closing(Contents(image)) as contents:
-            end = (contents.last_address + 1) * limits.BLOCK
+        end = (contents.last_address + 1) * limits.BLOCK
         descriptor = os.open(image, os.O_RDWR | os.O_CLOEXEC)
         try:
             fcntl.flock(descriptor, fcntl.LOCK_EX | fcntl.LOCK_NB)
@@ -169,13 +169,12 @@ class Closer:
             os.close(descriptor)
         run_program(self.program, ["check", image])
 
-    def _keep_beside(self, image: str, target: str) -> None:
+    def _keep_beside(self, image: str, target: str, contents: Contents) -> None:
         """Writes the files beside the image, where it will be."""
         from ..map import draw_map
 
         found = print_of_file(image, fresh=True)
-        with closing(Contents(image)) as contents:
-            about, commits, closed = contents.about(), contents.last_commit, contents.closed()
+        about, commits, closed = contents.about(), contents.last_commit, contents.closed()
         name = os.path.basename(target)
         text = (
             f"archive: {about.archive}\nlabel: {about.label}\nvolume: {about.number}\nclosed: {stamp(closed or 0)}\ncommits: {commits}\n"

@@ -71,7 +71,7 @@ def add(arguments: argparse.Namespace) -> int:
     config, tell = config_of(arguments), tell_of(arguments)
     wanted = targets(arguments.folder, arguments.at)
     with Catalogue(config) as catalogue:
-        adder = Adder(config, catalogue, Options(arguments.delete_source, arguments.skip_odd), tell)
+        adder = Adder(config, catalogue, Options(arguments.delete_source, arguments.skip_odd, arguments.each), tell)
         try:
             summary = adder.run(wanted)
         finally:
@@ -100,13 +100,21 @@ def rebuild(arguments: argparse.Namespace) -> int:
         summary = Rebuilder(config, catalogue, tell, arguments.dry_run).run(arguments.image)
     for difference in summary.differences:
         tell.say(f"{difference.volume} {difference.path}: {difference.how}", did="differs", **difference._asdict())
+    for volume, count in summary.unknown.items():
+        tell.say(f"{volume}: {plural(count, 'file', 'files')}: the catalogue did not have this volume", did="unknown", volume=volume, files=count)
     for line in summary.failures:
         tell.fail(line)
+    for label in summary.lacking:
+        words = f"{label}: there are files or copies of it, and no image at hand: bring it back, and run 'rebuild' again. Until then its files are not known"
+        tell.note(words, did="lacking", volume=label)
     for label in summary.away:
         tell.note(f"{label} is not at hand: what the catalogue has of it stays as it is", did="away", volume=label)
-    found = plural(len(summary.differences), "difference", "differences") if summary.differences else "no difference"
+    if summary.names:
+        tell.note(f"{plural(summary.names, 'name', 'names')} in the tables of names differed from the files, and were mended", did="mended", names=summary.names)
+    count = len(summary.differences) + sum(summary.unknown.values())
+    found = plural(count, "difference", "differences") if count else "no difference"
     tell.result(
         f"read {plural(summary.volumes, 'volume', 'volumes')} with {plural(summary.files, 'file', 'files')}: {found}",
-        volumes=summary.volumes, files=summary.files, differences=len(summary.differences), away=summary.away,
+        volumes=summary.volumes, files=summary.files, differences=count, away=summary.away,
     )
     return 1 if summary.failures else 0

@@ -96,7 +96,7 @@ def read(folder: str) -> Config:
         with open(where, "rb") as file:
             table: Dict[str, Any] = tomllib.load(file)
     except FileNotFoundError as error:
-        raise NoArchive(f"{shown(folder)}: holds no {FILE}: make an archive by 'udfburn-archive init'") from error
+        raise NoArchive(f"{shown(folder)}: is no archive: name one by --archive or UDFBURN_ARCHIVE, or make one by 'udfburn-archive init'") from error
     except ValueError as error:
         raise BadConfig(f"{shown(where)}: {error}") from error
     return checked(folder, table, shown(where))

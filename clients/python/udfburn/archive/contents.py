@@ -10,6 +10,7 @@ from typing import Dict, Iterator, List, NamedTuple, Optional, Set, Tuple
 from ..manifest import MANIFEST, PAYLOAD, TAG_MANIFEST, read_manifest
 from ..protocol import Path, limits
 from ..reader import Kind, Medium, Node, NoVolume, State, Volume
+from .batch import sound_length
 from .catalogue import Held, part_count
 from .errors import VolumeDiffers
 from .names import DESCRIPTION, read_back, text_of
@@ -79,10 +80,13 @@ class Contents:
 
     def __init__(self, image: str):
         self.image = image
+        length = sound_length(image)
         try:
             self.medium = Medium(image)
         except OSError as error:
             raise VolumeDiffers(f"{image}: {error.strerror or error}") from error
+        if length is not None:
+            self.medium.blocks = min(self.medium.blocks, length // limits.BLOCK)
         try:
             self._read()
         except NoVolume as error:

@@ -19,8 +19,8 @@ from .volume import OpenVolume, open_new, own_volumes
 BATCH_FILES, BATCH_BYTES = 512, 64 * limits.FILE
 """Files, and their bytes, that are planned on a volume before they are sent."""
 
-KEEP = 256
-"""Files that are stored before the catalogue has them."""
+KEEP = BATCH_FILES
+"""Files that are stored before the catalogue has them, at most."""
 
 OPEN_MOST = 4
 """Open volumes of one run. The files of a folder go to the first that has room for all of them."""
@@ -35,14 +35,16 @@ Failed = Callable[[Job, str], None]
 class Filler:
     """The open volumes of a run."""
 
-    def __init__(self, config: Config, catalogue: Catalogue, claims: Claims, tell: Tell, text: str, kept: Kept, failed: Failed):
+    def __init__(
+        self, config: Config, catalogue: Catalogue, claims: Claims, tell: Tell, text: str, kept: Kept, failed: Failed, batches: bool = True,
+    ):
         self.config, self.catalogue, self.claims, self.tell, self.text = config, catalogue, claims, tell, text
-        self.kept, self.failed = kept, failed
+        self.kept, self.failed, self.batches = kept, failed, batches
         self.open: List[OpenVolume] = []
         self.planned: Dict[int, List[Job]] = {}
         self.weights: Dict[int, int] = {}
         # What an earlier run left comes first, so that the catalogue has all that the volumes have.
-        for volume in own_volumes(config, catalogue, claims):
+        for volume in own_volumes(config, catalogue, claims, batches):
             self.open.append(volume)
 
     def close(self) -> None:
@@ -128,7 +130,7 @@ class Filler:
                 self.put(job.source.path[:-1], [job])
             if fullest in self.open:
                 self._full(fullest)
-        volume = open_new(self.config, self.catalogue, self.claims)
+        volume = open_new(self.config, self.catalogue, self.claims, self.batches)
         self.open.append(volume)
         self.tell.say_step(f"opened {volume.row.label}", did="opened", volume=volume.row.label)
         return volume
@@ -162,7 +164,7 @@ class Filler:
         done: List[Job] = []
         full = False
         try:
-            for outcome in volume.client.run(operations(volume, jobs)):
+            for outcome in volume.run(lambda: operations(volume, jobs), len(jobs), sum(job.planned_bytes() for job in jobs)):
                 self._take(volume, outcome, done)
                 if len(done) >= KEEP:
                     self._keep(volume, done)
@@ -197,6 +199,7 @@ class Filler:
         operation = outcome.operation
         volume.last_commit = outcome.commit
         if operation.tag is None:
+            volume.marked(operation)
             if outcome.code is not Code.DONE and not (operation.kind is MakeDir and outcome.code is Code.EXISTS):
                 raise VolumeDiffers(f"{volume.row.label}: {shown_path(operation.path)}: {outcome.code.name}: run the command again")
             return

@@ -1,18 +1,21 @@
-"""Finds files by a pattern, by the catalogue's indexes where the pattern has a literal beginning or end."""
+"""Finds files by a pattern. A literal beginning or end of it is looked up in order of names or of their ends, where whole paths
+stand side by side: so the time follows from what is found, and no hit takes a look-up of its own."""
 
 from __future__ import annotations
 
 from fnmatch import fnmatchcase
 from itertools import groupby
-from typing import Dict, Iterable, Iterator, List, Tuple
+from typing import Iterator, Tuple
 
 from ..protocol import Path
-from .catalogue import FILE, Catalogue, Held, folder_back, held_row, versions
-from .names import kept_name
-from .schema import TAIL
+from .base import Row
+from .catalogue import Catalogue, folder_back, versions
+from .names import kept_name, name_back
 
 WILD = "*?["
-JOIN = f"SELECT {FILE}, folder.path FROM file JOIN folder ON folder.id = file.folder"
+
+ESCAPE = "!"
+"""What stands before a letter of a LIKE that would be a wildcard."""
 
 
 def after(text: str) -> str:
@@ -35,71 +38,60 @@ def literal_end(pattern: str) -> str:
     return pattern[end:]
 
 
-def find(catalogue: Catalogue, pattern: str) -> Iterator[List[Held]]:
-    """The newest version of each path that a pattern matches: a whole path where it begins with a slash, else a name.
+def like(pattern: str) -> str:
+    """A pattern of SQL that all names of a pattern are of, and maybe others: sets are any text."""
+    if "[" in pattern or "]" in pattern:
+        return "%"
+    words = {"*": "%", "?": "_", "%": ESCAPE + "%", "_": ESCAPE + "_", ESCAPE: ESCAPE * 2}
+    return "".join(words.get(letter, letter) for letter in pattern)
 
-    `*` is any text, slashes among it, `?` a character, `[..]` one of some. A literal beginning or end is looked up by an index;
-    a pattern with neither is compared with each name.
+
+def find(catalogue: Catalogue, pattern: str) -> Iterator[Path]:
+    """The paths that a pattern matches and that have a whole version: a whole path where it begins with a slash, else a name.
+
+    `*` is any text, slashes among it, `?` a character, `[..]` one of some.
     """
     kept = kept_name(pattern)
     rows = by_path(catalogue, kept) if kept.startswith("/") else by_name(catalogue, kept)
-    for group in rows:
-        found = versions(group)
-        if found:
-            yield found[0]
+    for (folder, name), group in groupby(rows, key=lambda row: row[:2]):
+        path = folder_back(str(folder)) + (name_back(str(name)),)
+        # Of a file in parts the archive may lack some.
+        if any(parts is None for *_, parts in group) or versions(catalogue.of_path(path)):
+            yield path
 
 
-def by_path(catalogue: Catalogue, pattern: str) -> Iterator[List[Held]]:
-    """Rows by their whole path, one group a path, in order of the paths."""
+def by_path(catalogue: Catalogue, pattern: str) -> Iterator[Row]:
+    """Folder, name and count of parts of each row by its whole path, in order of the folders."""
     begin = literal(pattern)
     folder, _, name = begin.rpartition("/")
-    here, exact = f"{JOIN} WHERE folder.path = ?", [folder]
-    if name:
-        here, exact = f"{here} AND file.name >= ? AND file.name < ?", [folder, name, after(name)]
-    here += " ORDER BY file.name"
-    yield from groups(catalogue.base.stream(here, exact), pattern, True)
-    if begin != pattern:
-        below = f"{JOIN} WHERE folder.path >= ? AND folder.path < ? ORDER BY folder.path, file.name"
-        yield from groups(catalogue.base.stream(below, (begin, after(begin))), pattern, True)
+    statement = "SELECT path, name, part_count FROM folder JOIN file ON file.folder = folder.id"
+    if begin == pattern:
+        # Once for each version of it.
+        yield from ((folder, name, held.parts) for held in catalogue.of_path(folder_back(folder) + (name_back(name),)))
+        return
+    for where, values in (("path = ?", (folder,)), ("path >= ? AND path < ?", (begin, after(begin)))):
+        for row in catalogue.base.stream(f"{statement} WHERE {where} ORDER BY path, name", values):
+            if fnmatchcase(f"{row[0]}/{row[1]}", pattern):
+                yield row
 
 
-def by_name(catalogue: Catalogue, pattern: str) -> Iterator[List[Held]]:
-    """Rows by their name, one group a path."""
+def by_name(catalogue: Catalogue, pattern: str) -> Iterator[Row]:
+    """The same of each row by its name."""
     begin, end = literal(pattern), literal_end(pattern)
     if begin == pattern:
-        yield from groups(catalogue.base.stream(f"{JOIN} WHERE file.name = ? ORDER BY file.folder", (pattern,)), pattern, False)
+        yield from named(catalogue, "name", "name = ?", (begin,), pattern)
     elif len(begin) >= len(end) and begin:
-        statement = f"{JOIN} WHERE file.name >= ? AND file.name < ? ORDER BY file.name, file.folder"
-        yield from groups(catalogue.base.stream(statement, (begin, after(begin))), pattern, False)
+        yield from named(catalogue, "name", "name >= ? AND name < ?", (begin, after(begin)), pattern)
     elif end:
-        tail = end[::-1][:TAIL]
-        rows = catalogue.base.stream(f"{JOIN} WHERE file.tail >= ? AND file.tail < ?", (tail, after(tail)))
-        yield from collected(rows, pattern)
+        yield from named(catalogue, "ending", "ending >= ? AND ending < ?", (end[::-1], after(end[::-1])), pattern)
     else:
-        # The files of a folder stand together, so this reads the table nearly in order.
-        yield from groups(catalogue.base.stream(f"{JOIN} ORDER BY file.folder, file.name"), pattern, False)
+        yield from named(catalogue, "name", f"name LIKE ? ESCAPE '{ESCAPE}'", (like(pattern),), pattern)
 
 
-def matches(row: Tuple[object, ...], pattern: str, whole: bool) -> bool:
-    """Whether a row's path, or its name, is of a pattern."""
-    name, folder = str(row[1]), str(row[-1])
-    return fnmatchcase(f"{folder}/{name}" if whole else name, pattern)
-
-
-def groups(rows: Iterable[Tuple[object, ...]], pattern: str, whole: bool) -> Iterator[List[Held]]:
-    """The rows of each path, which come one after another."""
-    kept = (row for row in rows if matches(row, pattern, whole))
-    for (folder, _), group in groupby(kept, key=lambda row: (row[-1], row[1])):
-        above = folder_back(str(folder))
-        yield [held_row(above, row[:-1]) for row in group]
-
-
-def collected(rows: Iterable[Tuple[object, ...]], pattern: str) -> Iterator[List[Held]]:
-    """The rows of each path, which come in any order."""
-    found: Dict[Path, List[Held]] = {}
-    for row in rows:
-        if matches(row, pattern, False):
-            held = held_row(folder_back(str(row[-1])), row[:-1])
-            found.setdefault(held.path, []).append(held)
-    for path in sorted(found):
-        yield found[path]
+def named(catalogue: Catalogue, column: str, where: str, values: Tuple[str, ...], pattern: str) -> Iterator[Row]:
+    """Rows in order of their names, or of their ends, that a pattern matches."""
+    statement = f"SELECT path, {column}, part_count FROM by_{column} WHERE {where} ORDER BY {column}, path"
+    for path, name, parts in catalogue.base.stream(statement, values):
+        name = name if column == "name" else name[::-1]
+        if fnmatchcase(name, pattern):
+            yield path, name, parts

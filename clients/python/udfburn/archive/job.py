@@ -10,7 +10,7 @@ from typing import Generator, Iterator, List, Optional, Tuple, Type
 from ..errors import SourceChanged, SourceError
 from ..operations import Operation
 from ..protocol import AnyRequest, Create, MakeDir, Path, limits
-from ..sources import Source, exactly, open_to_read, read_parts, shown, unchanged
+from ..sources import Source, exactly, open_to_read, origin_of, read_parts, shown, unchanged
 from .catalogue import Held, part_count
 from .contents import Contents, File
 from .names import DESCRIPTION
@@ -120,24 +120,26 @@ class Job:
         for folder in folders:
             yield Operation(MakeDir, folder, self.source.moment())
 
-    def _create(self, path: Path, data: bytes, is_part: bool = False) -> Operation:
+    def _create(self, path: Path, data: bytes, is_part: bool = False, start: Optional[int] = None) -> Operation:
+        """A request for data, which is that of the source from a byte on where this is given."""
         kind: Type[AnyRequest] = Create
-        return Operation(kind, path, self.source.moment(), data, tag=(self, is_part))
+        origin = None if start is None else origin_of(self.source, start)
+        return Operation(kind, path, self.source.moment(), data, tag=(self, is_part), origin=origin)
 
     def _whole(self) -> Iterator[Operation]:
         assert self.whole
         data = b"".join(read_parts(self.source))
         self.digest = sha256(data).digest()
-        yield self._create(self.whole, data)
+        yield self._create(self.whole, data, start=0)
 
     def _in_parts(self) -> Iterator[Operation]:
         assert self.whole
         if not self.commit:
             yield self._create(self.whole + (DESCRIPTION,), description(self.source, self.digest, self.begun))
         with closing(parts_from(self.source, self.first)) as pieces:
-            for place, data in zip(self.parts, pieces):
+            for part, (place, data) in enumerate(zip(self.parts, pieces), self.first):
                 yield from self._folders(place.folders)
-                yield self._create(place.path, data, True)
+                yield self._create(place.path, data, True, part * limits.FILE)
 
     def fail(self, why: str) -> None:
         self.failure = self.failure or why

@@ -111,19 +111,27 @@ def find(arguments: argparse.Namespace) -> int:
     count = 0
     with Catalogue(config) as catalogue:
         labels = Labels(catalogue)
-        for group in found_by(catalogue, arguments.pattern):
+        for path in found_by(catalogue, arguments.pattern):
             count += 1
-            path = shown_path(group[0].path)
-            tell.say(long_line(group, labels, path) if arguments.long else path, **fields(group, labels))
+            show_found(tell, arguments.long, catalogue, path, labels)
     tell.outcome = {"files": count}
-    return 0 if count else 1
+    return 0 if count else tell.fail(f"{arguments.pattern}: no file of the archive has such a {'path' if arguments.pattern.startswith('/') else 'name'}")
+
+
+def show_found(tell: Tell, long: bool, catalogue: Catalogue, path: Path, labels: Dict[int, str]) -> None:
+    """A file that was found: its path, or its newest version, which takes a look-up."""
+    if not long and not tell.as_json:
+        tell.say(shown_path(path))
+        return
+    for group in versions(catalogue.of_path(path))[:1]:
+        tell.say(long_line(group, labels, shown_path(path)), **fields(group, labels))
 
 
 def groups_of(catalogue: Catalogue, path: Path) -> List[List[Held]]:
     """The versions of a file, or `Lacking`."""
     found = versions(catalogue.of_path(path))
     if not found:
-        raise Lacking(f"{shown_path(path)}: is no file of the archive")
+        raise Lacking(f"{shown_path(path)}: is no file of the archive: 'find' looks for a name, and 'ls' lists a folder")
     return found
 
 

@@ -3,17 +3,24 @@
 from __future__ import annotations
 
 import os
+import re
 import time
-from typing import Dict, Iterator, List, NamedTuple, Optional, Tuple
+from collections import deque
+from concurrent.futures import Future, ProcessPoolExecutor
+from contextlib import suppress
+from functools import partial
+from multiprocessing import get_context
+from typing import Callable, Deque, Dict, Iterable, Iterator, List, NamedTuple, Optional, Set, Tuple
 
 from ..ledger_file import sync_folder
 from ..sources import shown
 from .bag import manifest_size
 from .base import SqliteBase
-from .catalogue import CLOSED, NEW, OPEN, Catalogue, Held, VolumeRow
+from .catalogue import CLOSED, CLOSING, FULL, NEW, OPEN, Catalogue, Held, VolumeRow
 from .claims import claims_of
-from .config import Config
-from .contents import Contents
+from .close import sidecar
+from .config import Config, volume_label
+from .contents import ABOUT, About, Contents
 from .errors import CatalogueError, Claimed, VolumeDiffers
 from .tell import Tell, shown_path
 
@@ -30,9 +37,13 @@ class Summary:
     """What was found."""
 
     def __init__(self) -> None:
-        self.volumes = self.files = 0
+        self.volumes = self.files = self.names = 0
         self.differences: List[Difference] = []
+        self.unknown: Dict[str, int] = {}
+        """Volumes of which the catalogue had nothing, and how many files each has."""
         self.failures: List[str] = []
+        self.lacking: List[str] = []
+        """Volumes that the catalogue lacks, and of which there is something else than the image."""
         self.away: List[str] = []
 
 
@@ -45,6 +56,16 @@ def images(config: Config, others: List[str]) -> Iterator[Tuple[str, bool]]:
         for name in sorted(os.listdir(folder)):
             if name.endswith(".img"):
                 yield os.path.join(folder, name), closed
+
+
+def traces(config: Config) -> Set[int]:
+    """The numbers of volumes of which a file is in the folder of the archive, or in a folder for copies."""
+    own = re.compile(re.escape(config.label) + r"-([0-9]{6,})\.[a-z0-9]+")
+    found: Set[int] = set()
+    for folder in (config.path("closed"), config.path("open"), *filter(os.path.isabs, config.copies)):
+        with suppress(OSError):
+            found.update(int(match.group(1)) for match in map(own.fullmatch, os.listdir(folder)) if match)
+    return found
 
 
 def open_or_make(config: Config, tell: Tell) -> Catalogue:
@@ -78,6 +99,55 @@ def is_broken(path: str) -> bool:
         base.close()
 
 
+class Read(NamedTuple):
+    """A volume as it was read: what it says of itself, its row but for what only a catalogue knows, and the rows of its files."""
+
+    about: About
+    row: VolumeRow
+    rows: List[Held]
+
+
+def read_volume(image: str, closed: bool, holder: str) -> Optional[Read]:
+    """Reads a volume; None where it holds none of an archive yet."""
+    with Contents(image) as contents:
+        if (ABOUT,) not in contents.nodes:
+            return None
+        about = contents.about()
+        rows = contents.rows(about.number)
+        names: Dict[Tuple[str, ...], int] = {}
+        for path in contents.nodes:
+            if path:
+                names[path[:-1]] = names.get(path[:-1], 0) + 1
+        row = VolumeRow(
+            about.number, contents.label, OPEN, holder, contents.capacity, contents.formatted, last_commit=contents.last_commit, files=len(rows),
+            nodes=len(contents.nodes), blocks=contents.medium.blocks, clients=len(contents.clients()),
+            manifest=sum(manifest_size(node.path) for node in contents.payload()), fullest_folder=max(names.values(), default=0),
+        )
+        if closed:
+            length, digest = sidecar(image)
+            row = row._replace(state=CLOSED, length=length, sha256=digest, closed=contents.closed())
+        return Read(about, row, rows)
+
+
+def read_all(wanted: Iterable[Tuple[str, bool]], holder: str, several: bool) -> Iterator[Tuple[str, bool, Callable[[], Optional[Read]]]]:
+    """Reads volumes, some at once where they are several. Each is given with a call that gives what was read, or raises why not."""
+    if not several:
+        for image, closed in wanted:
+            yield image, closed, partial(read_volume, image, closed, holder)
+        return
+    count = os.cpu_count() or 1
+    with ProcessPoolExecutor(count, get_context("spawn")) as pool:
+        waiting: Deque[Tuple[str, bool, "Future[Optional[Read]]"]] = deque()
+        for image, closed in wanted:
+            waiting.append((image, closed, pool.submit(read_volume, image, closed, holder)))
+            if len(waiting) > 2 * count:
+                image, closed, read = waiting.popleft()
+                yield image, closed, read.result
+        while waiting:
+            image, closed, read = waiting.popleft()
+            yield image, closed, read.result
+
+
 class Rebuilder:
     """A run of `rebuild`."""
 
@@ -89,39 +159,66 @@ class Rebuilder:
     def run(self, others: List[str]) -> Summary:
         """Reads each volume at hand, and has the catalogue say what it says."""
         seen = set()
+        found = list(images(self.config, others))
         try:
-            for image, closed in images(self.config, others):
+            for image, closed, read in read_all(self._claimed(found), self.config.id, len(found) > 2):
                 try:
-                    number = self._one(image, closed)
+                    number = self._one(image, closed, read())
                 except (VolumeDiffers, Claimed) as error:
                     self.summary.failures.append(str(error))
                     continue
                 if number is not None:
                     seen.add(number)
+            self._look_for_others()
+            if not self.dry_run:
+                self.summary.names = self.catalogue.mend_names()
         finally:
             self.claims.close()
         self.summary.away = [row.label for row in self.catalogue.volumes() if row.number not in seen and row.state != NEW]
         return self.summary
 
-    def _one(self, image: str, closed: bool) -> Optional[int]:
-        """Reads a volume; gives its number, or None where it holds none of this archive yet."""
-        with Contents(image) as contents:
-            if not contents.nodes.get(("volume.txt",)):
-                return None
-            about = contents.about()
-            if about.label != self.config.label or not self._is_ours(about.archive):
-                raise VolumeDiffers(f"{shown(image)}: is of another archive, {about.label} {about.archive}")
-            old = self.catalogue.volume(about.number)
-            if not closed and not self.claims.try_volume(about.number):
-                raise Claimed(f"{contents.label}: another process writes it, and it is left out: run 'rebuild' again")
-            known = self.catalogue.of_volume(about.number)
-            rows = contents.rows(about.number)
-            self._compare(contents.label, known, rows)
+    def _look_for_others(self) -> None:
+        """Volumes whose images are elsewhere leave their traces. No new one gets the number of one of them."""
+        known = {row.number for row in self.catalogue.volumes()}
+        for number in sorted(traces(self.config) - known):
+            self.summary.lacking.append(volume_label(self.config.label, number))
             if not self.dry_run:
-                self.catalogue.replace(self._row(contents, image, closed, about.number, old, len(rows)), rows)
-            self.summary.volumes += 1
-            self.summary.files += len(rows)
-            return about.number
+                self.catalogue.keep_numbers_above(number)
+
+    def _claimed(self, found: List[Tuple[str, bool]]) -> Iterator[Tuple[str, bool]]:
+        """The images that are read. One that may still be written is claimed before."""
+        for image, closed in found:
+            try:
+                if not closed:
+                    self._claim(image)
+            except (VolumeDiffers, Claimed) as error:
+                self.summary.failures.append(str(error))
+                continue
+            yield image, closed
+
+    def _claim(self, image: str) -> None:
+        with Contents(image) as contents:
+            if (ABOUT,) in contents.nodes and not self.claims.try_volume(contents.about().number):
+                raise Claimed(f"{contents.label}: another process writes it, and it is left out: run 'rebuild' again")
+
+    def _one(self, image: str, closed: bool, read: Optional[Read]) -> Optional[int]:
+        """Keeps what was read of a volume; gives its number, or None where it holds none of this archive yet."""
+        if read is None:
+            return None
+        about, number = read.about, read.about.number
+        if about.label != self.config.label or not self._is_ours(about.archive):
+            raise VolumeDiffers(f"{shown(image)}: is of another archive, {about.label} {about.archive}")
+        old = self.catalogue.volume(number)
+        known = self.catalogue.of_volume(number)
+        if old is None and not known:
+            self.summary.unknown[read.row.label] = len(read.rows)
+        else:
+            self._compare(read.row.label, known, read.rows)
+        if not self.dry_run:
+            self.catalogue.replace(self._row(read.row, closed, old), read.rows)
+        self.summary.volumes += 1
+        self.summary.files += len(read.rows)
+        return number
 
     def _is_ours(self, archive: str) -> bool:
         """Whether a volume is of this archive. A catalogue that was made anew takes the archive of its first volume."""
@@ -133,24 +230,13 @@ class Rebuilder:
         self.catalogue.id = archive
         return True
 
-    def _row(self, contents: Contents, image: str, closed: bool, number: int, old: Optional[VolumeRow], files: int) -> VolumeRow:
+    def _row(self, row: VolumeRow, closed: bool, old: Optional[VolumeRow]) -> VolumeRow:
         """What the volume says of itself; what it cannot say is kept."""
-        base = old or VolumeRow(number, contents.label, OPEN, self.config.id, contents.capacity, contents.formatted)
-        names: Dict[Tuple[str, ...], int] = {}
-        for path in contents.nodes:
-            if path:
-                names[path[:-1]] = names.get(path[:-1], 0) + 1
-        row = base._replace(
-            label=contents.label, capacity=contents.capacity, formatted=contents.formatted, last_commit=contents.last_commit, files=files,
-            nodes=len(contents.nodes), blocks=contents.medium.blocks, clients=len(contents.clients()),
-            manifest=sum(manifest_size(node.path) for node in contents.payload()), fullest_folder=max(names.values(), default=0),
-        )
-        if not closed:
-            return row if row.state in (OPEN, "full", "closing") else row._replace(state=OPEN)
-        from .close import sidecar
-
-        length, digest = sidecar(image)
-        return row._replace(state=CLOSED, length=length, sha256=digest, closed=row.closed or contents.closed())
+        if old is None:
+            return row
+        state = row.state if closed or old.state not in (FULL, CLOSING) else old.state
+        row = row._replace(state=state, holder=old.holder, checked=old.checked, data_checked=old.data_checked, trouble=old.trouble)
+        return row._replace(closed=old.closed or row.closed) if closed else row._replace(length=old.length, sha256=old.sha256, closed=old.closed)
 
     def _compare(self, label: str, known: List[Held], rows: List[Held]) -> None:
         """Notes in what the catalogue differs from the volume."""

@@ -25,23 +25,23 @@ class Print(NamedTuple):
     sha256: bytes
 
 
-def print_of(stream: IO[bytes]) -> Print:
-    """The length and the digest of what is left of a stream."""
+def print_of(stream: IO[bytes], most: Optional[int] = None) -> Print:
+    """The length and the digest of what is left of a stream, or of so many bytes at most."""
     whole, count = sha256(), 0
     while True:
-        piece = stream.read(PIECE)
+        piece = stream.read(PIECE if most is None else min(PIECE, most - count))
         if not piece:
             return Print(count, whole.digest())
         whole.update(piece)
         count += len(piece)
 
 
-def print_of_file(path: str, fresh: bool = False) -> Print:
-    """The length and the digest of a file; `fresh` reads it from the disk, and not what the system has in memory."""
+def print_of_file(path: str, fresh: bool = False, most: Optional[int] = None) -> Print:
+    """The length and the digest of a file, or of its first bytes; `fresh` reads it from the disk, and not what the system has in memory."""
     with open(path, "rb") as file:
         if fresh:
             os.posix_fadvise(file.fileno(), 0, 0, os.POSIX_FADV_DONTNEED)
-        return print_of(file)
+        return print_of(file, most)
 
 
 class Remote:

@@ -42,7 +42,7 @@ class Walk:
         elif stat.S_ISREG(status.st_mode):
             yield Found(at[:-1], [Source(local, at, Identity.of(status))])
         else:
-            self.odd.append(f"{shown(local)}: is {odd(status)}")
+            self.odd.append(f"{shown(local)}: is {odd(status)}, which is not kept")
 
     def _folder(self, local: str, at: Path) -> Iterator[Found]:
         """Folder by folder, the files of each before the folders in it."""
@@ -75,7 +75,7 @@ class Walk:
             elif stat.S_ISREG(found.st_mode):
                 files.append(Source(entry.path, at + (entry.name,), Identity.of(found)))
             else:
-                self.odd.append(f"{shown(entry.path)}: is {odd(found)}")
+                self.odd.append(f"{shown(entry.path)}: is {odd(found)}, which is not kept")
         return files, folders
 
 

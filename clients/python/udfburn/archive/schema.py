@@ -1,17 +1,19 @@
-"""The tables of a catalogue, in SQL that SQLite and PostgreSQL share, and how an older version becomes this one."""
+"""The tables of a catalogue, and how an older version becomes this one. Queries are the same for SQLite and PostgreSQL.
+
+`find` takes no look-up for each hit: `by_name` and `by_ending` have names with the whole path of their folder. In SQLite they
+are tables that are their own index. In PostgreSQL, where a table and its index would be two copies, they are views over
+indexes that have all that is asked for; only the folder's path is looked up.
+"""
 
 from __future__ import annotations
 
 from typing import List
 
-VERSION = 1
+VERSION = 2
 """The version of the tables that this program reads and writes."""
 
 COMMITS = 1 << 18
 """More than a volume has commits: 450,000 blocks hold at most 224,869 of two blocks each."""
-
-TAIL = 12
-"""Letters of the end of a name that are kept in reverse, so that an ending is found by an index."""
 
 FIRST = """
 CREATE TABLE archive (id {text} PRIMARY KEY, version INTEGER NOT NULL, label {text} NOT NULL, next_volume BIGINT NOT NULL);
@@ -39,11 +41,38 @@ CREATE TABLE path_lock (path {text} PRIMARY KEY);
 CREATE TABLE volume_lock (volume BIGINT PRIMARY KEY)
 """
 
-MIGRATIONS = [FIRST]
-"""The statements that make version n + 1 of version n, from the empty one on."""
+SECOND_SQLITE = """
+ALTER TABLE file RENAME TO file_1;
+CREATE TABLE file (
+    folder BIGINT NOT NULL, id BIGINT NOT NULL, name TEXT NOT NULL, size BIGINT NOT NULL, moment BIGINT NOT NULL, sha256 BLOB NOT NULL,
+    added BIGINT NOT NULL, first_part BIGINT, part_count BIGINT, PRIMARY KEY (folder, id)
+) WITHOUT ROWID;
+CREATE TABLE by_name (name TEXT NOT NULL, path TEXT NOT NULL, id BIGINT NOT NULL, part_count BIGINT, PRIMARY KEY (name, path, id)) WITHOUT ROWID;
+CREATE TABLE by_ending (ending TEXT NOT NULL, path TEXT NOT NULL, id BIGINT NOT NULL, part_count BIGINT, PRIMARY KEY (ending, path, id)) WITHOUT ROWID;
+INSERT INTO file SELECT folder, id, name, size, moment, sha256, added, first_part, part_count FROM file_1 ORDER BY folder, id;
+INSERT INTO by_name SELECT name, path, file_1.id, part_count FROM file_1 JOIN folder ON folder.id = folder ORDER BY 1, 2, 3;
+INSERT INTO by_ending SELECT reverse(name), path, file_1.id, part_count FROM file_1 JOIN folder ON folder.id = folder ORDER BY 1, 2, 3;
+DROP TABLE file_1;
+CREATE UNIQUE INDEX file_id ON file (id);
+CREATE INDEX file_parts ON file (id) WHERE part_count IS NOT NULL
+"""
+
+SECOND_POSTGRESQL = """
+DROP INDEX file_path, file_name, file_tail;
+ALTER TABLE file DROP COLUMN tail;
+ALTER TABLE file ADD COLUMN ending TEXT COLLATE "C" NOT NULL GENERATED ALWAYS AS (reverse(name)) STORED;
+CREATE INDEX file_folder ON file (folder);
+CREATE INDEX file_name ON file (name, folder, id, part_count);
+CREATE INDEX file_ending ON file (ending, folder, id, part_count);
+CREATE VIEW by_name AS SELECT name, path, file.id, part_count FROM file JOIN folder ON folder.id = folder;
+CREATE VIEW by_ending AS SELECT ending, path, file.id, part_count FROM file JOIN folder ON folder.id = folder
+"""
+
+MIGRATIONS = {"sqlite": [FIRST, SECOND_SQLITE], "postgresql": [FIRST, SECOND_POSTGRESQL]}
+"""The statements of an engine that make version n + 1 of version n, from the empty one on."""
 
 
-def statements(version: int, text: str, blob: str, serial: str) -> List[str]:
+def statements(engine: str, version: int, text: str, blob: str, serial: str) -> List[str]:
     """What makes this program's tables of those of a version, by the words that an engine has for its types."""
-    whole = ";\n".join(part.strip() for part in MIGRATIONS[version:])
+    whole = ";\n".join(part.strip() for part in MIGRATIONS[engine][version:])
     return [statement for statement in whole.format(text=text, bytes=blob, serial=serial).split(";\n") if statement.strip()]

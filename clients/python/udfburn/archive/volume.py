@@ -6,17 +6,20 @@ import os
 import time
 from contextlib import closing
 from datetime import datetime, timezone
-from typing import Iterator, Optional
+from typing import Callable, Iterable, Iterator, List, Optional, Tuple
 
 from ..blocks import Space
 from ..client import Client
 from ..connection import find_program, run_program
+from ..errors import ConnectionFailed, DiskFull, DriveFailed, Full, NumberUsedElsewhere, OutOfMemory
+from ..ledger import MemoryLedger
 from ..ledger_file import sync_folder
 from ..manifest import PAYLOAD
-from ..operations import Operation, now
-from ..protocol import Code, Create, MakeDir, Path, Remove
+from ..operations import Operation, Outcome, now
+from ..protocol import Code, Create, MakeDir, Path, Remove, limits
 from ..reader import Kind
 from .bag import manifest_size
+from .batch import Batch, NoBatch, cut_tail, has_room, is_worth, memory_folder, sound_length
 from .catalogue import CLOSED, NEW, OPEN, Catalogue, VolumeRow, is_whole
 from .claims import Claims
 from .config import Config, volume_label
@@ -69,8 +72,10 @@ def image_of(config: Config, row: VolumeRow) -> Optional[str]:
 class OpenVolume:
     """A volume that this process writes. It has a claim on it."""
 
-    def __init__(self, config: Config, catalogue: Catalogue, row: VolumeRow):
+    def __init__(self, config: Config, catalogue: Catalogue, row: VolumeRow, batches: bool = True):
         self.config, self.catalogue, self.row = config, catalogue, row
+        folder = memory_folder() if batches else None
+        self.copy = os.path.join(folder, f"{row.number}.img") if folder is not None else None
         self.program = find_program()
         self.image = config.path("open", row.label + ".img")
         self.ledger = config.path("open", row.label + ".ledger")
@@ -115,13 +120,26 @@ class OpenVolume:
     def take_up(self) -> None:
         """Finishes what an earlier process began, and has the catalogue agree with the volume."""
         self.make()
-        self.client.resume()
+        self._cut()
+        try:
+            self.client.resume()
+        except NumberUsedElsewhere:
+            # A batch is on the image, and the ledger does not have its replies. All else that it knows of the image is so.
+            self.client.forget()
         with closing(Contents(self.image)) as contents:
             self.require_own(contents)
-            fresh = (ABOUT,) not in contents.nodes or (PAYLOAD,) not in contents.nodes or (RUNS,) not in contents.nodes
-        if fresh:
-            self.begin()
+            if all((name,) in contents.nodes for name in (ABOUT, PAYLOAD, RUNS)):
+                self._load(contents)
+                return
+        self.begin()
         self.load()
+
+    def _cut(self) -> None:
+        """Takes off what a batch left that was cut short."""
+        if sound_length(self.image) is not None:
+            with closing(Contents(self.image)) as contents:
+                self.require_own(contents)
+            cut_tail(self.image)
 
     def require_own(self, contents: Contents) -> None:
         """Raises where the image is not this volume."""
@@ -142,28 +160,29 @@ class OpenVolume:
 
     def load(self) -> None:
         """Reads the volume: has the catalogue agree with it, and plans from what is there."""
-        while self._remove_doubles():
-            pass
         with closing(Contents(self.image)) as contents:
-            self.require_own(contents)
-            self.tree = self._tree(contents)
-            if contents.last_commit != self.row.last_commit or self.row.state == NEW:
-                self._agree(contents)
-            self.runs, self.last_commit = contents.runs(), contents.last_commit
+            self._load(contents)
 
-    def _remove_doubles(self) -> bool:
+    def _load(self, contents: Contents) -> None:
+        self.require_own(contents)
+        if self._remove_doubles(contents):
+            self.load()
+            return
+        self.tree = self._tree(contents)
+        if contents.last_commit != self.row.last_commit or self.row.state == NEW:
+            self._agree(contents)
+        self.runs, self.last_commit = contents.runs(), contents.last_commit
+
+    def _remove_doubles(self, contents: Contents) -> bool:
         """Removes files that no catalogue ever had from here, and that another volume has by now: another process stored them after
         this volume's was killed. Whether there were any."""
-        with closing(Contents(self.image)) as contents:
-            self.require_own(contents)
-            if contents.last_commit == self.row.last_commit:
-                return False
-            known = {held.commit for held in self.catalogue.of_volume(self.row.number)}
-            doubles = [file for file in contents.files() if file.commit not in known and self._is_elsewhere(contents, file)]
-            paths = [path for file in doubles for path in contents.stored_paths(file)]
-            room = self.row.capacity - contents.medium.blocks
+        if contents.last_commit == self.row.last_commit:
+            return False
+        known = {held.commit for held in self.catalogue.of_volume(self.row.number)}
+        doubles = [file for file in contents.files() if file.commit not in known and self._is_elsewhere(contents, file)]
+        paths = [path for file in doubles for path in contents.stored_paths(file)]
         # Each takes a commit. Where the volume is that full they stay, and nothing is lost.
-        if not paths or room < 64 * len(paths) + 2000:
+        if not paths or self.row.capacity - contents.medium.blocks < 64 * len(paths) + 2000:
             return False
         for outcome in self.client.run(Operation(Remove, path, now()) for path in paths):
             if outcome.code is not Code.DONE:
@@ -215,6 +234,46 @@ class OpenVolume:
 
     # ---- written
 
+    def run(self, operations: Callable[[], Iterable[Operation]], files: int, size: int) -> Iterator[Outcome]:
+        """Does operations of so many files with so many bytes. An outcome comes once it is durable: with all others of the batch,
+        or, where the files are few or large or there is no room in memory, by itself."""
+        if self.copy is not None and is_worth(files, size, self.tree.space.next * limits.BLOCK):
+            try:
+                done, full = self._batch(self.copy, operations)
+            except NoBatch:
+                self.copy = None
+            else:
+                yield from done
+                if full is not None:
+                    raise full
+                return
+        yield from self.client.run(operations())
+
+    def _batch(self, copy: str, operations: Callable[[], Iterable[Operation]]) -> Tuple[List[Outcome], Optional[Full]]:
+        """Does operations on a copy of the image, adds its tail to the image, and has the ledger keep the replies."""
+        ledger = self.client.session().ledger
+        volume = ledger.volume(self.client.way.key())
+        if volume is None or not has_room(os.path.dirname(copy), self.tree.space.next * limits.BLOCK):
+            raise NoBatch(f"{copy}: no room")
+        done: List[Outcome] = []
+        full: Optional[Full] = None
+        with Batch(self.image, copy) as batch, closing(MemoryLedger(ledger.client)) as kept:
+            with Client(f"image:{copy}", ledger=kept, program=self.program, patience=0.0) as client:
+                try:
+                    for outcome in client.run(operations()):
+                        # The bytes are in the copy.
+                        done.append(outcome._replace(operation=outcome.operation._replace(data=b"")))
+                except Full as error:
+                    full = error
+                except (ConnectionFailed, DiskFull, DriveFailed, OutOfMemory) as error:
+                    raise NoBatch(str(error)) from error
+                if kept.begun(client.session().volume()) != ledger.latest(volume):
+                    raise VolumeDiffers(f"{self.image}: has other requests than its ledger: run the command again")
+                client.line.drop()
+                batch.add_tail()
+                ledger.take(volume, kept)
+        return done, full
+
     def plan_marker(self, text: str) -> None:
         """Plans the text that notes a run before its first file."""
         self.began = now()
@@ -225,11 +284,12 @@ class OpenVolume:
         self._sent = False
 
     def take_marker(self) -> Optional[Operation]:
-        """That text, once."""
-        if self._sent:
-            return None
-        self._sent = True
-        return self.marker
+        """That text, as long as it is not on the volume."""
+        return None if self._sent else self.marker
+
+    def marked(self, operation: Operation) -> None:
+        """What was done is on the volume: if it was to store that text, it is stored once."""
+        self._sent = self._sent or self.marker is not None and operation.path == self.marker.path
 
     def resync(self) -> None:
         """Has the plan go on where the image ends."""
@@ -249,21 +309,21 @@ def new_row(config: Config, catalogue: Catalogue) -> VolumeRow:
     return row
 
 
-def own_volumes(config: Config, catalogue: Catalogue, claims: Claims) -> Iterator[OpenVolume]:
+def own_volumes(config: Config, catalogue: Catalogue, claims: Claims, batches: bool = True) -> Iterator[OpenVolume]:
     """The open volumes of this archive's folder that no other process has, each claimed and taken up."""
     for row in catalogue.volumes():
         if row.holder == config.id and row.state in (NEW, OPEN) and claims.try_volume(row.number):
             # What another process did until it let go. A volume that was moved away is not written.
             fresh = catalogue.volume(row.number)
             if fresh is not None and (fresh.state == NEW or fresh.state == OPEN and image_of(config, fresh)):
-                yield taken_up(OpenVolume(config, catalogue, fresh))
+                yield taken_up(OpenVolume(config, catalogue, fresh, batches))
 
 
-def open_new(config: Config, catalogue: Catalogue, claims: Claims) -> OpenVolume:
+def open_new(config: Config, catalogue: Catalogue, claims: Claims, batches: bool = True) -> OpenVolume:
     """A new volume."""
     row = new_row(config, catalogue)
     claims.volume(row.number, row.label)
-    return taken_up(OpenVolume(config, catalogue, row))
+    return taken_up(OpenVolume(config, catalogue, row, batches))
 
 
 def taken_up(volume: OpenVolume) -> OpenVolume:

@@ -11,7 +11,7 @@ from .answers import (
     Answer, AnswerCode, BadAnswer, Bare, Code, Committed, Data, Gap, Malformed, Name, Names, Node, NodeKind, Stale,
     decode_answer, encode_answer,
 )
-from .frames import LENGTH, Frames, frame
+from .frames import LENGTH, Frames, frame, prefix
 from .messages import (
     AnyRequest, Cause, Create, Fault, Get, Kind, List, MakeDir, Message, Query, Remove, Rename, Replace, Request, Stat,
     decode_message, encode_message,
@@ -26,5 +26,5 @@ __all__ = [
     "InvalidPath", "Kind", "LENGTH", "List", "MEMORY", "MakeDir", "Malformed", "Message", "NOT_DIRECTORY",
     "NOT_FOUND", "Name", "NameFault", "Names", "Node", "NodeKind", "Path", "PathLike", "Query", "Remove", "Rename",
     "Replace", "Request", "Stale", "Stat", "decode_answer", "decode_message", "encode_answer", "encode_message",
-    "frame", "has_spelling", "is_bytes", "limits", "name_fault", "path_of", "show", "shown", "spelled_size",
+    "frame", "has_spelling", "is_bytes", "limits", "name_fault", "path_of", "prefix", "show", "shown", "spelled_size",
 ]

@@ -217,7 +217,7 @@ def decode_name(fields: Fields) -> Name:
     except UnicodeDecodeError:
         raise BadAnswer("a name is not UTF-8") from None
     if name_fault(name) is not None:
-        raise BadAnswer(f"a directory has a name that may not stand in one: {name!r}")
+        raise BadAnswer(f"a directory has a name that is not allowed: {name!r}")
     return Name(kind, name)
 
 
@@ -289,5 +289,5 @@ def decode_answer(payload: bytes) -> Answer:
     except Short:
         raise BadAnswer("an answer ends inside a field") from None
     if fields.left():
-        raise BadAnswer("an answer has bytes behind its last field")
+        raise BadAnswer("an answer has bytes after its last field")
     return answer

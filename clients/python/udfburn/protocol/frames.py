@@ -14,11 +14,16 @@ LENGTH = 4
 PREFIX = struct.Struct("<I")
 
 
-def frame(payload: bytes) -> bytes:
-    """A payload in its frame."""
+def prefix(payload: bytes) -> bytes:
+    """What goes before a payload in its frame."""
     if len(payload) > limits.PAYLOAD:
         raise ValueError("a payload is above the limit")
-    return PREFIX.pack(len(payload)) + payload
+    return PREFIX.pack(len(payload))
+
+
+def frame(payload: bytes) -> bytes:
+    """A payload in its frame."""
+    return prefix(payload) + payload
 
 
 class Frames:

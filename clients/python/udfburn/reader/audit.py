@@ -76,7 +76,7 @@ class Audit:
     def _entry_of(self, link: Link, is_linked: bool) -> None:
         block = self.medium.block(link.address)
         if block is None:
-            self.notes.add(link.address, Cause.MISSING, "the table's entry cannot be read")
+            self.notes.add(link.address, Cause.MISSING, "the VAT ICB cannot be read")
             return
         faults = read_entry(block, link.address - PARTITION)[1]
         self.notes.extend(link.address, faults)
@@ -91,9 +91,9 @@ class Audit:
             yield Fault(Cause.HEADER, f"the table before would have its entry at block number {head.previous}")
         label = read_dstring(head.label)
         if not is_label(label):
-            yield Fault(Cause.LABEL, "the label of the table is none")
+            yield Fault(Cause.LABEL, "the label of the table is not valid")
         elif self.volume.label is not None and label != self.volume.label:
-            yield Fault(Cause.LABELS, "the label of the table is not that of the front")
+            yield Fault(Cause.LABELS, "the label of the table is not that of the volume header")
         if (head.read_revision, head.write_revision, head.greatest_revision) != (0x201, 0x201, 0x201):
             yield Fault(Cause.REVISION, "a revision of UDF is not 2.01")
         yield from self._record_faults(data, head, agrees)
@@ -160,7 +160,7 @@ class Audit:
             self.notes.extend(at, faults)
             differs = self.volume.label not in (None, label) or self.volume.moment not in (None, moment)
             if differs and not faults:
-                self.notes.add(at, Cause.LABELS, "the label or the moment of the file set is not that of the front")
+                self.notes.add(at, Cause.LABELS, "the label or the moment of the file set is not that of the volume header")
             return
         entry, faults = read_entry(block, virtual)
         self.notes.extend(at, faults)

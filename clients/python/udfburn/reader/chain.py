@@ -150,7 +150,7 @@ class Chain:
         return self.volume.data_of(link.table).data == self.volume.data_of(lower.table).data
 
     def _broken(self, link: Link, text: str, adjacent: bool = True) -> Link:
-        self.volume.notes.add(link.address, Cause.CHAIN, f"of the table whose entry stands here: {text}")
+        self.volume.notes.add(link.address, Cause.CHAIN, f"of the table with its VAT ICB here: {text}")
         return link._replace(broken=link.broken + (text,), adjacent=adjacent)
 
     def _at(self, address: int) -> Optional[Link]:

@@ -254,7 +254,7 @@ def piece_faults(data: bytes, size: int, piece: Optional[Piece], at: int, first:
         yield Fault(Cause.IDENTIFIER, f"identifier at byte {at}: {text}")
     fixed = (piece.version, piece.length, piece.partition, piece.flags) == (1, BLOCK, 1, 0)
     if not fixed or piece.characteristics not in (0, IS_DIRECTORY, IS_PARENT):
-        yield Fault(Cause.IDENTIFIER, f"identifier at byte {at}: a field that always says the same says something else")
+        yield Fault(Cause.IDENTIFIER, f"identifier at byte {at}: a field with a fixed value has another one")
     is_parent = piece.characteristics == IS_PARENT
     if is_parent != (at == 0) or is_parent and (piece.name or piece.unique):
         yield Fault(Cause.PARENT, f"the identifier at byte {at} is not in its place, or is not that of the directory above")

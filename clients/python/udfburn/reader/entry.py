@@ -165,7 +165,7 @@ def fixed_faults(fields: Fields, kind: Kind) -> List[str]:
         (fields.permissions == PERMISSIONS[kind], f"the permissions are {fields.permissions:x} hex, and not {PERMISSIONS[kind]:x}"),
         (fields.record_format == fields.display == fields.record_length == 0, "a field of records is not zero"),
         (fields.accessed == fields.modified == fields.changed, "the three timestamps differ"),
-        (read_timestamp(fields.accessed) is not None, "a timestamp is none"),
+        (read_timestamp(fields.accessed) is not None, "a timestamp is not valid"),
         (fields.checkpoint == 1, f"the checkpoint is {fields.checkpoint}, and not 1"),
         (not any(fields.attributes) and fields.attributes_length == 0, "there are extended attributes"),
         (fields.implementation == DEVELOPER, "the implementation is not *udfburn"),

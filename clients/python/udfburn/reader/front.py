@@ -147,7 +147,7 @@ def read_front(medium: Medium) -> Front:
 def note_front(medium: Medium, front: Front, notes: Notes) -> None:
     """Notes each block of the front that is not as the three values have it. What is unknown is not compared."""
     if front.label is None or front.moment is None or front.capacity is None:
-        notes.add(MAIN if front.capacity is not None else MAIN + 2, Cause.FRONT, "the front does not say label, moment and capacity")
+        notes.add(MAIN if front.capacity is not None else MAIN + 2, Cause.FRONT, "the volume header does not give label, moment and capacity")
     known = Front(front.label or "?", front.moment or 0, front.capacity or LEAST_CAPACITY)
     expected = blocks_of_front(known.label or "", known.moment or 0, known.capacity or 0)
     for at, text in differences(medium, expected, set(unknown_blocks(front))):

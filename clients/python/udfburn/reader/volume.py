@@ -369,9 +369,9 @@ class State:
         label, moment, faults = read_file_set(block)
         notes.extend(at, faults)
         if volume.label is not None and self.table.label != volume.label:
-            notes.add(start, Cause.LABELS, "the label of the table is not that of the front")
+            notes.add(start, Cause.LABELS, "the label of the table is not that of the volume header")
         if volume.label is not None and label != volume.label or volume.moment is not None and moment != volume.moment:
-            notes.add(at, Cause.LABELS, "the label or the moment of the file set is not that of the front")
+            notes.add(at, Cause.LABELS, "the label or the moment of the file set is not that of the volume header")
 
 
 def show(path: Path) -> str:

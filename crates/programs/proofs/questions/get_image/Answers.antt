@@ -1,19 +1,20 @@
-use Rattle.std.proofs.Common.{◌==◌, inl, None, Err, ap}
+use Rattle.std.proofs.Common.{inl, Err, ap}
 use Rattle.request.specs.declared.path.PathFault.{PathFault}
-use Rattle.engine.specs.Situation.{situation}
 use Rattle.programs.specs.Questions.Question.{Bytes_at}
 use Rattle.programs.proofs.Opening.{unopened}
 use Rattle.programs.proofs.Printing.{path_unread, shows_image, shows_path}
 use Rattle.programs.proofs.questions.get_image.Goals as goal
 
 pub returns-in_err-path-clause-shows : goal.returns-in_err-path-clause-shows
-returns-in_err-path-clause-shows g c = path_unread Bytes_at c.args.path.now _ c.from_residual.result _ c.from_residual.ensures.1 (λ e. c.in_err-path.ensures.only (ap (λ (f : PathFault). Err f) e))
+returns-in_err-path-clause-shows g c =
+    path_unread Bytes_at c.args.image.now c.args.path.now _ c.from_residual.result _ _ c.from_residual.ensures.1 (λ e. c.in_err-path.ensures.only (ap (λ (f : PathFault). Err f) e))
 
 pub returns-in_err-drive-clause-shows : goal.returns-in_err-drive-clause-shows
 returns-in_err-drive-clause-shows g c =
-    shows_path Bytes_at c.args.path.now c.in_ok-path.path c.from_residual-in_err-drive.result _ _ c.in_ok-path.ensures.found (inl (unopened c.from_residual-in_err-drive.result _ _ c.from_residual-in_err-drive.ensures.1 c.in_err-drive.ensures.device))
+    shows_path Bytes_at c.args.image.now c.args.path.now c.in_ok-path.path c.from_residual-in_err-drive.result _ _ _ _ c.in_ok-path.ensures.found
+    (inl (unopened c.from_residual-in_err-drive.result _ _ _ _ c.from_residual-in_err-drive.ensures.1 c.in_err-drive.ensures.device c.in_err-drive.ensures.untouched))
 
 pub returns-clause-shows : goal.returns-clause-shows
 returns-clause-shows g c =
-    shows_path Bytes_at c.args.path.now c.in_ok-path.path c.get.result _ _ c.in_ok-path.ensures.found
-    (shows_image (Bytes_at c.in_ok-path.path) c.get.result c.in_ok-drive.drive (situation None c.get.new.drive.contents.journal c.get.new.drive.failures c.get.new.drive.capacity (c.get.new.drive.contents.misreads == 0) c.get.new.drive.contents.writes) _ _ c.in_ok-drive.ensures.image c.in_ok-drive.ensures.capacity c.get.ensures.journal c.get.ensures.shows)
+    shows_path Bytes_at c.args.image.now c.args.path.now c.in_ok-path.path c.get-shown.result _ _ _ _ c.in_ok-path.ensures.found
+    (shows_image g.M.Drive.Drive (Bytes_at c.in_ok-path.path) c.args.image.now c.get-shown.result _ _ _ _ _ _ _ c.in_ok-drive.ensures.opened c.put_back.ensures c.get-shown.ensures.journal c.get-shown.ensures.shows)

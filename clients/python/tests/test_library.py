@@ -1,0 +1,174 @@
+"""How the client finds the C library, and what it does with each status. The library of these tests is a stub of a few lines;
+`over_library` has the real one."""
+
+from __future__ import annotations
+
+import os
+import shutil
+import subprocess
+import tempfile
+import time
+import unittest
+from contextlib import redirect_stderr
+from io import StringIO
+from types import SimpleNamespace
+from typing import Dict
+from unittest import mock
+
+from udfburn import Client, errors as e, library
+from udfburn.cli import main
+from udfburn.connection import Way
+from udfburn.line import TURN, Line
+
+STUB = """
+#include <stdint.h>
+#include <stdlib.h>
+static int32_t said(const char *name) { return getenv(name) ? atoi(getenv(name)) : 0; }
+const char *udfburn_version(void) { return "9.8.7"; }
+const char *udfburn_error_name(int32_t s) { return s == 1 ? "UDFBURN_MEMORY" : s == 2 ? "UDFBURN_DEVICE" : "UDFBURN_VOLUME"; }
+int32_t udfburn_format(const char *path, const char *label, uint64_t moment, uint32_t capacity) { return said("STUB_FORMAT"); }
+int32_t udfburn_open(const char *path, void **out) { *out = (void *)path; return said("STUB_OPEN"); }
+int32_t udfburn_answer(void *handle, const void *bytes, size_t count) { return said("STUB_ANSWER"); }
+#ifndef OLDER
+size_t udfburn_answered(const void *handle) { return 0; }
+#endif
+size_t udfburn_take(void *handle, void *into, size_t room) { return 0; }
+void udfburn_close(void *handle) {}
+"""
+
+
+class WithStub(unittest.TestCase):
+    """A file that is taken for an image, and the library of these few lines."""
+
+    room: str
+    stub: str
+
+    @classmethod
+    def setUpClass(cls) -> None:
+        cls.room = tempfile.mkdtemp()
+        cls.addClassCleanup(shutil.rmtree, cls.room)
+        cls.stub = cls.built()
+
+    def setUp(self) -> None:
+        self.image = os.path.join(self.room, "disc.img")
+        with open(self.image, "wb") as file:
+            file.write(bytes(2048))
+        for patched in (mock.patch.dict(library._found, clear=True), mock.patch.dict(os.environ, UDFBURN_LIBRARY=self.stub)):
+            patched.start()
+            self.addCleanup(patched.stop)
+
+    @classmethod
+    def built(cls, *words: str) -> str:
+        """The library, compiled with these words."""
+        source, made = os.path.join(cls.room, "stub.c"), os.path.join(cls.room, f"stub{len(words)}.so")
+        with open(source, "w", encoding="ascii") as file:
+            file.write(STUB)
+        subprocess.run(["cc", "-shared", "-fPIC", *words, source, "-o", made], check=True)
+        return made
+
+
+class Found(WithStub):
+    """How the library is found."""
+
+    def refused(self, words: str, **environment: str) -> None:
+        with mock.patch.dict(os.environ, environment), self.assertRaisesRegex(e.UsageError, words):
+            Client(f"library:{self.image}")
+
+    def test_its_version(self) -> None:
+        way = Way(f"library:{self.image}")
+        assert way.library
+        self.assertEqual((way.library.name, way.library.version()), (os.environ["UDFBURN_LIBRARY"], "9.8.7"))
+
+    def test_one_way_in_a_ledger(self) -> None:
+        """With the program and with the library, an image is the same volume."""
+        by_library, by_program = Way(f"library:{self.image}"), Way(f"image:{self.image}", "udfburn")
+        self.assertEqual((by_library.key(), by_library.kind), (by_program.key(), by_program.kind))
+        self.assertEqual((str(by_library), str(by_program)), (f"library:{self.image}", f"image:{self.image}"))
+
+    def test_a_missing_one(self) -> None:
+        self.refused("^/nonexistent/lib.so cannot be loaded .*UDFBURN_LIBRARY", UDFBURN_LIBRARY="/nonexistent/lib.so")
+
+    def test_another_one(self) -> None:
+        self.refused("^libc.so.6 has no udfburn_version: it is older than this client, or a different library", UDFBURN_LIBRARY="libc.so.6")
+
+    def test_an_older_one(self) -> None:
+        self.refused("has no udfburn_answered: it is older", UDFBURN_LIBRARY=self.built("-DOLDER"))
+
+    def test_by_the_usual_search(self) -> None:
+        """Without UDFBURN_LIBRARY, the loader looks for it."""
+        with mock.patch.dict(os.environ, UDFBURN_LIBRARY=""), mock.patch("ctypes.CDLL", side_effect=OSError("sought")) as loaded:
+            with self.assertRaisesRegex(e.UsageError, "libudfburn.so.0 cannot be loaded .sought"):
+                Client(f"library:{self.image}")
+        loaded.assert_called_once_with("libudfburn.so.0")
+
+    def test_it_keeps_the_image(self) -> None:
+        """Nobody gets a turn before the image is closed."""
+        line = Line(Way(f"library:{self.image}"))
+        self.addCleanup(line.drop)
+        line.get()
+        with mock.patch("udfburn.line.time", SimpleNamespace(monotonic=lambda: time.monotonic() + 1000 * TURN)):
+            self.assertFalse(line.over())
+
+    def test_words(self) -> None:
+        for words in (["ls", "--library"], ["ls", "--library", "--image", self.image, "--socket", "s"], ["ls", "--library", "--image", ""]):
+            with mock.patch.dict(os.environ, UDFBURN_SOCKET="s"), redirect_stderr(StringIO()):
+                self.assertEqual(main([*words, "--quiet"]), 2, words)
+        with self.assertRaises(e.UsageError):
+            Way("library:")
+
+
+class Statuses(WithStub):
+    """What a status means."""
+
+    def fails(self, error: type, words: str, **statuses: str) -> None:
+        environment: Dict[str, str] = {f"STUB_{name.upper()}": status for name, status in statuses.items()}
+        with mock.patch.dict(os.environ, environment), Client(f"library:{self.image}", patience=0.0) as client:
+            with self.assertRaisesRegex(error, words):
+                client.get("/a")
+
+    def test_of_an_open(self) -> None:
+        self.fails(e.Damaged, "holds no volume or a damaged one", open="5")
+        self.fails(e.ConnectionFailed, "UDFBURN_DEVICE: the image is missing", open="2")
+        self.fails(e.ConnectionFailed, "UDFBURN_MEMORY", open="1")
+
+    def test_of_a_format(self) -> None:
+        for status, words in (("5", "holds something already, and stays as it is"), ("2", "cannot be made or written: .*UDFBURN_DEVICE"), ("1", "UDFBURN_MEMORY")):
+            errors = StringIO()
+            with mock.patch.dict(os.environ, STUB_FORMAT=status), redirect_stderr(errors):
+                self.assertEqual(main(["format", "--library", "--quiet", self.image]), 1)
+            self.assertRegex(errors.getvalue(), words)
+
+    def test_an_interrupted_open(self) -> None:
+        """The volume is closed again."""
+        found = library.find_library()
+        with mock.patch.object(library.Library, "require", side_effect=KeyboardInterrupt), mock.patch.object(found.calls, "udfburn_close") as closed:
+            with self.assertRaises(KeyboardInterrupt):
+                library.OpenVolume(found, self.image)
+        closed.assert_called_once()
+
+    def test_of_an_answer(self) -> None:
+        self.fails(e.ConnectionFailed, "UDFBURN_DEVICE", answer="2")
+        self.fails(e.ConnectionFailed, "UDFBURN_MEMORY", answer="1")
+
+    def test_no_answer(self) -> None:
+        """If no answer comes, none is waited for."""
+        self.fails(e.ConnectionFailed, "the conversation was ended")
+
+    def test_an_image_that_is_not_there(self) -> None:
+        os.unlink(self.image)
+        self.fails(e.ProgramFailed, "No such file")
+
+    def test_a_child(self) -> None:
+        """A child neither writes nor closes what its parent opened."""
+        assert (way := Way(f"library:{self.image}")).library
+        with mock.patch("os.getpid", return_value=1):
+            volume = library.OpenVolume(way.library, self.image)
+        with self.assertRaisesRegex(e.UsageError, "before the fork"):
+            volume.answer(b"")
+        with mock.patch.object(way.library.calls, "udfburn_close") as closed:
+            volume.close()
+        closed.assert_not_called()
+
+
+if __name__ == "__main__":
+    unittest.main()

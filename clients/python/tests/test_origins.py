@@ -1,0 +1,403 @@
+"""Large data, of which the ledger keeps the digest and where it can be read again.
+
+A request without a reply is sent again byte for byte, or not at all: where its source changed or is gone its number is used up by
+another request, and the reply tells whether the volume had it before.
+"""
+
+from __future__ import annotations
+
+import io
+import os
+import random
+import signal
+import sqlite3
+import sys
+import unittest
+from contextlib import closing, redirect_stderr, redirect_stdout
+from typing import Callable, Dict, List, Optional
+
+from udfburn import Client, cli, errors as e
+from udfburn import protocol as p
+from udfburn.connection import Connection
+from udfburn.ledger_records import LARGE
+from udfburn.operations import Operation
+from udfburn.session import Flight, Session
+from udfburn.tree import Options, put_all
+
+from .programs import PATIENCE, UDFBURN, WithPrograms
+from .server import honestly, is_probe, request_of
+from .test_kills import KILLS, killer
+from .test_session import WithServer
+
+FRAMES = "SELECT length(payload), origin, start, size_then FROM frame ORDER BY id"
+MEBIBYTE = 1 << 20
+
+
+def refuses(payload: bytes) -> Optional[p.Answer]:
+    """Before each request: the drive fails, and nothing is done."""
+    return p.FAULT if request_of(payload) else None
+
+
+def loses(payload: bytes, answer: p.Answer) -> Optional[bytes]:
+    """The conversation ends once a request was done."""
+    return None if request_of(payload) else honestly(payload, answer)
+
+
+class WithSource(WithServer):
+    """A large file that is on its way when the process ends: it was sent, and done or not, and no reply came."""
+
+    def setUp(self) -> None:
+        super().setUp()
+        self.data = random.Random(3).randbytes(LARGE + 5)
+        self.source = self.write("source", self.data)
+
+    def write(self, name: str, data: bytes) -> str:
+        path = os.path.join(self.room, name)
+        with open(path, "wb") as file:
+            file.write(data)
+        return path
+
+    def put(self, *names: str, split: bool = False) -> None:
+        """Stores files under their names."""
+        with self.client(patience=0.1) as client:
+            put_all(client, [(os.path.join(self.room, name), (name,)) for name in names], Options(split=split))
+
+    def begin(self, done: bool, *names: str, split: bool = False) -> None:
+        """A process that ends while the files are on their way."""
+        if done:
+            self.server.say = loses
+        else:
+            self.server.before = refuses
+        with self.assertRaises((e.DriveFailed, e.ConnectionFailed)):
+            self.put(*(names or ("source",)), split=split)
+        self.server.say, self.server.before = honestly, lambda payload: None
+        self.server.payloads.clear()
+
+    def sent(self) -> List[p.AnyRequest]:
+        """The requests that the volume got since, but no probes."""
+        return [request for request in map(request_of, self.server.payloads) if request is not None]  # type: ignore[misc]
+
+    def resumed(self) -> "tuple[List[tuple[int, str, p.Code, int]], List[str]]":
+        """What another process finishes, and what it tells was not stored."""
+        with self.client() as client:
+            return client.resume(), list(client.take_not_stored().values())
+
+
+class Sources(WithSource):
+    def test_what_the_ledger_keeps(self) -> None:
+        """Of a small file all bytes; of a large one, and of each part of one in parts, where they are."""
+        self.write("small", bytes(LARGE - 1))
+        self.write("parts", bytes(MEBIBYTE + LARGE))
+        self.begin(False, "source", "small")
+        with closing(sqlite3.connect(self.ledger)) as base:
+            large, small = sorted(base.execute(FRAMES).fetchall(), key=lambda row: row[1] is None)
+        # A request has its kind, three numbers of 8 bytes, its path (a count, and each name after its length) and the size of its data.
+        self.assertEqual(large, (1 + 24 + 1 + 2 + len("source") + 4, os.fsencode(self.source), 0, len(self.data)))
+        self.assertEqual(small, (1 + 24 + 1 + 2 + len("small") + 4 + LARGE - 1, None, None, None))
+        self.resumed()
+        self.begin(False, "parts", split=True)
+        with closing(sqlite3.connect(self.ledger)) as base:
+            found = {(start, size) for _, origin, start, size in base.execute(FRAMES) if origin == os.fsencode(self.path("parts"))}
+        self.assertEqual(found, {(0, MEBIBYTE + LARGE), (MEBIBYTE, MEBIBYTE + LARGE)})
+
+    def path(self, name: str) -> str:
+        return os.path.join(self.room, name)
+
+    def test_sent_again_as_it_was(self) -> None:
+        for done in (False, True):
+            with self.subTest(done=done):
+                name = f"source{done}"
+                self.write(name, self.data)
+                self.begin(done, name)
+                ((number, path, code, commit),), lost = self.resumed()
+                self.assertEqual((path, code, lost), ("/" + name, p.Code.DONE, []))
+                (request,) = self.sent()
+                assert isinstance(request, p.Create)
+                self.assertEqual((request.number, request.path, request.data), (number, (name,), self.data))
+                self.assertEqual(self.volume.files()[(name,)], self.data)
+                self.assertEqual(self.volume.commits, commit)
+
+    def test_parts_sent_again_as_they_were(self) -> None:
+        data = random.Random(8).randbytes(2 * MEBIBYTE + LARGE)
+        self.write("whole", data)
+        self.begin(False, "whole", split=True)
+        done, lost = self.resumed()
+        self.assertEqual(([(path, code) for _, path, code, _ in done], lost), ([(f"/whole.00{index}", p.Code.DONE) for index in range(3)], []))
+        self.assertEqual(b"".join(self.volume.files()[(f"whole.00{index}",)] for index in range(3)), data)
+
+    def changes(self) -> "Dict[str, Callable[[], None]]":
+        """What may become of a source."""
+        def same_time(data: bytes) -> None:
+            status = os.stat(self.source)
+            self.write("source", data)
+            os.utime(self.source, ns=(status.st_atime_ns, status.st_mtime_ns))
+
+        def instead(make: Callable[[str], object]) -> Callable[[], None]:
+            def change() -> None:
+                os.rename(self.source, self.path("moved"))
+                make(self.source)
+
+            return change
+
+        return {
+            "other bytes of the same size at the same time": lambda: same_time(self.data[:-1] + bytes([self.data[-1] ^ 1])),
+            "longer": lambda: same_time(self.data + b"x"),
+            "shorter": lambda: same_time(self.data[:-1]),
+            "the same bytes at another time": lambda: os.utime(self.source, ns=(1, 1)),
+            "gone": lambda: os.unlink(self.source),
+            "a link to the same": instead(lambda path: os.symlink("moved", path)),
+            "a pipe": instead(os.mkfifo),
+            "a folder": instead(os.mkdir),
+        }
+
+    def restore(self) -> None:
+        if os.path.isdir(self.source):
+            os.rmdir(self.source)
+        elif os.path.lexists(self.source):
+            os.unlink(self.source)
+        self.write("source", self.data)
+
+    def test_another_file_by_now(self) -> None:
+        """It is not sent, its number is used up, and what is there now is stored by the next command. Where the volume had it, it is
+        there once, and the reply is known."""
+        for what, change in self.changes().items():
+            for done in (False, True):
+                with self.subTest(what, done=done):
+                    self.restore()
+                    self.server.volume = type(self.volume)()
+                    for end in ("", "-wal"):
+                        if os.path.exists(self.ledger + end):
+                            os.unlink(self.ledger + end)
+                    self.begin(done)
+                    change()
+                    code = p.Code.DONE if done else p.Code.ROOT
+                    self.assertEqual(self.resumed(), ([(1, "/source", code, 1)], [] if done else ["/source"]))
+                    self.assertEqual(self.sent(), [])
+                    self.assertEqual(self.volume.files(), {("source",): self.data} if done else {})
+                    self.assertEqual(self.volume.commits, 1)
+                    with self.client() as client:
+                        self.assertEqual(client.create("/next", b""), 2)
+                        self.assertEqual(client.resume(), [])
+                        history = client.session().ledger.history(client.session().volume())
+                    self.assertEqual(history, [(1, "/source", code, 1, True), (2, "/next", 0, 2, True)])
+
+    def test_stored_anew_by_the_same_line(self) -> None:
+        for done in (False, True):
+            with self.subTest(done=done):
+                name = f"again{done}"
+                self.write(name, self.data)
+                self.begin(done, name)
+                self.write(name, b"new" * LARGE)
+                before = self.volume.commits
+                self.put(name)
+                self.assertEqual(self.volume.files()[(name,)], b"new" * LARGE)
+                # What was not done takes a number for its refusal, and both take one for what is stored now.
+                self.assertEqual(self.volume.commits, before + (1 if done else 2))
+
+    def test_the_frame_that_comes_late(self) -> None:
+        """The one that the killed process sent is still on its way when its number is used up: it is not stored then."""
+        self.begin(False)
+        late = p.Create(self.number(), 1, 5, ("source",), self.data)
+        os.unlink(self.source)
+        self.assertEqual(self.resumed(), ([(1, "/source", p.Code.ROOT, 1)], ["/source"]))
+        self.assertEqual(self.volume.answer(late), p.Committed(p.Code.ROOT, 1))
+        self.assertEqual(self.volume.files(), {})
+
+    def number(self) -> int:
+        with self.client() as client:
+            return client.session().ledger.client
+
+    def test_a_process_that_has_the_bytes(self) -> None:
+        """What is lost is the conversation alone: the request is sent again whatever became of its source."""
+        seen: List[bytes] = []
+
+        def say(payload: bytes, answer: p.Answer) -> Optional[bytes]:
+            if request_of(payload):
+                seen.append(payload)
+                if len(seen) == 1:
+                    os.unlink(self.source)
+                    return None
+            return honestly(payload, answer)
+
+        self.server.say = say
+        with self.client() as client:
+            summary = put_all(client, [(self.source, ("source",))], Options())
+        self.assertEqual((summary.files, summary.failures), (1, []))
+        self.assertEqual(seen, [seen[0]] * 2)
+        self.assertEqual((self.volume.files(), self.volume.commits), ({("source",): self.data}, 1))
+
+    def test_one_between_others(self) -> None:
+        """Four are pending, and the source of the second is gone: the others are sent as they were."""
+        names = [f"f{index}" for index in range(4)]
+        contents = {name: random.Random(name).randbytes(LARGE) for name in names}
+        for name in names:
+            self.write(name, contents[name])
+        self.begin(False, *names)
+        os.unlink(self.path("f1"))
+        done, lost = self.resumed()
+        self.assertEqual([(path, code) for _, path, code, _ in done], [("/" + name, p.Code.ROOT if name == "f1" else p.Code.DONE) for name in names])
+        self.assertEqual(lost, ["/f1"])
+        del contents["f1"]
+        self.assertEqual(self.volume.files(), {(name,): data for name, data in contents.items()})
+
+    def test_a_file_in_parts(self) -> None:
+        """Where one of its parts is gone, those after it are not stored either: it has no hole."""
+        data = random.Random(9).randbytes(3 * MEBIBYTE + LARGE)
+        self.write("whole", data)
+        self.begin(False, "whole", split=True)
+        status = os.stat(self.path("whole"))
+        with open(self.path("whole"), "r+b") as file:
+            file.seek(MEBIBYTE + 7)
+            file.write(bytes([data[MEBIBYTE + 7] ^ 1]))
+        os.utime(self.path("whole"), ns=(status.st_atime_ns, status.st_mtime_ns))
+        done, lost = self.resumed()
+        self.assertEqual([code for _, _, code, _ in done], [p.Code.DONE] + [p.Code.ROOT] * 3)
+        self.assertEqual(lost, ["/whole.001", "/whole.002", "/whole.003"])
+        self.assertEqual(self.volume.files(), {("whole.000",): data[:MEBIBYTE]})
+        with self.client() as client:
+            self.assertEqual(client.known_files().wholes, {})
+
+    def test_what_is_given_up_stays_so(self) -> None:
+        """Also where the process that gave it up was killed, and the source is there again."""
+        self.begin(False)
+        os.rename(self.source, self.path("kept"))
+        self.server.say = lambda payload, answer: None if is_probe(payload) and payload[9] == 1 else honestly(payload, answer)
+        with self.assertRaises(e.ConnectionFailed), self.client(patience=0.1) as client:
+            client.resume()
+        self.server.say = honestly
+        os.rename(self.path("kept"), self.source)
+        self.assertEqual(self.resumed(), ([(1, "/source", p.Code.ROOT, 1)], ["/source"]))
+        self.assertEqual((self.volume.files(), self.volume.commits), ({}, 1))
+
+    def test_a_volume_without_room(self) -> None:
+        """The number is not used up, and goes to the next request."""
+        self.begin(False)
+        os.unlink(self.source)
+        self.server.before = lambda payload: p.FULL if is_probe(payload) and payload[9] == 1 else None
+        with self.assertRaises(e.Full), self.client() as client:
+            client.resume()
+        self.server.before = lambda payload: None
+        with self.client() as client:
+            self.assertEqual(client.resume(), [])
+            self.assertEqual(client.create("/next", b""), 1)
+
+    def test_what_is_told(self) -> None:
+        self.begin(False)
+        os.unlink(self.source)
+        words = ["--socket", self.server.path, "--ledger", self.ledger]
+        self.assertIn("number 1, /source: was not stored, since its source changed or is gone: store it again, commit 1", self.told("resume", *words))
+        self.write("source", self.data)
+        self.begin(False)
+        os.unlink(self.source)
+        self.assertIn("number 2 of an earlier command, /source: was not stored, since", self.told("mkdir", *words, "/new"))
+        self.assertNotIn("not stored", self.told("mkdir", *words, "/other"))
+
+    def told(self, *words: str) -> str:
+        """What a command tells, which ends well."""
+        output, errors = io.StringIO(), io.StringIO()
+        with redirect_stdout(output), redirect_stderr(errors):
+            self.assertEqual(cli.main(list(words)), 0)
+        return output.getvalue() + errors.getvalue()
+
+    def test_data_without_a_source(self) -> None:
+        """It is kept whole, however large it is."""
+        self.server.before = refuses
+        with self.client(patience=0.1) as client, self.assertRaises(e.DriveFailed):
+            list(client.run([Operation(p.Create, ("a",), 1, self.data)]))
+        self.server.before = lambda payload: None
+        self.assertEqual(self.resumed(), ([(1, "/a", p.Code.DONE, 1)], []))
+        self.assertEqual(self.volume.files(), {("a",): self.data})
+
+
+def die_before_sending(count: int) -> None:
+    """Kills this process where it would send requests for this time."""
+    left, real = [count], Session._sent
+
+    def sent(session: Session, connection: Connection, fresh: List[Flight]) -> bool:
+        left[0] -= 1
+        if not left[0]:
+            os.kill(os.getpid(), signal.SIGKILL)
+        return real(session, connection, fresh)
+
+    setattr(Session, "_sent", sent)
+
+
+class Kills(WithPrograms):
+    """A client that is killed while its sources change."""
+
+    FILES = 12
+
+    def setUp(self) -> None:
+        super().setUp()
+        self.serve()
+        self.chance = random.Random(11)
+        self.sources = os.path.join(self.room, "sources")
+        os.mkdir(self.sources)
+        self.versions: Dict[str, List[bytes]] = {}
+
+    def change(self) -> None:
+        """Some sources get other bytes, of the same size or not, at another time or not; some go."""
+        for index in range(self.FILES):
+            name = f"f{index}"
+            path = os.path.join(self.sources, name)
+            turn = self.chance.randrange(6)
+            if not os.path.exists(path) or turn == 0:
+                data = self.chance.randbytes(LARGE + self.chance.choice((0, 0, 1)))
+                status = os.stat(path) if os.path.exists(path) else None
+                with open(path, "wb") as file:
+                    file.write(data)
+                if status is not None and self.chance.random() < 0.5:
+                    os.utime(path, ns=(status.st_atime_ns, status.st_mtime_ns))
+                self.versions.setdefault(name, []).append(data)
+            elif turn == 1:
+                os.unlink(path)
+
+    def put(self, lines: int = 0, sends: int = 0) -> bool:
+        """Stores the folder in a process of its own, which kills itself before a line, or when requests are kept and not sent. Whether
+        it was killed."""
+        child = os.fork()
+        if not child:
+            status = 1
+            try:
+                if sends:
+                    die_before_sending(sends)
+                if lines:
+                    sys.settrace(killer(lines))
+                with Client(f"unix:{self.path}", ledger=self.ledger, program=UDFBURN, patience=PATIENCE) as client:
+                    put_all(client, [(self.sources, ("x",))], Options(recursive=True))
+                status = 0
+            finally:
+                sys.settrace(None)
+                os._exit(status)
+        status = os.waitpid(child, 0)[1]
+        self.assertTrue(status == 0 or os.WIFSIGNALED(status) and os.WTERMSIG(status) == signal.SIGKILL, status)
+        return status != 0
+
+    def test_nothing_is_lost_and_nothing_stored_twice(self) -> None:
+        killed = given_up = 0
+        while killed < max(KILLS // 4, 20):
+            self.change()
+            killed += self.put(lines=self.chance.randrange(1, 3000)) if self.chance.random() < 0.5 else self.put(sends=self.chance.randrange(1, 5))
+            if killed % 5 == 0:
+                self.change()
+        self.put()
+        with self.client() as client:
+            self.assertEqual(client.resume(), [])
+            ledger, volume = client.session().ledger, client.session().volume()
+            history = ledger.sent(volume)
+            for name in os.listdir(self.sources):
+                with open(os.path.join(self.sources, name), "rb") as file:
+                    self.assertEqual(client.get(f"/x/{name}"), file.read())
+        self.assertEqual([sent.number for sent in history], list(range(1, len(history) + 1)))
+        self.assertEqual([sent.commit for sent in history], list(range(1, self.commits() + 1)))
+        for name, versions in self.versions.items():
+            codes = [sent.code for sent in history if sent.path == f"/x/{name}"]
+            given_up += codes.count(p.Code.ROOT)
+            self.assertLessEqual(codes.count(p.Code.DONE), len(versions), "each of its contents once")
+            self.assertLessEqual(set(codes), {p.Code.DONE, p.Code.ROOT})
+        self.assertGreater(given_up, 0, "some were killed with a source that changed then")
+        self.assertEqual(self.udfburn("check", self.image), b"sound %d\n" % len(history))
+
+
+if __name__ == "__main__":
+    unittest.main()

@@ -1,0 +1,252 @@
+"""Batches: requests run on a copy of an image in memory, and the new blocks are appended to the image on the disk together.
+
+Stored one by one, each file takes two syncs of the image, and the ledger's, before it is acknowledged. An image only grows, so a batch
+adds a tail, which takes one sync however many files it has. While the tail is written, a file beside the image says how long the image
+was. After a crash the tail is cut off at that length, and the sources are stored again.
+"""
+
+from __future__ import annotations
+
+import atexit
+import errno
+import fcntl
+import os
+import stat
+from contextlib import suppress
+from functools import lru_cache
+from shutil import rmtree
+from tempfile import mkdtemp
+from typing import IO, Optional, Type
+
+from ..ledger_file import remove, sync_folder
+from ..protocol import limits
+from ..sources import shown
+from .config import write_file
+from .errors import ArchiveError, VolumeDiffers
+
+FOLDER = "/dev/shm"
+"""The file system in memory that Linux has."""
+
+LEAST_FILES = 8
+"""Files that make a batch worth its own syncs."""
+
+MOST_BYTES = 1 << 28
+"""Bytes of an image, with what is added, of which a copy is made, at most."""
+
+LARGE = 1 << 17
+"""Bytes a file, on average, above which the disk's time is that of its bytes, and batches gain little."""
+
+PIECE = 1 << 20
+
+
+class NoBatch(ArchiveError):
+    """There is no room in memory; what was planned is done file by file."""
+
+
+# ---- the tail
+
+def tail_note(image: str) -> str:
+    """The file that says how long an image was before its tail was added."""
+    return image[: -len(".img")] + ".tail"
+
+
+def sound_length(image: str) -> Optional[int]:
+    """The bytes of an image that count; None where all do."""
+    if not image.endswith(".img"):
+        return None
+    try:
+        with open(tail_note(image), encoding="ascii") as file:
+            return int(file.read())
+    except FileNotFoundError:
+        return None
+    except ValueError as error:
+        raise VolumeDiffers(f"{shown(tail_note(image))}: says no length: bring the right one back") from error
+
+
+def cut_tail(image: str) -> None:
+    """Takes off an image what a batch that was cut short has added."""
+    length = sound_length(image)
+    if length is None:
+        return
+    descriptor = locked(image)
+    try:
+        if os.fstat(descriptor).st_size > length:
+            os.ftruncate(descriptor, length)
+        os.fsync(descriptor)
+    finally:
+        os.close(descriptor)
+    forget_tail(image)
+
+
+def forget_tail(image: str) -> None:
+    """From now on all of an image counts."""
+    os.unlink(tail_note(image))
+    sync_folder(os.path.dirname(image))
+
+
+def locked(image: str) -> int:
+    """A descriptor of an image that no other process writes meanwhile."""
+    descriptor = os.open(image, os.O_RDWR | os.O_CLOEXEC)
+    try:
+        fcntl.flock(descriptor, fcntl.LOCK_EX | fcntl.LOCK_NB)
+    except BlockingIOError as error:
+        os.close(descriptor)
+        raise VolumeDiffers(f"{shown(image)}: another program writes it") from error
+    return descriptor
+
+
+# ---- the copy
+
+@lru_cache(None)
+def memory_folder() -> Optional[str]:
+    """A folder of this process's in memory, which goes with it; None where there is none. Those that killed processes left go now."""
+    above = os.path.join(FOLDER, f"udfburn-archive-{os.geteuid()}")
+    try:
+        with suppress(FileExistsError):
+            os.mkdir(above, 0o700)
+        status = os.lstat(above)
+        if not stat.S_ISDIR(status.st_mode) or status.st_uid != os.geteuid() or status.st_mode & 0o077:
+            return None
+        for name in os.listdir(above):
+            sweep(os.path.join(above, name))
+        return own_folder(above)
+    except OSError:
+        return None
+
+
+def own_folder(above: str) -> Optional[str]:
+    """A new folder with a lock that lasts as long as this process; None where somebody took it for one that was left."""
+    folder = mkdtemp(dir=above)
+    descriptor = folder_lock(folder)
+    if descriptor is None or not os.path.isdir(folder):
+        return None
+    atexit.register(rmtree, folder, ignore_errors=True)
+    return folder
+
+
+def folder_lock(folder: str) -> Optional[int]:
+    """A descriptor with the lock of a folder; None where another process has it."""
+    descriptor = os.open(folder, os.O_RDONLY | os.O_DIRECTORY | os.O_CLOEXEC)
+    try:
+        fcntl.flock(descriptor, fcntl.LOCK_EX | fcntl.LOCK_NB)
+        return descriptor
+    except BlockingIOError:
+        os.close(descriptor)
+        return None
+
+
+def sweep(folder: str) -> None:
+    """Removes the folder of a process that was killed."""
+    with suppress(OSError):
+        descriptor = folder_lock(folder)
+        if descriptor is not None:
+            rmtree(folder, ignore_errors=True)
+            os.close(descriptor)
+
+
+def has_room(folder: str, wanted: int) -> bool:
+    """Whether there is memory for a copy, and as much again for others."""
+    found = os.statvfs(folder)
+    if found.f_bavail * found.f_frsize < 2 * wanted:
+        return False
+    try:
+        with open("/proc/meminfo", encoding="ascii") as file:
+            free = next(int(line.split()[1]) * 1024 for line in file if line.startswith("MemAvailable:"))
+    except (OSError, StopIteration, ValueError):
+        return False
+    return free >= 4 * wanted
+
+
+def is_worth(files: int, size: int, length: int) -> bool:
+    """Whether so many files with so many bytes are worth a copy of an image of this length."""
+    return files >= LEAST_FILES and size <= files * LARGE and length <= MOST_BYTES
+
+
+class Batch:
+    """A copy of an image in memory. The image has its lock as long as the batch lasts."""
+
+    def __init__(self, image: str, copy: str):
+        self.image, self.copy = image, copy
+        self._descriptor = locked(image)
+        try:
+            self.length = os.fstat(self._descriptor).st_size
+            self._copy()
+        except BaseException:
+            self.close()
+            raise
+
+    def __enter__(self) -> "Batch":
+        return self
+
+    def __exit__(self, kind: Optional[Type[BaseException]], *_: object) -> None:
+        self.close()
+
+    def close(self) -> None:
+        """Gives the image and the memory back."""
+        remove(self.copy)
+        os.close(self._descriptor)
+
+    def _copy(self) -> None:
+        remove(self.copy)
+        try:
+            with open(self.copy, "xb", opener=private) as new:
+                at = 0
+                while at < self.length:
+                    at += os.sendfile(new.fileno(), self._descriptor, at, self.length - at)
+        except OSError as error:
+            raise NoBatch(f"{shown(self.copy)}: {error.strerror}") from error
+
+    def add_tail(self) -> int:
+        """Adds the blocks that the copy has more to the image, durably; gives how many bytes they are. Where the disk has no room the
+        image stays as it was."""
+        with open(self.copy, "rb") as new:
+            added = os.fstat(new.fileno()).st_size - self.length
+            self._require_same_front(new, added)
+            if not added:
+                return 0
+            try:
+                self._write_tail(new)
+            except OSError as error:
+                told = "the disk has no room" if error.errno in (errno.ENOSPC, errno.EDQUOT) else error.strerror
+                raise ArchiveError(f"{shown(self.image)}: {told}: the last files are not stored: run the command again when that is mended") from error
+        return added
+
+    def _require_same_front(self, new: "IO[bytes]", added: int) -> None:
+        """Only a tail is added, so whatever else changed would be lost."""
+        same = added >= 0
+        for at in range(0, self.length, PIECE) if same else ():
+            count = min(PIECE, self.length - at)
+            same = same and os.pread(new.fileno(), count, at) == os.pread(self._descriptor, count, at)
+        if not same:
+            raise VolumeDiffers(f"{shown(self.image)}: a block that was there changed in a batch, and nothing of it was kept: see 'udfburn check'")
+
+    def _write_tail(self, new: "IO[bytes]") -> None:
+        write_file(tail_note(self.image), f"{self.length}\n".encode())
+        try:
+            new.seek(self.length)
+            os.lseek(self._descriptor, self.length, os.SEEK_SET)
+            for piece in iter(lambda: new.read(PIECE), b""):
+                write_whole(self._descriptor, piece)
+            os.fsync(self._descriptor)
+        except OSError:
+            # What cannot even be cut off now is cut off by the next run.
+            os.ftruncate(self._descriptor, self.length)
+            os.fsync(self._descriptor)
+            forget_tail(self.image)
+            raise
+        forget_tail(self.image)
+
+
+def write_whole(descriptor: int, piece: bytes) -> None:
+    """Writes all of a piece."""
+    left = memoryview(piece)
+    while left:
+        left = left[os.write(descriptor, left) :]
+
+
+def private(path: str, flags: int) -> int:
+    """Opens a file that is its owner's alone."""
+    return os.open(path, flags | os.O_CLOEXEC, 0o600)
+
+
+assert MOST_BYTES < limits.CAPACITY[1] * limits.BLOCK

@@ -1,0 +1,44 @@
+-- What an open store knows of a client is what the state does.
+use Rattle.std.proofs.Common.{◌≡◌, ℕ, List, Option, Some, sym, ap, subst, ◌∙◌}
+use Rattle.std.specs.Prelude.{false, map, unwrap_or, Result, Ok, Err, IfOk}
+use Rattle.drive.specs.Journal.{Event, Once, held}
+use Rattle.model.specs.Session.{State, ClientRecord, record_of}
+use Rattle.durability.specs.Volume.{Stands}
+use Rattle.udf.specs.Udf.{udf}
+use Rattle.durability.specs.Formats.{Table_}
+use Rattle.store.specs.declared.store.Store.{Store}
+use Rattle.store.specs.Calls.{Knows}
+use Rattle.udf.specs.Said.{said_record}
+use Rattle.engine.specs.Situation.{Situation, IsOpen}
+use Rattle.engine.specs.Steps.{HoldsState}
+use Rattle.capi.specs.declared.session.Session.{Session}
+use Rattle.capi.specs.Sessions.{seen}
+use Rattle.capi.specs.Questions.{Asked, IsLast, latest, last_kept}
+
+module _ (client number : ℕ) (old new : Session) (lent : Store) (is : new.engine.store ≡ Some lent) where
+  pub is_last : (kept : (store : Store) × IsOpen (seen new) store) → number ≡ last_kept client lent.vat.sessions.records.items → Asked old new → IsLast client number old new
+  is_last kept told asked =
+      let same : kept.0 ≡ lent = ap (λ (o : Option Store). unwrap_or o lent) (sym kept.1.0 ∙ is) in
+      let opened : IsOpen (seen new) lent = (is, subst (λ (s : Store). s.is_stopped ≡ false) same kept.1.1) in
+      record {
+        store = lent;
+        opened = opened;
+        number_is = told;
+        of_state = λ volume S honest at.
+            let knows = (asked.holds volume S honest at).knows lent opened in
+            told ∙ ap (λ (rs : List ClientRecord). latest (record_of client rs)) (ap (λ (b : Table_). b.records) knows.table ∙ knows.stands.tells.records);
+      }
+
+-- a state that stands is known to the same store beside a medium that shows the same
+pub holds_same : (volume : ℕ) (S : State) (before behind : Situation) → behind.store ≡ before.store → behind.journal ≡ before.journal → behind.capacity ≡ before.capacity → HoldsState volume S before → HoldsState volume S behind
+holds_same volume S before behind kept journal size at = record {
+  once = subst (λ (J : List Event). Once J) (sym journal) at.once;
+  stands = subst (λ (c : ℕ). Stands udf c volume (held behind.journal) S) (sym size) (subst (λ (J : List Event). Stands udf before.capacity volume (held J) S) (sym journal) at.stands);
+  knows = λ store there. subst (λ (c : ℕ). Knows c volume behind.journal S store) (sym size)
+      (subst (λ (J : List Event). Knows before.capacity volume J S store) (sym journal) (at.knows store (sym kept ∙ there.0, there.1)));
+}
+
+-- what holds of an outcome holds of it in other words
+pub if_ok : {T E : Type 0} {P Q : T → Type 0} (outcome : Result T E) → ((x : T) → P x → Q x) → IfOk outcome P → IfOk outcome Q
+if_ok (Ok x) other h = other x h
+if_ok (Err fault) other h = tt

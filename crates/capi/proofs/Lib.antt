@@ -1,0 +1,4 @@
+pub mod Walking
+pub mod Replying
+pub mod Beginning
+pub mod Asking

@@ -1,0 +1,32 @@
+-- What each call of C's does to the session that its handle stands for.
+use Rattle.std.specs.Prelude.{◌≡◌, ⊤, ℕ, ℤ, pos, Bool, true, false, List, [], length, Some, Result}
+use Rattle.capi.specs.declared.fault.Fault.{Fault}
+use Rattle.capi.specs.declared.fault.Fault.TheVariants.{Device, Nothing}
+use Rattle.capi.specs.declared.session.Session.{Session}
+use Rattle.capi.specs.Numbers.{status, number_of}
+use Rattle.capi.specs.Sessions.{waiting, blocks, Answered, Shows, Gives}
+
+-- bytes of messages came, and the number says what became of them
+abbrev pub AnswersBytes : List ℕ → ℤ → Session → Session → Type 0
+AnswersBytes bytes number old new = (outcome : Result ⊤ Fault) × (number ≡ status outcome) × Answered outcome bytes old new
+
+-- so many bytes of answers wait
+abbrev pub Counts : ℕ → Session → Session → Type 0
+Counts count old new = (count ≡ length (waiting old)) × (new ≡ old)
+
+-- whether there is a block, as a number
+abbrev pub shown : Bool → ℤ
+shown true = pos 0
+shown false = number_of Nothing
+
+abbrev pub ShowsBlock : ℤ → ℕ → List ℕ → Session → Session → Type 0
+ShowsBlock number address block old new = (there : Bool) × (number ≡ shown there) × Shows old there address block × (new ≡ old)
+
+abbrev pub GivesBlock : ℤ → Session → Session → Type 0
+GivesBlock number old new = (there : Bool) × (number ≡ shown there) × Gives old there new
+
+-- Nothing is held any longer: no file, no block and no answer. Each further message is refused.
+pub record Ended (s : Session) : Type 0 where
+  pub medium : blocks s ≡ []
+  pub waits : waiting s ≡ []
+  pub ended : s.ended ≡ Some Device

@@ -1,0 +1,11 @@
+pub mod Media
+pub mod Ready
+pub mod Numbers
+pub mod Replies
+pub mod Sessions
+pub mod Formats
+pub mod Opens
+pub mod Calls
+pub mod Questions
+pub mod Statuses
+pub mod StatusCalls

@@ -1,0 +1,77 @@
+//! The calls of C, on the session that a handle stands for: each outcome as its number.
+
+ghost use Rattle.std.specs.Prelude.{◌≡◌};
+ghost use Rattle.capi.specs.Calls.{AnswersBytes, Counts, ShowsBlock, GivesBlock, Ended, shown};
+ghost use Rattle.capi.specs.Questions.{LastNumber};
+ghost use Rattle.capi.specs.StatusCalls.{AsksStatus};
+ghost use Rattle.capi.specs.Sessions.{Took};
+
+use crate::fault::{Fault, status_of};
+use crate::session::Session;
+use crate::told::Status;
+use limits::Block;
+
+pub(crate) fn answer(session: &mut Session, bytes: &[u8]) -> i32
+    ensures { AnswersBytes bytes.now result session.old session.new }
+{
+    status_of(session.answer(bytes))
+}
+
+pub(crate) fn answered(session: &mut Session) -> usize
+    ensures { Counts result session.old session.new }
+{
+    session.answered()
+}
+
+pub(crate) fn take(session: &mut Session, into: &mut [u8]) -> usize
+    ensures { Took session.old into.old result session.new into.new }
+{
+    session.take(into)
+}
+
+pub(crate) fn next_block(session: &mut Session, address: &mut u32, block: &mut Block) -> i32
+    ensures { ShowsBlock result address.new block.new session.old session.new }
+{
+    found(session.next_block(address, block))
+}
+
+pub(crate) fn took(session: &mut Session) -> i32
+    ensures { GivesBlock result session.old session.new }
+{
+    found(session.took())
+}
+
+pub(crate) fn last_number(session: &mut Session, client: u64, number: &mut u64) -> i32
+    ensures { LastNumber client result number.old number.new session.old session.new }
+{
+    match session.last_number(client) {
+        Ok(last) => {
+            *number = last;
+            status_of(Ok(()))
+        }
+        Err(fault) => status_of(Err(fault)),
+    }
+}
+
+pub(crate) fn status(session: &mut Session, told: &mut Status) -> i32
+    ensures { AsksStatus result told.old told.new session.old session.new }
+{
+    status_of(session.status(told))
+}
+
+pub(crate) fn end(session: &mut Session)
+    ensures { Ended session.new }
+{
+    session.end();
+}
+
+/// The number by which C is told whether there is a block.
+fn found(is_there: bool) -> i32
+    ensures { result ≡ shown is_there }
+{
+    if is_there {
+        status_of(Ok(()))
+    } else {
+        status_of(Err(Fault::Nothing))
+    }
+}

@@ -1,0 +1,166 @@
+//! The functions that C calls. A handle is the address of a session's box, which C frees when the session has ended.
+
+ghost use types.Logic.{sem};
+ghost use base.Fml.{fex};
+ghost use Rattle.std.specs.Prelude.{◌≡◌, ⊤, ℤ, pos, Result};
+ghost use Rattle.std.specs.Ptr.{points_to};
+ghost use Rattle.capi.specs.declared.fault.Fault.{Fault};
+ghost use Rattle.capi.specs.declared.session.Session.{Session};
+ghost use Rattle.capi.specs.contracts.session.Session.{the_row};
+ghost use Rattle.capi.specs.Numbers.{status};
+ghost use Rattle.capi.specs.Formats.{FormatsFile};
+ghost use Rattle.capi.specs.Calls.{AnswersBytes, Counts, ShowsBlock, GivesBlock, Ended};
+ghost use Rattle.capi.specs.Questions.{LastNumber};
+ghost use Rattle.capi.specs.StatusCalls.{AsksStatus};
+ghost use Rattle.capi.specs.Sessions.{Took};
+
+use crate::calls;
+use crate::fault::{Fault, status_of};
+use crate::medium::Medium;
+use crate::session::Session;
+use crate::told::Status;
+use crate::volumes::{drive_of, format_file, format_memory};
+use limits::Block;
+use std::alloc::Global;
+
+/// Makes a volume on the file under a descriptor, or finishes one that the same words began. The descriptor is closed in any
+/// case.
+#[unsafe(no_mangle)]
+pub extern "C" fn udfburn_core_format_fd(
+    alloc: Global,
+    fd: i32,
+    label: &[u8],
+    moment: u64,
+    capacity: u32,
+) -> i32
+    ensures { (outcome : Result ⊤ Fault) × (result ≡ status outcome) × FormatsFile label.now moment capacity outcome }
+{
+    status_of(format_file(alloc, fd, label, moment, capacity))
+}
+
+/// Opens the volume on the file under a descriptor, which is the session's from then on, also where this is refused.
+#[unsafe(no_mangle)]
+pub extern "C" fn udfburn_core_open_fd(alloc: Global, fd: i32, out: &mut *mut u8) -> i32 {
+    match drive_of(fd, limits::GREATEST_CAPACITY) {
+        Ok(drive) => give(alloc, Medium::Image(drive), out),
+        Err(fault) => status_of(Err(fault)),
+    }
+}
+
+/// Opens a new volume in memory, whose blocks the caller takes.
+#[unsafe(no_mangle)]
+pub extern "C" fn udfburn_core_open_memory(
+    alloc: Global,
+    label: &[u8],
+    moment: u64,
+    capacity: u32,
+    out: &mut *mut u8,
+) -> i32 {
+    match format_memory(alloc, label, moment, capacity) {
+        Ok(drive) => give(alloc, Medium::Memory(drive), out),
+        Err(fault) => status_of(Err(fault)),
+    }
+}
+
+/// Gives C the box of a session on a medium.
+fn give(alloc: Global, medium: Medium, out: &mut *mut u8) -> i32 {
+    let session = match Session::open(alloc, medium) {
+        Ok(session) => session,
+        Err(fault) => return status_of(Err(fault)),
+    };
+    match Box::new(alloc, session) {
+        Ok(made) => {
+            *out = Box::into_raw(made).cast::<u8>();
+            status_of(Ok(()))
+        }
+        Err(_) => status_of(Err(Fault::Memory)),
+    }
+}
+
+/// Takes bytes of the stream of messages, and answers those that are whole.
+#[unsafe(no_mangle)]
+pub unsafe extern "C" fn udfburn_core_answer(handle: *mut u8, bytes: &[u8]) -> i32
+    ghost held: { Session }
+    requires* { sem 𝓛 (points_to the_row handle held) }
+    ensures* { sem 𝓛 (fex ((s : Session) × AnswersBytes bytes.now result held s) (λ s. points_to the_row handle s.0)) }
+{
+    calls::answer(unsafe { &mut *handle.cast::<Session>() }, bytes)
+}
+
+/// How many bytes of answers wait.
+#[unsafe(no_mangle)]
+pub unsafe extern "C" fn udfburn_core_answered(handle: *mut u8) -> usize
+    ghost held: { Session }
+    requires* { sem 𝓛 (points_to the_row handle held) }
+    ensures* { sem 𝓛 (fex ((s : Session) × Counts result held s) (λ s. points_to the_row handle s.0)) }
+{
+    calls::answered(unsafe { &mut *handle.cast::<Session>() })
+}
+
+/// Moves the first bytes of the answers that wait out: how many they are.
+#[unsafe(no_mangle)]
+pub unsafe extern "C" fn udfburn_core_take(handle: *mut u8, into: &mut [u8]) -> usize
+    ghost held: { Session }
+    requires* { sem 𝓛 (points_to the_row handle held) }
+    ensures* { sem 𝓛 (fex ((s : Session) × Took held into.old result s into.new) (λ s. points_to the_row handle s.0)) }
+{
+    calls::take(unsafe { &mut *handle.cast::<Session>() }, into)
+}
+
+/// Shows the first block of a volume in memory that was not taken yet.
+#[unsafe(no_mangle)]
+pub unsafe extern "C" fn udfburn_core_next_block(
+    handle: *mut u8,
+    address: &mut u32,
+    block: &mut Block,
+) -> i32
+    ghost held: { Session }
+    requires* { sem 𝓛 (points_to the_row handle held) }
+    ensures* { sem 𝓛 (fex ((s : Session) × ShowsBlock result address.new block.new held s) (λ s. points_to the_row handle s.0)) }
+{
+    calls::next_block(unsafe { &mut *handle.cast::<Session>() }, address, block)
+}
+
+/// Takes the block that `udfburn_core_next_block` shows.
+#[unsafe(no_mangle)]
+pub unsafe extern "C" fn udfburn_core_took(handle: *mut u8) -> i32
+    ghost held: { Session }
+    requires* { sem 𝓛 (points_to the_row handle held) }
+    ensures* { sem 𝓛 (fex ((s : Session) × GivesBlock result held s) (λ s. points_to the_row handle s.0)) }
+{
+    calls::took(unsafe { &mut *handle.cast::<Session>() })
+}
+
+/// The number of the last request of a client that the volume knows, or 0.
+#[unsafe(no_mangle)]
+pub unsafe extern "C" fn udfburn_core_last_number(
+    handle: *mut u8,
+    client: u64,
+    number: &mut u64,
+) -> i32
+    ghost held: { Session }
+    requires* { sem 𝓛 (points_to the_row handle held) }
+    ensures* { sem 𝓛 (fex ((s : Session) × LastNumber client result number.old number.new held s) (λ s. points_to the_row handle s.0)) }
+{
+    calls::last_number(unsafe { &mut *handle.cast::<Session>() }, client, number)
+}
+
+/// What the volume is, and how far it is written.
+#[unsafe(no_mangle)]
+pub unsafe extern "C" fn udfburn_core_status(handle: *mut u8, told: &mut Status) -> i32
+    ghost held: { Session }
+    requires* { sem 𝓛 (points_to the_row handle held) }
+    ensures* { sem 𝓛 (fex ((s : Session) × AsksStatus result told.old told.new held s) (λ s. points_to the_row handle s.0)) }
+{
+    calls::status(unsafe { &mut *handle.cast::<Session>() }, told)
+}
+
+/// Ends the session: C then frees the handle.
+#[unsafe(no_mangle)]
+pub unsafe extern "C" fn udfburn_core_end(handle: *mut u8)
+    ghost held: { Session }
+    requires* { sem 𝓛 (points_to the_row handle held) }
+    ensures* { sem 𝓛 (fex ((s : Session) × Ended s) (λ s. points_to the_row handle s.0)) }
+{
+    calls::end(unsafe { &mut *handle.cast::<Session>() });
+}

@@ -1,0 +1,18 @@
+//! The writer as a C library: sessions of the engine that `serve` uses, and the functions by which C has them.
+#![tactic(auto)]
+
+mod calls;
+mod exports;
+mod fault;
+mod lending;
+mod medium;
+mod questions;
+mod session;
+mod told;
+mod volumes;
+
+pub use exports::{
+    udfburn_core_answer, udfburn_core_answered, udfburn_core_end, udfburn_core_format_fd,
+    udfburn_core_last_number, udfburn_core_next_block, udfburn_core_open_fd,
+    udfburn_core_open_memory, udfburn_core_status, udfburn_core_take, udfburn_core_took,
+};

@@ -1,0 +1,12 @@
+//! What a session's volume lies on.
+
+use drive::{FileDrive, MemDrive};
+
+/// What a session's volume lies on.
+#[derive(Drop)]
+pub enum Medium {
+    /// An image file, locked while it is held.
+    Image(FileDrive),
+    /// Memory, whose blocks the caller takes.
+    Memory(MemDrive),
+}

@@ -1,0 +1,107 @@
+//! What a store tells beside messages.
+
+ghost use Rattle.std.specs.Prelude.{◌≡◌, ◌≤◌, ℕ, take, IsTrue, IfOk};
+ghost use Rattle.model.specs.Session.{State};
+ghost use Rattle.store.specs.Agrees.{Agrees};
+ghost use Rattle.store.specs.declared.store.Store.{Store as Kept};
+ghost use Rattle.engine.specs.Situation.{IsReady, IsOpen, seen_on};
+ghost use Rattle.engine.specs.Steps.{HoldsState};
+ghost use Rattle.capi.specs.Questions.{last_kept};
+ghost use Rattle.capi.specs.Statuses.{TellsStatus};
+
+use crate::told::Status;
+use drive::Drive;
+use engine::Engine;
+use osta::Label;
+use recover::table_entry;
+use std::alloc::Global;
+use store::{Store, StoreFault};
+use vat::Record;
+
+/// The number of the last request of a client that has a record here, or 0.
+pub(crate) fn last_of(records: &[Record], client: u64) -> u64
+    ensures { result ≡ last_kept client records.now }
+{
+    for kept in records {
+        if kept.client == client {
+            return kept.latest;
+        }
+    }
+    0
+}
+
+/// What a volume is, and how far it is written, by the store that is open on it.
+pub(crate) fn status_on<D: Drive>(
+    alloc: Global,
+    store: &Store,
+    drive: &mut D,
+) -> Result<Status, StoreFault>
+    requires { Agrees (D.journal drive.old) (D.capacity drive.old) store.now }
+    ensures told { IfOk result (TellsStatus (D.journal drive.old) (D.honest drive.new) store.now) }
+    ensures journal { D.journal drive.new ≡ D.journal drive.old }
+    ensures writes { D.writes drive.new ≡ D.writes drive.old }
+    ensures capacity { D.capacity drive.new ≡ D.capacity drive.old }
+    ensures honest { IsTrue (D.honest drive.new) → IsTrue (D.honest drive.old) }
+{
+    let next = match drive.next() {
+        Ok(next) => next,
+        Err(_) => return Err(StoreFault::Device),
+    };
+    let moment = match table_entry(drive, store.table()) {
+        Ok(entry) => entry.moment.moment(),
+        Err(fault) => return Err(fault),
+    };
+    let vat = store.newest();
+    let mut label = [0; 64];
+    let label_length = match put_label(alloc, vat.label, &mut label) {
+        Ok(length) => length,
+        Err(fault) => return Err(fault),
+    };
+    Ok(Status {
+        moment,
+        capacity: store.capacity(),
+        next,
+        commits: vat.sessions.commits,
+        files: vat.files,
+        directories: vat.directories,
+        clients: vat.sessions.records.len() as u32,
+        label_length,
+        label,
+    })
+}
+
+/// Puts a label's text at the front of the room: how many bytes it has.
+fn put_label(alloc: Global, label: Label, into: &mut [u8; 64]) -> Result<u32, StoreFault>
+    ensures { IfOk result (λ length. (length ≤ 64) × (take length into.new ≡ label)) }
+{
+    let Ok(text) = label.text(alloc) else {
+        return Err(StoreFault::Memory);
+    };
+    let bytes = text.as_bytes();
+    if bytes.len() > 64 {
+        return Err(StoreFault::Label);
+    }
+    into[..bytes.len()].copy_from_slice(bytes);
+    Ok(bytes.len() as u32)
+}
+
+/// The same, by the store that an engine keeps, which is opened where none is.
+pub(crate) fn opened_status<D: Drive>(
+    alloc: Global,
+    engine: &mut Engine,
+    drive: &mut D,
+) -> Result<Status, StoreFault>
+    requires { IsReady (seen_on D.Drive engine.old drive.old) }
+    ensures told { IfOk result (λ told. (kept : Kept) × IsOpen (seen_on D.Drive engine.new drive.new) kept × TellsStatus (D.journal drive.new) (D.honest drive.new) kept told) }
+    ensures holds { (volume : ℕ) (S : State) → IsTrue (D.honest drive.new) → HoldsState volume S (seen_on D.Drive engine.old drive.old) → HoldsState volume S (seen_on D.Drive engine.new drive.new) }
+    ensures journal { D.journal drive.new ≡ D.journal drive.old }
+    ensures writes { D.writes drive.new ≡ D.writes drive.old }
+    ensures capacity { D.capacity drive.new ≡ D.capacity drive.old }
+    ensures honest { IsTrue (D.honest drive.new) → IsTrue (D.honest drive.old) }
+    ensures ready { IsReady (seen_on D.Drive engine.new drive.new) }
+{
+    match engine.open(alloc, drive) {
+        Ok(()) => status_on(alloc, engine.store().unwrap(), drive),
+        Err(fault) => Err(fault),
+    }
+}

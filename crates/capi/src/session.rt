@@ -1,0 +1,241 @@
+//! A volume that is open for a caller in C: what it lies on, the engine that answers, and what was not taken yet.
+
+ghost use Rattle.std.specs.Prelude.{◌≤◌, vec_len};
+ghost use Rattle.engine.specs.Situation.{IsReady};
+ghost use Rattle.capi.specs.Media.{seen_by};
+ghost use Rattle.capi.specs.Ready.{ready_prop};
+
+use crate::fault::{Fault, fault_of};
+use crate::lending::{answer_on, open_on, status_by};
+use crate::medium::Medium;
+use crate::questions::last_of;
+use crate::told::Status;
+use drive::MemDrive;
+use engine::Engine;
+use limits::Block;
+use request::Frames;
+use std::alloc::Global;
+
+/// What a handle stands for.
+#[derive(Drop)]
+pub struct Session {
+    pub(crate) alloc: Global,
+    pub(crate) medium: Medium,
+    pub(crate) engine: Engine,
+    pub(crate) frames: Frames,
+    /// The frames of the answers, of which some bytes at the front were taken.
+    pub(crate) answers: Vec<u8>,
+    pub(crate) taken: usize,
+    /// How many blocks of a volume in memory were taken.
+    pub(crate) given: usize,
+    /// Why no further message is answered.
+    pub(crate) ended: Option<Fault>,
+    ghost within: { taken ≤ vec_len answers },
+    ghost ready: { IsReady (seen_by engine medium) } by { ready_prop engine medium },
+}
+
+impl Session {
+    ghost use Rattle.std.specs.Prelude.{◌≡◌, ◌≤◌, Some, None, [], length, IfErr, OnOk};
+    ghost use Rattle.drive.specs.MemDrive as memory;
+    ghost use Rattle.capi.specs.declared.fault.Fault.TheVariants as faults;
+    ghost use Rattle.capi.specs.Sessions.{seen, waiting, blocks, SameVolume, AnswersAll, StopsBy, Answered, Took, Shows, Gives};
+    ghost use Rattle.capi.specs.Media.{seen_by, in_memory};
+    ghost use Rattle.capi.specs.Opens.{Opens};
+    ghost use Rattle.capi.specs.Questions.{Asked, Refused, TellsNumber};
+    ghost use Rattle.capi.specs.StatusCalls.{StatusIs};
+    ghost use Rattle.engine.specs.Situation.{IsOpen};
+    ghost use Rattle.store.specs.declared.store.Store.{Store};
+
+    /// A session on a medium, whose volume is opened.
+    pub(crate) fn open(alloc: Global, medium: Medium) -> Result<Session, Fault>
+        ensures { Opens medium result }
+    {
+        let mut medium = medium;
+        let mut engine = Engine::new();
+        match open_on(alloc, &mut medium, &mut engine) {
+            Ok(()) => Ok(Session::of(alloc, medium, engine)),
+            Err(fault) => Err(fault_of(fault)),
+        }
+    }
+
+    /// A session that was sent nothing, with an engine that is ready on a medium.
+    fn of(alloc: Global, medium: Medium, engine: Engine) -> Session
+        requires { IsReady (seen_by engine medium) }
+        ensures medium { result.medium ≡ medium }
+        ensures engine { result.engine ≡ engine }
+        ensures frames { result.frames ≡ Some [] }
+        ensures waiting { waiting result ≡ [] }
+        ensures given { result.given ≡ 0 }
+        ensures ended { result.ended ≡ None }
+    {
+        Session {
+            alloc,
+            medium,
+            engine,
+            frames: Frames::new(alloc),
+            answers: Vec::new(alloc),
+            taken: 0,
+            given: 0,
+            ended: None,
+        }
+    }
+
+    /// Takes bytes of the stream of messages, and answers those that are whole. Their answers wait after those that wait
+    /// already. A refusal ends the stream: each later call is refused alike, and takes nothing.
+    pub fn answer(&mut self, bytes: &[u8]) -> Result<(), Fault>
+        ensures { Answered result bytes.now self.old self.new }
+    {
+        if let Some(fault) = self.ended {
+            return Err(fault);
+        }
+        let outcome = self.take_in(bytes);
+        if let Err(fault) = outcome {
+            self.ended = Some(fault);
+        }
+        outcome
+    }
+
+    /// Takes bytes of the stream of messages, and answers those that are whole.
+    fn take_in(&mut self, bytes: &[u8]) -> Result<(), Fault>
+        ensures ok { OnOk result (AnswersAll bytes.now self.old self.new) }
+        ensures err { IfErr result (λ fault. StopsBy fault bytes.now self.old self.new) }
+        ensures ended { self.new.ended ≡ self.old.ended }
+        ensures given { self.new.given ≡ self.old.given }
+        ensures kind { in_memory self.new.medium ≡ in_memory self.old.medium }
+    {
+        if self.frames.feed(bytes).is_err() {
+            return Err(Fault::Memory);
+        }
+        let told = answer_on(
+            self.alloc,
+            &mut self.medium,
+            &mut self.frames,
+            &mut self.answers,
+            &mut self.engine,
+        );
+        if told.is_err() {
+            return Err(Fault::Memory);
+        }
+        if self.frames.is_over() {
+            return Err(Fault::TooLong);
+        }
+        Ok(())
+    }
+
+    /// How many bytes of answers wait.
+    pub fn answered(&self) -> usize
+        ensures { result ≡ length (waiting self.now) }
+    {
+        self.answers.len() - self.taken
+    }
+
+    /// Moves the first bytes of the answers that wait out, as many as there are and have room: how many they are.
+    pub fn take(&mut self, into: &mut [u8]) -> usize
+        ensures { Took self.old into.old result self.new into.new }
+    {
+        let count = into.len().min(self.answers.len() - self.taken);
+        into[..count].copy_from_slice(&self.answers[self.taken..self.taken + count]);
+        self.taken += count;
+        self.close_up();
+        count
+    }
+
+    /// Moves what waits to the front, where each byte that is moved is paid for by one that was taken.
+    fn close_up(&mut self)
+        ensures waits { waiting self.new ≡ waiting self.old }
+        ensures same { SameVolume self.old self.new }
+        ensures given { self.new.given ≡ self.old.given }
+        ensures medium { self.new.medium ≡ self.old.medium }
+    {
+        let left = self.answers.len() - self.taken;
+        if self.taken >= left {
+            self.answers.copy_within(self.taken.., 0);
+            self.answers.truncate(left);
+            self.taken = 0;
+        }
+    }
+
+    /// Shows the first block that was written in memory and not taken yet: whether there is one.
+    pub fn next_block(&self, address: &mut u32, block: &mut Block) -> bool
+        ensures { Shows self.now result address.new block.new }
+    {
+        let Medium::Memory(drive) = &self.medium else {
+            return false;
+        };
+        match drive.journal().get(self.given) {
+            Some(written) => {
+                *address = written.0;
+                *block = written.1;
+                true
+            }
+            None => false,
+        }
+    }
+
+    /// Takes the block that `next_block` shows: whether there was one.
+    pub fn took(&mut self) -> bool
+        ensures { Gives self.old result self.new }
+    {
+        let Medium::Memory(drive) = &self.medium else {
+            return false;
+        };
+        if self.given >= drive.journal().len() {
+            return false;
+        }
+        self.given += 1;
+        true
+    }
+
+    /// Opens the volume where it is not open, or where a write failed.
+    fn look(&mut self) -> Result<(), Fault>
+        ensures asked { Asked self.old self.new }
+        ensures kept { OnOk result ((store : Store) × IsOpen (seen self.new) store) }
+        ensures refused { IfErr result (λ fault. Refused fault self.old self.new) }
+    {
+        match open_on(self.alloc, &mut self.medium, &mut self.engine) {
+            Ok(()) => Ok(()),
+            Err(fault) => Err(fault_of(fault)),
+        }
+    }
+
+    /// The number of the last request of a client that the volume knows, or 0.
+    pub fn last_number(&mut self, client: u64) -> Result<u64, Fault>
+        ensures tells { TellsNumber client result self.old self.new }
+        ensures asked { Asked self.old self.new }
+    {
+        if let Err(fault) = self.look() {
+            return Err(fault);
+        }
+        let store = self.engine.store().unwrap();
+        Ok(last_of(&store.newest().sessions.records, client))
+    }
+
+    /// What the volume is, and how far it is written. A refusal leaves what is there.
+    pub fn status(&mut self, told: &mut Status) -> Result<(), Fault>
+        ensures status { StatusIs result told.old told.new self.new }
+        ensures asked { Asked self.old self.new }
+    {
+        match status_by(self.alloc, &mut self.medium, &mut self.engine) {
+            Ok(found) => {
+                *told = found;
+                Ok(())
+            }
+            Err(fault) => Err(fault_of(fault)),
+        }
+    }
+
+    /// Lets all go that the session holds, so that a file is closed and unlocked, and no memory is kept.
+    pub fn end(&mut self)
+        ensures medium { blocks self.new ≡ [] }
+        ensures ended { self.new.ended ≡ Some faults.Device }
+        ensures waiting { waiting self.new ≡ [] }
+    {
+        self.medium = Medium::Memory(MemDrive::new(self.alloc, 0, Vec::new(self.alloc)));
+        self.engine = Engine::new();
+        self.frames = Frames::new(self.alloc);
+        self.answers = Vec::new(self.alloc);
+        self.taken = 0;
+        self.given = 0;
+        self.ended = Some(Fault::Device);
+    }
+}

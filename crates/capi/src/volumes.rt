@@ -1,0 +1,95 @@
+//! New volumes, and drives over the descriptors of a caller.
+
+ghost use Rattle.std.specs.Prelude.{◌≡◌, ◌≤◌, ◌<◌, ℕ, List, [], Err, IfOk, IfErr, IsUtf8};
+ghost use Rattle.drive.specs.FileDrive.{capacity_of, BeginsWith};
+ghost use Rattle.drive.specs.MemDrive as memory;
+ghost use Rattle.formatting.specs.NewVolume.{words_on, IsFormatted};
+ghost use Rattle.capi.specs.declared.fault.Fault.TheVariants as faults;
+ghost use Rattle.capi.specs.Formats.{FormatsFile, FormatsOn, Makes};
+
+use crate::fault::{Fault, fault_of};
+use drive::{Drive, FileDrive, MemDrive};
+use formatting::{format, require_beginning};
+use std::alloc::Global;
+
+/// The moment at which moments end, in microseconds from 1970-01-01 UTC.
+const MOMENT_LIMIT: u64 = 4_102_444_800_000_000;
+
+/// The drive over a descriptor, which is closed where it is dropped, also where this is refused.
+pub(crate) fn drive_of(fd: i32, capacity: u32) -> Result<FileDrive, Fault>
+    ensures image { IfOk result (λ drive. (image : List (List ℕ)) × BeginsWith image drive) }
+    ensures capacity { IfOk result (λ drive. capacity_of drive ≡ capacity) }
+    ensures device { IfErr result (λ fault. fault ≡ faults.Device) }
+{
+    match FileDrive::over_number(fd, capacity) {
+        Ok(drive) => Ok(drive),
+        Err(_) => Err(Fault::Device),
+    }
+}
+
+/// Makes a volume on the file under a descriptor, or finishes one that the same words began.
+pub(crate) fn format_file(
+    alloc: Global,
+    fd: i32,
+    label: &[u8],
+    moment: u64,
+    capacity: u32,
+) -> Result<(), Fault>
+    ensures { FormatsFile label.now moment capacity result }
+{
+    let mut drive = match drive_of(fd, capacity) {
+        Ok(drive) => drive,
+        Err(fault) => return Err(fault),
+    };
+    format_on(alloc, &mut drive, label, moment)
+}
+
+/// Makes a volume on a file, or finishes one.
+fn format_on(alloc: Global, drive: &mut FileDrive, label: &[u8], moment: u64) -> Result<(), Fault>
+    ensures { FormatsOn label.now moment result drive.old drive.new }
+{
+    let Ok(text) = std::str::from_utf8(label) else {
+        return Err(Fault::Text);
+    };
+    if moment >= MOMENT_LIMIT {
+        return Err(Fault::Volume);
+    }
+    if let Err(fault) = require_beginning(alloc, drive, text, moment) {
+        return Err(fault_of(fault));
+    }
+    make(alloc, drive, text, moment)
+}
+
+/// A new volume in memory.
+pub(crate) fn format_memory(
+    alloc: Global,
+    label: &[u8],
+    moment: u64,
+    capacity: u32,
+) -> Result<MemDrive, Fault>
+    ensures { IfOk result (λ drive. IsFormatted capacity (words_on capacity label.now moment) [] (memory.journal_of drive) (memory.honest_of drive) × (memory.capacity_of drive ≡ capacity)) }
+{
+    let Ok(text) = std::str::from_utf8(label) else {
+        return Err(Fault::Text);
+    };
+    if moment >= MOMENT_LIMIT {
+        return Err(Fault::Volume);
+    }
+    let mut drive = MemDrive::new(alloc, capacity, Vec::new(alloc));
+    match make(alloc, &mut drive, text, moment) {
+        Ok(()) => Ok(drive),
+        Err(fault) => Err(fault),
+    }
+}
+
+/// Makes a volume on a drive.
+fn make<D: Drive>(alloc: Global, drive: &mut D, label: &str, moment: u64) -> Result<(), Fault>
+    requires { moment < 4_102_444_800_000_000 }
+    ensures makes { Makes label.now moment (D.capacity drive.old) result (D.journal drive.old) (D.journal drive.new) (D.honest drive.new) }
+    ensures capacity { D.capacity drive.new ≡ D.capacity drive.old }
+{
+    match format(alloc, drive, label, moment) {
+        Ok(()) => Ok(()),
+        Err(fault) => Err(fault_of(fault)),
+    }
+}

@@ -1,0 +1,5 @@
+use Rattle.std.proofs.Common.{[]}
+use Rattle.media.proofs.files.FileMediaMedia.create.Given as goal
+
+abbrev pub ghost-over : goal.ghost-over
+ghost-over g a = []

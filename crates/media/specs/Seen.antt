@@ -1,0 +1,33 @@
+-- What image files are taken to hold: a list of journals by their paths, the last one that was put back first.
+use Rattle.std.specs.Prelude.{ℕ, ◌==◌, ◌&&◌, Bool, true, false, if◌then◌else◌, List, [], ◌∷◌, Option, Some, None, bytes_eq}
+use Rattle.drive.specs.Journal.{Event, blocks_of}
+
+abbrev pub Images : Type 0
+Images = List (List ℕ × List Event)
+
+-- the first journal at this path
+abbrev pub lookup : Images → List ℕ → Option (List Event)
+lookup [] path = None
+lookup (image ∷ images) path = if bytes_eq path image.0 then Some image.1 else lookup images path
+
+-- the blocks that an image is taken to hold
+abbrev pub held_blocks : Option (List Event) → List (List ℕ)
+held_blocks None = []
+held_blocks (Some journal) = blocks_of journal
+
+-- the same events, in the same order
+abbrev pub same_events : List Event → List Event → Bool
+same_events [] [] = true
+same_events [] (f ∷ found) = false
+same_events (e ∷ held) [] = false
+same_events (e ∷ held) (f ∷ found) = (e.0 == f.0) && (bytes_eq e.1 f.1 && same_events held found)
+
+-- one where what was found is not what is held
+abbrev pub missed : Option (List Event) → List Event → ℕ
+missed None found = 1
+missed (Some held) found = if same_events held found then 0 else 1
+
+-- the images, with one of no blocks at this path where none is held there
+abbrev pub with_made : Option (List Event) → List ℕ → Images → Images
+with_made None path images = (path, []) ∷ images
+with_made (Some journal) path images = images

@@ -1,0 +1,95 @@
+//! Images that are files. What a file holds no clause can know, so what is held is a record.
+ghost use Rattle.std.specs.Prelude.{◌≡◌, ◌==◌, ◌<◌, List, [], ℕ, true, Some, IsTrue};
+ghost use Rattle.drive.specs.FileDrive.{BeginsWith, capacity_of, journal_of};
+ghost use Rattle.drive.specs.Journal.{Event};
+ghost use Rattle.media.specs.Held.{FoundAsHeld};
+ghost use Rattle.media.specs.Seen.{Images, lookup};
+
+use crate::Media;
+use crate::seen::Seen;
+use drive::{Block, DriveFault, FileDrive, create_image, sync_folder};
+use std::fs::{File, Files};
+
+/// Image files, by their paths.
+#[derive(Drop)]
+pub struct FileMedia<'a, R: Files<File = File>> {
+    rt: &'a R,
+    seen: Seen,
+}
+
+impl<'a, R: Files<File = File>> FileMedia<'a, R> {
+    /// The files of this runtime, of which nothing is known yet.
+    pub fn new(rt: &'a R) -> FileMedia<'a, R>
+        ensures held { result.seen.images ≡ [] }
+        ensures honest { result.seen.misses ≡ 0 }
+    {
+        FileMedia::over(rt)
+    }
+
+    /// The files of this runtime, whatever they hold at first: each clause on what is held is for any images, under the
+    /// premise that what is found agrees with them.
+    pub fn over(rt: &'a R) -> FileMedia<'a, R>
+        ghost first: { Images }
+        ensures held { result.seen.images ≡ first }
+        ensures honest { result.seen.misses ≡ 0 }
+    {
+        FileMedia {
+            rt,
+            seen: Seen::new(&[]),
+        }
+    }
+}
+
+impl<'a, R: Files<File = File>> Media for FileMedia<'a, R> {
+    type Drive = FileDrive;
+
+    ghost use Rattle.media.specs.Seen.{lookup};
+
+    ghost held = { λ m. lookup m.seen.images };
+
+    ghost honest = { λ m. m.seen.misses == 0 };
+
+    ghost takes_back = { λ _ _. true };
+
+    fn open_to_read(&mut self, path: &str, capacity: u32) -> Result<FileDrive, DriveFault> {
+        let drive = FileDrive::open_to_read(self.rt, path, capacity)?;
+        Ok(found(&mut self.seen, path.as_bytes(), drive))
+    }
+
+    fn open(&mut self, path: &str, capacity: u32) -> Result<FileDrive, DriveFault> {
+        let drive = FileDrive::open(self.rt, path, capacity)?;
+        Ok(found(&mut self.seen, path.as_bytes(), drive))
+    }
+
+    fn create(&mut self, path: &str, capacity: u32) -> Result<FileDrive, DriveFault> {
+        let file = create_image(self.rt, path)?;
+        self.seen = Seen::after_made(&self.seen, path.as_bytes());
+        let drive = FileDrive::over(file, capacity)?;
+        sync_folder(self.rt, path)?;
+        Ok(found(&mut self.seen, path.as_bytes(), drive))
+    }
+
+    fn put_back(&mut self, path: &str, drive: FileDrive) {
+        self.seen = Seen::after_back(&self.seen, path.as_bytes(), &drive);
+    }
+
+    fn part(&self, drive: &FileDrive, into: &mut Block) -> Result<usize, DriveFault> {
+        drive.part(into)
+    }
+}
+
+/// A drive over the image at this path, which was just opened, is taken to have the blocks that are held there.
+fn found(seen: &mut Seen, path: &[u8], mut drive: FileDrive) -> FileDrive
+    requires { (image : List (List ℕ)) × BeginsWith image drive }
+    ensures image { (image : List (List ℕ)) × BeginsWith image result }
+    ensures capacity { capacity_of result ≡ capacity_of drive }
+    ensures images { seen.new.images ≡ seen.old.images }
+    ensures opened { IsTrue (seen.new.misses == 0) → lookup seen.old.images path.now ≡ Some (journal_of result) }
+    ensures alike { (J : List Event) → lookup seen.old.images path.now ≡ Some J → FoundAsHeld J (journal_of result) }
+    ensures agreed { lookup seen.old.images path.now ≡ Some (journal_of result) → (seen.new.misses == 0) ≡ (seen.old.misses == 0) }
+    ensures honest { IsTrue (seen.new.misses == 0) → IsTrue (seen.old.misses == 0) }
+{
+    drive.hold(&Seen::blocks(seen, path));
+    *seen = Seen::after_open(seen, path, &drive);
+    drive
+}

@@ -1,0 +1,96 @@
+//! Images by their paths, which are lent to a command.
+//!
+//! A drive is taken out of a medium, worked on, and put back. So what each path holds has a name before the
+//! command and after it, and a contract can say what became of it.
+//!
+//! What is found is what is held under one premise, that the medium is honest: what lies at a path is what the
+//! last drive left that was put back there, and no read gave other bytes. In memory it holds. Of files it is a
+//! premise, since no code can tell. It is lost only where an image has another count of blocks than is held, or where a
+//! read gave other bytes.
+#![tactic(auto)]
+
+ghost use Rattle.limits.specs.declared.TheConstants.{BLOCK_BYTES};
+ghost use Rattle.std.specs.Prelude.{◌≡◌, ◌<◌, ℕ, Bool, List, Option, Some, IsTrue, IfOk, OnOk, OnErr};
+ghost use Rattle.drive.specs.Journal.{Event};
+ghost use Rattle.media.specs.Held.{FoundAsHeld, IsFresh, Same, SameBut, SameOrMade, begun};
+
+mod files;
+mod memory;
+mod seen;
+
+use drive::{Block, Drive, DriveFault};
+pub use files::FileMedia;
+pub use memory::MemMedia;
+
+/// Images by their paths.
+pub trait Media {
+    type Drive: Drive;
+
+    /// The journal of the image at a path, where there is one. While its drive is out nothing is said of it.
+    ghost held: { Self → List ℕ → Option (List Event) };
+
+    /// What was found so far was what is held, and no read of a drive that was put back gave other bytes.
+    ghost honest: { Self → Bool };
+
+    /// A drive may be put back at this path.
+    ghost takes_back: { Self → List ℕ → Bool };
+
+    /// Takes out the image at this path, to read it. One that is missing, cannot be read, or is longer than the
+    /// capacity is a fault.
+    fn open_to_read(&mut self, path: &str, capacity: u32) -> Result<Self::Drive, DriveFault>
+        ensures opened { IfOk result (λ d. IsTrue (honest self.new) → held self.old path.now ≡ Some (Self.Drive.journal d)) }
+        ensures agreed { IfOk result (λ d. held self.old path.now ≡ Some (Self.Drive.journal d) → honest self.new ≡ honest self.old) }
+        ensures alike { IfOk result (λ d. (J : List Event) → held self.old path.now ≡ Some J → FoundAsHeld J (Self.Drive.journal d)) }
+        ensures fresh { IfOk result (λ d. IsFresh Self.Drive.Drive capacity d) }
+        ensures place { OnOk result (IsTrue (takes_back self.new path.now)) }
+        ensures others { SameBut path.now (held self.old) (held self.new) }
+        ensures places { SameBut path.now (takes_back self.old) (takes_back self.new) }
+        ensures err { OnErr result (Same (held self.old) (held self.new)) }
+        ensures kept { OnErr result (Same (takes_back self.old) (takes_back self.new)) }
+        ensures failed { OnErr result (honest self.new ≡ honest self.old) }
+        ensures honest { IsTrue (honest self.new) → IsTrue (honest self.old) };
+
+    /// Takes out the image at this path, to write it. Else as `open_to_read`.
+    fn open(&mut self, path: &str, capacity: u32) -> Result<Self::Drive, DriveFault>
+        ensures opened { IfOk result (λ d. IsTrue (honest self.new) → held self.old path.now ≡ Some (Self.Drive.journal d)) }
+        ensures agreed { IfOk result (λ d. held self.old path.now ≡ Some (Self.Drive.journal d) → honest self.new ≡ honest self.old) }
+        ensures alike { IfOk result (λ d. (J : List Event) → held self.old path.now ≡ Some J → FoundAsHeld J (Self.Drive.journal d)) }
+        ensures fresh { IfOk result (λ d. IsFresh Self.Drive.Drive capacity d) }
+        ensures place { OnOk result (IsTrue (takes_back self.new path.now)) }
+        ensures others { SameBut path.now (held self.old) (held self.new) }
+        ensures places { SameBut path.now (takes_back self.old) (takes_back self.new) }
+        ensures err { OnErr result (Same (held self.old) (held self.new)) }
+        ensures kept { OnErr result (Same (takes_back self.old) (takes_back self.new)) }
+        ensures failed { OnErr result (honest self.new ≡ honest self.old) }
+        ensures honest { IsTrue (honest self.new) → IsTrue (honest self.old) };
+
+    /// Takes out the image at this path, to write it, which is made, of no blocks, where it is missing. Where it
+    /// fails, the image may have been made.
+    fn create(&mut self, path: &str, capacity: u32) -> Result<Self::Drive, DriveFault>
+        ensures opened { IfOk result (λ d. IsTrue (honest self.new) → begun (held self.old path.now) ≡ Self.Drive.journal d) }
+        ensures agreed { IfOk result (λ d. begun (held self.old path.now) ≡ Self.Drive.journal d → honest self.new ≡ honest self.old) }
+        ensures alike { IfOk result (λ d. FoundAsHeld (begun (held self.old path.now)) (Self.Drive.journal d)) }
+        ensures fresh { IfOk result (λ d. IsFresh Self.Drive.Drive capacity d) }
+        ensures place { OnOk result (IsTrue (takes_back self.new path.now)) }
+        ensures others { SameBut path.now (held self.old) (held self.new) }
+        ensures places { SameBut path.now (takes_back self.old) (takes_back self.new) }
+        ensures err { OnErr result (SameOrMade path.now (held self.old) (held self.new)) }
+        ensures kept { OnErr result (Same (takes_back self.old) (takes_back self.new)) }
+        ensures failed { OnErr result (honest self.new ≡ honest self.old) }
+        ensures honest { IsTrue (honest self.new) → IsTrue (honest self.old) };
+
+    /// Puts a drive back, which is what the path holds from then on.
+    fn put_back(&mut self, path: &str, drive: Self::Drive)
+        requires { IsTrue (takes_back self.old path.now) }
+        ensures held { held self.new path.now ≡ Some (Self.Drive.journal drive) }
+        ensures others { SameBut path.now (held self.old) (held self.new) }
+        ensures places { SameBut path.now (takes_back self.old) (takes_back self.new) }
+        ensures misreads { IsTrue (honest self.new) → Self.Drive.misreads drive ≡ 0 }
+        ensures agreed { Self.Drive.misreads drive ≡ 0 → honest self.new ≡ honest self.old }
+        ensures honest { IsTrue (honest self.new) → IsTrue (honest self.old) };
+
+    /// The bytes of an image after its last whole block, which no address counts, at the front of `into`: how many
+    /// they are, at most 2,047.
+    fn part(&self, drive: &Self::Drive, into: &mut Block) -> Result<usize, DriveFault>
+        ensures { IfOk result (λ n. n < BLOCK_BYTES) };
+}

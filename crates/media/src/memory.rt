@@ -1,0 +1,224 @@
+//! Images in memory. Such a medium is always honest.
+ghost use Rattle.std.specs.Prelude.{◌≡◌, ◌++◌, ◌∷◌, ◌<◌, ◌↔◌, List, ℕ, [], true, false, None, Some, length, IsTrue, IfOk, IfNone, IfSome, OnErr, OnOk};
+ghost use Rattle.drive.specs.Journal.{Event, InOrder};
+ghost use Rattle.drive.specs.MemDrive.{journal_of, capacity_of, failures_of, writes_of};
+ghost use Rattle.media.specs.Held.{FoundAsHeld, IsFresh, Same, SameBut, SameOrMade, begun};
+ghost use Rattle.media.specs.InMemory.{AreOthers, IsFit, IsPlace, IsUnfit, held_by, is_out, journal_in};
+
+use crate::Media;
+use drive::{Block, Drive, DriveFault, MemDrive};
+use std::alloc::Global;
+
+/// An image at its path. There is no drive while it is out.
+#[derive(Drop)]
+struct Slot {
+    path: Vec<u8>,
+    drive: Option<MemDrive>,
+}
+
+/// Images in memory, each a drive that is taken out and put back.
+#[derive(Drop)]
+pub struct MemMedia {
+    alloc: Global,
+    slots: Vec<Slot>,
+}
+
+impl MemMedia {
+    ghost use Rattle.media.specs.InMemory.{held_by};
+
+    /// No images.
+    pub fn new(alloc: Global) -> MemMedia
+        ensures { (path : List ℕ) → held_by result path ≡ None }
+    {
+        MemMedia {
+            alloc,
+            slots: Vec::new(alloc),
+        }
+    }
+
+    /// The drive of the image in the slot of this path.
+    fn take_out(&mut self, path: &[u8], capacity: u32) -> Result<MemDrive, DriveFault>
+        ensures opened { IfOk result (λ d. held_by self.old path.now ≡ Some (journal_of d)) }
+        ensures size { IfOk result (λ d. capacity_of d ≡ capacity) }
+        ensures fit { IfOk result (λ d. IsFit capacity (journal_of d)) }
+        ensures writes { IfOk result (λ d. writes_of d ≡ []) }
+        ensures failures { IfOk result (λ d. failures_of d ≡ 0) }
+        ensures out { OnOk result (IsTrue (is_out self.new path.now)) }
+        ensures others { SameBut path.now (held_by self.old) (held_by self.new) }
+        ensures places { SameBut path.now (is_out self.old) (is_out self.new) }
+        ensures err { OnErr result (Same (held_by self.old) (held_by self.new)) }
+        ensures kept { OnErr result (Same (is_out self.old) (is_out self.new)) }
+        ensures refused { OnErr result (IsUnfit capacity (held_by self.old path.now)) }
+    {
+        let Some(place) = place_of(&self.slots, path) else {
+            return Err(DriveFault);
+        };
+        take_drive(&mut self.slots[place], capacity)
+    }
+
+    /// The drive of a new image of no blocks at this path, of which there is no slot yet.
+    fn add(&mut self, path: &[u8], capacity: u32) -> Result<MemDrive, DriveFault>
+        requires { AreOthers self.old.slots.items path.now (length self.old.slots.items) }
+        ensures blank { IfOk result (λ d. journal_of d ≡ []) }
+        ensures size { IfOk result (λ d. capacity_of d ≡ capacity) }
+        ensures writes { IfOk result (λ d. writes_of d ≡ []) }
+        ensures failures { IfOk result (λ d. failures_of d ≡ 0) }
+        ensures out { OnOk result (IsTrue (is_out self.new path.now)) }
+        ensures others { SameBut path.now (held_by self.old) (held_by self.new) }
+        ensures places { SameBut path.now (is_out self.old) (is_out self.new) }
+        ensures err { OnErr result (Same (held_by self.old) (held_by self.new)) }
+        ensures kept { OnErr result (Same (is_out self.old) (is_out self.new)) }
+    {
+        let Ok(own_path) = Vec::from_slice(self.alloc, path) else {
+            return Err(DriveFault);
+        };
+        let slot = Slot {
+            path: own_path,
+            drive: None,
+        };
+        push_slot(&mut self.slots, slot)?;
+        Ok(MemDrive::new(self.alloc, capacity, Vec::new(self.alloc)))
+    }
+}
+
+impl Media for MemMedia {
+    type Drive = MemDrive;
+
+    ghost use Rattle.media.specs.InMemory.{IsUnfit, held_by, is_out};
+
+    ghost held = { held_by };
+
+    ghost honest = { λ _. true };
+
+    ghost takes_back = { is_out };
+
+    fn open_to_read(&mut self, path: &str, capacity: u32) -> Result<MemDrive, DriveFault>
+        ensures opened { IfOk result (λ d. held_by self.old path.now ≡ Some (journal_of d)) }
+        ensures alike { IfOk result (λ d. (J : List Event) → held_by self.old path.now ≡ Some J → FoundAsHeld J (journal_of d)) }
+        ensures fresh { IfOk result (λ d. IsFresh ⟦<MemDrive as Drive>⟧ capacity d) }
+        ensures place { OnOk result (IsTrue (is_out self.new path.now)) }
+        ensures others { SameBut path.now (held_by self.old) (held_by self.new) }
+        ensures places { SameBut path.now (is_out self.old) (is_out self.new) }
+        ensures err { OnErr result (Same (held_by self.old) (held_by self.new)) }
+        ensures kept { OnErr result (Same (is_out self.old) (is_out self.new)) }
+        ensures refused { OnErr result (IsUnfit capacity (held_by self.old path.now)) }
+    {
+        self.take_out(path.as_bytes(), capacity)
+    }
+
+    fn open(&mut self, path: &str, capacity: u32) -> Result<MemDrive, DriveFault>
+        ensures opened { IfOk result (λ d. held_by self.old path.now ≡ Some (journal_of d)) }
+        ensures alike { IfOk result (λ d. (J : List Event) → held_by self.old path.now ≡ Some J → FoundAsHeld J (journal_of d)) }
+        ensures fresh { IfOk result (λ d. IsFresh ⟦<MemDrive as Drive>⟧ capacity d) }
+        ensures place { OnOk result (IsTrue (is_out self.new path.now)) }
+        ensures others { SameBut path.now (held_by self.old) (held_by self.new) }
+        ensures places { SameBut path.now (is_out self.old) (is_out self.new) }
+        ensures err { OnErr result (Same (held_by self.old) (held_by self.new)) }
+        ensures kept { OnErr result (Same (is_out self.old) (is_out self.new)) }
+        ensures refused { OnErr result (IsUnfit capacity (held_by self.old path.now)) }
+    {
+        self.take_out(path.as_bytes(), capacity)
+    }
+
+    fn create(&mut self, path: &str, capacity: u32) -> Result<MemDrive, DriveFault>
+        ensures opened { IfOk result (λ d. begun (held_by self.old path.now) ≡ journal_of d) }
+        ensures alike { IfOk result (λ d. FoundAsHeld (begun (held_by self.old path.now)) (journal_of d)) }
+        ensures fresh { IfOk result (λ d. IsFresh ⟦<MemDrive as Drive>⟧ capacity d) }
+        ensures place { OnOk result (IsTrue (is_out self.new path.now)) }
+        ensures others { SameBut path.now (held_by self.old) (held_by self.new) }
+        ensures places { SameBut path.now (is_out self.old) (is_out self.new) }
+        ensures err { OnErr result (SameOrMade path.now (held_by self.old) (held_by self.new)) }
+        ensures kept { OnErr result (Same (is_out self.old) (is_out self.new)) }
+        ensures refused { OnErr result (IsUnfit capacity (held_by self.old path.now)) }
+    {
+        match place_of(&self.slots, path.as_bytes()) {
+            Some(_) => self.take_out(path.as_bytes(), capacity),
+            None => self.add(path.as_bytes(), capacity),
+        }
+    }
+
+    fn put_back(&mut self, path: &str, drive: MemDrive) {
+        if let Some(place) = place_of(&self.slots, path.as_bytes()) {
+            fill(&mut self.slots[place], drive);
+        }
+    }
+
+    // A drive in memory has whole blocks alone.
+    fn part(&self, _drive: &MemDrive, _into: &mut Block) -> Result<usize, DriveFault>
+        ensures { result ≡ Ok 0 }
+    {
+        Ok(0)
+    }
+}
+
+/// Puts a drive into a slot.
+fn fill(slot: &mut Slot, drive: MemDrive)
+    ensures path { slot.new.path ≡ slot.old.path }
+    ensures drive { slot.new.drive ≡ Some drive }
+{
+    slot.drive = Some(drive);
+}
+
+fn push_slot(slots: &mut Vec<Slot>, slot: Slot) -> Result<(), DriveFault>
+    ensures ok { OnOk result (slots.new.items ≡ slots.old.items ++ slot ∷ []) }
+    ensures err { OnErr result (slots.new.items ≡ slots.old.items) }
+{
+    match slots.push(slot) {
+        Ok(()) => Ok(()),
+        Err(_) => Err(DriveFault),
+    }
+}
+
+/// The index of the slot of this path.
+fn place_of(slots: &[Slot], path: &[u8]) -> Option<usize>
+    ensures found { IfSome result (IsPlace slots.now path.now) }
+    ensures none { IfNone result (AreOthers slots.now path.now (length slots.now)) }
+{
+    for place in 0..slots.len() {
+        if path == slots[place].path.as_slice() {
+            return Some(place);
+        }
+    }
+    None
+}
+
+/// Takes the drive out of a slot, if it is fit.
+fn take_drive(slot: &mut Slot, capacity: u32) -> Result<MemDrive, DriveFault>
+    ensures path { slot.new.path ≡ slot.old.path }
+    ensures opened { IfOk result (λ d. journal_in slot.old ≡ Some (journal_of d)) }
+    ensures out { OnOk result (slot.new.drive ≡ None) }
+    ensures size { IfOk result (λ d. capacity_of d ≡ capacity) }
+    ensures fit { IfOk result (λ d. IsFit capacity (journal_of d)) }
+    ensures writes { IfOk result (λ d. writes_of d ≡ []) }
+    ensures failures { IfOk result (λ d. failures_of d ≡ 0) }
+    ensures err { OnErr result (slot.new.drive ≡ slot.old.drive) }
+    ensures refused { OnErr result (IsUnfit capacity (journal_in slot.old)) }
+{
+    let Some(drive) = slot.drive.take() else {
+        return Err(DriveFault);
+    };
+    if is_fit(drive.journal(), capacity) {
+        return Ok(drive.reopened(capacity));
+    }
+    slot.drive = Some(drive);
+    Err(DriveFault)
+}
+
+/// Whether the blocks were each written once, in order, and are no more than the capacity.
+fn is_fit(events: &[(u32, Block)], capacity: u32) -> bool
+    ensures { IsTrue result ↔ IsFit capacity events.now }
+{
+    events.len() <= capacity as usize && are_in_order(events)
+}
+
+/// Whether each address was written once, in order.
+fn are_in_order(events: &[(u32, Block)]) -> bool
+    ensures { IsTrue result ↔ InOrder events.now }
+{
+    for place in 0..events.len() {
+        if events[place].0 as usize != place {
+            return false;
+        }
+    }
+    true
+}

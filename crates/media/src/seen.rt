@@ -1,0 +1,57 @@
+//! What image files are taken to hold, which only clauses read.
+ghost use Rattle.std.specs.Prelude.{◌≡◌, ◌+◌, ◌∷◌, ℕ};
+ghost use Rattle.std.specs.Borrow.{ftrue};
+ghost use Rattle.drive.specs.FileDrive.{journal_of, misreads_of};
+ghost use Rattle.media.specs.Seen.{Images, held_blocks, lookup, missed, with_made};
+
+use drive::{FileDrive, HeldBlocks};
+use std::marker::Model;
+
+/// It takes no memory, and its functions do nothing when they run.
+#[derive(Drop)]
+pub(crate) struct Seen {
+    pub ghost images: { Images },
+    pub ghost misses: { ℕ },
+}
+
+impl Model for Seen {
+    ghost also_owns = { λ _. ftrue };
+}
+
+impl Seen {
+    /// Nothing was found yet.
+    pub(crate) fn new(_none: &[u8]) -> Seen
+        ghost first: { Images }
+        ensures { (result.images ≡ first) × (result.misses ≡ 0) }
+    {
+        Seen {}
+    }
+
+    /// What the image at this path is taken to hold.
+    pub(crate) fn blocks(_seen: &Seen, _path: &[u8]) -> HeldBlocks
+        ensures { result.blocks ≡ held_blocks (lookup _seen.now.images _path.now) }
+    {
+        HeldBlocks {}
+    }
+
+    /// The image at this path was opened, with what this drive has.
+    pub(crate) fn after_open(_seen: &Seen, _path: &[u8], _drive: &FileDrive) -> Seen
+        ensures { (result.images ≡ _seen.now.images) × (result.misses ≡ _seen.now.misses + missed (lookup _seen.now.images _path.now) (journal_of _drive.now)) }
+    {
+        Seen {}
+    }
+
+    /// There is a file at this path, which was made where there was none.
+    pub(crate) fn after_made(_seen: &Seen, _path: &[u8]) -> Seen
+        ensures { (result.images ≡ with_made (lookup _seen.now.images _path.now) _path.now _seen.now.images) × (result.misses ≡ _seen.now.misses) }
+    {
+        Seen {}
+    }
+
+    /// This drive was put back at this path.
+    pub(crate) fn after_back(_seen: &Seen, _path: &[u8], _drive: &FileDrive) -> Seen
+        ensures { (result.images ≡ (_path.now, journal_of _drive.now) ∷ _seen.now.images) × (result.misses ≡ _seen.now.misses + misreads_of _drive.now) }
+    {
+        Seen {}
+    }
+}

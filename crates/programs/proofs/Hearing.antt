@@ -1,0 +1,139 @@
+-- Connections of a listener that are served one after another.
+use Rattle.std.proofs.Common.{◌≡◌, inl, inr, ℕ, ◌+◌, ◌-◌, ◌^◌, min, List, [], ◌∷◌, ◌++◌, length, Option, Some, None, Result, Ok, Err, refl, sym, ap, ◌∙◌, subst, arith, append_assoc, append-nil, length-append, true, Bool}
+use Rattle.std.specs.Prelude.{IfErr, IfNone, IfSome, IsSomeAnd, OnOk}
+use Rattle.std.specs.List.{flat_map}
+use Rattle.drive.specs.Journal.{Event, counted}
+use Rattle.drive.specs.Reads.{Counts}
+use Rattle.engine.specs.Served.{ServesAll}
+use Rattle.engine.specs.Situation.{Situation, situation}
+use Rattle.store.specs.declared.store.Store as stored
+use Rattle.programs.specs.declared.fault.Fault.{Fault}
+use Rattle.programs.specs.declared.fault.Fault.TheVariants.{Usage, Path, Socket, Store, Stream}
+use Rattle.programs.specs.Connections.{GoesOn, LeavesStream}
+use Rattle.programs.specs.Listening.{EndsBy, EndsOne, Heard, LetsGo, ServesList, ServesOne}
+use Rattle.programs.specs.Outputs.{IsBlank, known}
+use Rattle.programs.proofs.Going.{goes_none}
+
+-- what was served so far, of so many connections, in so many tries
+pub record Hearing (connections left tries : ℕ) (old new : Heard) (before behind : Situation) : Type 0 where
+  pub inputs : List (Option (List ℕ))
+  pub outputs : List (Option (List ℕ))
+  pub given : new.given ≡ old.given ++ inputs
+  pub ended : new.ended ≡ old.ended ++ flat_map known outputs
+  pub served : ServesList inputs outputs before behind
+  pub failed : ℕ
+  pub missed : Counts failed old.missed new.missed
+  pub total : length inputs + failed ≡ tries
+  pub rest : length inputs + left ≡ connections
+
+pub hearing_none : (connections : ℕ) (heard : Heard) (before : Situation) → Hearing connections connections 0 heard heard before before
+hearing_none connections heard before = record {
+  inputs = [];
+  outputs = [];
+  given = sym (append-nil heard.given);
+  ended = sym (append-nil heard.ended);
+  served = refl;
+  failed = 0;
+  missed = λ low. omega arith;
+  total = refl;
+  rest = omega arith;
+}
+
+-- an engine that is new has no store
+pub hearing_new : (connections : ℕ) (heard : Heard) (store : Option stored.Store) (J : List Event) (failures capacity : ℕ) (honest : Bool) (writes : List (List (List ℕ))) → store ≡ None
+    → Hearing connections connections 0 heard heard (situation None J failures capacity honest writes) (situation store J failures capacity honest writes)
+hearing_new connections heard store J failures capacity honest writes e =
+    subst (λ (s : Option stored.Store). Hearing connections connections 0 heard heard (situation s J failures capacity honest writes) (situation store J failures capacity honest writes)) e
+    (hearing_none connections heard (situation store J failures capacity honest writes))
+
+one_more : (old now next failed : ℕ) → Counts failed old now → next ≡ min (now + 1) (2 ^ 64 - 1) → Counts (failed + 1) old next
+one_more old now next failed h e low = omega (arith, e, low, h (omega (arith, e, low)))
+
+-- a try that gave no connection
+pub hearing_missed : (connections left tries : ℕ) (old now next : Heard) (before during : Situation) → Hearing connections left tries old now before during → next.given ≡ now.given → next.ended ≡ now.ended → next.missed ≡ counted true now.missed
+    → Hearing connections left (tries + 1) old next before during
+hearing_missed connections left tries old now next before during h given ended missed = record {
+  inputs = h.inputs;
+  outputs = h.outputs;
+  given = given ∙ h.given;
+  ended = ended ∙ h.ended;
+  served = h.served;
+  failed = h.failed + 1;
+  missed = λ low. one_more old.missed now.missed next.missed h.failed h.missed missed low;
+  total = omega (arith, h.total);
+  rest = h.rest;
+}
+
+serves_more : (inputs outputs : List (Option (List ℕ))) (input written : Option (List ℕ)) (before during behind : Situation) → ServesList inputs outputs before during → ServesOne input written during behind
+    → ServesList (inputs ++ input ∷ []) (outputs ++ written ∷ []) before behind
+serves_more [] [] input written before during behind same one = (behind, subst (λ (s : Situation). ServesOne input written s behind) same one, refl)
+serves_more [] (w ∷ outputs) input written before during behind h one = absurd h
+serves_more (i ∷ inputs) [] input written before during behind h one = absurd h
+serves_more (i ∷ inputs) (w ∷ outputs) input written before during behind (next, first, rest) one = (next, first, serves_more inputs outputs input written next during behind rest one)
+
+known_more : (outputs : List (Option (List ℕ))) (written : Option (List ℕ)) → flat_map known outputs ++ known written ≡ flat_map known (outputs ++ written ∷ [])
+known_more [] written = sym (append-nil (known written))
+known_more (o ∷ outputs) written = append_assoc (known o) (flat_map known outputs) (known written) ∙ ap (λ (l : List (List ℕ)). known o ++ l) (known_more outputs written)
+
+-- a connection that was given, served and ended
+pub hearing_more : (outcome : Result (Unit {0}) Fault) (connections left less tries : ℕ) (old now between next : Heard) (before during behind : Situation) (input : Option (List ℕ)) → Hearing connections left tries old now before during
+    → between.given ≡ now.given ++ input ∷ [] → between.ended ≡ now.ended → between.missed ≡ now.missed → EndsOne outcome input between next during behind → less + 1 ≡ left
+    → Hearing connections less (tries + 1) old next before behind
+hearing_more outcome connections left less tries old now between next before during behind input h given ended missed one fewer = record {
+  inputs = h.inputs ++ input ∷ [];
+  outputs = h.outputs ++ one.written ∷ [];
+  given = one.given ∙ given ∙ ap (λ (l : List (Option (List ℕ))). l ++ input ∷ []) h.given ∙ append_assoc old.given h.inputs (input ∷ []);
+  ended = one.ended ∙ ap (λ (l : List (List ℕ)). l ++ known one.written) (ended ∙ h.ended) ∙ append_assoc old.ended (flat_map known h.outputs) (known one.written) ∙ ap (λ (l : List (List ℕ)). old.ended ++ l) (known_more h.outputs one.written);
+  served = serves_more h.inputs h.outputs input one.written before during behind h.served (outcome, one.is);
+  failed = h.failed;
+  missed = subst (λ (n : ℕ). Counts h.failed old.missed n) (sym (one.missed ∙ missed)) h.missed;
+  total = omega (arith, h.total, length-append h.inputs (input ∷ []));
+  rest = omega (arith, h.rest, fewer, length-append h.inputs (input ∷ []));
+}
+
+-- ---- how one connection ended
+
+ends_by : {T : Type 0} (outcome : Result T Fault) (before behind : Situation) (input left output written : Option (List ℕ)) → OnOk outcome (ServesAll before behind input left output written)
+    → IfErr outcome (λ fault. LeavesStream fault before behind input left output written) → EndsBy outcome before behind input left output written
+ends_by (Ok x) before behind input left output written all front = all
+ends_by (Err Usage) before behind input left output written all front = front
+ends_by (Err Path) before behind input left output written all front = front
+ends_by (Err Socket) before behind input left output written all front = absurd front
+ends_by (Err (Store fault)) before behind input left output written all front = front
+ends_by (Err (Stream fault)) before behind input left output written all front = front
+
+-- its streams were served, and its output is there
+pub ends_some : {T O : Type 0} (contents : O → Option (List ℕ)) (outcome : Result T Fault) (o : Option O) (w : O) (old new : Heard) (input left output : Option (List ℕ)) (before behind : Situation) → o ≡ Some w → IsBlank output → GoesOn before behind
+    → OnOk outcome (IsSomeAnd o (λ x. ServesAll before behind input left output (contents x))) → IfErr outcome (λ fault. IfSome o (λ x. LeavesStream fault before behind input left output (contents x)))
+    → new.ended ≡ old.ended ++ known (contents w) → new.given ≡ old.given → new.missed ≡ old.missed → EndsOne outcome input old new before behind
+ends_some {O = O} contents outcome o w old new input left output before behind is blank goes all front ended given missed = record {
+  written = contents w;
+  given = given;
+  missed = missed;
+  ended = ended;
+  is = record {
+    left = left;
+    output = output;
+    blank = blank;
+    ends = inl (ends_by outcome before behind input left output (contents w) (subst (λ (x : Option O). OnOk outcome (IsSomeAnd x (λ y. ServesAll before behind input left output (contents y)))) is all)
+        (subst (λ (x : Option O). IfErr outcome (λ fault. IfSome x (λ y. LeavesStream fault before behind input left output (contents y)))) is front));
+    goes = goes;
+  };
+}
+
+-- or was let go
+pub ends_none : {T O : Type 0} (outcome : Result T Fault) (o : Option O) (heard : Heard) (input output : Option (List ℕ)) (before behind : Situation) → o ≡ None → IsBlank output → GoesOn before behind → IfNone o (LetsGo outcome before behind)
+    → EndsOne outcome input heard heard before behind
+ends_none {O = O} outcome o heard input output before behind is blank goes let_go = record {
+  written = None;
+  given = refl;
+  missed = refl;
+  ended = sym (append-nil heard.ended);
+  is = record { left = input; output = output; blank = blank; ends = inr (refl, subst (λ (x : Option O). IfNone x (LetsGo outcome before behind)) is let_go); goes = goes };
+}
+
+-- or the connection could not be limited, and nothing was done
+pub ends_unlimited : {T : Type 0} (old new : Heard) (input output : Option (List ℕ)) (before : Situation) → IsBlank output → new.ended ≡ old.ended ++ known output → new.given ≡ old.given → new.missed ≡ old.missed
+    → EndsOne {T = T} (Err Socket) input old new before before
+ends_unlimited old new input output before blank ended given missed =
+    record { written = output; given = given; missed = missed; ended = ended; is = record { left = input; output = output; blank = blank; ends = inl (refl, refl); goes = goes_none before } }

@@ -1,0 +1,363 @@
+-- Processes over the same media, one after another, are runs of which each begins on what the one before it left.
+use Rattle.std.proofs.Common.{◌≡◌, inl, inr, ℕ, zero, suc, ◌<◌, Bool, true, false, List, [], ◌∷◌, ◌++◌, length, take, drop, Option, Some, None, Result, Ok, Err, IsTrue, refl, sym, ap, ◌∙◌, subst, arith, append_assoc, append-nil}
+use Rattle.std.specs.Prelude.{bytes_eq}
+use Rattle.std.proofs.Math.Seq.{take-append_seam}
+use Rattle.std.proofs.lemmas.Option.{none-some}
+use Rattle.std.proofs.lemmas.List.{drop_all, take_all}
+use Rattle.drive.specs.Journal.{Event, Once, held, next_of, written}
+use Rattle.request.specs.declared.answer.Answer.{Answer}
+use Rattle.request.specs.declared.message.Message.{Message}
+use Rattle.media.specs.Held.{SameOrMade, begun}
+use Rattle.model.specs.Session.{State, Request, after}
+use Rattle.model.proofs.Lists.{bytes_cases}
+use Rattle.model.specs.Tree as tree
+use Rattle.model.proofs.Runs.{after-append}
+use Rattle.durability.specs.Commit.{need}
+use Rattle.durability.specs.Journal.{Advances, HoldsOnJournal}
+use Rattle.durability.specs.Volume.{Stands}
+use Rattle.durability.proofs.Lists.{side}
+use Rattle.udf.specs.Udf.{udf, spelled}
+use Rattle.formatting.specs.NewVolume.{Words, HoldsFronts, IsFormatOf, IsFormatted, IsFormatRefused, words_on}
+use Rattle.formatting.specs.NewVolume as new_volumes
+use Rattle.formatting.proofs.NewVolumes.{format_long}
+use Rattle.recover.specs.declared.fault.StoreFault.{StoreFault}
+use Rattle.recover.specs.declared.fault.StoreFault.TheVariants as stores
+use Rattle.engine.specs.Losses.{AreCut, IsCut, Life, Survives}
+use Rattle.engine.specs.Said.{said_answers}
+use Rattle.engine.specs.Served.{brought, frames_of}
+use Rattle.engine.specs.Situation.{Situation, situation}
+use Rattle.engine.specs.Steps.{HoldsState}
+use Rattle.engine.specs.declared.serving.ServeFault.TheVariants as streams
+use Rattle.engine.proofs.Losses.{losses_reach}
+use Rattle.engine.proofs.Running.{runs_begin}
+use Rattle.engine.proofs.Withstanding.{held_stands}
+use Rattle.programs.specs.declared.fault.Fault.{Fault}
+use Rattle.programs.specs.declared.fault.Fault.TheVariants.{Usage, Path, Socket, Store, Stream}
+use Rattle.programs.specs.Applied.{Applies, AppliesToImage}
+use Rattle.programs.specs.Connections.{AreOneRun}
+use Rattle.programs.specs.Images.{AreUntouched, Images, IsThere, IsThereOrMade, OnMedia, Unopened}
+use Rattle.programs.specs.Listening.{Heard, ServesRun}
+use Rattle.programs.specs.NewVolumes.{Makes, MakesOn, MakesOnImage}
+use Rattle.programs.specs.Processes.{AllDid, AllRan, AnswersInput, Did, Process, ProcessesAreRuns, Ran, RanCommand, life_of}
+use Rattle.programs.specs.Processes.Process.{Command, Daemon}
+use Rattle.programs.specs.Questions.{Question, Shows, ShowsImage, ShowsPath}
+use Rattle.programs.specs.Questions.Question.{Names_at, Bytes_at, Commits, Soundness}
+use Rattle.programs.specs.Tasks.{Does, Task}
+use Rattle.programs.specs.Tasks.Task.{Format, Apply_to_image, Apply_in_memory, List_names, Get_bytes, Log, Check, Send}
+use Rattle.programs.proofs.Copying.{whole_front}
+
+-- ---- honest media were honest before
+
+module _ (old new : Images) (honest : IsTrue new.honest) where
+  untouched_honest : AreUntouched old new → IsTrue old.honest
+  untouched_honest h = subst (λ (b : Bool). IsTrue b) h.honest honest
+
+  image_honest : {T : Type 0} (question : Question) (image : List ℕ) (outcome : Result T Fault) (o w : Option (List ℕ)) → ShowsImage question image outcome old new o w → IsTrue old.honest
+  image_honest question image outcome o w (inl h) = untouched_honest h.untouched
+  image_honest question image outcome o w (inr h) = h.honest honest
+
+  path_honest : {T : Type 0} (question : tree.Path → Question) (image text : List ℕ) (outcome : Result T Fault) (o w : Option (List ℕ)) → ShowsPath question image text outcome old new o w → IsTrue old.honest
+  path_honest question image text outcome o w (inl h) = untouched_honest h.1
+  path_honest question image text outcome o w (inr h) = image_honest (question h.0) image outcome o w h.3
+
+  makes_honest : {T : Type 0} (image label : List ℕ) (moment capacity : ℕ) (outcome : Result T Fault) (o w : Option (List ℕ)) → MakesOnImage image label moment capacity outcome old new o w → IsTrue old.honest
+  makes_honest image label moment capacity outcome o w (inl h) = subst (λ (b : Bool). IsTrue b) h.made.honest honest
+  makes_honest image label moment capacity outcome o w (inr h) = h.honest honest
+
+  applies_honest : {T : Type 0} (image : List ℕ) (outcome : Result T Fault) (i l o w : Option (List ℕ)) → AppliesToImage image outcome old new i l o w → IsTrue old.honest
+  applies_honest image outcome i l o w (inl h) = untouched_honest h.0.untouched
+  applies_honest image outcome i l o w (inr h) = h.honest honest
+
+  does_honest : {T : Type 0} (task : Task) (outcome : Result T Fault) (i l o w : Option (List ℕ)) → Does task outcome old new i l o w → IsTrue old.honest
+  does_honest (Format image label moment capacity) outcome i l o w h = makes_honest image label moment capacity outcome o w h.1
+  does_honest (Apply_to_image image) outcome i l o w h = applies_honest image outcome i l o w h
+  does_honest (Apply_in_memory capacity) outcome i l o w h = untouched_honest h.0
+  does_honest (List_names image path) outcome i l o w h = path_honest Names_at image path outcome o w h.1
+  does_honest (Get_bytes image path) outcome i l o w h = path_honest Bytes_at image path outcome o w h.1
+  does_honest (Log image) outcome i l o w h = image_honest Commits image outcome o w h.1
+  does_honest (Check image) outcome i l o w h = image_honest Soundness image outcome o w h.1
+  does_honest Send outcome i l o w h = untouched_honest h.0
+
+  did_honest : (process : Process) → Did process old new → IsTrue old.honest
+  did_honest (Command task outcome i l o w) h = does_honest task outcome i l o w h
+  did_honest (Daemon image connections before behind) h = h.honest honest
+
+all_honest : (processes : List Process) (old new : Images) → IsTrue new.honest → AllDid processes old new → IsTrue old.honest
+all_honest [] old new honest h = untouched_honest old new honest h
+all_honest (process ∷ processes) old new honest (between, did, rest) = did_honest old between (all_honest processes between new honest rest) process did
+
+-- ---- one process, where a state stands on an image
+
+-- what it left of the image at a path, by runs of which this is known
+record Left (path : List ℕ) (volume : ℕ) (S : State) (before : List Event) (new : Images) (Are : List Life → Type 0) : Type 0 where
+  pub lives : List Life
+  pub done : List Request
+  pub behind : List Event
+  pub are : Are lives
+  pub cuts : AreCut 450000 volume S before lives done behind
+  pub held_is : new.held path ≡ Some behind
+
+-- nothing is lost behind a run that no loss of power cut off
+advances_none : (volume : ℕ) (T T' : State) (journal : List Event) → Once journal → Stands udf 450000 volume (held journal) T' → Advances udf 450000 volume journal T journal T'
+advances_none volume T T' journal once stands = record {
+  front = take_all (length journal) journal (omega arith);
+  once = once;
+  moves = record { more = ([], sym (append-nil (held journal))); fronts = λ k low high. absurd (omega (arith, low, high)); ends = stands; past = λ commits state was. was };
+}
+
+some_same : (a b : List Event) → Some a ≡ Some b → a ≡ b
+some_same a b e = ap begun e
+
+-- A format finds nothing to write where a state stands: nothing stands before the last of its blocks.
+module _ (capacity volume : ℕ) (words : Words) (S : State) (before behind : List Event) (blocks : List (List ℕ)) (stands : Stands udf 450000 volume (held before) S) (is : IsFormatOf words blocks) (fronts : HoldsFronts capacity words blocks before behind) (front : take (length before) behind ≡ before) where
+  none_left : drop (next_of before) blocks ≡ []
+  none_left = elim (side (next_of before) 262) [
+    | inl low ↦ absurd (fronts.nothing (length before) 450000 volume S (omega arith) (subst (λ (j : List Event). next_of j < 262) (sym front) low) (subst (λ (j : List Event). Stands udf 450000 volume (held j) S) (sym front) stands))
+    | inr most ↦ drop_all (next_of before) blocks (omega (arith, most, format_long words blocks is))
+  ]
+
+  nothing_taken : (m : ℕ) → before ++ written (next_of before) (take m []) ≡ before
+  nothing_taken zero = append-nil before
+  nothing_taken (suc m) = append-nil before
+
+  same_with : (m : ℕ) → before ++ written (next_of before) (take m (drop (next_of before) blocks)) ≡ before
+  same_with m = ap (λ (bs : List (List ℕ)). before ++ written (next_of before) (take m bs)) none_left ∙ nothing_taken m
+
+module _ (capacity volume : ℕ) (words : Words) (S : State) (before behind : List Event) (honest : Bool) (stands : Stands udf 450000 volume (held before) S) (sure : IsTrue honest) where
+  formatted_same : IsFormatted capacity words before behind honest → behind ≡ before
+  formatted_same h =
+      let front : take (length before) behind ≡ before = ap (λ (j : List Event). take (length before) j) h.journal ∙ take-append_seam before (written (next_of before) (drop (next_of before) h.blocks)) in
+      h.journal ∙ ap (λ (bs : List (List ℕ)). before ++ written (next_of before) bs) (none_left capacity volume words S before behind h.blocks stands h.is (h.fronts sure) front) ∙ append-nil before
+
+  cut_same : new_volumes.IsCut capacity words before behind honest → behind ≡ before
+  cut_same h =
+      let added : List Event = written (next_of before) (take h.journal.0 (drop (next_of before) h.blocks)) in
+      let front : take (length before) behind ≡ before = ap (λ (j : List Event). take (length before) j) h.journal.2 ∙ take-append_seam before added in
+      h.journal.2 ∙ same_with capacity volume words S before behind h.blocks stands h.is (h.fronts sure) front h.journal.0
+
+  refused_same : (fault : StoreFault) → IsFormatRefused capacity words before behind honest fault → behind ≡ before
+  refused_same stores.NotBlank h = h.0
+  refused_same stores.Label h = h
+  refused_same stores.Small h = h
+  refused_same stores.Memory h = h
+  refused_same stores.Device (inl h) = h
+  refused_same stores.Device (inr h) = cut_same h
+  refused_same stores.NotFormatted h = absurd h
+  refused_same (stores.Damaged block cause) h = absurd h
+  refused_same stores.Full h = absurd h
+  refused_same stores.Stopped h = absurd h
+  refused_same stores.NoCommit h = absurd h
+  refused_same stores.NotFound h = absurd h
+  refused_same stores.IsDirectory h = absurd h
+  refused_same stores.NotDirectory h = absurd h
+
+makes_none : {T : Type 0} (label : List ℕ) (moment capacity : ℕ) (outcome : Result T Fault) (before behind : List Event) (honest : Bool) (o w : Option (List ℕ)) (volume : ℕ) (S : State) → Stands udf 450000 volume (held before) S → IsTrue honest
+    → Makes label moment capacity outcome before behind honest o w → behind ≡ before
+makes_none label moment capacity (Ok x) before behind honest o w volume S stands sure h = formatted_same capacity volume (words_on capacity label moment) S before behind honest stands sure h.0
+makes_none label moment capacity (Err Usage) before behind honest o w volume S stands sure h = absurd h
+makes_none label moment capacity (Err Path) before behind honest o w volume S stands sure h = absurd h
+makes_none label moment capacity (Err Socket) before behind honest o w volume S stands sure h = absurd h
+makes_none label moment capacity (Err (Store fault)) before behind honest o w volume S stands sure h = refused_same capacity volume (words_on capacity label moment) S before behind honest stands sure fault h.0
+makes_none label moment capacity (Err (Stream streams.Read)) before behind honest o w volume S stands sure h = absurd h
+makes_none label moment capacity (Err (Stream streams.Write)) before behind honest o w volume S stands sure h = formatted_same capacity volume (words_on capacity label moment) S before behind honest stands sure h.0
+makes_none label moment capacity (Err (Stream streams.Memory)) before behind honest o w volume S stands sure h = absurd h
+
+-- the messages of an input that were answered, on an image where a state stands
+record Run (volume : ℕ) (S : State) (before behind : List Event) (Are : List Message → List Answer → Type 0) : Type 0 where
+  pub messages : List Message
+  pub answers : List Answer
+  pub are : Are messages answers
+  pub holds : HoldsOnJournal udf (need spelled) 450000 volume S before behind (brought messages) (said_answers answers)
+
+module _ (volume : ℕ) (S : State) (J : List Event) (once : Once J) (stands : Stands udf 450000 volume (held J) S) (last : Situation) (honest : IsTrue last.honest) where
+  at_start : HoldsState volume S (situation None J 0 450000 true [])
+  at_start = (runs_begin volume S J 0 450000 true [] once stands).0
+
+  applies_run : {T : Type 0} (outcome : Result T Fault) (i l o w : Option (List ℕ)) → Applies outcome (situation None J 0 450000 true []) last i l o w → Run volume S J last.journal (λ messages answers. AnswersInput i l o w (life_of messages answers))
+  applies_run (Ok x) i l o w (kept, h) = record {
+    messages = h.serving.messages;
+    answers = h.serving.answers;
+    are = record {
+      bytes = h.serving.bytes;
+      messages = h.serving.messages;
+      answers = h.serving.answers;
+      reader = h.reader;
+      consumed = h.serving.consumed;
+      messages_are = h.serving.messages_are;
+      front = whole_front o w (frames_of h.serving.answers) h.serving.told;
+      is = refl;
+    };
+    holds = h.holds volume S honest at_start;
+  }
+  applies_run (Err Usage) i l o w h = absurd h
+  applies_run (Err Path) i l o w h = absurd h
+  applies_run (Err Socket) i l o w h = absurd h
+  applies_run (Err (Store fault)) i l o w h = absurd h
+  applies_run (Err (Stream fault)) i l o w (kept, h) = record {
+    messages = h.some.messages;
+    answers = h.some.answers;
+    are = record {
+      bytes = h.some.bytes;
+      messages = h.some.messages;
+      answers = h.some.answers;
+      reader = h.some.reader;
+      consumed = h.some.consumed;
+      messages_are = h.some.messages_are;
+      front = h.some.front;
+      is = refl;
+    };
+    holds = h.some.holds volume S honest at_start;
+  }
+
+module _ (path : List ℕ) (volume : ℕ) (S : State) (J : List Event) (once : Once J) (stands : Stands udf 450000 volume (held J) S) (old new : Images) (honest : IsTrue new.honest) (there : old.held path ≡ Some J) where
+  stays : (Are : List Life → Type 0) → new.held path ≡ Some J → Are [] → Left path volume S J new Are
+  stays Are same are = record { lives = []; done = []; behind = J; are = are; cuts = (refl, refl); held_is = same }
+
+  untouched_stays : (Are : List Life → Type 0) → AreUntouched old new → Are [] → Left path volume S J new Are
+  untouched_stays Are h are = stays Are (h.same path ∙ there) are
+
+  ran : (Are : List Life → Type 0) (messages : List Message) (answers : List Answer) (K : List Event) → HoldsOnJournal udf (need spelled) 450000 volume S J K (brought messages) (said_answers answers) → new.held path ≡ Some K
+      → Are (life_of messages answers ∷ []) → Left path volume S J new Are
+  ran Are messages answers K run held_is are =
+      let committed : List Request = run.holds.committed in
+      let ends : Stands udf 450000 volume (held K) (after S committed) = held_stands volume 450000 (brought messages) S J K (said_answers answers) run in
+      let cut : IsCut 450000 volume S J (life_of messages answers) K = record {
+        during = K;
+        run = run;
+        few = inl refl;
+        advances = advances_none volume (after S committed) (after S (committed ++ [])) K run.once (subst (λ (D : List Request). Stands udf 450000 volume (held K) (after S D)) (sym (append-nil committed)) ends);
+      } in
+      record { lives = life_of messages answers ∷ []; done = (committed ++ []) ++ []; behind = K; are = are; cuts = (K, cut, [], refl, (refl, refl)); held_is = held_is }
+
+  -- ---- on the drive of an image
+
+  module _ (Finds : Option (List Event) → List Event → Type 0) (same : (image : Option (List Event)) (journal : List Event) → Finds image journal → image ≡ Some J → journal ≡ J) (capacity : ℕ) (image : List ℕ) (Did : Situation → Situation → Type 0) (h : OnMedia Finds capacity image Did old new) where
+    at_image : path ≡ image → h.journal ≡ J
+    at_image here = same (old.held image) h.journal (h.found honest) (subst (λ (p : List ℕ). old.held p ≡ Some J) here there)
+
+    did_here : path ≡ image → Did (situation None J 0 capacity true []) h.last
+    did_here here = subst (λ (j : List Event). Did (situation None j 0 capacity true []) h.last) (at_image here) h.did
+
+    left_here : path ≡ image → new.held path ≡ Some h.last.journal
+    left_here here = ap new.held here ∙ h.left
+
+    elsewhere : bytes_eq path image ≡ false → new.held path ≡ Some J
+    elsewhere apart = h.others path apart ∙ there
+
+    -- where it leaves the journal as it was
+    quiet : (Are : List Life → Type 0) → (Did (situation None J 0 capacity true []) h.last → h.last.journal ≡ J) → Are [] → Left path volume S J new Are
+    quiet Are unchanged are = elim (bytes_cases path image) [
+      | inl here ↦ stays Are (left_here here.1 ∙ ap (λ (j : List Event). Some j) (unchanged (did_here here.1))) are
+      | inr apart ↦ stays Are (elsewhere apart.0) are
+    ]
+
+  same_there : (image : Option (List Event)) (journal : List Event) → IsThere image journal → image ≡ Some J → journal ≡ J
+  same_there image journal is was = some_same journal J (sym is ∙ was)
+
+  same_made : (image : Option (List Event)) (journal : List Event) → IsThereOrMade image journal → image ≡ Some J → journal ≡ J
+  same_made image journal is was = sym is ∙ ap begun was
+
+  -- ---- by the task
+
+  shown : {T : Type 0} (question : Question) (image : List ℕ) (outcome : Result T Fault) (o w : Option (List ℕ)) (Are : List Life → Type 0) → ShowsImage question image outcome old new o w → Are [] → Left path volume S J new Are
+  shown question image outcome o w Are (inl h) are = untouched_stays Are h.untouched are
+  shown question image outcome o w Are (inr h) are = quiet IsThere same_there 450000 image (λ first last. (last.journal ≡ first.journal) × Shows question outcome first.capacity first.journal last.honest o w) h Are (λ did. did.0) are
+
+  shown_at : {T : Type 0} (question : tree.Path → Question) (image text : List ℕ) (outcome : Result T Fault) (o w : Option (List ℕ)) (Are : List Life → Type 0) → ShowsPath question image text outcome old new o w → Are [] → Left path volume S J new Are
+  shown_at question image text outcome o w Are (inl h) are = untouched_stays Are h.1 are
+  shown_at question image text outcome o w Are (inr h) are = shown (question h.0) image outcome o w Are h.3 are
+
+  made_none : (image : List ℕ) → SameOrMade image old.held new.held → new.held path ≡ Some J
+  made_none image (inl same) = same path ∙ there
+  made_none image (inr (none, made, others)) = elim (bytes_cases path image) [
+    | inl here ↦ absurd (none-some J (sym none ∙ ap old.held (sym here.1) ∙ there))
+    | inr apart ↦ others path apart.0 ∙ there
+  ]
+
+  made : {T : Type 0} (image label : List ℕ) (moment capacity : ℕ) (outcome : Result T Fault) (o w : Option (List ℕ)) (Are : List Life → Type 0) → MakesOnImage image label moment capacity outcome old new o w → Are [] → Left path volume S J new Are
+  made image label moment capacity outcome o w Are (inl h) are = stays Are (made_none image h.made.same) are
+  made image label moment capacity outcome o w Are (inr h) are =
+      quiet IsThereOrMade same_made capacity image (λ first last. MakesOn label moment capacity outcome first last o w) h Are
+      (λ did. elim did [ inl unbegun ↦ unbegun.journal | inr makes ↦ makes_none label moment capacity outcome J h.last.journal h.last.honest o w volume S stands (h.drive_honest honest) makes.1 ]) are
+
+  applied : {T : Type 0} (image : List ℕ) (outcome : Result T Fault) (i l o w : Option (List ℕ)) (Are : List Life → Type 0) → AppliesToImage image outcome old new i l o w → (Unopened outcome old new o w → Are []) → ((path ≡ image → ⊥) → Are [])
+      → (path ≡ image → (life : Life) → AnswersInput i l o w life → Are (life ∷ [])) → Left path volume S J new Are
+  applied image outcome i l o w Are (inl (h, same)) unopened apart here = untouched_stays Are h.untouched (unopened h)
+  applied image outcome i l o w Are (inr h) unopened apart here = elim (bytes_cases path image) [
+    | inl is ↦ (
+        let run = applies_run volume S J once stands h.last (h.drive_honest honest) outcome i l o w (did_here IsThere same_there 450000 image (λ first last. Applies outcome first last i l o w) h is.1) in
+        ran Are run.messages run.answers h.last.journal run.holds (left_here IsThere same_there 450000 image (λ first last. Applies outcome first last i l o w) h is.1) (here is.1 (life_of run.messages run.answers) run.are)
+        )
+    | inr other ↦ stays Are (elsewhere IsThere same_there 450000 image (λ first last. Applies outcome first last i l o w) h other.0) (apart other.1)
+  ]
+
+  served : (image : List ℕ) (connections : ℕ) (before behind : Heard) → OnMedia IsThere 450000 image (ServesRun connections before behind) old new → Left path volume S J new (Ran path (Daemon image connections before behind))
+  served image connections before behind h = elim (bytes_cases path image) [
+    | inl is ↦ (
+        let did : AreOneRun (situation None J 0 450000 true []) h.last = (did_here IsThere same_there 450000 image (ServesRun connections before behind) h is.1).0 in
+        ran (Ran path (Daemon image connections before behind)) did.1.messages did.1.answers h.last.journal (did.1.holds volume S (h.drive_honest honest) (at_start volume S J once stands h.last (h.drive_honest honest)))
+        (left_here IsThere same_there 450000 image (ServesRun connections before behind) h is.1) (inr (is.1, (did.1.messages, did.1.answers, refl)))
+        )
+    | inr other ↦ stays (Ran path (Daemon image connections before behind)) (elsewhere IsThere same_there 450000 image (ServesRun connections before behind) h other.0) (inl (refl, other.1))
+  ]
+
+  does : (task : Task) (outcome : Result (Unit {0}) Fault) (i l o w : Option (List ℕ)) → Does task outcome old new i l o w → Left path volume S J new (RanCommand path task outcome i l o w)
+  does (Format image label moment capacity) outcome i l o w h = made image label moment capacity outcome o w (RanCommand path (Format image label moment capacity) outcome i l o w) h.1 refl
+  does (Apply_to_image image) outcome i l o w h =
+      applied image outcome i l o w (RanCommand path (Apply_to_image image) outcome i l o w) h (λ none. inl (refl, inl none.fault)) (λ apart. inl (refl, inr apart)) (λ here life is. inr (here, (life, refl, is)))
+  does (Apply_in_memory capacity) outcome i l o w h = untouched_stays (RanCommand path (Apply_in_memory capacity) outcome i l o w) h.0 refl
+  does (List_names image text) outcome i l o w h = shown_at Names_at image text outcome o w (RanCommand path (List_names image text) outcome i l o w) h.1 refl
+  does (Get_bytes image text) outcome i l o w h = shown_at Bytes_at image text outcome o w (RanCommand path (Get_bytes image text) outcome i l o w) h.1 refl
+  does (Log image) outcome i l o w h = shown Commits image outcome o w (RanCommand path (Log image) outcome i l o w) h.1 refl
+  does (Check image) outcome i l o w h = shown Soundness image outcome o w (RanCommand path (Check image) outcome i l o w) h.1 refl
+  does Send outcome i l o w h = untouched_stays (RanCommand path Send outcome i l o w) h.0 refl
+
+  did : (process : Process) → Did process old new → Left path volume S J new (Ran path process)
+  did (Command task outcome i l o w) h = does task outcome i l o w h
+  did (Daemon image connections before behind) h = served image connections before behind h
+
+-- ---- one process after another
+
+cut_append : (volume : ℕ) (first second : List Life) (S : State) (before between behind : List Event) (done more : List Request) → AreCut 450000 volume S before first done between → AreCut 450000 volume (after S done) between second more behind
+    → AreCut 450000 volume S before (first ++ second) (done ++ more) behind
+cut_append volume [] second S before between behind done more (none, same) s =
+    let at : AreCut 450000 volume S between second more behind = subst (λ (D : List Request). AreCut 450000 volume (after S D) between second more behind) none s in
+    subst (λ (D : List Request). AreCut 450000 volume S before second (D ++ more) behind) (sym none) (subst (λ (j : List Event). AreCut 450000 volume S j second more behind) same at)
+cut_append volume (life ∷ first) second S before between behind done more (next, cut, rest, order, others) s =
+    let now : List Request = cut.run.holds.committed ++ life.under in
+    let state : after S done ≡ after (after S now) rest = ap (λ (D : List Request). after S D) order ∙ after-append now rest S in (
+      next,
+      cut,
+      rest ++ more,
+      ap (λ (D : List Request). D ++ more) order ∙ append_assoc now rest more,
+      cut_append volume first second (after S now) next between behind rest more others (subst (λ (T : State). AreCut 450000 volume T between second more behind) state s),
+    )
+
+all_did : (path : List ℕ) (processes : List Process) (old new : Images) (volume : ℕ) (S : State) (before : List Event) → IsTrue new.honest → AllDid processes old new → old.held path ≡ Some before → Once before → Stands udf 450000 volume (held before) S
+    → Left path volume S before new (AllRan path processes)
+all_did path [] old new volume S before honest h there once stands = untouched_stays path volume S before once stands old new honest there (AllRan path []) h refl
+all_did path (process ∷ processes) old new volume S before honest (between, first, rest) there once stands =
+    let one = did path volume S before once stands old between (all_honest processes between new honest rest) there process first in
+    let survives : Survives 450000 volume S before one.done one.behind = losses_reach 450000 volume S before one.lives one.done one.behind once stands one.cuts in
+    let more = all_did path processes between new volume (after S one.done) one.behind honest rest one.held_is survives.once survives.stands in
+    record {
+      lives = one.lives ++ more.lives;
+      done = one.done ++ more.done;
+      behind = more.behind;
+      are = (one.lives, more.lives, refl, one.are, more.are);
+      cuts = cut_append volume one.lives more.lives S before one.behind more.behind one.done more.done one.cuts more.cuts;
+      held_is = more.held_is;
+    }
+
+pub processes_are_runs : ProcessesAreRuns
+processes_are_runs path processes old new volume S before honest h there once stands =
+    let all = all_did path processes old new volume S before honest h there once stands in
+    record {
+      lives = all.lives;
+      done = all.done;
+      behind = all.behind;
+      ran = all.are;
+      cuts = all.cuts;
+      held_is = all.held_is;
+      survives = losses_reach 450000 volume S before all.lives all.done all.behind once stands all.cuts;
+    }

@@ -1,0 +1,81 @@
+-- What became of the connections of a listener, one after another.
+use Rattle.std.specs.Prelude.{◌≡◌, ◌⊎◌, ℕ, ◌+◌, ◌-◌, ◌^◌, ◌<◌, List, [], ◌∷◌, ◌++◌, length, Option, None, Result, Ok, Err}
+use Rattle.std.specs.List.{flat_map}
+use Rattle.drive.specs.Reads.{Counts}
+use Rattle.recover.specs.declared.fault.StoreFault.TheVariants.{Memory}
+use Rattle.store.specs.declared.store.Store as stored
+use Rattle.engine.specs.Situation.{Situation, with_store}
+use Rattle.engine.specs.Served.{ServesAll}
+use Rattle.programs.specs.declared.listening.Listener.{Ghosts}
+use Rattle.programs.specs.declared.fault.Fault.{Fault}
+use Rattle.programs.specs.declared.fault.Fault.TheVariants.{Usage, Path, Socket, Store, Stream}
+use Rattle.programs.specs.Connections.{AreOneRun, GoesOn, ServesFront}
+use Rattle.programs.specs.Outputs.{IsBlank, known}
+
+-- How a connection ended, by the outcome. All messages of what its client sends were answered, or the first ones and a front of
+-- their answers was written; or nothing was done, since the connection could not be had or memory was short.
+abbrev pub EndsBy : {T : Type 0} → Result T Fault → Situation → Situation → Option (List ℕ) → Option (List ℕ) → Option (List ℕ) → Option (List ℕ) → Type 0
+EndsBy (Ok x) before behind input left output written = ServesAll before behind input left output written
+EndsBy (Err Usage) before behind input left output written = ⊥
+EndsBy (Err Path) before behind input left output written = ⊥
+EndsBy (Err Socket) before behind input left output written = (behind ≡ before) × (written ≡ output)
+EndsBy (Err (Store fault)) before behind input left output written = ⊥
+EndsBy (Err (Stream fault)) before behind input left output written = ServesFront fault before behind input left output written
+
+-- or its output was let go, for want of memory, and nothing was done
+abbrev pub LetsGo : {T : Type 0} → Result T Fault → Situation → Situation → Type 0
+LetsGo outcome before behind = (outcome ≡ Err (Store Memory)) × (behind ≡ before)
+
+-- This connection was served, whose client sends this, and that was written on it.
+pub record IsServed {T : Type 0} (outcome : Result T Fault) (input written : Option (List ℕ)) (before behind : Situation) : Type 0 where
+  pub left : Option (List ℕ)
+  pub output : Option (List ℕ)
+  pub blank : IsBlank output
+  pub ends : EndsBy outcome before behind input left output written ⊎ ((written ≡ None) × LetsGo outcome before behind)
+  pub goes : GoesOn before behind
+
+abbrev pub ServesOne : Option (List ℕ) → Option (List ℕ) → Situation → Situation → Type 0
+ServesOne input written before behind = (outcome : Result (Unit {0}) Fault) × IsServed outcome input written before behind
+
+-- one after another, each from where the one before it left the engine and the drive
+abbrev pub ServesList : List (Option (List ℕ)) → List (Option (List ℕ)) → Situation → Situation → Type 0
+ServesList [] [] before behind = behind ≡ before
+ServesList [] (written ∷ outputs) before behind = ⊥
+ServesList (input ∷ inputs) [] before behind = ⊥
+ServesList (input ∷ inputs) (written ∷ outputs) before behind = (during : Situation) × ServesOne input written before during × ServesList inputs outputs during behind
+
+-- What the clients of a listener's connections send, what was written on those that ended, and how often it had none to give.
+pub record Heard : Type 0 where
+  pub given : List (Option (List ℕ))
+  pub ended : List (List ℕ)
+  pub missed : ℕ
+
+abbrev pub heard_on : {L I O : Type 0} → Ghosts L I O → L → Heard
+heard_on listener l = record { given = listener.given l; ended = listener.ended l; missed = listener.missed l }
+
+-- a connection of a listener was served so, and ended
+pub record EndsOne {T : Type 0} (outcome : Result T Fault) (input : Option (List ℕ)) (old new : Heard) (before behind : Situation) : Type 0 where
+  pub written : Option (List ℕ)
+  pub given : new.given ≡ old.given
+  pub missed : new.missed ≡ old.missed
+  pub ended : new.ended ≡ old.ended ++ known written
+  pub is : IsServed outcome input written before behind
+
+-- As many connections were served as were asked for, or fewer, where the listener was asked 2 ^ 64 - 1 times.
+abbrev pub AreEnough : ℕ → ℕ → ℕ → ℕ → Type 0
+AreEnough connections served missed now =
+    (served ≡ connections) ⊎ ((served < connections) × ((failed : ℕ) × (served + failed ≡ 2 ^ 64 - 1) × Counts failed missed now))
+
+-- So many connections of a listener were served, with one engine that was new.
+pub record ServesEach (connections : ℕ) (old new : Heard) (before behind : Situation) : Type 0 where
+  pub inputs : List (Option (List ℕ))
+  pub outputs : List (Option (List ℕ))
+  pub given : new.given ≡ old.given ++ inputs
+  pub ended : new.ended ≡ old.ended ++ flat_map known outputs
+  pub kept : Option stored.Store
+  pub served : ServesList inputs outputs before (with_store kept behind)
+  pub enough : AreEnough connections (length inputs) old.missed new.missed
+
+-- and all of them are one run
+abbrev pub ServesRun : ℕ → Heard → Heard → Situation → Situation → Type 0
+ServesRun connections old new before behind = AreOneRun before behind × ServesEach connections old new before behind

@@ -1,0 +1,318 @@
+/* udfburn.h: write files to a UDF 2.01 volume on write-once media, in your own process.
+ *
+ * SPDX-License-Identifier: MIT OR Apache-2.0
+ *
+ * A volume is one growing file tree. Its blocks are written once, in order of address. You open it and send requests. When
+ * a request returns UDFBURN_OK, it is on the medium: you may delete the source. After a crash or a loss of power the
+ * volume holds the state after the last committed request, and no acknowledged request is lost. That a file keeps what
+ * was synced, and a drive what it acknowledged, is for the system and the drive to keep.
+ *
+ *     udfburn *disc;
+ *     struct udfburn_request request = { .client = 7, .moment = 1700000000000000 };
+ *     if (udfburn_format("disc.img", "DISC", request.moment, 3000) == UDFBURN_OK
+ *         && udfburn_open("disc.img", &disc) == UDFBURN_OK) {
+ *         int32_t status = udfburn_create(disc, &request, "/hello", "hello\n", 6);
+ *         udfburn_close(disc);
+ *     }
+ *
+ * THREADS. A handle (`udfburn *`) serves one call at a time. Different threads may use it one after the other, if they
+ * order their calls, for example with a lock. Different handles share nothing. The library starts no thread, keeps no
+ * signal handler and prints nothing. Do not call it from a signal handler. In a child after fork(), use no handle of the
+ * parent.
+ *
+ * MEMORY. It uses malloc, realloc and free. When an allocation fails, the call returns UDFBURN_MEMORY. Results that you
+ * must free are freed with udfburn_free().
+ *
+ * STACK. A call needs 64 KiB of stack. Give a thread that calls the library at least 128 KiB, and what your drive's
+ * functions need.
+ *
+ * TEXT. Paths of the host's file system are passed on as they are. Paths on the volume and labels are UTF-8. A path on
+ * the volume begins with a slash, has no empty name, and no slash at its end; "/" alone is the root.
+ *
+ * MOMENTS are microseconds since 1970-01-01 UTC, below UDFBURN_MOMENT_LIMIT.
+ *
+ * WHAT YOU MUST CHECK. Check the status of every call: an output is set only as its call says. Pass only handles that an
+ * open call returned and that are not closed, and pointers to as many bytes as you say. A NULL where a pointer is needed
+ * returns UDFBURN_ARGUMENT. No other process may write the medium while it is open.
+ *
+ * ABI. A program that runs with one libudfburn.so.0 runs with every later libudfburn.so.0: functions, structures and
+ * numbers below stay as they are. New functions and new statuses may be added, so treat a status that you do not know as
+ * a failure after which nothing is known.
+ */
+#ifndef UDFBURN_H
+#define UDFBURN_H
+
+#include <stddef.h>
+#include <stdint.h>
+
+#ifdef __cplusplus
+extern "C" {
+#endif
+
+/* The limits of a volume. */
+#define UDFBURN_BLOCK 2048                            /* bytes of a block */
+#define UDFBURN_LEAST_CAPACITY 512                    /* blocks of a volume */
+#define UDFBURN_GREATEST_CAPACITY 450000              /* blocks of a volume */
+#define UDFBURN_FILE_LIMIT 1048576                    /* bytes of a file */
+#define UDFBURN_MOMENT_LIMIT 4102444800000000u        /* the first moment that a volume cannot tell */
+
+/* ---- Statuses ------------------------------------------------------------------------------------------------------ */
+
+enum {
+    UDFBURN_OK = 0,
+
+    /* The call could not do its work. After UDFBURN_MEMORY and UDFBURN_DEVICE a request may be committed or not: send it
+     * again with the same number, and it runs once. */
+    UDFBURN_MEMORY = 1,         /* not enough memory */
+    UDFBURN_DEVICE = 2,         /* the file or the drive cannot be opened, is in use by another writer, or failed */
+    UDFBURN_TOO_LONG = 3,       /* a frame is longer than a frame may be: nothing after it is read */
+    UDFBURN_TEXT = 4,           /* a label or a path is not valid */
+    UDFBURN_VOLUME = 5,         /* no volume, a damaged one, or one that cannot be made with this moment or capacity */
+    UDFBURN_ARGUMENT = 6,       /* NULL, or another argument that the call does not accept */
+    UDFBURN_NONE = 7,           /* there is none: no block waits */
+
+    /* The request is committed, but the tree stays as it was. A repeat gets the same status. Queries return
+     * UDFBURN_NOT_FOUND, UDFBURN_IS_DIRECTORY and UDFBURN_NOT_DIRECTORY too, and commit nothing. */
+    UDFBURN_NO_PARENT = 33,     /* the parent is not a directory of the tree */
+    UDFBURN_NOT_FOUND = 34,     /* the path does not exist */
+    UDFBURN_EXISTS = 35,        /* the path exists */
+    UDFBURN_IS_DIRECTORY = 36,  /* it is a directory, and a file is needed */
+    UDFBURN_NOT_EMPTY = 37,     /* a directory that is not empty is not removed */
+    UDFBURN_INTO_ITSELF = 38,   /* a directory is not moved below itself */
+    UDFBURN_ROOT = 39,          /* the root is not created, replaced, moved or removed */
+    UDFBURN_TOO_DEEP = 40,      /* a path would have more than 16 names */
+    UDFBURN_DIRECTORY_FULL = 41, /* the parent has 512 names */
+    UDFBURN_TREE_FULL = 42,     /* the tree has 4,096 files and directories */
+    UDFBURN_NOT_DIRECTORY = 43, /* it is a file, and a directory is needed (queries only) */
+
+    /* The request is not committed, and changed nothing. */
+    UDFBURN_STALE = 48,         /* the number is older than the four requests whose replies are kept */
+    UDFBURN_GAP = 49,           /* the number is above the client's next one */
+    UDFBURN_CLIENTS_FULL = 50,  /* the volume has 64 clients and takes no further one */
+    UDFBURN_FULL = 51,          /* the medium has no room for it; a smaller request may still fit */
+    UDFBURN_USED = 52,          /* the number was committed before, and the tree does not show what this request asks for:
+                                 * it is another request's number, or somebody changed the path since. Keep the source */
+    UDFBURN_ROOM = 53           /* the result is longer than the room for it */
+};
+
+/* The name of a status, such as "UDFBURN_EXISTS", and "UDFBURN_UNKNOWN" for any other number. Never NULL, never freed. */
+const char *udfburn_error_name(int32_t status);
+
+/* The version of the library, such as "1.2.0". Never NULL, never freed. */
+const char *udfburn_version(void);
+
+/* ---- Volumes ------------------------------------------------------------------------------------------------------- */
+
+/* A volume that is open. */
+typedef struct udfburn udfburn;
+
+/* Make a volume in the file at `path`, which is created if it is missing. An empty file will do, and so will one in which a
+ * format with the same label, moment and capacity was interrupted: that format is finished. A volume that these three
+ * made, with no commit yet, stays as it is: that is success too. Every other file stays as it is, and the status is
+ * UDFBURN_VOLUME. After UDFBURN_OK the volume and its name are on the disk.
+ *   The path's last part may not be a symbolic link. The moment is stored; give each volume one of its own.
+ * UDFBURN_TEXT: the label is not valid; it takes 2 to 31 bytes on the medium. UDFBURN_VOLUME: also a moment or a capacity
+ * that is out of range. UDFBURN_DEVICE, UDFBURN_MEMORY, UDFBURN_ARGUMENT. A file that was created for the call may be left
+ * empty on failure. */
+int32_t udfburn_format(const char *path, const char *label, uint64_t moment, uint32_t capacity);
+
+/* The same on an open descriptor, which must be of a regular file, open for reading and writing, without O_APPEND. The
+ * descriptor belongs to the library from the call on, which closes it, whatever the status is. Sync the folder yourself
+ * if the file is new. */
+int32_t udfburn_format_fd(int32_t fd, const char *label, uint64_t moment, uint32_t capacity);
+
+/* Open the volume in the file at `path`, and set `*out`. The file is locked (flock) until udfburn_close(): a second open
+ * of it returns UDFBURN_DEVICE, in this process or in another. The file is synced before anything is read, and its name
+ * too. If it loses its last name while it is open, calls on the handle return UDFBURN_DEVICE.
+ *   The path's last part may not be a symbolic link.
+ * UDFBURN_VOLUME: the file holds no volume, or a damaged one. UDFBURN_DEVICE, UDFBURN_MEMORY, UDFBURN_ARGUMENT. `*out` is
+ * NULL on failure. */
+int32_t udfburn_open(const char *path, udfburn **out);
+
+/* The same on an open descriptor, as in udfburn_format_fd(). That the file keeps its name is for you to see to. */
+int32_t udfburn_open_fd(int32_t fd, udfburn **out);
+
+/* A new volume in memory. You write its blocks to the medium yourself: see udfburn_next_block(). Statuses as
+ * udfburn_format(). */
+int32_t udfburn_open_memory(const char *label, uint64_t moment, uint32_t capacity, udfburn **out);
+
+/* Close a volume and free the handle. Nothing is written: all that was acknowledged is on the medium already. NULL is
+ * allowed. */
+void udfburn_close(udfburn *handle);
+
+/* ---- Requests ------------------------------------------------------------------------------------------------------
+ *
+ * A request has a client and a number. A client is a number above 0 that you choose once for what writes, and keep; a
+ * volume knows 64 of them. A client's requests have the numbers 1, 2, 3, .., and the volume commits each number once. So a
+ * repeat is safe: the same request under the same number runs once, and gets the reply that was kept. The last four
+ * replies are kept.
+ *
+ * Use one of two ways:
+ *   - Set the number to 0. The call takes the client's next number and writes it into the structure before it does
+ *     anything. After UDFBURN_DEVICE, call again with the same structure. After UDFBURN_MEMORY, close the handle, open the
+ *     volume again, and do the same. For another request set the number to 0 again.
+ *   - Number requests yourself, and store each number with its request before you send it. After a crash send the last
+ *     one again, or ask udfburn_last_number(): a number that is not above it is committed.
+ *
+ * The calls return UDFBURN_OK when the change is committed and durable (of a volume in memory: when its blocks can be
+ * taken), 33 to 42 when the request is committed and refused, and the other statuses as said above. UDFBURN_ARGUMENT: also
+ * client 0, a moment past the limit, or more than UDFBURN_FILE_LIMIT bytes. */
+struct udfburn_request {
+    uint64_t client;            /* above 0 */
+    uint64_t number;            /* above 0; or 0: the client's next number, which the call writes here */
+    uint64_t moment;            /* the time that the volume shows for the change */
+    uint32_t commit;            /* out: the commit of the request, from 1 on; 0: it is not known to be committed */
+    uint32_t repeated;          /* out: 1 if it was committed before this call, else 0 */
+};
+
+/* Create a file of `length` bytes. `data` may be NULL if `length` is 0. */
+int32_t udfburn_create(udfburn *handle, struct udfburn_request *request, const char *path, const void *data,
+                       size_t length);
+
+/* Replace the bytes of a file. The old ones stay on the medium, in the tree of the commit before. */
+int32_t udfburn_replace(udfburn *handle, struct udfburn_request *request, const char *path, const void *data,
+                        size_t length);
+
+/* Make a directory. */
+int32_t udfburn_mkdir(udfburn *handle, struct udfburn_request *request, const char *path);
+
+/* Rename or move a file or a directory, to a path that does not exist. */
+int32_t udfburn_rename(udfburn *handle, struct udfburn_request *request, const char *from, const char *to);
+
+/* Remove a file or an empty directory. */
+int32_t udfburn_remove(udfburn *handle, struct udfburn_request *request, const char *path);
+
+/* The number of the client's last committed request. `*number` is 0 if the volume knows no request of it. */
+int32_t udfburn_last_number(udfburn *handle, uint64_t client, uint64_t *number);
+
+/* ---- Queries ------------------------------------------------------------------------------------------------------- */
+
+enum { UDFBURN_FILE = 0, UDFBURN_DIRECTORY = 1 };
+
+/* What a path names. */
+struct udfburn_node {
+    uint64_t moment;            /* of its last change */
+    uint64_t size;              /* bytes of a file, or names of a directory */
+    int32_t kind;               /* UDFBURN_FILE or UDFBURN_DIRECTORY */
+};
+int32_t udfburn_stat(udfburn *handle, const char *path, struct udfburn_node *node);
+
+/* Copy the bytes of a file to `into`, and set `*length` to their number. UDFBURN_ROOM: they are more than `room`. `*length`
+ * says how many then, and nothing is copied. A room of UDFBURN_FILE_LIMIT bytes is always enough. `into` may be NULL if
+ * `room` is 0. */
+int32_t udfburn_get(udfburn *handle, const char *path, void *into, size_t room, size_t *length);
+
+/* One name of a directory. */
+struct udfburn_name {
+    const char *name;           /* UTF-8, ends with a zero byte */
+    int32_t kind;               /* UDFBURN_FILE or UDFBURN_DIRECTORY */
+};
+
+/* The names of a directory, in stored order. `*names` is one block, strings included: free it with one udfburn_free(). On
+ * failure `*names` is NULL and `*count` is 0. */
+int32_t udfburn_list(udfburn *handle, const char *path, struct udfburn_name **names, size_t *count);
+
+/* Free a result. NULL is allowed. */
+void udfburn_free(void *memory);
+
+/* A volume at a glance. */
+struct udfburn_status {
+    uint64_t moment;            /* of the newest commit, or of the format */
+    uint32_t capacity;          /* in blocks */
+    uint32_t next;              /* the block that is written next: so many are used */
+    uint32_t commits;
+    uint32_t files;
+    uint32_t directories;       /* the root included */
+    uint32_t clients;
+    char label[64];             /* UTF-8, ends with a zero byte */
+};
+int32_t udfburn_status(udfburn *handle, struct udfburn_status *status);
+
+/* ---- Frames --------------------------------------------------------------------------------------------------------
+ *
+ * The calls above are made of these: messages and answers as on the pipe of `udfburn apply` (docs/PROTOCOL.md). Use them
+ * to serve a connection. The calls above return UDFBURN_ARGUMENT while a frame is incomplete or answers wait. */
+
+/* Take `count` bytes of the stream of messages, cut anywhere, and answer every message that is complete. Each answer is
+ * made after its commit is on the medium. The answers wait in the handle until udfburn_take().
+ *   UDFBURN_MEMORY and UDFBURN_TOO_LONG end the stream: the answers that wait may be taken, some message may have been
+ * run without an answer, and every later call returns the same status. Close the handle and open it again, and repeat
+ * each request that has no answer, with its number.
+ *   UDFBURN_DEVICE: the file lost its name. No answer waits, and every later call returns the same. */
+int32_t udfburn_answer(udfburn *handle, const void *bytes, size_t count);
+
+/* How many bytes of answers wait. */
+size_t udfburn_answered(const udfburn *handle);
+
+/* Move the first bytes of the answers to `into`, at most `room`, and return how many. */
+size_t udfburn_take(udfburn *handle, void *into, size_t room);
+
+/* ---- A volume in memory --------------------------------------------------------------------------------------------
+ *
+ * Take its blocks in order, write each to the medium, and report it. The first 262 are those of the format. Then send one
+ * request at a time, and take its blocks before the next request. The last of them makes the commit valid: write it after
+ * the others are durable. The request is acknowledged when the last one is durable too, and not before. If a block cannot
+ * be written, close the handle: the medium holds the commits that are complete there. */
+
+/* Copy the next block to `block`, which has room for UDFBURN_BLOCK bytes, and its address. It returns the same block until
+ * udfburn_took(). UDFBURN_NONE: no block waits, or the volume is not in memory. */
+int32_t udfburn_next_block(udfburn *handle, uint32_t *address, void *block);
+
+/* The block that udfburn_next_block() returned is durable on the medium. UDFBURN_NONE: no block waits. */
+int32_t udfburn_took(udfburn *handle);
+
+/* ---- A drive of your own -------------------------------------------------------------------------------------------
+ *
+ * For a medium that is not a file. These functions are in libudfburn.so and in libudfburn_drive.a, which has everything of
+ * libudfburn.a too: link one of the two archives, not both.
+ *
+ * The library calls your functions from within the call on the handle, in the same thread, one at a time. Each returns 0
+ * for success and any other number for failure. They must return: no longjmp, no C++ exception, no end of the thread. They
+ * must not use the handle that they serve.
+ *
+ * A drive is a row of blocks of UDFBURN_BLOCK bytes, addressed from 0. This is what it owes:
+ *
+ *   capacity  How many blocks the medium has room for, always the same.
+ *   next      One more than the greatest address that was written, or 0. The library writes there next.
+ *   read      Copy `count` blocks from `address` on. All are below `next`. A read gives what the medium holds, which is
+ *             what was written last there, also after a restart. It does not give what only a cache holds.
+ *   write     Write `count` blocks from `address` on, which is `next`. They fit the capacity; there may be more than
+ *             a packet of yours takes, so cut them as you need, in order. When it returns 0, all of them are durable: no
+ *             crash and no loss of power takes them away, and `next` is `address + count`.
+ *             When it fails, or power is lost before it returns, any choice of its blocks may be on the medium. Each of
+ *             them is then whole, or reads as 2,048 zero bytes; none before `address` has changed; and `next` is anything
+ *             from `address` to `address + count`. A block that became unreadable in such a write must read as zeros.
+ *
+ * The library writes the last block of a commit in a write of its own, after all blocks before it were durable. It never
+ * writes an address twice.
+ *
+ * After a write that failed, send the request again. If blocks of its commit are on the medium by then, every request and
+ * query returns UDFBURN_DEVICE: close the handle and open the drive again. It goes on after those blocks, and the request
+ * with its number still runs once. */
+struct udfburn_drive {
+    void *context;              /* passed to each function */
+    int32_t (*capacity)(void *context, uint32_t *blocks);
+    int32_t (*next)(void *context, uint32_t *address);
+    int32_t (*read)(void *context, uint32_t address, uint32_t count, void *blocks);
+    int32_t (*write)(void *context, uint32_t address, uint32_t count, const void *blocks);
+};
+
+/* Make a volume on a drive. Its capacity is that of the drive, but at most UDFBURN_GREATEST_CAPACITY. The drive must be
+ * blank, or hold the beginning of a format with the same label and moment. Statuses as udfburn_format(). */
+int32_t udfburn_format_drive(const struct udfburn_drive *drive, const char *label, uint64_t moment);
+
+/* Open the volume on a drive. The structure is copied; what `context` points to must stay until udfburn_close(). A drive
+ * with the same context and functions can be open once: the second open returns UDFBURN_DEVICE. Statuses as
+ * udfburn_open(). */
+int32_t udfburn_open_drive(const struct udfburn_drive *drive, udfburn **out);
+
+/* Try a blank drive of at least UDFBURN_LEAST_CAPACITY blocks: write some blocks, and compare what `next` and `read` give.
+ * The drive is not blank afterwards. It cannot try durability, or what a failed write leaves.
+ * UDFBURN_DEVICE: the drive breaks a rule or failed. `*broken` is then a sentence that says which, never freed; else it is
+ * NULL. `broken` may be NULL. */
+int32_t udfburn_drive_check(const struct udfburn_drive *drive, const char **broken);
+
+#ifdef __cplusplus
+}
+#endif
+#endif

@@ -1,0 +1,364 @@
+/* The calls on volumes and frames: what they do, and that each wrong argument gives a status.
+ * usage: calls FOLDER VERSION */
+#ifndef _GNU_SOURCE
+#define _GNU_SOURCE
+#endif
+#include "support.h"
+
+#include <sys/file.h>
+
+static void names_of_statuses(const char *version) {
+    EXPECT(!strcmp(udfburn_version(), version));
+    EXPECT(!strcmp(udfburn_error_name(UDFBURN_OK), "UDFBURN_OK"));
+    EXPECT(!strcmp(udfburn_error_name(UDFBURN_ARGUMENT), "UDFBURN_ARGUMENT"));
+    EXPECT(!strcmp(udfburn_error_name(UDFBURN_EXISTS), "UDFBURN_EXISTS"));
+    EXPECT(!strcmp(udfburn_error_name(-1), "UDFBURN_UNKNOWN"));
+    EXPECT(!strcmp(udfburn_error_name(INT32_MAX), "UDFBURN_UNKNOWN"));
+}
+
+/* Paths at which nothing can be made or opened as an image. */
+static void odd_paths(void) {
+    static const char *const paths[] = {"", "none/a.img", "folder", "folder/", "pipe", "link", "dangling", "calls.img/", "/dev/null"};
+    udfburn *handle;
+    make("calls.img");
+    EXPECT(!mkdir("folder", 0755) && !mkfifo("pipe", 0644) && !symlink("calls.img", "link") && !symlink("nowhere", "dangling"));
+    for (size_t i = 0; i < sizeof paths / sizeof *paths; i++) {
+        handle = (udfburn *)&handle;
+        STATUS(UDFBURN_DEVICE, udfburn_format(paths[i], "DISC", MOMENT, 600));
+        STATUS(UDFBURN_DEVICE, udfburn_open(paths[i], &handle));
+        EXPECT(handle == NULL);
+    }
+    EXPECT(access("nowhere", F_OK) == -1);
+    STATUS(UDFBURN_DEVICE, udfburn_open("missing.img", &handle));
+    EXPECT(access("missing.img", F_OK) == -1);
+}
+
+static void formats(void) {
+    size_t count;
+    STATUS(UDFBURN_ARGUMENT, udfburn_format(NULL, "DISC", MOMENT, 600));
+    STATUS(UDFBURN_ARGUMENT, udfburn_format("new.img", NULL, MOMENT, 600));
+    STATUS(UDFBURN_VOLUME, udfburn_format("new.img", "DISC", MOMENT, UDFBURN_LEAST_CAPACITY - 1));
+    STATUS(UDFBURN_VOLUME, udfburn_format("new.img", "DISC", MOMENT, UDFBURN_GREATEST_CAPACITY + 1));
+    STATUS(UDFBURN_VOLUME, udfburn_format("new.img", "DISC", UDFBURN_MOMENT_LIMIT, 600));
+    EXPECT(access("new.img", F_OK) == -1);
+    STATUS(UDFBURN_TEXT, udfburn_format("new.img", "", MOMENT, 600));
+    STATUS(UDFBURN_TEXT, udfburn_format("new.img", "\xFF", MOMENT, 600));
+    STATUS(UDFBURN_TEXT, udfburn_format("new.img", "a label of more than thirty bytes", MOMENT, 600));
+    STATUS(UDFBURN_OK, udfburn_format("new.img", "DISC", UDFBURN_MOMENT_LIMIT - 1, UDFBURN_LEAST_CAPACITY));
+    uint8_t *bytes = file_bytes("new.img", &count);
+    EXPECT(count == 262 * UDFBURN_BLOCK);
+    /* A format that was cut after a block or inside of one is finished; one with other words is not. */
+    for (size_t behind = 0; behind < UDFBURN_BLOCK; behind += 1000) {
+        put_file("cut.img", bytes, 100 * UDFBURN_BLOCK + behind);
+        STATUS(UDFBURN_VOLUME, udfburn_format("cut.img", "OTHER", UDFBURN_MOMENT_LIMIT - 1, UDFBURN_LEAST_CAPACITY));
+        STATUS(UDFBURN_OK, udfburn_format("cut.img", "DISC", UDFBURN_MOMENT_LIMIT - 1, UDFBURN_LEAST_CAPACITY));
+        EXPECT(is_same_file("cut.img", "new.img"));
+    }
+    /* What is somebody else's stays. */
+    put_file("text", "somebody's only copy", 20);
+    STATUS(UDFBURN_VOLUME, udfburn_format("text", "DISC", MOMENT, 600));
+    EXPECT(file_bytes != NULL && access("text", F_OK) == 0);
+    free(bytes);
+    bytes = file_bytes("text", &count);
+    EXPECT(count == 20 && !memcmp(bytes, "somebody's only copy", 20));
+    free(bytes);
+    STATUS(UDFBURN_VOLUME, udfburn_format("new.img", "DISC", MOMENT, 600));
+    EXPECT(is_same_file("cut.img", "new.img"));
+}
+
+/* Descriptors that no image can be had by. Each is closed by the call. */
+static int odd_descriptor(int which) {
+    int ends[2] = {-1, -1};
+    switch (which) {
+    case 0: return open("calls.img", O_RDONLY | O_CLOEXEC);
+    case 1: return open("calls.img", O_WRONLY | O_CLOEXEC);
+    case 2: return open("calls.img", O_RDWR | O_APPEND | O_CLOEXEC);
+    case 3: return open("calls.img", O_PATH | O_CLOEXEC);
+    case 4: return open(".", O_RDONLY | O_CLOEXEC);
+    case 5: return open("/dev/zero", O_RDWR | O_CLOEXEC);
+    default:
+        if (pipe(ends)) abort();
+        close(ends[0]);
+        return ends[1];
+    }
+}
+
+static void by_descriptor(void) {
+    udfburn *handle = NULL;
+    make("calls.img");
+    for (int which = 0; which < 7; which++) {
+        int fd = odd_descriptor(which);
+        handle = (udfburn *)&handle;
+        STATUS(UDFBURN_DEVICE, udfburn_open_fd(fd, &handle));
+        EXPECT(is_closed(fd) && !handle);
+        fd = odd_descriptor(which);
+        STATUS(UDFBURN_DEVICE, udfburn_format_fd(fd, "DISC", MOMENT, 600));
+        EXPECT(is_closed(fd));
+    }
+    int closed = image_at("calls.img");
+    close(closed);
+    STATUS(UDFBURN_DEVICE, udfburn_open_fd(closed, &handle));
+    STATUS(UDFBURN_DEVICE, udfburn_format_fd(closed, "DISC", MOMENT, 600));
+    STATUS(UDFBURN_ARGUMENT, udfburn_open_fd(-1, &handle));
+    STATUS(UDFBURN_ARGUMENT, udfburn_format_fd(-1, "DISC", MOMENT, 600));
+    /* No descriptor has the number of a drive, also where no drive is open. */
+    STATUS(UDFBURN_DEVICE, udfburn_open_fd(0x40000000, &handle));
+    int fd = image_at("calls.img");
+    STATUS(UDFBURN_ARGUMENT, udfburn_open_fd(fd, NULL));
+    EXPECT(is_closed(fd));
+    fd = image_at("calls.img");
+    STATUS(UDFBURN_ARGUMENT, udfburn_format_fd(fd, NULL, MOMENT, 600));
+    EXPECT(is_closed(fd));
+    fd = open("by_fd.img", O_RDWR | O_CREAT | O_TRUNC, 0644);
+    STATUS(UDFBURN_OK, udfburn_format_fd(fd, "DISC", MOMENT, 600));
+    EXPECT(is_closed(fd) && is_same_file("by_fd.img", "calls.img"));
+    fd = open("by_fd.img", O_RDWR);
+    STATUS(UDFBURN_OK, udfburn_open_fd(fd, &handle));
+    EXPECT(fcntl(fd, F_GETFD) == FD_CLOEXEC);
+    udfburn_close(handle);
+    EXPECT(is_closed(fd));
+}
+
+static void volumes_that_are_none(void) {
+    static uint8_t blocks[300 * UDFBURN_BLOCK];
+    udfburn *handle = NULL;
+    STATUS(UDFBURN_ARGUMENT, udfburn_open(NULL, &handle));
+    STATUS(UDFBURN_ARGUMENT, udfburn_open("calls.img", NULL));
+    put_file("empty.img", "", 0);
+    STATUS(UDFBURN_VOLUME, udfburn_open("empty.img", &handle));
+    put_file("zeros.img", blocks, sizeof blocks);
+    STATUS(UDFBURN_VOLUME, udfburn_open("zeros.img", &handle));
+    put_file("short.img", blocks, 1000);
+    STATUS(UDFBURN_VOLUME, udfburn_open("short.img", &handle));
+    EXPECT(!handle);
+}
+
+static void one_writer(void) {
+    udfburn *handle = opened("calls.img"), *second = handle;
+    STATUS(UDFBURN_DEVICE, udfburn_open("calls.img", &second));
+    EXPECT(!second);
+    STATUS(UDFBURN_DEVICE, udfburn_open_fd(image_at("calls.img"), &second));
+    STATUS(UDFBURN_DEVICE, udfburn_format("calls.img", "DISC", MOMENT, 600));
+    int other = image_at("calls.img");
+    EXPECT(flock(other, LOCK_EX | LOCK_NB) == -1);
+    udfburn_close(handle);
+    EXPECT(flock(other, LOCK_EX | LOCK_NB) == 0);
+    STATUS(UDFBURN_DEVICE, udfburn_open("calls.img", &second));
+    close(other);
+    udfburn_close(opened("calls.img"));
+    udfburn_close(NULL);
+}
+
+static void frames(void) {
+    uint8_t byte, bytes[16];
+    make("calls.img");
+    udfburn *handle = opened("calls.img");
+    STATUS(UDFBURN_ARGUMENT, udfburn_answer(NULL, create_a, sizeof create_a));
+    STATUS(UDFBURN_ARGUMENT, udfburn_answer(handle, NULL, 1));
+    STATUS(UDFBURN_ARGUMENT, udfburn_answer(handle, create_a, (size_t)PTRDIFF_MAX + 1));
+    STATUS(UDFBURN_OK, udfburn_answer(handle, NULL, 0));
+    EXPECT(udfburn_answered(NULL) == 0 && udfburn_take(NULL, bytes, 1) == 0);
+    /* A frame that comes byte by byte, and its repeat in one piece with a query. */
+    for (size_t i = 0; i < sizeof create_a; i++) {
+        EXPECT(udfburn_answered(handle) == 0);
+        STATUS(UDFBURN_OK, udfburn_answer(handle, create_a + i, 1));
+    }
+    EXPECT(udfburn_take(handle, NULL, 10) == 0 && udfburn_take(handle, bytes, 0) == 0);
+    EXPECT(udfburn_take(handle, bytes, 4) == 4 && !memcmp(bytes, created, 4));
+    EXPECT(udfburn_answered(handle) == sizeof created - 4);
+    for (size_t i = 4; i < sizeof created; i++) EXPECT(udfburn_take(handle, &byte, 1) == 1 && byte == created[i]);
+    EXPECT(udfburn_take(handle, &byte, 1) == 0);
+    uint8_t both[sizeof create_a + sizeof get_a], told[sizeof created + sizeof got_a];
+    memcpy(both, create_a, sizeof create_a);
+    memcpy(both + sizeof create_a, get_a, sizeof get_a);
+    memcpy(told, created, sizeof created);
+    memcpy(told + sizeof created, got_a, sizeof got_a);
+    STATUS(UDFBURN_OK, udfburn_answer(handle, both, sizeof both));
+    /* Room without end is room enough. */
+    uint8_t *room = (uint8_t *)malloc(sizeof told);
+    EXPECT(udfburn_take(handle, room, SIZE_MAX) == sizeof told && !memcmp(room, told, sizeof told));
+    free(room);
+    udfburn_close(handle);
+}
+
+/* The calls of requests and the frames share one stream. */
+static void frames_and_calls(void) {
+    struct udfburn_node node;
+    udfburn *handle = opened("calls.img");
+    STATUS(UDFBURN_OK, udfburn_answer(handle, get_a, 4));
+    STATUS(UDFBURN_ARGUMENT, udfburn_stat(handle, "/a", &node));
+    STATUS(UDFBURN_OK, udfburn_answer(handle, get_a + 4, sizeof get_a - 4));
+    STATUS(UDFBURN_ARGUMENT, udfburn_stat(handle, "/a", &node));
+    expect_answers(handle, got_a, sizeof got_a);
+    STATUS(UDFBURN_OK, udfburn_stat(handle, "/a", &node));
+    EXPECT(node.size == 5 && node.moment == 0 && node.kind == UDFBURN_FILE);
+    udfburn_close(handle);
+}
+
+static void a_frame_too_long(void) {
+    uint64_t number = 0;
+    udfburn *handle = opened("calls.img");
+    STATUS(UDFBURN_TOO_LONG, udfburn_answer(handle, too_long, sizeof too_long));
+    STATUS(UDFBURN_TOO_LONG, udfburn_answer(handle, get_a, sizeof get_a));
+    expect_answers(handle, told_too_long, sizeof told_too_long);
+    STATUS(UDFBURN_TOO_LONG, udfburn_last_number(handle, 7, &number));
+    udfburn_close(handle);
+    handle = opened("calls.img");
+    STATUS(UDFBURN_OK, udfburn_last_number(handle, 7, &number));
+    EXPECT(number == 1);
+    STATUS(UDFBURN_OK, udfburn_answer(handle, get_a, sizeof get_a));
+    expect_answers(handle, got_a, sizeof got_a);
+    udfburn_close(handle);
+}
+
+static void two_volumes(void) {
+    make("one.img");
+    make("two.img");
+    udfburn *one = opened("one.img"), *two = opened("two.img");
+    STATUS(UDFBURN_OK, udfburn_answer(one, create_a, 20));
+    STATUS(UDFBURN_OK, udfburn_answer(two, get_a, sizeof get_a));
+    STATUS(UDFBURN_OK, udfburn_answer(one, create_a + 20, sizeof create_a - 20));
+    expect_answers(two, not_found, sizeof not_found);
+    expect_answers(one, created, sizeof created);
+    udfburn_close(one);
+    STATUS(UDFBURN_OK, udfburn_answer(two, create_a, sizeof create_a));
+    expect_answers(two, created, sizeof created);
+    udfburn_close(two);
+    EXPECT(is_same_file("one.img", "two.img"));
+}
+
+static void a_lost_name(void) {
+    uint64_t number;
+    make("lost.img");
+    udfburn *handle = opened("lost.img");
+    EXPECT(!rename("lost.img", "moved.img"));
+    STATUS(UDFBURN_OK, udfburn_answer(handle, create_a, sizeof create_a));
+    EXPECT(!unlink("moved.img"));
+    STATUS(UDFBURN_DEVICE, udfburn_answer(handle, get_a, sizeof get_a));
+    /* Not even the answer that waited, since what it says is of no use any more. */
+    EXPECT(udfburn_answered(handle) == 0);
+    STATUS(UDFBURN_DEVICE, udfburn_last_number(handle, 7, &number));
+    udfburn_close(handle);
+}
+
+static void last_numbers(void) {
+    uint64_t number = 99;
+    make("calls.img");
+    udfburn *handle = opened("calls.img");
+    STATUS(UDFBURN_OK, udfburn_last_number(handle, 7, &number));
+    EXPECT(number == 0);
+    STATUS(UDFBURN_OK, udfburn_answer(handle, create_a, sizeof create_a));
+    expect_answers(handle, created, sizeof created);
+    STATUS(UDFBURN_OK, udfburn_last_number(handle, 7, &number));
+    EXPECT(number == 1);
+    STATUS(UDFBURN_ARGUMENT, udfburn_last_number(NULL, 7, &number));
+    STATUS(UDFBURN_ARGUMENT, udfburn_last_number(handle, 0, &number));
+    STATUS(UDFBURN_ARGUMENT, udfburn_last_number(handle, 7, NULL));
+    udfburn_close(handle);
+}
+
+static void wrong_requests(void) {
+    struct udfburn_request request = {7, 0, MOMENT, 0, 0};
+    struct udfburn_node node;
+    struct udfburn_name *names;
+    size_t count;
+    uint8_t byte;
+    udfburn *handle = opened("calls.img");
+    STATUS(UDFBURN_ARGUMENT, udfburn_create(NULL, &request, "/b", "", 0));
+    STATUS(UDFBURN_ARGUMENT, udfburn_create(handle, NULL, "/b", "", 0));
+    STATUS(UDFBURN_ARGUMENT, udfburn_create(handle, &request, NULL, "", 0));
+    STATUS(UDFBURN_ARGUMENT, udfburn_create(handle, &request, "/b", NULL, 1));
+    STATUS(UDFBURN_ARGUMENT, udfburn_create(handle, &request, "/b", "", SIZE_MAX));
+    STATUS(UDFBURN_ARGUMENT, udfburn_replace(NULL, &request, "/b", "", 0));
+    STATUS(UDFBURN_ARGUMENT, udfburn_replace(handle, NULL, "/b", "", 0));
+    STATUS(UDFBURN_ARGUMENT, udfburn_replace(handle, &request, NULL, "", 0));
+    STATUS(UDFBURN_ARGUMENT, udfburn_replace(handle, &request, "/b", NULL, 1));
+    STATUS(UDFBURN_ARGUMENT, udfburn_mkdir(NULL, &request, "/b"));
+    STATUS(UDFBURN_ARGUMENT, udfburn_mkdir(handle, NULL, "/b"));
+    STATUS(UDFBURN_ARGUMENT, udfburn_mkdir(handle, &request, NULL));
+    STATUS(UDFBURN_ARGUMENT, udfburn_rename(NULL, &request, "/a", "/b"));
+    STATUS(UDFBURN_ARGUMENT, udfburn_rename(handle, NULL, "/a", "/b"));
+    STATUS(UDFBURN_ARGUMENT, udfburn_rename(handle, &request, NULL, "/b"));
+    STATUS(UDFBURN_ARGUMENT, udfburn_rename(handle, &request, "/a", NULL));
+    STATUS(UDFBURN_ARGUMENT, udfburn_remove(NULL, &request, "/a"));
+    STATUS(UDFBURN_ARGUMENT, udfburn_remove(handle, NULL, "/a"));
+    STATUS(UDFBURN_ARGUMENT, udfburn_remove(handle, &request, NULL));
+    STATUS(UDFBURN_ARGUMENT, udfburn_stat(NULL, "/a", &node));
+    STATUS(UDFBURN_ARGUMENT, udfburn_stat(handle, NULL, &node));
+    STATUS(UDFBURN_ARGUMENT, udfburn_stat(handle, "/a", NULL));
+    STATUS(UDFBURN_ARGUMENT, udfburn_get(NULL, "/a", &byte, 1, &count));
+    STATUS(UDFBURN_ARGUMENT, udfburn_get(handle, NULL, &byte, 1, &count));
+    STATUS(UDFBURN_ARGUMENT, udfburn_get(handle, "/a", NULL, 1, &count));
+    STATUS(UDFBURN_ARGUMENT, udfburn_get(handle, "/a", &byte, 1, NULL));
+    STATUS(UDFBURN_ROOM, udfburn_get(handle, "/a", &byte, 1, &count));
+    EXPECT(count == 5);
+    STATUS(UDFBURN_ARGUMENT, udfburn_list(NULL, "/", &names, &count));
+    STATUS(UDFBURN_ARGUMENT, udfburn_list(handle, NULL, &names, &count));
+    STATUS(UDFBURN_ARGUMENT, udfburn_list(handle, "/", NULL, &count));
+    STATUS(UDFBURN_ARGUMENT, udfburn_list(handle, "/", &names, NULL));
+    udfburn_free(NULL);
+    udfburn_close(handle);
+}
+
+static void in_memory(void) {
+    static uint8_t disc[600 * UDFBURN_BLOCK];
+    uint32_t address = 0, count = 0;
+    uint8_t block[UDFBURN_BLOCK];
+    udfburn *handle = NULL;
+    STATUS(UDFBURN_ARGUMENT, udfburn_open_memory(NULL, MOMENT, 600, &handle));
+    STATUS(UDFBURN_ARGUMENT, udfburn_open_memory("DISC", MOMENT, 600, NULL));
+    STATUS(UDFBURN_VOLUME, udfburn_open_memory("DISC", MOMENT, 511, &handle));
+    STATUS(UDFBURN_VOLUME, udfburn_open_memory("DISC", MOMENT, UINT32_MAX, &handle));
+    STATUS(UDFBURN_VOLUME, udfburn_open_memory("DISC", UINT64_MAX, 600, &handle));
+    STATUS(UDFBURN_TEXT, udfburn_open_memory("", MOMENT, 600, &handle));
+    EXPECT(!handle);
+    STATUS(UDFBURN_OK, udfburn_open_memory("DISC", MOMENT, 600, &handle));
+    for (int step = 0; step < 2; step++) {
+        if (step) STATUS(UDFBURN_OK, udfburn_answer(handle, create_a, sizeof create_a));
+        while (udfburn_next_block(handle, &address, block) == UDFBURN_OK) {
+            EXPECT(address == count);
+            memset(block, 0, sizeof block);
+            STATUS(UDFBURN_OK, udfburn_next_block(handle, &address, disc + (size_t)count * UDFBURN_BLOCK));
+            STATUS(UDFBURN_OK, udfburn_took(handle));
+            count++;
+        }
+        STATUS(UDFBURN_NONE, udfburn_took(handle));
+        EXPECT(step ? count > 262 : count == 262);
+    }
+    expect_answers(handle, created, sizeof created);
+    STATUS(UDFBURN_ARGUMENT, udfburn_next_block(NULL, &address, block));
+    STATUS(UDFBURN_ARGUMENT, udfburn_next_block(handle, NULL, block));
+    STATUS(UDFBURN_ARGUMENT, udfburn_next_block(handle, &address, NULL));
+    STATUS(UDFBURN_ARGUMENT, udfburn_took(NULL));
+    udfburn_close(handle);
+    /* The same on a file. */
+    put_file("memory.img", disc, (size_t)count * UDFBURN_BLOCK);
+    make("calls.img");
+    handle = opened("calls.img");
+    STATUS(UDFBURN_OK, udfburn_answer(handle, create_a, sizeof create_a));
+    STATUS(UDFBURN_NONE, udfburn_next_block(handle, &address, block));
+    STATUS(UDFBURN_NONE, udfburn_took(handle));
+    udfburn_close(handle);
+    EXPECT(is_same_file("memory.img", "calls.img"));
+}
+
+int main(int argc, char **argv) {
+    if (argc != 3 || chdir(argv[1])) return EXIT_FAILURE;
+    int before = descriptors();
+    names_of_statuses(argv[2]);
+    odd_paths();
+    formats();
+    by_descriptor();
+    volumes_that_are_none();
+    one_writer();
+    frames();
+    frames_and_calls();
+    a_frame_too_long();
+    two_volumes();
+    a_lost_name();
+    last_numbers();
+    wrong_requests();
+    in_memory();
+    EXPECT(descriptors() == before);
+    return finish("calls");
+}

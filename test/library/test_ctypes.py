@@ -1,0 +1,189 @@
+"""The shared library by `ctypes`, as Python and other languages load it: every function of the header."""
+from __future__ import annotations
+
+import ctypes
+import os
+import struct
+from ctypes import POINTER, byref, c_char_p, c_int32, c_size_t, c_uint32, c_uint64, c_void_p
+from typing import Any, List, Tuple
+
+from library.building import Case, built
+from library.test_exports import declared
+from protocol import GET, Request, encode, query
+
+OK, DEVICE, NONE, EXISTS, NOT_FOUND = 0, 2, 7, 35, 34
+BLOCK = 2048
+MOMENT = 1_700_000_000_000_000
+
+
+class AskedRequest(ctypes.Structure):
+    _fields_ = [("client", c_uint64), ("number", c_uint64), ("moment", c_uint64), ("commit", c_uint32), ("repeated", c_uint32)]
+
+
+class Node(ctypes.Structure):
+    _fields_ = [("moment", c_uint64), ("size", c_uint64), ("kind", c_int32)]
+
+
+class Name(ctypes.Structure):
+    _fields_ = [("name", c_char_p), ("kind", c_int32)]
+
+
+class Status(ctypes.Structure):
+    _fields_ = [("moment", c_uint64), *((name, c_uint32) for name in ("capacity", "next", "commits", "files", "directories", "clients")),
+                ("label", ctypes.c_char * 64)]
+
+
+CAPACITY = ctypes.CFUNCTYPE(c_int32, c_void_p, POINTER(c_uint32))
+READ = ctypes.CFUNCTYPE(c_int32, c_void_p, c_uint32, c_uint32, c_void_p)
+
+
+class Drive(ctypes.Structure):
+    _fields_ = [("context", c_void_p), ("capacity", CAPACITY), ("next", CAPACITY), ("read", READ), ("write", READ)]
+
+
+class Disc:
+    """A drive in Python: a row of blocks."""
+
+    def __init__(self) -> None:
+        self.blocks = b""
+        self.drive = Drive(None, CAPACITY(self.capacity), CAPACITY(self.next), READ(self.read), READ(self.write))
+
+    def capacity(self, _: Any, blocks: Any) -> int:
+        blocks[0] = 600
+        return 0
+
+    def next(self, _: Any, address: Any) -> int:
+        address[0] = len(self.blocks) // BLOCK
+        return 0
+
+    def read(self, _: Any, address: int, count: int, into: int) -> int:
+        ctypes.memmove(into, self.blocks[address * BLOCK:(address + count) * BLOCK], count * BLOCK)
+        return 0
+
+    def write(self, _: Any, address: int, count: int, blocks: int) -> int:
+        self.blocks += ctypes.string_at(blocks, count * BLOCK)
+        return 0 if address * BLOCK + count * BLOCK == len(self.blocks) else 1
+
+
+def load() -> Any:
+    library: Any = ctypes.CDLL(str(built().plain / "libudfburn.so"))
+    library.udfburn_version.restype = library.udfburn_error_name.restype = c_char_p
+    library.udfburn_answered.restype = library.udfburn_take.restype = c_size_t
+    library.udfburn_close.restype = library.udfburn_free.restype = None
+    return library
+
+
+class FromPython(Case):
+    def setUp(self) -> None:
+        super().setUp()
+        self.library = load()
+        self.called: set[str] = set()
+
+    def call(self, name: str, *words: Any) -> Any:
+        self.called.add("udfburn_" + name)
+        return getattr(self.library, "udfburn_" + name)(*words)
+
+    def opened(self, path: bytes) -> c_void_p:
+        handle = c_void_p()
+        self.assertEqual(self.call("open", path, byref(handle)), OK)
+        return handle
+
+    def volumes_and_frames(self, path: bytes) -> None:
+        self.assertEqual(self.call("format", path, b"PY", c_uint64(MOMENT), c_uint32(600)), OK)
+        handle = self.opened(path)
+        second = c_void_p(1)
+        self.assertEqual(self.call("open", path, byref(second)), DEVICE)
+        self.assertIsNone(second.value)
+        frames = encode(Request("create", 7, 1, "/a", b"hello")) + query(GET, "/a")
+        self.assertEqual(self.call("answer", handle, frames, c_size_t(len(frames))), OK)
+        wanted = bytes.fromhex("06000000000001000000" "0b000000400005000000") + b"hello"
+        self.assertEqual(self.call("answered", handle), len(wanted))
+        room = ctypes.create_string_buffer(100)
+        self.assertEqual(self.call("take", handle, room, c_size_t(100)), len(wanted))
+        self.assertEqual(room.raw[:len(wanted)], wanted)
+        self.call("close", handle)
+
+    def what_it_is(self, handle: c_void_p) -> None:
+        number, status = c_uint64(), Status()
+        self.assertEqual(self.call("last_number", handle, c_uint64(7), byref(number)), OK)
+        self.assertEqual(number.value, 1)
+        self.assertEqual(self.call("status", handle, byref(status)), OK)
+        self.assertEqual((status.label, status.capacity, status.commits, status.files, status.clients), (b"PY", 600, 1, 1, 1))
+
+    def requests(self, handle: c_void_p) -> None:
+        asked, node, names, count = AskedRequest(8, 0, MOMENT), Node(), POINTER(Name)(), c_size_t()
+        steps: List[Tuple[Any, ...]] = [("mkdir", b"/d"), ("create", b"/d/x", b"data", c_size_t(4)), ("replace", b"/d/x", b"other", c_size_t(5)),
+                 ("rename", b"/d/x", b"/d/y"), ("remove", b"/a")]
+        for number, (name, *words) in enumerate(steps, 1):
+            asked.number = 0
+            self.assertEqual(self.call(name, handle, byref(asked), *words), OK)
+            self.assertEqual((asked.number, asked.commit, asked.repeated), (number, number + 1, 0))
+        asked.number = 0
+        self.assertEqual(self.call("create", handle, byref(asked), b"/d", None, c_size_t(0)), EXISTS)
+        self.assertEqual(self.call("stat", handle, b"/d/y", byref(node)), OK)
+        self.assertEqual((node.size, node.kind, node.moment), (5, 0, MOMENT))
+        room = ctypes.create_string_buffer(5)
+        self.assertEqual(self.call("get", handle, b"/d/y", room, c_size_t(5), byref(count)), OK)
+        self.assertEqual(room.raw, b"other")
+        self.assertEqual(self.call("get", handle, b"/a", room, c_size_t(5), byref(count)), NOT_FOUND)
+        self.assertEqual(self.call("list", handle, b"/d", byref(names), byref(count)), OK)
+        self.assertEqual([(names[i].name, names[i].kind) for i in range(count.value)], [(b"y", 0)])
+        self.call("free", names)
+
+    def by_descriptor(self, path: bytes) -> None:
+        handle = c_void_p()
+        with open(path + b".fd", "xb+") as file:
+            self.assertEqual(self.call("format_fd", os.dup(file.fileno()), b"PY", c_uint64(MOMENT), c_uint32(600)), OK)
+            self.assertEqual(self.call("open_fd", os.dup(file.fileno()), byref(handle)), OK)
+            self.call("close", handle)
+
+    def in_memory(self) -> bytes:
+        """The blocks of a new volume in memory, with one request."""
+        handle, blocks, address, block = c_void_p(), b"", c_uint32(), ctypes.create_string_buffer(BLOCK)
+        self.assertEqual(self.call("open_memory", b"PY", c_uint64(MOMENT), c_uint32(600), byref(handle)), OK)
+        asked = encode(Request("create", 7, 1, "/a", b"hello"))
+        self.assertEqual(self.call("answer", handle, asked, c_size_t(len(asked))), OK)
+        while self.call("next_block", handle, byref(address), block) == OK:
+            self.assertEqual(address.value * BLOCK, len(blocks))
+            blocks += block.raw
+            self.assertEqual(self.call("took", handle), OK)
+        self.call("close", handle)
+        return blocks
+
+    def on_a_drive(self) -> bytes:
+        disc, handle, broken = Disc(), c_void_p(), c_char_p()
+        self.assertEqual(self.call("drive_check", byref(Disc().drive), byref(broken)), OK)
+        self.assertIsNone(broken.value)
+        self.assertEqual(self.call("format_drive", byref(disc.drive), b"PY", c_uint64(MOMENT)), OK)
+        self.assertEqual(self.call("open_drive", byref(disc.drive), byref(handle)), OK)
+        asked = encode(Request("create", 7, 1, "/a", b"hello"))
+        self.assertEqual(self.call("answer", handle, asked, c_size_t(len(asked))), OK)
+        self.call("close", handle)
+        return disc.blocks
+
+    def test_every_function(self) -> None:
+        path = bytes(self.folder / "python.img")
+        self.assertRegex(self.call("version").decode(), r"^\d+\.\d+\.\d+$")
+        self.assertEqual(self.call("error_name", EXISTS), b"UDFBURN_EXISTS")
+        self.volumes_and_frames(path)
+        with open(path, "rb") as file:
+            image = file.read()
+        handle = self.opened(path)
+        self.what_it_is(handle)
+        self.requests(handle)
+        self.call("close", handle)
+        self.by_descriptor(path)
+        self.assertEqual(self.in_memory(), image)
+        self.assertEqual(self.on_a_drive(), image)
+        self.assertEqual(self.called, declared())
+
+    def test_structures(self) -> None:
+        """The sizes of the structures are those of a C compiler."""
+        kinds = {"request": AskedRequest, "node": Node, "name": Name, "status": Status, "drive": Drive}
+        lines = ["#include \"udfburn.h\"", "#include <stdio.h>", "int main(void) {"]
+        lines += ["    printf(\"%%zu\\n\", sizeof(struct udfburn_%s));" % name for name in kinds]
+        source = self.folder / "sizes.c"
+        source.write_text("\n".join([*lines, "    return 0;", "}"]))
+        said = self.ran(self.compiled(str(source))).split()
+        self.assertEqual(list(map(int, said)), [ctypes.sizeof(kind) for kind in kinds.values()])
+        self.assertEqual(struct.calcsize("QQQII"), ctypes.sizeof(AskedRequest))

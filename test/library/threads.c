@@ -1,0 +1,104 @@
+/* Volumes in several threads at once, each thread with a file and a drive of its own.
+ * usage: threads FOLDER */
+#ifndef _GNU_SOURCE
+#define _GNU_SOURCE
+#endif
+#include "support.h"
+
+#include <pthread.h>
+
+enum { THREADS = 4, FILES = 50, CAPACITY = 2000 };
+
+struct disc {
+    uint8_t blocks[CAPACITY * UDFBURN_BLOCK];
+    uint32_t next;
+};
+
+struct work {
+    pthread_t thread;
+    int number;
+    int32_t status;             /* of the first call that failed */
+    struct disc disc;
+};
+
+static int32_t capacity_of(void *context, uint32_t *blocks) {
+    (void)context;
+    *blocks = CAPACITY;
+    return 0;
+}
+
+static int32_t next_of(void *context, uint32_t *address) {
+    *address = ((struct disc *)context)->next;
+    return 0;
+}
+
+static int32_t read_blocks(void *context, uint32_t address, uint32_t count, void *blocks) {
+    memcpy(blocks, ((struct disc *)context)->blocks + (size_t)address * UDFBURN_BLOCK, (size_t)count * UDFBURN_BLOCK);
+    return 0;
+}
+
+static int32_t write_blocks(void *context, uint32_t address, uint32_t count, const void *blocks) {
+    struct disc *disc = (struct disc *)context;
+    memcpy(disc->blocks + (size_t)address * UDFBURN_BLOCK, blocks, (size_t)count * UDFBURN_BLOCK);
+    disc->next = address + count;
+    return 0;
+}
+
+static int32_t fill(udfburn *handle, int number) {
+    int32_t status = UDFBURN_OK;
+    for (int i = 0; i < FILES && status == UDFBURN_OK; i++) {
+        struct udfburn_request request = {(uint64_t)number + 1, 0, MOMENT, 0, 0};
+        char path[32], text[64];
+        snprintf(path, sizeof path, "/%d", i);
+        snprintf(text, sizeof text, "thread %d, file %d", number, i);
+        status = udfburn_create(handle, &request, path, text, strlen(text));
+    }
+    return status;
+}
+
+/* Opens and fills a volume: of the file of a thread, or of its drive. */
+static int32_t run(struct work *work, const char *path) {
+    struct udfburn_drive drive = {&work->disc, capacity_of, next_of, read_blocks, write_blocks};
+    udfburn *handle;
+    int32_t status = path ? udfburn_format(path, "DISC", MOMENT, CAPACITY) : udfburn_format_drive(&drive, "DISC", MOMENT);
+    if (status == UDFBURN_OK) status = path ? udfburn_open(path, &handle) : udfburn_open_drive(&drive, &handle);
+    if (status != UDFBURN_OK) return status;
+    status = fill(handle, work->number);
+    udfburn_close(handle);
+    return status;
+}
+
+static void *work_on(void *given) {
+    struct work *work = (struct work *)given;
+    char path[32];
+    snprintf(path, sizeof path, "thread%d.img", work->number);
+    work->status = run(work, NULL);
+    if (work->status == UDFBURN_OK) work->status = run(work, path);
+    return NULL;
+}
+
+int main(int argc, char **argv) {
+    if (argc != 2 || chdir(argv[1])) return EXIT_FAILURE;
+    struct work *works = (struct work *)calloc(THREADS, sizeof *works);
+    for (int i = 0; i < THREADS; i++) {
+        works[i].number = i;
+        if (pthread_create(&works[i].thread, NULL, work_on, &works[i])) abort();
+    }
+    for (int i = 0; i < THREADS; i++) {
+        char path[32];
+        size_t count;
+        if (pthread_join(works[i].thread, NULL)) abort();
+        STATUS(UDFBURN_OK, works[i].status);
+        snprintf(path, sizeof path, "thread%d.img", i);
+        uint8_t *bytes = file_bytes(path, &count);
+        EXPECT(count == (size_t)works[i].disc.next * UDFBURN_BLOCK && !memcmp(bytes, works[i].disc.blocks, count));
+        free(bytes);
+        /* No thread's bytes are on another's medium. */
+        snprintf(path, sizeof path, "thread %d, file", (i + 1) % THREADS);
+        EXPECT(!memmem(works[i].disc.blocks, count, path, strlen(path)));
+        snprintf(path, sizeof path, "thread %d, file", i);
+        EXPECT(memmem(works[i].disc.blocks, count, path, strlen(path)));
+    }
+    free(works);
+    return finish("threads");
+}
