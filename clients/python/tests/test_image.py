@@ -13,8 +13,8 @@ from typing import List
 from unittest import mock
 
 from udfburn import errors as e, past
-from udfburn.connection import Connection, Way
-from udfburn.line import BEGINNINGS, TURN, Line
+from udfburn.connection import Connection, Endpoint
+from udfburn.line import BEGINNINGS, TURN, RetryingConnection
 
 
 class Image(unittest.TestCase):
@@ -28,12 +28,12 @@ class Image(unittest.TestCase):
         with open(self.image, "wb") as file:
             file.write(bytes(8192))
 
-    def line(self) -> Line:
+    def line(self) -> RetryingConnection:
         program = os.path.join(self.room, "program")
         with open(program, "w", encoding="ascii") as file:
             file.write("#!/bin/sh\nexec cat > /dev/null\n")
         os.chmod(program, 0o755)
-        line = Line(Way(f"image:{self.image}", program), 0.2, 5.0)
+        line = RetryingConnection(Endpoint(f"image:{self.image}", program), 0.2, 5.0)
         self.addCleanup(line.drop)
         return line
 

@@ -17,8 +17,8 @@ from unittest import mock
 
 from udfburn import Client, errors as e, library
 from udfburn.cli import main
-from udfburn.connection import Way
-from udfburn.line import TURN, Line
+from udfburn.connection import Endpoint
+from udfburn.line import TURN, RetryingConnection
 
 STUB = """
 #include <stdint.h>
@@ -75,13 +75,13 @@ class Found(WithStub):
             Client(f"library:{self.image}")
 
     def test_its_version(self) -> None:
-        way = Way(f"library:{self.image}")
+        way = Endpoint(f"library:{self.image}")
         assert way.library
         self.assertEqual((way.library.name, way.library.version()), (os.environ["UDFBURN_LIBRARY"], "9.8.7"))
 
     def test_one_way_in_a_ledger(self) -> None:
         """With the program and with the library, an image is the same volume."""
-        by_library, by_program = Way(f"library:{self.image}"), Way(f"image:{self.image}", "udfburn")
+        by_library, by_program = Endpoint(f"library:{self.image}"), Endpoint(f"image:{self.image}", "udfburn")
         self.assertEqual((by_library.key(), by_library.kind), (by_program.key(), by_program.kind))
         self.assertEqual((str(by_library), str(by_program)), (f"library:{self.image}", f"image:{self.image}"))
 
@@ -103,7 +103,7 @@ class Found(WithStub):
 
     def test_it_keeps_the_image(self) -> None:
         """Nobody gets a turn before the image is closed."""
-        line = Line(Way(f"library:{self.image}"))
+        line = RetryingConnection(Endpoint(f"library:{self.image}"))
         self.addCleanup(line.drop)
         line.get()
         with mock.patch("udfburn.line.time", SimpleNamespace(monotonic=lambda: time.monotonic() + 1000 * TURN)):
@@ -114,7 +114,7 @@ class Found(WithStub):
             with mock.patch.dict(os.environ, UDFBURN_SOCKET="s"), redirect_stderr(StringIO()):
                 self.assertEqual(main([*words, "--quiet"]), 2, words)
         with self.assertRaises(e.UsageError):
-            Way("library:")
+            Endpoint("library:")
 
 
 class Statuses(WithStub):
@@ -160,7 +160,7 @@ class Statuses(WithStub):
 
     def test_a_child(self) -> None:
         """A child neither writes nor closes what its parent opened."""
-        assert (way := Way(f"library:{self.image}")).library
+        assert (way := Endpoint(f"library:{self.image}")).library
         with mock.patch("os.getpid", return_value=1):
             volume = library.OpenVolume(way.library, self.image)
         with self.assertRaisesRegex(e.UsageError, "before the fork"):

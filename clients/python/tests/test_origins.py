@@ -21,7 +21,7 @@ from udfburn import protocol as p
 from udfburn.connection import Connection
 from udfburn.ledger_records import LARGE
 from udfburn.operations import Operation
-from udfburn.session import Flight, Session
+from udfburn.session import InFlightRequest, Session
 from udfburn.tree import Options, put_all
 
 from .programs import PATIENCE, UDFBURN, WithPrograms
@@ -313,7 +313,7 @@ def die_before_sending(count: int) -> None:
     """Kills this process where it would send requests for this time."""
     left, real = [count], Session._sent
 
-    def sent(session: Session, connection: Connection, fresh: List[Flight]) -> bool:
+    def sent(session: Session, connection: Connection, fresh: List[InFlightRequest]) -> bool:
         left[0] -= 1
         if not left[0]:
             os.kill(os.getpid(), signal.SIGKILL)

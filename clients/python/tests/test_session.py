@@ -19,11 +19,11 @@ from unittest import mock
 
 from udfburn import Client, cli, errors as e
 from udfburn import protocol as p
-from udfburn.connection import PIECE, Connection, ImageConnection, Way
+from udfburn.connection import PIECE, Connection, ImageConnection, Endpoint
 from udfburn.ledger import Ledger, Pending, Reply
-from udfburn.line import Line
+from udfburn.line import RetryingConnection
 from udfburn.operations import Operation
-from udfburn.session import Flight
+from udfburn.session import InFlightRequest
 
 from .model import Volume
 from .programs import PATIENCE
@@ -404,7 +404,7 @@ class Interrupted(WithServer):
             with open(path, "w", encoding="ascii") as file:
                 file.write(text)
         os.chmod(program, 0o700)
-        line = Line(Way(f"image:{image}", program))
+        line = RetryingConnection(Endpoint(f"image:{image}", program))
         first = line.get()
         assert isinstance(first, ImageConnection)
         with mock.patch.object(first.process, "wait", side_effect=KeyboardInterrupt), self.assertRaises(KeyboardInterrupt):
@@ -569,11 +569,11 @@ class Ahead(WithServer):
         session = client.session()
         send, receive = session._sent, session._received
 
-        def sent(connection: Connection, fresh: List[Flight]) -> bool:
+        def sent(connection: Connection, fresh: List[InFlightRequest]) -> bool:
             steps.append(len(fresh))
             return send(connection, fresh)
 
-        def received(connection: Connection, window: Deque[Flight]) -> Tuple[List[Flight], bool]:
+        def received(connection: Connection, window: Deque[InFlightRequest]) -> Tuple[List[InFlightRequest], bool]:
             finished, troubled = receive(connection, window)
             steps.append(-len(finished))
             return finished, troubled

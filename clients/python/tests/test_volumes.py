@@ -17,7 +17,7 @@ from udfburn.identity import opened_path
 from udfburn.operations import Operation
 from udfburn.protocol import Create
 from udfburn.recognition import see
-from udfburn.session import Flight, Session
+from udfburn.session import InFlightRequest, Session
 
 from .programs import UDFBURN, Daemon, WithPrograms
 
@@ -246,7 +246,7 @@ class Which(WithPrograms):
     def crash_with_replies(self) -> object:
         real = Session._keep
 
-        def keep(session: Session, finished: List[Flight], fresh: List[Flight]) -> None:
+        def keep(session: Session, finished: List[InFlightRequest], fresh: List[InFlightRequest]) -> None:
             if finished:
                 raise Crash
             real(session, finished, fresh)

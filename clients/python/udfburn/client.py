@@ -5,9 +5,9 @@ from __future__ import annotations
 from contextlib import contextmanager
 from typing import TYPE_CHECKING, Dict, Generator, Iterable, Iterator, List, Optional, Tuple, Type, Union
 
-from .connection import Way
+from .connection import Endpoint
 from .errors import MISSES, REFUSALS, Exists, IsDirectory, NotDirectory, NotFound, Refused, UdfburnError, UsageError
-from .line import Line
+from .line import RetryingConnection
 from .operations import Operation, Outcome, now
 from .protocol import (
     Answer, AnyRequest, Bare, Code, Create, Data, Get, List as ListQuery, MakeDir, Name, Names, Node, NodeKind, Path, PathLike, Query,
@@ -44,8 +44,8 @@ class Client:
     ):
         if not 0 <= patience < float("inf"):
             raise UsageError(f"{patience!r} is no count of seconds: one is a number from 0 on")
-        self.way = Way(connect, program)
-        self.line = Line(self.way, patience, timeout)
+        self.way = Endpoint(connect, program)
+        self.line = RetryingConnection(self.way, patience, timeout)
         self._wanted = client
         self._ledger = ledger
         self._patience = patience

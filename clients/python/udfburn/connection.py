@@ -286,7 +286,7 @@ class ImageConnection(Connection):
 
 # ---- connects
 
-class Way:
+class Endpoint:
     """Where a volume is: behind a daemon's socket (`unix:PATH`), or in an image that is written by the program (`image:PATH`) or by the C
     library (`library:PATH`). `kind` is `image` for both of these; `library` is None for the program.
     """

@@ -8,7 +8,7 @@ from contextlib import contextmanager
 from itertools import islice
 from typing import Callable, Deque, Generator, Iterable, Iterator, List, Optional, Tuple, Type
 
-from .connection import Connection, Lost, Way
+from .connection import Connection, Lost, Endpoint
 from .disk import room_left
 from .errors import DAMAGE, ConnectionFailed, Damaged, DiskFull, DriveFailed, OutOfMemory, UdfburnError, UsageError
 from .protocol import (
@@ -63,10 +63,10 @@ class Patience:
         self.pause = min(self.pause * 1.7, 2.0)
 
 
-class Line:
+class RetryingConnection:
     """A conversation on a way. `greet` is called on each new one before anything else is said, `part` before it is ended."""
 
-    def __init__(self, way: Way, patience: float = 10.0, timeout: float = 120.0):
+    def __init__(self, way: Endpoint, patience: float = 10.0, timeout: float = 120.0):
         self.way = way
         self.patience = Patience(patience)
         self.timeout = timeout

@@ -17,7 +17,7 @@ from .errors import DAMAGE, ClientsFull, Damaged, ForeignReply, Full, NotCommitt
 from .identity import Looked, looked_at, opened_path
 from .ledger import Ledger
 from .ledger_records import GIVEN_UP, LARGE, Pending, Reply, Volume, digest, facts_of
-from .line import Line
+from .line import RetryingConnection
 from .operations import Deed, Operation, Outcome, after_all, confirmed, deed_of, paths_of, surely
 from .protocol import (
     CLIENTS_FULL, DAMAGED, FAULT, FULL, MEMORY, Answer, BadAnswer, Code, Committed, Gap, Malformed, Path, Remove, Stale, Stat,
@@ -37,7 +37,7 @@ Done = Dict[int, Tuple[Deed, Committed]]
 """What was done of pending requests, by their numbers."""
 
 
-class Flight:
+class InFlightRequest:
     """A request under way, with a question for each of its paths, and what came back: its reply, and payloads of answers.
 
     All that can be reckoned before the reply comes is reckoned here, while the program is at work.
@@ -82,27 +82,27 @@ class Foreseen(NamedTuple):
     replies: List[Committed]
 
 
-class Supply:
+class RequestQueue:
     """Operations as they come, of which the next are taken ahead, read and made requests, while the program is at work."""
 
     def __init__(self, operations: Iterator[Operation], client: int):
         self.operations = operations
         self.client = client
-        self.ahead: Deque[Flight] = deque()
+        self.ahead: Deque[InFlightRequest] = deque()
 
     def look_ahead(self, last: int) -> None:
         """Makes ready what is sent next, behind the request of this number."""
         while len(self.ahead) < PART and self._take(last + len(self.ahead) + 1):
             pass
 
-    def next(self, number: int, count: int) -> List[Flight]:
+    def next(self, number: int, count: int) -> List[InFlightRequest]:
         """At most so many flights, from this number on."""
-        flights: List[Flight] = []
+        flights: List[InFlightRequest] = []
         while len(flights) < count and (self.ahead or self._take(number)):
             flight = self.ahead.popleft()
             # Behind a conversation that was lost the next number may be another one.
             if flight.number() != number:
-                flight = Flight(flight.operation, self.client, number)
+                flight = InFlightRequest(flight.operation, self.client, number)
             flights.append(flight)
             number += 1
         return flights
@@ -111,14 +111,14 @@ class Supply:
         operation = next(self.operations, None)
         if operation is None:
             return False
-        self.ahead.append(Flight(operation, self.client, number))
+        self.ahead.append(InFlightRequest(operation, self.client, number))
         return True
 
 
 class Session:
     """Requests of one client to one volume."""
 
-    def __init__(self, line: Line, ledger: Ledger, shared: bool = False):
+    def __init__(self, line: RetryingConnection, ledger: Ledger, shared: bool = False):
         self.line = line
         self.ledger = ledger
         self.shared = shared
@@ -327,12 +327,12 @@ class Session:
     def run(self, operations: Iterable[Operation]) -> Iterator[Outcome]:
         """Does operations in order, and gives each one's outcome once its reply is in the ledger and confirmed."""
         with self.line.claim():
-            yield from self._run(Supply(iter(operations), self.ledger.client))
+            yield from self._run(RequestQueue(iter(operations), self.ledger.client))
 
-    def _run(self, supply: Supply) -> Iterator[Outcome]:
+    def _run(self, supply: RequestQueue) -> Iterator[Outcome]:
         self.recover()
-        window: Deque[Flight] = deque()
-        finished: List[Flight] = []
+        window: Deque[InFlightRequest] = deque()
+        finished: List[InFlightRequest] = []
         try:
             while True:
                 connection = self._connected(window)
@@ -359,13 +359,13 @@ class Session:
             if window or finished:
                 self.line.drop()
 
-    def _connected(self, window: Deque[Flight]) -> Connection:
+    def _connected(self, window: Deque[InFlightRequest]) -> Connection:
         """The conversation; where its turn is over and nothing is under way, a new one."""
         if not window and self.line.over():
             self.line.drop()
         return self.line.get()
 
-    def _next(self, supply: Supply, window: Deque[Flight], finished: List[Flight]) -> List[Flight]:
+    def _next(self, supply: RequestQueue, window: Deque[InFlightRequest], finished: List[InFlightRequest]) -> List[InFlightRequest]:
         """Requests that there is room for, under the next numbers. None where others are to get their turn."""
         if window and self.line.over():
             return []
@@ -373,7 +373,7 @@ class Session:
         number = last.number() if last else self.ledger.latest(self.volume())
         return supply.next(number + 1, min(PART, limits.REPLIES - len(window)))
 
-    def _keep(self, finished: List[Flight], fresh: List[Flight]) -> None:
+    def _keep(self, finished: List[InFlightRequest], fresh: List[InFlightRequest]) -> None:
         """Makes replies and new requests durable, in one."""
         replies = []
         for flight in finished:
@@ -384,7 +384,7 @@ class Session:
             self._payloads.pop(flight.number(), None)
         self._payloads.update({flight.number(): flight.payload for flight in fresh if flight.pending.origin is not None})
 
-    def _sent(self, connection: Connection, fresh: List[Flight]) -> bool:
+    def _sent(self, connection: Connection, fresh: List[InFlightRequest]) -> bool:
         """Sends requests with their questions. Whether the conversation lasted."""
         try:
             connection.send(b"".join([piece for flight in fresh for piece in flight.frames]))
@@ -392,7 +392,7 @@ class Session:
         except Lost:
             return False
 
-    def _foresee(self, window: Deque[Flight], supply: Supply) -> None:
+    def _foresee(self, window: Deque[InFlightRequest], supply: RequestQueue) -> None:
         """Makes ready what is kept next, where the first part of a full window is likely to be done and answered at once."""
         self._foreseen = None
         first, fresh = list(window)[:PART], list(supply.ahead)
@@ -412,7 +412,7 @@ class Session:
         self._foreseen = Foreseen(b"".join(answers), replies)
         self.ledger.foresee(self.volume(), kept(first, replies), [flight.pending for flight in fresh])
 
-    def _as_foreseen(self, connection: Connection, window: Deque[Flight]) -> List[Flight]:
+    def _as_foreseen(self, connection: Connection, window: Deque[InFlightRequest]) -> List[InFlightRequest]:
         """The first flights of the window, where the answers that come are those that were foreseen; else none."""
         foreseen = self._foreseen
         if foreseen is None or not connection.comes(foreseen.answers):
@@ -423,9 +423,9 @@ class Session:
         self._commit = foreseen.replies[-1].commit
         return finished
 
-    def _received(self, connection: Connection, window: Deque[Flight]) -> Tuple[List[Flight], bool]:
+    def _received(self, connection: Connection, window: Deque[InFlightRequest]) -> Tuple[List[InFlightRequest], bool]:
         """Takes the flights out of the window whose answers came, at least one; and whether there was trouble."""
-        finished: List[Flight] = []
+        finished: List[InFlightRequest] = []
         try:
             finished = self._as_foreseen(connection, window)
             payload: Optional[bytes] = None if finished else connection.payload()
@@ -456,7 +456,7 @@ class Session:
         if answer not in bare and not isinstance(answer, (Gap, Stale, Malformed)):
             raise BadAnswer(f"{answer!r} is no answer to a request")
 
-    def _check(self, flight: Flight, reply: Committed, finished: List[Flight]) -> None:
+    def _check(self, flight: InFlightRequest, reply: Committed, finished: List[InFlightRequest]) -> None:
         """Raises where the tree does not have what a reply says."""
         self._check_commit(reply)
         if not flight.agrees(reply):
@@ -464,7 +464,7 @@ class Session:
             self.ledger.record(self.volume(), [Reply(flight.number(), reply.code, reply.commit, False)], [])
             raise self._foreign(flight.request.path, decode_answer(flight.said[0]))
 
-    def _recovered(self, finished: List[Flight], window: Deque[Flight]) -> Iterator[Outcome]:
+    def _recovered(self, finished: List[InFlightRequest], window: Deque[InFlightRequest]) -> Iterator[Outcome]:
         """Finishes what was under way when trouble came, and gives the outcomes."""
         self.line.drop()
         self._keep(finished, [])
@@ -490,12 +490,12 @@ def deed_in(waiting: Pending) -> Deed:
     return deed_of(decode_message(waiting.payload))  # type: ignore[arg-type]
 
 
-def kept(flights: Iterable[Flight], replies: Iterable[Committed]) -> List[Reply]:
+def kept(flights: Iterable[InFlightRequest], replies: Iterable[Committed]) -> List[Reply]:
     """The replies of flights as the ledger keeps them: the tree agrees with each."""
     return [Reply(flight.pending.number, reply.code, reply.commit, True) for flight, reply in zip(flights, replies)]
 
 
-def outcome(flight: Flight) -> Outcome:
+def outcome(flight: InFlightRequest) -> Outcome:
     """What the reply of a flight says."""
     assert flight.reply
     return Outcome(flight.operation, flight.reply.code, flight.reply.commit, flight.number())

@@ -3,12 +3,12 @@
 ghost use Rattle.std.specs.Prelude.{ℕ, length};
 ghost use Rattle.drive.specs.Journal.{held};
 ghost use Rattle.drive.specs.MemDrive.{journal_of};
-ghost use Rattle.recover.specs.Known.{IsKnown};
+ghost use Rattle.recover.specs.ReadCache.{IsKnown};
 
 use crate::report::{Report, since, used, wrong};
 use crate::volumes::Volume;
 use drive::{Drive, MemDrive};
-use recover::{Known, PARTITION_START, state_at, state_sharing};
+use recover::{PARTITION_START, ReadCache, state_at, state_sharing};
 use std::alloc::Global;
 use std::io;
 use std::marker::Model;
@@ -19,7 +19,7 @@ use store::{Commit, Store};
 struct Medium {
     alloc: Global,
     drive: MemDrive,
-    known: Known,
+    known: ReadCache,
 }
 
 impl Model for Medium {
@@ -43,7 +43,7 @@ impl Medium {
 
     /// Forgets what is known of the nodes.
     fn forget(&mut self) {
-        self.known = Known::new(self.alloc);
+        self.known = ReadCache::new(self.alloc);
     }
 
     /// How many nodes the state has that stood at an address. By itself: what is known is left alone.
@@ -70,7 +70,7 @@ impl Medium {
         let mut count = 0usize;
         self.forget();
         for one in commits {
-            count = count.saturating_add(self.nodes(one.at, by_itself)?);
+            count = count.saturating_add(self.nodes(one.vat_icb_address, by_itself)?);
         }
         Ok(count)
     }
@@ -83,7 +83,7 @@ fn medium_of(alloc: Global, files: u32, commits: u32) -> io::Result<Medium> {
         volume.add(file)?;
     }
     volume.turn(commits)?;
-    let known = Known::new(alloc);
+    let known = ReadCache::new(alloc);
     let medium = Medium {
         alloc,
         drive: volume.into_drive(),

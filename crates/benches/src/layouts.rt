@@ -26,7 +26,7 @@ fn many(alloc: Global, letters: usize) -> io::Result<Dir> {
         text.push_str(digits.as_str())?;
         let entry = Entry {
             kind: Kind::File,
-            icb: number,
+            virtual_address: number,
             unique: number,
         };
         if let Ok(name) = Name::read(alloc, text.as_str()) {

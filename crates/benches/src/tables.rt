@@ -10,7 +10,7 @@ use std::alloc::{AllocError, Global};
 use std::io;
 use vat::{Vat, clear_start, decode_vat, encode_vat};
 
-/// The place of the table's entry.
+/// The place of the VAT ICB.
 const ICB: u32 = 40_000;
 
 /// 512 entries of tables, for every second block number from 5 on: there is one that imitates at each start.

@@ -3,12 +3,12 @@ use Rattle.std.proofs.Common.{◌≡◌, ℕ, List, Option, Some, sym, ap, subst
 use Rattle.std.specs.Prelude.{false, map, unwrap_or, Result, Ok, Err, IfOk}
 use Rattle.drive.specs.Journal.{Event, Once, held}
 use Rattle.model.specs.Session.{State, ClientRecord, record_of}
-use Rattle.durability.specs.Volume.{Stands}
+use Rattle.durability.specs.Volume.{RecoversTo}
 use Rattle.udf.specs.Udf.{udf}
 use Rattle.durability.specs.Formats.{Table_}
 use Rattle.store.specs.declared.store.Store.{Store}
-use Rattle.store.specs.Calls.{Knows}
-use Rattle.udf.specs.Said.{said_record}
+use Rattle.store.specs.Calls.{IsOpenOn}
+use Rattle.udf.specs.Said.{model_record}
 use Rattle.engine.specs.Situation.{Situation, IsOpen}
 use Rattle.engine.specs.Steps.{HoldsState}
 use Rattle.capi.specs.declared.session.Session.{Session}
@@ -33,9 +33,9 @@ module _ (client number : ℕ) (old new : Session) (lent : Store) (is : new.engi
 pub holds_same : (volume : ℕ) (S : State) (before behind : Situation) → behind.store ≡ before.store → behind.journal ≡ before.journal → behind.capacity ≡ before.capacity → HoldsState volume S before → HoldsState volume S behind
 holds_same volume S before behind kept journal size at = record {
   once = subst (λ (J : List Event). Once J) (sym journal) at.once;
-  stands = subst (λ (c : ℕ). Stands udf c volume (held behind.journal) S) (sym size) (subst (λ (J : List Event). Stands udf before.capacity volume (held J) S) (sym journal) at.stands);
-  knows = λ store there. subst (λ (c : ℕ). Knows c volume behind.journal S store) (sym size)
-      (subst (λ (J : List Event). Knows before.capacity volume J S store) (sym journal) (at.knows store (sym kept ∙ there.0, there.1)));
+  stands = subst (λ (c : ℕ). RecoversTo udf c volume (held behind.journal) S) (sym size) (subst (λ (J : List Event). RecoversTo udf before.capacity volume (held J) S) (sym journal) at.stands);
+  knows = λ store there. subst (λ (c : ℕ). IsOpenOn c volume behind.journal S store) (sym size)
+      (subst (λ (J : List Event). IsOpenOn before.capacity volume J S store) (sym journal) (at.knows store (sym kept ∙ there.0, there.1)));
 }
 
 -- what holds of an outcome holds of it in other words

@@ -4,7 +4,7 @@ use Rattle.model.specs.Session.{State, ClientRecord, record_of}
 use Rattle.recover.specs.Faults.{IsShortage}
 use Rattle.recover.specs.declared.fault.StoreFault.{StoreFault}
 use Rattle.store.specs.declared.store.Store.{Store}
-use Rattle.udf.specs.Said.{said_record}
+use Rattle.udf.specs.Said.{model_record}
 use Rattle.vat.specs.declared.record.Record.{Record}
 use Rattle.engine.specs.Situation.{IsOpen}
 use Rattle.engine.specs.Steps.{HoldsState}
@@ -40,7 +40,7 @@ latest None = 0
 latest (Some kept) = kept.latest
 
 abbrev pub last_kept : ℕ → List Record → ℕ
-last_kept client records = latest (record_of client (map said_record records))
+last_kept client records = latest (record_of client (map model_record records))
 
 -- It is the one that the table of the open store has; so, on an honest medium where a state stands, that state's.
 pub record IsLast (client number : ℕ) (old new : Session) : Type 0 where

@@ -7,7 +7,7 @@ use mathlib.Core.HLevel.{Σ_prop_path}
 use Rattle.drive.specs.Journal.{Event}
 use Rattle.vat.specs.Reply.{AreReplies}
 use Rattle.vat.specs.declared.record.Reply.{Reply}
-use Rattle.store.specs.Agrees.{Agrees}
+use Rattle.store.specs.Agrees.{IsStoreOn}
 use Rattle.store.specs.declared.store.Store.{Store}
 use Rattle.engine.specs.declared.engine.Engine.{Engine}
 use Rattle.engine.specs.Situation.{IsReady}
@@ -29,7 +29,7 @@ nested_set = Prim.hlevel props
 number_prop : (v : Option (Option ℕ)) → IsProp ((number : ℕ) × (v ≡ Some (Some number)))
 number_prop v p q = Σ_prop_path (λ n. nested_set v (Some (Some n))) (ap number_in (sym p.1 ∙ q.1))
 
-kept_prop : (kept : Option Store) (journal : List Event) (capacity : ℕ) → IsProp (IfSome kept (Agrees journal capacity))
+kept_prop : (kept : Option Store) (journal : List Event) (capacity : ℕ) → IsProp (IfSome kept (IsStoreOn journal capacity))
 kept_prop None journal capacity = Unit-prop
 kept_prop (Some store) journal capacity = Prim.hlevel (props, replies_prop, number_prop)
 

@@ -6,7 +6,7 @@ use Rattle.recover.specs.declared.table.TableEntry.{TableEntry}
 use Rattle.store.specs.declared.store.Store.{Store}
 use Rattle.capi.specs.declared.told.Status.{Status}
 
--- It is what the store knows of it. The next address is the drive's, and the moment that of the newest table's entry.
+-- It is what the store knows of it. The next address is the drive's, and the moment that of the newest VAT ICB.
 pub record TellsStatus (journal : List Event) (honest : Bool) (store : Store) (told : Status) : Type 0 where
   pub capacity : told.capacity ≡ store.capacity
   pub next : told.next ≡ next_of journal

@@ -71,7 +71,7 @@ pub(crate) fn status_by(
     engine: &mut Engine,
 ) -> Result<Status, StoreFault>
     requires { IsReady (seen_by engine.old medium.old) }
-    ensures told { IfOk result (λ told. (store : Store) × IsOpen (seen_by engine.new medium.new) store × TellsStatus (journal_on medium.new) (honest_on medium.new) store told) }
+    ensures reported { IfOk result (λ told. (store : Store) × IsOpen (seen_by engine.new medium.new) store × TellsStatus (journal_on medium.new) (honest_on medium.new) store told) }
     ensures holds { (volume : ℕ) (S : State) → IsTrue (honest_on medium.new) → HoldsState volume S (seen_by engine.old medium.old) → HoldsState volume S (seen_by engine.new medium.new) }
     ensures journal { journal_on medium.new ≡ journal_on medium.old }
     ensures writes { writes_on medium.new ≡ writes_on medium.old }

@@ -2,7 +2,7 @@
 
 ghost use Rattle.std.specs.Prelude.{◌≡◌, ◌≤◌, ℕ, take, IsTrue, IfOk};
 ghost use Rattle.model.specs.Session.{State};
-ghost use Rattle.store.specs.Agrees.{Agrees};
+ghost use Rattle.store.specs.Agrees.{IsStoreOn};
 ghost use Rattle.store.specs.declared.store.Store.{Store as Kept};
 ghost use Rattle.engine.specs.Situation.{IsReady, IsOpen, seen_on};
 ghost use Rattle.engine.specs.Steps.{HoldsState};
@@ -36,8 +36,8 @@ pub(crate) fn status_on<D: Drive>(
     store: &Store,
     drive: &mut D,
 ) -> Result<Status, StoreFault>
-    requires { Agrees (D.journal drive.old) (D.capacity drive.old) store.now }
-    ensures told { IfOk result (TellsStatus (D.journal drive.old) (D.honest drive.new) store.now) }
+    requires { IsStoreOn (D.journal drive.old) (D.capacity drive.old) store.now }
+    ensures reported { IfOk result (TellsStatus (D.journal drive.old) (D.honest drive.new) store.now) }
     ensures journal { D.journal drive.new ≡ D.journal drive.old }
     ensures writes { D.writes drive.new ≡ D.writes drive.old }
     ensures capacity { D.capacity drive.new ≡ D.capacity drive.old }
@@ -92,7 +92,7 @@ pub(crate) fn opened_status<D: Drive>(
     drive: &mut D,
 ) -> Result<Status, StoreFault>
     requires { IsReady (seen_on D.Drive engine.old drive.old) }
-    ensures told { IfOk result (λ told. (kept : Kept) × IsOpen (seen_on D.Drive engine.new drive.new) kept × TellsStatus (D.journal drive.new) (D.honest drive.new) kept told) }
+    ensures reported { IfOk result (λ told. (kept : Kept) × IsOpen (seen_on D.Drive engine.new drive.new) kept × TellsStatus (D.journal drive.new) (D.honest drive.new) kept told) }
     ensures holds { (volume : ℕ) (S : State) → IsTrue (D.honest drive.new) → HoldsState volume S (seen_on D.Drive engine.old drive.old) → HoldsState volume S (seen_on D.Drive engine.new drive.new) }
     ensures journal { D.journal drive.new ≡ D.journal drive.old }
     ensures writes { D.writes drive.new ≡ D.writes drive.old }

@@ -200,7 +200,7 @@ impl Session {
 
     /// The number of the last request of a client that the volume knows, or 0.
     pub fn last_number(&mut self, client: u64) -> Result<u64, Fault>
-        ensures tells { TellsNumber client result self.old self.new }
+        ensures reports { TellsNumber client result self.old self.new }
         ensures asked { Asked self.old self.new }
     {
         if let Err(fault) = self.look() {

@@ -30,7 +30,7 @@ fn identifiers_are_slices(rt: HostRuntime) -> Result<(), Fail> {
     let mut dir = empty(rt.alloc());
     let entry = Entry {
         kind: Kind::File,
-        icb: 2,
+        virtual_address: 2,
         unique: 16,
     };
     dir.entries.insert(Name::read(rt.alloc(), "a")?, entry)?;

@@ -1,7 +1,7 @@
 //! Directories that are laid by the identifiers that are kept of their names.
 
 ghost use Rattle.std.specs.Prelude.{OnOk};
-ghost use Rattle.dir.specs.Fronts.{IsFront};
+ghost use Rattle.dir.specs.Fronts.{IsIdentifierPrefix};
 
 use crate::directories::{empty, numbered};
 use dir::{Dir, Entry, Identifiers, Kind, Lay, MAX_BLOCKS, lay};
@@ -18,8 +18,8 @@ fn add(
     identifiers: &Identifiers,
     number: u32,
 ) -> Result<(), Fail>
-    requires { IsFront identifiers.now dir.old.entries.entries }
-    ensures { OnOk result (IsFront identifiers.now dir.new.entries.entries) }
+    requires { IsIdentifierPrefix identifiers.now dir.old.entries.entries }
+    ensures { OnOk result (IsIdentifierPrefix identifiers.now dir.new.entries.entries) }
 {
     let letters = 3 + number % 97 * 31 % 250;
     let text = numbered(alloc, number as usize, letters as usize)?;
@@ -30,7 +30,7 @@ fn add(
     };
     let entry = Entry {
         kind,
-        icb: number % 0x1000 * 0x0001_0203,
+        virtual_address: number % 0x1000 * 0x0001_0203,
         unique: number,
     };
     let name = Name::read(alloc, text.as_str())?;
@@ -48,8 +48,8 @@ fn add_all(
     first: u32,
     end: u32,
 ) -> Result<(), Fail>
-    requires { IsFront identifiers.now dir.old.entries.entries }
-    ensures { OnOk result (IsFront identifiers.now dir.new.entries.entries) }
+    requires { IsIdentifierPrefix identifiers.now dir.old.entries.entries }
+    ensures { OnOk result (IsIdentifierPrefix identifiers.now dir.new.entries.entries) }
 {
     for number in first..end {
         add(rt, alloc, dir, identifiers, number)?;
@@ -64,7 +64,7 @@ fn check_laid(
     dir: &Dir,
     identifiers: &Identifiers,
 ) -> Result<(), Fail>
-    requires { IsFront identifiers.now dir.now.entries.entries }
+    requires { IsIdentifierPrefix identifiers.now dir.now.entries.entries }
 {
     assert!(rt; dir.entries.len() <= 512);
     for first in [0, 255, MAX_BLOCKS - 100] {

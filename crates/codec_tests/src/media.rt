@@ -51,7 +51,7 @@ pub(crate) fn root_entry(size: u32, first: u32) -> Result<Block, Fail>
     Ok(encode_fe(&entry, 1))
 }
 
-/// The entry of a table, for its block number.
+/// The VAT ICB, for its block number.
 pub(crate) fn entry_of_table(size: u32, first: u32, number: u32) -> Result<Block, Fail>
     requires some { 0 < size }
     requires small { size ≤ 65_536 }
@@ -146,7 +146,7 @@ pub(crate) fn directory(
     for item in items {
         let entry = Entry {
             kind: item.1,
-            icb: item.2,
+            virtual_address: item.2,
             unique: item.3,
         };
         dir.entries.insert(Name::read(alloc, item.0)?, entry)?;

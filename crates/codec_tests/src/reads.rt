@@ -2,11 +2,11 @@
 
 ghost use Rattle.drive.specs.Journal.{held};
 ghost use Rattle.drive.specs.MemDrive.{journal_of};
-ghost use Rattle.recover.specs.Known.{IsKnown};
+ghost use Rattle.recover.specs.ReadCache.{IsKnown};
 
 use crate::media::{chain, created, state_of, volume_after};
 use drive::{Drive, Fault, MemDrive};
-use recover::{Known, PARTITION_START, StoreFault, last, state_sharing};
+use recover::{PARTITION_START, ReadCache, StoreFault, last, state_sharing};
 use std::alloc::Global;
 use std::test::Fail;
 
@@ -14,7 +14,7 @@ use std::test::Fail;
 fn a_failed_read_is_told(rt: HostRuntime) -> Result<(), Fail> {
     let alloc = rt.alloc();
     let mut drive = volume_after(&rt, alloc, &created(&rt, alloc)?)?;
-    // One of the table's entry, two and then all of the front, the table's data, the file set, the root and the file.
+    // One of the VAT ICB, two and then all of the front, the table's data, the file set, the root and the file.
     for read in 1..=265 {
         drive.arm(Fault::Read(read));
         let refused = state_of(alloc, &mut drive, 266)?.err();
@@ -32,7 +32,7 @@ fn a_failed_read_is_told(rt: HostRuntime) -> Result<(), Fail> {
 fn shared_state(
     alloc: Global,
     drive: &mut MemDrive,
-    known: &mut Known,
+    known: &mut ReadCache,
     at: u32,
 ) -> Result<Result<(), StoreFault>, Fail>
     requires { IsKnown (held (journal_of drive.old)) known.old }
@@ -51,7 +51,7 @@ fn shared_state(
 /// How many reads a state takes after another one, found by the first read whose failure is not noticed.
 fn reads_behind(alloc: Global, drive: &mut MemDrive, before: u32, at: u32) -> Result<u64, Fail> {
     for reads in 0..300u64 {
-        let mut known = Known::new(alloc);
+        let mut known = ReadCache::new(alloc);
         let _ = shared_state(alloc, drive, &mut known, before)?;
         drive.arm(Fault::Read(reads + 1));
         match shared_state(alloc, drive, &mut known, at)? {
@@ -67,7 +67,7 @@ fn reads_behind(alloc: Global, drive: &mut MemDrive, before: u32, at: u32) -> Re
 fn what_two_states_share_is_read_once(rt: HostRuntime) -> Result<(), Fail> {
     let alloc = rt.alloc();
     let mut drive = chain(&rt, alloc, 2)?;
-    // The table's entry, its data and the file set.
+    // The VAT ICB, its data and the file set.
     assert!(rt; reads_behind(alloc, &mut drive, 268, 266)? == 3);
     // Beside these the root that they do not share, its entry and its data.
     assert!(rt; reads_behind(alloc, &mut drive, 266, 261)? == 5);

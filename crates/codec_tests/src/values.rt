@@ -1,6 +1,6 @@
 //! Numbers and fields at their places, and the replies that are kept.
 
-use ecma::{Field, LongAd, stands_at, u16_at, u32_at, u64_at, write_fields};
+use ecma::{Field, LongAd, are_fields_at, u16_at, u32_at, u64_at, write_fields};
 use vat::{Replies, Reply};
 
 /// The fields of a parent's identifier after its tag, which are written over the front of what is there.
@@ -25,8 +25,8 @@ fn fields_stand_where_they_are_written(rt: HostRuntime) {
     let written = write_fields(&fields, &mut bytes[16..]);
     assert!(rt; written == 24);
     assert!(rt; bytes[15] == 0xFF && bytes[40] == 0xFF && bytes[41] == 0xFF);
-    assert!(rt; stands_at(&fields, &bytes, 16));
-    assert!(rt; !stands_at(&fields, &bytes, 17));
+    assert!(rt; are_fields_at(&fields, &bytes, 16));
+    assert!(rt; !are_fields_at(&fields, &bytes, 17));
     assert!(rt; u16_at(&bytes, 18) == 0x000A);
     assert!(rt; u32_at(&bytes, 20) == 2048);
     assert!(rt; u64_at(&bytes, 16) == 0x0800_000A_0001);

@@ -1,9 +1,9 @@
--- The words behind a command's name are those of the command.
+-- The words after a command's name are those of the command.
 use Rattle.std.proofs.Common.{◌≡◌, ℕ, List, [], ◌∷◌, Option, Some, None, ap, subst, sym, ◌∙◌, arith, get_or, drop, codes}
 use Rattle.std.specs.Prelude.{IfSome, IfNone}
 use Rattle.command_line.specs.declared.command.Command.{Command}
 use Rattle.command_line.specs.declared.command.Command.TheVariants.{Format, Apply, List as Listing, Get, Log, Check, Send}
-use Rattle.command_line.specs.Number.{Says}
+use Rattle.command_line.specs.Number.{IsNumeralOf}
 use Rattle.command_line.specs.Commands.{Asks, AsksFormat, AsksApply, IsCapacity}
 
 -- the first byte of the first word
@@ -61,14 +61,14 @@ apply_only words rest (Some command) e h = tt
 
 -- a capacity that can not be read is none of a format
 pub no_format : (words : List (List ℕ)) (word : List ℕ) (read : Option Command) → get_or words 3 [] ≡ word
-    → ((n : ℕ) → Says word n → IsCapacity n → ⊥) → IfNone read ((command : Command) → AsksFormat words command → ⊥)
+    → ((n : ℕ) → IsNumeralOf word n → IsCapacity n → ⊥) → IfNone read ((command : Command) → AsksFormat words command → ⊥)
 no_format words word (Some command) e h = tt
 no_format words word None e h = λ command asks. unread command asks
   where
     unread : (command : Command) → AsksFormat words command → ⊥
     unread (Format image label moment capacity) asks =
         let second : word ≡ asks.1 = sym e ∙ ap (λ (l : List (List ℕ)). get_or l 3 []) asks.2 in
-        h capacity (subst (λ (x : List ℕ). Says x capacity) (sym second) asks.5) asks.6
+        h capacity (subst (λ (x : List ℕ). IsNumeralOf x capacity) (sym second) asks.5) asks.6
     unread (Apply medium) asks = asks
     unread (Listing image path) asks = asks
     unread (Get image path) asks = asks

@@ -1,7 +1,7 @@
 -- The words of each command of `udfburn`.
 use Rattle.std.specs.Prelude.{◌≡◌, ℕ, ◌≤◌, ◌<◌, List, [], ◌∷◌, ◌++◌, codes}
 use Rattle.limits.specs.declared.TheConstants.{LEAST_CAPACITY, GREATEST_CAPACITY, MOMENT_LIMIT}
-use Rattle.command_line.specs.Number.{Says}
+use Rattle.command_line.specs.Number.{IsNumeralOf}
 use Rattle.command_line.specs.declared.command.Command.{Command}
 use Rattle.command_line.specs.declared.command.Command.TheVariants.{Format, Apply, List as Listing, Get, Log, Check, Send}
 use Rattle.command_line.specs.declared.command.Storage.{Storage}
@@ -14,9 +14,9 @@ IsCapacity n = (LEAST_CAPACITY ≤ n) × (n ≤ GREATEST_CAPACITY)
 -- `IMAGE`, or `mem:` and a capacity
 abbrev pub Names : List ℕ → Storage → Type 0
 Names word (Image path) = (word ≡ path.now) × ((rest : List ℕ) → word ≡ codes "mem:" ++ rest → ⊥)
-Names word (Memory capacity) = (digits : List ℕ) × (word ≡ codes "mem:" ++ digits) × Says digits capacity × IsCapacity capacity
+Names word (Memory capacity) = (digits : List ℕ) × (word ≡ codes "mem:" ++ digits) × IsNumeralOf digits capacity × IsCapacity capacity
 
--- what stands behind `apply`
+-- what stands after `apply`
 abbrev pub AsksApply : List (List ℕ) → Command → Type 0
 AsksApply words (Format image label moment capacity) = ⊥
 AsksApply words (Apply medium) = (word : List ℕ) × (words ≡ word ∷ []) × Names word medium
@@ -26,10 +26,10 @@ AsksApply words (Log image) = ⊥
 AsksApply words (Check image) = ⊥
 AsksApply words (Send socket) = ⊥
 
--- what stands behind `format`
+-- what stands after `format`
 abbrev pub AsksFormat : List (List ℕ) → Command → Type 0
 AsksFormat words (Format image label moment capacity) = (first second : List ℕ) × (words ≡ image.now ∷ label.now ∷ first ∷ second ∷ [])
-    × Says first moment × (moment < MOMENT_LIMIT) × Says second capacity × IsCapacity capacity
+    × IsNumeralOf first moment × (moment < MOMENT_LIMIT) × IsNumeralOf second capacity × IsCapacity capacity
 AsksFormat words (Apply medium) = ⊥
 AsksFormat words (Listing image path) = ⊥
 AsksFormat words (Get image path) = ⊥

@@ -7,13 +7,13 @@ use Rattle.clap.specs.declared.error.kind.ErrorKind.TheVariants.{OutOfMemory}
 use Rattle.command_line.specs.declared.daemon.DaemonWords.{DaemonWords}
 use Rattle.command_line.specs.declared.daemon.WordsFault.{WordsFault}
 use Rattle.command_line.specs.declared.daemon.WordsFault.TheVariants.{Usage, Memory}
-use Rattle.command_line.specs.Number.{Says}
+use Rattle.command_line.specs.Number.{IsNumeralOf}
 
 -- a word that has to be there, by its place
 abbrev pub wanted : List ℕ → Rule
 wanted id = record (new_rule id) { required = true; action = Some Set }
 
--- an option with a word behind it
+-- an option with a word after it
 abbrev pub option_of : List ℕ → Rule
 option_of id = record (new_rule id) { long = Some id; action = Some Set }
 
@@ -30,7 +30,7 @@ abbrev pub IsCount : Option (List ℕ) → Option ℕ → Type 0
 IsCount None None = ⊤
 IsCount None (Some number) = ⊥
 IsCount (Some word) None = ⊥
-IsCount (Some word) (Some number) = Says word number × (number ≤ 1000000)
+IsCount (Some word) (Some number) = IsNumeralOf word number × (number ≤ 1000000)
 
 -- the words, of which the first is the program's name
 pub record AsksDaemon (words : List (List ℕ)) (asked : DaemonWords) : Type 0 where
@@ -39,7 +39,7 @@ pub record AsksDaemon (words : List (List ℕ)) (asked : DaemonWords) : Type 0 w
   pub socket : first_of (codes "SOCKET") (matches_of daemon_app words) ≡ Some asked.socket.now
   pub connections : IsCount (first_of (codes "connections") (matches_of daemon_app words)) asked.connections
 
--- want of memory is told as such
+-- lack of memory is told as such
 abbrev pub fault_for : ErrorKind → WordsFault
 fault_for OutOfMemory = Memory
 fault_for _ = Usage

@@ -1,7 +1,7 @@
 //! The words of `udfburn`.
 
 ghost use Rattle.std.specs.Prelude.{◌≡◌, ◌≤◌, ℕ, List, [], ◌∷◌, map, length, Some, IfSome, IfNone};
-ghost use Rattle.command_line.specs.Number.{Says};
+ghost use Rattle.command_line.specs.Number.{IsNumeralOf};
 ghost use Rattle.command_line.specs.Commands.{Asks, AsksApply, AsksFormat, IsCapacity};
 
 use crate::number::read_number;
@@ -148,8 +148,8 @@ fn read_apply<'w>(words: &[&'w str]) -> Option<Command<'w>>
 
 /// A capacity in blocks.
 fn read_capacity(word: &str) -> Option<u32>
-    ensures some { IfSome result (λ n. Says word.now n × IsCapacity n) }
-    ensures only { (n : ℕ) → Says word.now n → IsCapacity n → result ≡ Some n }
+    ensures some { IfSome result (λ n. IsNumeralOf word.now n × IsCapacity n) }
+    ensures only { (n : ℕ) → IsNumeralOf word.now n → IsCapacity n → result ≡ Some n }
 {
     let capacity = read_number(word, GREATEST_CAPACITY)?;
     if capacity < LEAST_CAPACITY {

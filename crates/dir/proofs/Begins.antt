@@ -8,13 +8,13 @@ use Rattle.ecma.specs.Numbers.{u16_at}
 use Rattle.dir.specs.declared.entry.Entry.{Entry}
 use Rattle.dir.specs.Directory.{identifiers, IsDirectory, BlocksBegin}
 use Rattle.dir.specs.Identifier.{Identifier, plain_size, identifier}
-use Rattle.dir.specs.Layout.{stays, laid, onward, blocks_of, Stands, end_of}
+use Rattle.dir.specs.Layout.{stays, laid, onward, block_count, FitsInBlock, identifier_end}
 use Rattle.dir.specs.Split.{FitsIdentifier}
 use Rattle.dir.proofs.Spelled.{length-identifier, tag-identifier}
 use Rattle.dir.proofs.Placing.{plain_bounds, laid-nil, laid-put, onward-full, onward-within, stands_within, stands_next}
 use Rattle.dir.proofs.Refusals.{all_Fit}
 
--- two bytes behind a front
+-- two bytes after a front
 behind_front : (front behind : List ℕ) (i : ℕ) → length front ≤ i → u16_at i (front ++ behind) ≡ u16_at (i - length front) behind
 behind_front front behind i past =
     let next : i + 1 - length front ≡ i - length front + 1 = omega arith in
@@ -25,7 +25,7 @@ behind_front front behind i past =
     )
 
 -- an identifier that may be put ends within the block
-end_between : (at : ℕ) (x : Identifier) (xs : List Identifier) → at + plain_size (length x.name) ≤ 2048 → (at + plain_size (length x.name) ≤ end_of at x xs) × (end_of at x xs ≤ 2048)
+end_between : (at : ℕ) (x : Identifier) (xs : List Identifier) → at + plain_size (length x.name) ≤ 2048 → (at + plain_size (length x.name) ≤ identifier_end at x xs) × (identifier_end at x xs ≤ 2048)
 end_between at x xs room = by (stays xs (2048 - (at + plain_size (length x.name))))
   where
     by : (b : Bool)
@@ -34,14 +34,14 @@ end_between at x xs room = by (stays xs (2048 - (at + plain_size (length x.name)
     by false = (room, omega arith)
 
 -- of identifiers that are laid from a place of a block on, one begins at each block's start within their bytes
-laid_begins : (xs : List Identifier) (number at i : ℕ) (behind : List ℕ) → All FitsIdentifier xs → at < 2048 → Stands at xs → (at + i) % 2048 ≡ 0 → i < length (laid number at xs)
+laid_begins : (xs : List Identifier) (number at i : ℕ) (behind : List ℕ) → All FitsIdentifier xs → at < 2048 → FitsInBlock at xs → (at + i) % 2048 ≡ 0 → i < length (laid number at xs)
     → u16_at i (laid number at xs ++ behind) ≡ 257
 laid_begins [] number at i behind fit inside stood start within = absurd (omega (arith, ap length (laid-nil number at)))
 laid_begins (x ∷ xs) number at i behind fit inside stood start within =
     let room = stands_within at x xs (fit 0 x (omega arith)).name (omega arith) stood in
     let bounds = end_between at x xs room in
     let plain = plain_bounds (length x.name) in
-    let end : ℕ = end_of at x xs in
+    let end : ℕ = identifier_end at x xs in
     let more : ℕ = end - (at + plain_size (length x.name)) in
     let one : List ℕ = identifier number x more in
     let size : length one ≡ end - at = omega (arith, bounds.0, length-identifier number more x) in
@@ -68,7 +68,7 @@ laid_begins (x ∷ xs) number at i behind fit inside stood start within =
           ]
     ]
 
--- ---- blocks, one behind the other
+-- ---- blocks, one after the other
 
 joined_length : (blocks : List (List ℕ)) → All (λ block. length block ≡ 2048) blocks → length (concat blocks) ≡ 2048 * length blocks
 joined_length [] sized = refl
@@ -90,11 +90,11 @@ module _ (parent first size : ℕ) (entries : List (List ℕ × Entry)) (blocks 
   ids = identifiers parent entries
 
   abbrev zeros : List ℕ
-  zeros = replicate (2048 * blocks_of size - size) 0
+  zeros = replicate (2048 * block_count size - size) 0
 
-  count : length blocks ≡ blocks_of size
+  count : length blocks ≡ block_count size
   count =
-      omega (arith, joined_length blocks sized, ap length is.bytes, length-append (laid first 0 ids) zeros, length-replicate {A = ℕ} (2048 * blocks_of size - size) 0, is.size_is)
+      omega (arith, joined_length blocks sized, ap length is.bytes, length-append (laid first 0 ids) zeros, length-replicate {A = ℕ} (2048 * block_count size - size) 0, is.size_is)
 
   begins : All (λ block. u16_at 0 block ≡ 257) blocks
   begins k d lt =

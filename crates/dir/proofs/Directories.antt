@@ -7,8 +7,8 @@ use Rattle.std.proofs.lemmas.Bool.Decides.{nat_tests}
 use Rattle.std.proofs.lemmas.List.{get_or-drop, get_or_at, length-append, length-drop}
 use Rattle.dir.specs.declared.fids.Fids.{Fids}
 use Rattle.dir.specs.Identifier.{Identifier, rounded}
-use Rattle.dir.specs.Layout.{laid, onward, Stands}
-use Rattle.dir.specs.Reads.{AreShort, Reads}
+use Rattle.dir.specs.Layout.{laid, onward, FitsInBlock}
+use Rattle.dir.specs.Reads.{IsFirstNameShort, ReadsIdentifier}
 use Rattle.dir.specs.Split.{AreBytes, FitsIdentifier, size_of, use_size, name_size}
 use Rattle.dir.proofs.Placing.{fits_cases, laid-nil}
 use Rattle.dir.proofs.Steps.{read_stands, laid_found}
@@ -18,14 +18,14 @@ pub record Continues (first : ℕ) (done : List Identifier) (fids : Fids) (xs : 
   pub more : List Identifier
   pub split : xs ≡ done ++ more
   pub there : fids.«data».now ≡ laid (first + fids.index) fids.at more
-  pub stood : Stands fids.at more
+  pub stood : FitsInBlock fids.at more
 
--- the identifiers that are done were read from the front of the data, and what is left begins behind them
+-- the identifiers that are done were read from the front of the data, and what is left begins after them
 pub record IsRead (whole : List ℕ) (first : ℕ) (done : List Identifier) (fids : Fids) : Type 0 where
   pub bytes : AreBytes fids.«data».now
   pub at4 : fids.at % 4 ≡ 0
   pub far : fids.index * 2048 + fids.at + length fids.«data».now ≡ length whole
-  pub sound : (rest : List Identifier) → AreShort rest → fids.«data».now ≡ laid (first + fids.index) fids.at rest → Stands fids.at rest
+  pub sound : (rest : List Identifier) → IsFirstNameShort rest → fids.«data».now ≡ laid (first + fids.index) fids.at rest → FitsInBlock fids.at rest
       → whole ≡ laid first 0 (done ++ rest)
   pub only : (xs : List Identifier) → All FitsIdentifier xs → whole ≡ laid first 0 xs → Continues first done fids xs
 
@@ -60,7 +60,7 @@ whole_next end false e = e
 ended : (at size end : ℕ) → at % 4 ≡ 0 → end ≡ at + rounded size → end % 4 ≡ 0
 ended at size end e is = omega arith
 
-next_laid : (is_first : Bool) (first : ℕ) (old new : Fids) (x : Identifier) → Reads is_first first old new x → (xs : List Identifier)
+next_laid : (is_first : Bool) (first : ℕ) (old new : Fids) (x : Identifier) → ReadsIdentifier is_first first old new x → (xs : List Identifier)
     → laid (first + new.index) new.at xs ≡ onward (first + old.index) (old.at + size_of old.«data».now) xs
 next_laid is_first first old new x r xs =
     let end = old.at + size_of old.«data».now in
@@ -82,15 +82,15 @@ pub rest_of_all : {X : Type 0} (P : X → Type 0) (a : List X) (x y : X) (b : Li
 rest_of_all P a x y b all =
     first_of_all P (a ++ x ∷ []) y b (subst (λ (t : List _). All P t) (sym (append_assoc a (x ∷ []) (y ∷ b))) all)
 
--- the identifiers behind one that fits are short
-pub short_behind : (done : List Identifier) (m : Identifier) (ms : List Identifier) → All FitsIdentifier (done ++ (m ∷ ms)) → AreShort ms
+-- the identifiers after one that fits are short
+pub short_behind : (done : List Identifier) (m : Identifier) (ms : List Identifier) → All FitsIdentifier (done ++ (m ∷ ms)) → IsFirstNameShort ms
 short_behind done m ms fit y r e =
     let all : All FitsIdentifier (done ++ (m ∷ y ∷ r)) = subst (λ (t : List Identifier). All FitsIdentifier (done ++ (m ∷ t))) e fit in
     (rest_of_all FitsIdentifier done m y r all).name
 
 -- one identifier more is done
 pub read_more : (is_first : Bool) (whole : List ℕ) (first : ℕ) (done : List Identifier) (old new : Fids) (x : Identifier)
-    → IsRead whole first done old → Reads is_first first old new x → FitsIdentifier x → first + old.index < 2 ^ 32
+    → IsRead whole first done old → ReadsIdentifier is_first first old new x → FitsIdentifier x → first + old.index < 2 ^ 32
     → IsRead whole first (done ++ x ∷ []) new
 read_more is_first whole first done old new x k r f in_range =
     let bytes = old.«data».now in
@@ -113,9 +113,9 @@ read_more is_first whole first done old new x k r f in_range =
       sound = λ rest short there stood.
           let behind = sym r.rest ∙ there ∙ next_laid is_first first old new x r rest in
           let here = read_stands (first + old.index) old.at bytes rest k.bytes inside r.split r.head r.padded short behind
-          (λ (lt : end < 2048). subst (λ (m : ℕ). Stands m rest) (within_next end new.at r.at lt) stood) in
+          (λ (lt : end < 2048). subst (λ (m : ℕ). FitsInBlock m rest) (within_next end new.at r.at lt) stood) in
           let said : bytes ≡ laid (first + old.index) old.at (x ∷ rest) = here.0 ∙ ap (λ (y : Identifier). laid (first + old.index) old.at (y ∷ rest)) (sym r.says) in
-          let stands : Stands old.at (x ∷ rest) = subst (λ (y : Identifier). Stands old.at (y ∷ rest)) (sym r.says) here.1 in
+          let stands : FitsInBlock old.at (x ∷ rest) = subst (λ (y : Identifier). FitsInBlock old.at (y ∷ rest)) (sym r.says) here.1 in
           k.sound (x ∷ rest) (λ y t e. let same : x ≡ y = cc in subst (λ (z : Identifier). length z.name ≤ 255) same f.name) said stands
           ∙ ap (laid first 0) (sym (joined rest));
       only = λ xs fit e.
@@ -135,7 +135,7 @@ read_more is_first whole first done old new x k r f in_range =
         let split : xs ≡ done ++ (m ∷ ms) = before.split ∙ ap (λ (t : List Identifier). done ++ t) e in
         let fit_all : All FitsIdentifier (done ++ (m ∷ ms)) = subst (λ (t : List Identifier). All FitsIdentifier t) split fit in
         let there : bytes ≡ laid (first + old.index) old.at (m ∷ ms) = before.there ∙ ap (laid (first + old.index) old.at) e in
-        let stood : Stands old.at (m ∷ ms) = subst (λ (t : List Identifier). Stands old.at t) e before.stood in
+        let stood : FitsInBlock old.at (m ∷ ms) = subst (λ (t : List Identifier). FitsInBlock old.at t) e before.stood in
         let found = laid_found (first + old.index) old.at bytes m ms k.bytes in_range old.in_block k.at4 (first_of_all FitsIdentifier done m ms fit_all) (short_behind done m ms fit_all) there stood in
         let same : m ≡ x = sym found.says ∙ sym r.says in
         let high : end ≤ 2048 = elim (fits_cases (size_of bytes) (2048 - old.at) r.split.within) [ inl q ↦ omega (arith, old.in_block) | inr q ↦ omega (arith, old.in_block) ] in
@@ -144,7 +144,7 @@ read_more is_first whole first done old new x k r f in_range =
           split = split ∙ ap (λ (y : Identifier). done ++ (y ∷ ms)) same ∙ sym (append_assoc done (x ∷ []) ms);
           there = r.rest ∙ found.behind ∙ sym (next_laid is_first first old new x r ms);
           stood = elim (cases_lt end 2048) [
-            | inl lt ↦ subst (λ (n : ℕ). Stands n ms) (sym (within_next end new.at r.at lt)) (found.next lt)
+            | inl lt ↦ subst (λ (n : ℕ). FitsInBlock n ms) (sym (within_next end new.at r.at lt)) (found.next lt)
             | inr ge ↦ inl (full_next end new.at r.at (omega arith))
           ];
         }

@@ -4,7 +4,7 @@ use Rattle.osta.proofs.Names.{name_few}
 use Rattle.dir.specs.declared.entry.Entry.{Entry}
 use Rattle.dir.specs.declared.entry.Kind.{Kind}
 use Rattle.dir.specs.declared.entry.Kind.TheVariants.{File, Directory}
-use Rattle.dir.specs.Directory.{of_parent, of_name, characteristics_of, IsEntry}
+use Rattle.dir.specs.Directory.{of_parent, of_name, characteristics_of, IsDirectoryEntry}
 use Rattle.dir.specs.Identifier.{Identifier}
 use Rattle.dir.specs.Kinds.{IsKind}
 use Rattle.dir.specs.Reads.{IsInPlace}
@@ -22,8 +22,8 @@ name_in_place text e = apart e.kind
     apart File same = omega arith
     apart Directory same = omega arith
 
-pub name_Fits : (text : List ℕ) (e : Entry) → IsEntry (text, e) → FitsIdentifier (of_name text e)
-name_Fits text e entry = record { name = name_few text entry.name; kind = kind_of_name e.kind; icb = entry.icb; unique = entry.unique }
+pub name_Fits : (text : List ℕ) (e : Entry) → IsDirectoryEntry (text, e) → FitsIdentifier (of_name text e)
+name_Fits text e entry = record { name = name_few text entry.name; kind = kind_of_name e.kind; icb = entry.virtual_address; unique = entry.unique }
 
 pub parent_in_place : (icb : ℕ) → IsInPlace true (of_parent icb)
 parent_in_place icb = (refl, refl, refl)

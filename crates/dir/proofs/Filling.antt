@@ -12,7 +12,7 @@ use Rattle.dir.specs.declared.item.Item.{Item}
 use Rattle.dir.specs.declared.laying.Lay.{Lay}
 use Rattle.dir.specs.Identifier.{Identifier, plain_size, identifier}
 use Rattle.dir.specs.Directory.{identifiers, identifiers_of, of_name}
-use Rattle.dir.specs.Layout.{fits, stays, laid, onward, blocks_of, blocked, identifier_blocks, Stands, end_of}
+use Rattle.dir.specs.Layout.{fits, stays, laid, onward, block_count, blocked, identifier_blocks, FitsInBlock, identifier_end}
 use Rattle.dir.specs.Item.{said}
 use Rattle.dir.specs.Laying.{identifiers_left, left_of, IsFilled, IsFilledTo}
 use Rattle.ecma.specs.Numbers.{u16_at}
@@ -51,24 +51,24 @@ length-identifiers parent entries = omega (arith, length-map entries (λ (e : Li
 
 -- no identifiers take no blocks
 pub no_blocks : (number : ℕ) → identifier_blocks number [] ≡ []
-no_blocks number = ap (λ (t : List ℕ). blocked (blocks_of (length t)) t) (laid-nil number 0)
+no_blocks number = ap (λ (t : List ℕ). blocked (block_count (length t)) t) (laid-nil number 0)
 
-full_block : (block bytes : List ℕ) → length block ≡ 2048 → blocked (blocks_of (length (block ++ bytes))) (block ++ bytes) ≡ block ∷ blocked (blocks_of (length bytes)) bytes
+full_block : (block bytes : List ℕ) → length block ≡ 2048 → blocked (block_count (length (block ++ bytes))) (block ++ bytes) ≡ block ∷ blocked (block_count (length bytes)) bytes
 full_block block bytes len =
-    let count : blocks_of (length (block ++ bytes)) ≡ suc (blocks_of (length bytes)) = omega (arith, length-append block bytes) in
+    let count : block_count (length (block ++ bytes)) ≡ suc (block_count (length bytes)) = omega (arith, length-append block bytes) in
     let head : take 2048 (block ++ bytes) ≡ block = take_at block bytes 2048 len in
     let tail : drop 2048 (block ++ bytes) ≡ bytes = drop_at block bytes 2048 len in
     let whole : padded block ≡ block = ap (λ (n : ℕ). block ++ replicate (2048 - n) 0) len ∙ append-nil block in
     ap (λ (n : ℕ). blocked n (block ++ bytes)) count
-    ∙ ap (λ (b : List ℕ). padded b ∷ blocked (blocks_of (length bytes)) (drop 2048 (block ++ bytes))) head
-    ∙ ap (λ (t : List ℕ). padded block ∷ blocked (blocks_of (length bytes)) t) tail
-    ∙ ap (λ (b : List ℕ). b ∷ blocked (blocks_of (length bytes)) bytes) whole
+    ∙ ap (λ (b : List ℕ). padded b ∷ blocked (block_count (length bytes)) (drop 2048 (block ++ bytes))) head
+    ∙ ap (λ (t : List ℕ). padded block ∷ blocked (block_count (length bytes)) t) tail
+    ∙ ap (λ (b : List ℕ). b ∷ blocked (block_count (length bytes)) bytes) whole
 
 last_block : (at : ℕ) (block : List ℕ) → length block ≡ 2048 → 0 < at → at ≤ 2048 → drop at block ≡ replicate (2048 - at) 0
-    → blocked (blocks_of (length (take at block))) (take at block) ≡ block ∷ []
+    → blocked (block_count (length (take at block))) (take at block) ≡ block ∷ []
 last_block at block len some few zeros =
     let size : length (take at block) ≡ at = omega (arith, length-take at block) in
-    let count : blocks_of (length (take at block)) ≡ suc 0 = omega arith in
+    let count : block_count (length (take at block)) ≡ suc 0 = omega arith in
     let all : take 2048 (take at block) ≡ take at block = take_all 2048 (take at block) (omega arith) in
     let whole : padded (take at block) ≡ block =
     ap (λ (n : ℕ). take at block ++ replicate (2048 - n) 0) size ∙ ap (λ (z : List ℕ). take at block ++ z) (sym zeros) ∙ take-append-drop at block in
@@ -84,11 +84,11 @@ laid_block number at xs rest block e zeros len few some over =
           let front : take at block ≡ block = take_all at block (omega arith) in
           let whole : laid number 0 xs ≡ block ++ laid (number + 1) 0 rest =
           e ∙ ap (λ (t : List ℕ). t ++ onward number at rest) front ∙ ap (λ (t : List ℕ). block ++ t) (onward-full number at rest full) in
-          ap (λ (t : List ℕ). blocked (blocks_of (length t)) t) whole ∙ full_block block (laid (number + 1) 0 rest) len
+          ap (λ (t : List ℕ). blocked (block_count (length t)) t) whole ∙ full_block block (laid (number + 1) 0 rest) len
       | inr none ↦
           let whole : laid number 0 xs ≡ take at block =
           e ∙ ap (λ (t : List ℕ). take at block ++ t) (ap (onward number at) none ∙ onward-nil number at) ∙ append-nil (take at block) in
-          ap (λ (t : List ℕ). blocked (blocks_of (length t)) t) whole ∙ last_block at block len some few zeros
+          ap (λ (t : List ℕ). blocked (block_count (length t)) t) whole ∙ last_block at block len some few zeros
           ∙ ap (λ (t : List (List ℕ)). block ∷ t) (sym (ap (identifier_blocks (number + 1)) none ∙ no_blocks (number + 1)))
     ]
 
@@ -119,12 +119,12 @@ pub said_within : (o : Option Item) (xs : List Identifier) (n : ℕ) → option_
 said_within None xs n e is = absurd (cc)
 said_within (Some i) xs n e is = some_within xs n (said i) (sym e)
 
--- and none is behind the last
+-- and none is after the last
 pub said_past : (o : Option Item) (xs : List Identifier) (n : ℕ) → option_map said o ≡ slice_get xs n → is_some o ≡ false → slice_get xs n ≡ None
 said_past None xs n e is = sym e
 said_past (Some i) xs n e is = absurd (cc)
 
--- the identifier of a name stands behind the parent's
+-- the identifier of a name stands after the parent's
 pub identifier_at : (parent : ℕ) (entries : List (List ℕ × Entry)) (index : ℕ) (text : List ℕ) (e : Entry) → Some (text, e) ≡ slice_get entries index
     → slice_get (identifiers parent entries) (index + 1) ≡ Some (of_name text e)
 identifier_at parent entries index text e there =
@@ -158,7 +158,7 @@ begun start here at block over some =
 
 -- where an identifier that was put ends
 pub put_end : (at end behind : ℕ) (x : Identifier) (rest : List Identifier) (full : Bool) → end ≡ at + plain_size (length x.name)
-    → full ≡ not (stays rest (2048 - end)) → behind ≡ (if full then 2048 else end) → behind ≡ end_of at x rest
+    → full ≡ not (stays rest (2048 - end)) → behind ≡ (if full then 2048 else end) → behind ≡ identifier_end at x rest
 put_end at end behind x rest full end-is full-is behind-is =
     behind-is ∙ ap (λ (b : Bool). if b then 2048 else end) (full-is ∙ ap (λ (n : ℕ). not (stays rest (2048 - n))) end-is)
     ∙ turned (stays rest (2048 - (at + plain_size (length x.name))))
@@ -191,7 +191,7 @@ filled_front start dir next number at block written f same len =
 -- one identifier more is put
 pub filled_more : (start : Lay) (dir : Bor Dir) (before next number at end : ℕ) (block written : List ℕ) (x : Identifier) → IsFilledTo start dir before number at block → at < 2048
     → slice_get (identifiers_of dir.now) before ≡ Some x → length x.name ≤ 255 → next ≡ before + 1
-    → end ≡ end_of at x (left_of dir.now next) → end ≤ 2048 → at + plain_size (length x.name) ≤ end
+    → end ≡ identifier_end at x (left_of dir.now next) → end ≤ 2048 → at + plain_size (length x.name) ≤ end
     → written ≡ take at block ++ (identifier number x (end - (at + plain_size (length x.name))) ++ drop end block)
     → length written ≡ 2048 → IsFilledTo start dir next number end written
 filled_more start dir before next number at end block written x f inside there short next_more end-is few onwards put len =
@@ -203,7 +203,7 @@ filled_more start dir before next number at end block written x f inside there s
     let next_is : next ≡ suc before = omega arith in
     let same : rest ≡ drop (suc before) ids = ap (λ (n : ℕ). drop n ids) next_is in
     let left : left_of dir.now before ≡ x ∷ rest = drop_some ids before x there ∙ ap (λ (t : List Identifier). x ∷ t) (sym same) in
-    let stood : Stands at (x ∷ rest) = subst (λ (t : List Identifier). Stands at t) left (f.stood inside) in
+    let stood : FitsInBlock at (x ∷ rest) = subst (λ (t : List Identifier). FitsInBlock at t) left (f.stood inside) in
     let room = stands_within at x rest short (omega arith) stood in
     let sized : length block ≡ 2048 = f.size in
     let at_size : length (take at block) ≡ at = omega (arith, length-take at block) in
@@ -225,7 +225,7 @@ filled_more start dir before next number at end block written x f inside there s
           let start_is : at ≡ 0 = omega arith in
           ap (u16_at 0) (put ∙ ap (λ (n : ℕ). take n block ++ (one ++ drop end block)) start_is) ∙ tag-identifier number more x (drop end block)
     ] in
-    let end_more : end_of at x rest - (at + plain_size (length x.name)) ≡ more = omega arith in
+    let end_more : identifier_end at x rest - (at + plain_size (length x.name)) ≡ more = omega arith in
     record {
       within = few;
       dir_is = f.dir_is;
@@ -237,11 +237,11 @@ filled_more start dir before next number at end block written x f inside there s
       filled =
           f.filled ∙ ap (λ (t : List ℕ). take at block ++ t) (ap (onward start.number at) left ∙ onward-within start.number at (x ∷ rest) inside
           ∙ laid-put start.number at x rest room
-          ∙ ap (λ (m : ℕ). identifier start.number x m ++ onward start.number (end_of at x rest) rest) end_more
-          ∙ ap (λ (n : ℕ). identifier n x more ++ onward start.number (end_of at x rest) rest) (sym f.number_is)
+          ∙ ap (λ (m : ℕ). identifier start.number x m ++ onward start.number (identifier_end at x rest) rest) end_more
+          ∙ ap (λ (n : ℕ). identifier n x more ++ onward start.number (identifier_end at x rest) rest) (sym f.number_is)
           ∙ ap (λ (n : ℕ). one ++ onward start.number n rest) (sym end-is))
           ∙ sym (append_assoc (take at block) one (onward start.number end rest)) ∙ ap (λ (t : List ℕ). t ++ onward start.number end rest) (sym front);
-      stood = λ (lt : end < 2048). subst (λ (n : ℕ). Stands n rest) (sym end-is) (stands_next at x rest (omega arith));
+      stood = λ (lt : end < 2048). subst (λ (n : ℕ). FitsInBlock n rest) (sym end-is) (stands_next at x rest (omega arith));
       size = len;
     }
 
@@ -249,12 +249,12 @@ filled_more start dir before next number at end block written x f inside there s
 pub filled_put : (start here new : Lay) (at end : ℕ) (block written : List ℕ) (x : Identifier) → IsFilled start here at block → at < 2048
     → slice_get (identifiers_of here.dir.now) here.next ≡ Some x → length x.name ≤ 255
     → new.dir ≡ here.dir → new.next ≡ here.next + 1 → new.number ≡ here.number
-    → end ≡ end_of at x (identifiers_left new) → end ≤ 2048 → at + plain_size (length x.name) ≤ end
+    → end ≡ identifier_end at x (identifiers_left new) → end ≤ 2048 → at + plain_size (length x.name) ≤ end
     → written ≡ take at block ++ (identifier here.number x (end - (at + plain_size (length x.name))) ++ drop end block)
     → length written ≡ 2048 → IsFilled start new end written
 filled_put start here new at end block written x f inside there short dir next number end-is few onwards put len =
     let filled = filled_more start here.dir here.next new.next here.number at end block written x f inside there short next
-    (end-is ∙ ap (λ (d : Bor Dir). end_of at x (left_of d.now new.next)) dir) few onwards put len in
+    (end-is ∙ ap (λ (d : Bor Dir). identifier_end at x (left_of d.now new.next)) dir) few onwards put len in
     subst (λ (d : Bor Dir). IsFilledTo start d new.next new.number end written) (sym dir)
     (subst (λ (n : ℕ). IsFilledTo start here.dir new.next n end written) (sym number) filled)
 

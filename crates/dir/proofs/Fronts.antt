@@ -18,10 +18,10 @@ use Rattle.osta.proofs.Names.{name_few}
 use Rattle.ecma.proofs.Writing.{flat_map_more}
 use Rattle.dir.specs.declared.entry.Entry.{Entry}
 use Rattle.dir.specs.declared.kept.Identifiers.{Identifiers}
-use Rattle.dir.specs.Directory.{identifiers, of_name, is_directory, directory_count, IsEntry}
+use Rattle.dir.specs.Directory.{identifiers, of_name, is_directory, directory_count, IsDirectoryEntry}
 use Rattle.dir.specs.Identifier.{Identifier, plain_size}
-use Rattle.dir.specs.Fronts.{plain, named, AreLeft, CanBeSaid, IsFront}
-use Rattle.dir.specs.Size.{End, end_of, next_end, data_end, name_sizes, plain_sizes}
+use Rattle.dir.specs.Fronts.{plain, named, AreLeft, IsEntryInRange, IsIdentifierPrefix}
+use Rattle.dir.specs.Size.{End, end_of_data, next_end, data_end, name_sizes, plain_sizes}
 use Rattle.dir.proofs.Filling.{drop_some}
 use Rattle.dir.proofs.Sized.{end_more, full_more}
 use Rattle.dir.proofs.Spelled.{length-identifier}
@@ -45,7 +45,7 @@ pub size_more : (entries : List (List ℕ × Entry)) (i : ℕ) (e : List ℕ × 
 size_more entries i e x found says =
     omega (arith, ap length (named_more entries i e x found says), length-append (flat_map plain (take i (named entries))) (plain x), length-identifier 0 0 x)
 
--- what holds of a front of items holds of one more
+-- what holds of a prefix of items holds of one more
 pub all_more : {X : Type 0} (P : X → Type 0) (xs : List X) (i : ℕ) (x : X) → slice_get xs i ≡ Some x → P x → All P (take i xs) → All P (take (i + 1) xs)
 all_more P xs i x found is all = All-more P xs i x (slice_get_within xs i x found) all (subst P (sym (get_or_from_slice_get xs i x x found)) is)
 
@@ -111,7 +111,7 @@ directories_without es i m n e found next less few =
 -- ---- fronts
 
 -- not more of them are of directories than there are
-pub front_directories : (entries : List (List ℕ × Entry)) (ids : Identifiers) → IsFront ids entries → ids.directories ≤ ids.count
+pub front_directories : (entries : List (List ℕ × Entry)) (ids : Identifiers) → IsIdentifierPrefix ids entries → ids.directories ≤ ids.count
 front_directories entries ids front =
     omega (
       arith,
@@ -122,15 +122,15 @@ front_directories entries ids front =
     )
 
 -- one identifier more is kept
-pub front_more : (entries : List (List ℕ × Entry)) (ids new : Identifiers) (e : List ℕ × Entry) → IsFront ids entries → slice_get entries ids.count ≡ Some e → IsEntry e
-    → new.bytes.items ≡ ids.bytes.items ++ plain (of_name e.0 e.1) → new.count ≡ ids.count + 1 → end_of new.size ≡ next_end (end_of ids.size) (length (compressed e.0))
-    → new.directories ≡ ids.directories + (if is_directory e.1.kind then 1 else 0) → IsFront new entries
+pub front_more : (entries : List (List ℕ × Entry)) (ids new : Identifiers) (e : List ℕ × Entry) → IsIdentifierPrefix ids entries → slice_get entries ids.count ≡ Some e → IsDirectoryEntry e
+    → new.bytes.items ≡ ids.bytes.items ++ plain (of_name e.0 e.1) → new.count ≡ ids.count + 1 → end_of_data new.size ≡ next_end (end_of_data ids.size) (length (compressed e.0))
+    → new.directories ≡ ids.directories + (if is_directory e.1.kind then 1 else 0) → IsIdentifierPrefix new entries
 front_more entries ids new e front found is bytes count size directories =
     let within = slice_get_within entries ids.count e found in
-    let full = full_more (end_of ids.size) (name_sizes entries) ids.count (length (compressed e.0)) (name_few e.0 is.name) front.size front.full in
+    let full = full_more (end_of_data ids.size) (name_sizes entries) ids.count (length (compressed e.0)) (name_few e.0 is.name) front.size front.full in
     record {
       few = omega arith;
-      proper = subst (λ (n : ℕ). All CanBeSaid (take n entries)) (sym count) (all_more CanBeSaid entries ids.count e found ∣ is ∣₁ front.proper);
+      proper = subst (λ (n : ℕ). All IsEntryInRange (take n entries)) (sym count) (all_more IsEntryInRange entries ids.count e found ∣ is ∣₁ front.proper);
       bytes =
           bytes ∙ ap (λ (t : List ℕ). t ++ plain (of_name e.0 e.1)) front.bytes ∙ sym (named_more entries ids.count e (of_name e.0 e.1) found refl)
           ∙ ap (λ (n : ℕ). flat_map plain (take n (named entries))) (sym count);
@@ -141,8 +141,8 @@ front_more entries ids new e front found is bytes count size directories =
       directories = omega (arith, directories, front.directories, directories_more entries ids.count e found, ap (λ (n : ℕ). directory_count (take n entries)) count);
     }
 
--- a front of names is one of others that begin with the same
-front_same : (entries others : List (List ℕ × Entry)) (ids : Identifiers) → IsFront ids entries → ids.count ≤ length others → take ids.count entries ≡ take ids.count others → IsFront ids others
+-- a prefix of names is one of others that begin with the same
+front_same : (entries others : List (List ℕ × Entry)) (ids : Identifiers) → IsIdentifierPrefix ids entries → ids.count ≤ length others → take ids.count entries ≡ take ids.count others → IsIdentifierPrefix ids others
 front_same entries others ids front few same =
     let n = ids.count in
     let id = λ (e : List ℕ × Entry). of_name e.0 e.1 in
@@ -151,23 +151,23 @@ front_same entries others ids front few same =
     let sizes : take n (name_sizes entries) ≡ take n (name_sizes others) = take-map size n entries ∙ ap (map size) same ∙ sym (take-map size n others) in
     record {
       few = few;
-      proper = subst (λ (es : List (List ℕ × Entry)). All CanBeSaid es) same front.proper;
+      proper = subst (λ (es : List (List ℕ × Entry)). All IsEntryInRange es) same front.proper;
       bytes = front.bytes ∙ ap (flat_map plain) names;
       size = front.size ∙ ap data_end sizes;
       full = front.full;
       directories = front.directories ∙ ap directory_count same;
     }
 
--- a front stays one where a name behind it is taken away
-pub front_before : (entries : List (List ℕ × Entry)) (ids : Identifiers) (i : ℕ) → IsFront ids entries → ids.count ≤ i → i < length entries → IsFront ids (remove entries i)
+-- a front stays one where a name after it is taken away
+pub front_before : (entries : List (List ℕ × Entry)) (ids : Identifiers) (i : ℕ) → IsIdentifierPrefix ids entries → ids.count ≤ i → i < length entries → IsIdentifierPrefix ids (remove entries i)
 front_before entries ids i front before within =
     let front_long = length-take i entries in
     let rest_long = length-drop (suc i) entries in
     let same = take-append-le ids.count (take i entries) (drop (suc i) entries) (omega arith) ∙ take-take ids.count i entries before in
     front_same entries (remove entries i) ids front (omega (arith, length-append (take i entries) (drop (suc i) entries))) (sym same)
 
--- its bytes before and behind one of its names
-front_split : (entries : List (List ℕ × Entry)) (ids : Identifiers) (k : ℕ) → IsFront ids entries → k ≤ ids.count
+-- its bytes before and after one of its names
+front_split : (entries : List (List ℕ × Entry)) (ids : Identifiers) (k : ℕ) → IsIdentifierPrefix ids entries → k ≤ ids.count
     → ids.bytes.items ≡ flat_map plain (take k (named entries)) ++ flat_map plain (drop k (take ids.count (named entries)))
 front_split entries ids k front low =
     let n = named entries in
@@ -175,7 +175,7 @@ front_split entries ids k front low =
     front.bytes ∙ ap (flat_map plain) (sym (take-append-drop k t) ∙ ap (λ (x : List Identifier). x ++ drop k t) (take-take k ids.count n low))
     ∙ flat_map-append plain (take k n) (drop k t)
 
-pub front_within : (entries : List (List ℕ × Entry)) (ids : Identifiers) (i : ℕ) → IsFront ids entries → i < ids.count
+pub front_within : (entries : List (List ℕ × Entry)) (ids : Identifiers) (i : ℕ) → IsIdentifierPrefix ids entries → i < ids.count
     → length (flat_map plain (take (i + 1) (named entries))) ≤ length ids.bytes.items
 front_within entries ids i front kept =
     let n = named entries in
@@ -189,11 +189,11 @@ named_without entries i =
     ∙ ap (λ (t : List Identifier). take i (named entries) ++ t) (sym (drop-map f (suc i) entries))
 
 -- and where one of it is, the bytes of whose identifier are taken away
-pub front_without : (entries : List (List ℕ × Entry)) (ids new : Identifiers) (i start end : ℕ) (e : List ℕ × Entry) → IsFront ids entries → i < ids.count → slice_get entries i ≡ Some e
+pub front_without : (entries : List (List ℕ × Entry)) (ids new : Identifiers) (i start end : ℕ) (e : List ℕ × Entry) → IsIdentifierPrefix ids entries → i < ids.count → slice_get entries i ≡ Some e
     → start ≡ length (flat_map plain (take i (named entries))) → end ≡ length (flat_map plain (take (i + 1) (named entries)))
     → new.bytes.items ≡ take start ids.bytes.items ++ drop end ids.bytes.items → new.count + 1 ≡ ids.count
-    → end_of new.size ≡ data_end (take new.count (name_sizes (remove entries i))) → (end_of new.size).full ≤ new.count - 1
-    → new.directories + (if is_directory e.1.kind then 1 else 0) ≡ ids.directories → IsFront new (remove entries i)
+    → end_of_data new.size ≡ data_end (take new.count (name_sizes (remove entries i))) → (end_of_data new.size).full ≤ new.count - 1
+    → new.directories + (if is_directory e.1.kind then 1 else 0) ≡ ids.directories → IsIdentifierPrefix new (remove entries i)
 front_without entries ids new i start end e front kept found starts ends bytes count size full directories =
     let n = named entries in
     let t = take ids.count n in
@@ -208,7 +208,7 @@ front_without entries ids new i start end e front kept found starts ends bytes c
     let left = front_removed entries i new.count ids.count count kept front.few in
     record {
       few = omega (arith, front.few, length-append (take i entries) (drop (suc i) entries), length-take i entries, length-drop (suc i) entries);
-      proper = subst (λ (es : List (List ℕ × Entry)). All CanBeSaid es) (sym left) (All-append CanBeSaid (take i entries) (drop (suc i) (take ids.count entries)) first (All-drop CanBeSaid (suc i) (take ids.count entries) front.proper));
+      proper = subst (λ (es : List (List ℕ × Entry)). All IsEntryInRange es) (sym left) (All-append IsEntryInRange (take i entries) (drop (suc i) (take ids.count entries)) first (All-drop IsEntryInRange (suc i) (take ids.count entries) front.proper));
       bytes =
           bytes ∙ ap (λ (b : List ℕ). b ++ drop end ids.bytes.items) before ∙ ap (λ (b : List ℕ). flat_map plain (take i n) ++ b) behind
           ∙ sym (flat_map-append plain (take i n) (drop (suc i) t)) ∙ ap (flat_map plain) (sym names);
@@ -217,35 +217,35 @@ front_without entries ids new i start end e front kept found starts ends bytes c
       directories = omega (arith, directories, front.directories, directories_without entries i new.count ids.count e found count kept front.few);
     }
   where
-    first : All CanBeSaid (take i entries)
-    first = subst (λ (es : List (List ℕ × Entry)). All CanBeSaid es) (take-take i ids.count entries (omega arith)) (All-take CanBeSaid i (take ids.count entries) front.proper)
+    first : All IsEntryInRange (take i entries)
+    first = subst (λ (es : List (List ℕ × Entry)). All IsEntryInRange es) (take-take i ids.count entries (omega arith)) (All-take IsEntryInRange i (take ids.count entries) front.proper)
 
 -- one of a front's names is of a directory, where it is
-pub front_directory : (entries : List (List ℕ × Entry)) (ids : Identifiers) (i : ℕ) (e : List ℕ × Entry) → IsFront ids entries → i < ids.count → slice_get entries i ≡ Some e
+pub front_directory : (entries : List (List ℕ × Entry)) (ids : Identifiers) (i : ℕ) (e : List ℕ × Entry) → IsIdentifierPrefix ids entries → i < ids.count → slice_get entries i ≡ Some e
     → (if is_directory e.1.kind then 1 else 0) ≤ ids.directories
 front_directory entries ids i e front kept found = omega (arith, front.directories, directories_without entries i (ids.count - 1) ids.count e found (omega arith) kept front.few)
 
--- a front stays one where names come behind the others
-pub front_longer : (entries more : List (List ℕ × Entry)) (ids : Identifiers) → IsFront ids entries → IsFront ids (entries ++ more)
+-- a front stays one where names come after the others
+pub front_longer : (entries more : List (List ℕ × Entry)) (ids : Identifiers) → IsIdentifierPrefix ids entries → IsIdentifierPrefix ids (entries ++ more)
 front_longer entries more ids front =
     front_same entries (entries ++ more) ids front (omega (arith, front.few, length-append entries more)) (sym (take-append-le ids.count entries more front.few))
 
--- ---- a front of all names
+-- ---- a prefix of all names
 
-entry_had : (e : List ℕ × Entry) → CanBeSaid e → IsEntry e
+entry_had : (e : List ℕ × Entry) → IsEntryInRange e → IsDirectoryEntry e
 entry_had e said = record {
   name = record {
-    utf8 = IsUtf8-had e.0 (∥∥₁_map said (λ (is : IsEntry e). is.name.utf8));
-    faultless = ∥∥₁_elim said (hlevel props) (λ (is : IsEntry e). is.name.faultless);
+    utf8 = IsUtf8-had e.0 (∥∥₁_map said (λ (is : IsDirectoryEntry e). is.name.utf8));
+    faultless = ∥∥₁_elim said (hlevel props) (λ (is : IsDirectoryEntry e). is.name.faultless);
   };
-  icb = ∥∥₁_elim said le_prop (λ (is : IsEntry e). is.icb);
-  unique = ∥∥₁_elim said le_prop (λ (is : IsEntry e). is.unique);
+  icb = ∥∥₁_elim said le_prop (λ (is : IsDirectoryEntry e). is.icb);
+  unique = ∥∥₁_elim said le_prop (λ (is : IsDirectoryEntry e). is.unique);
 }
 
-pub front_proper : (entries : List (List ℕ × Entry)) (ids : Identifiers) → IsFront ids entries → ids.count ≡ length entries → All IsEntry entries
-front_proper entries ids front all k d lt = entry_had _ (subst (λ (es : List (List ℕ × Entry)). All CanBeSaid es) (take_all ids.count entries (omega arith)) front.proper k d lt)
+pub front_proper : (entries : List (List ℕ × Entry)) (ids : Identifiers) → IsIdentifierPrefix ids entries → ids.count ≡ length entries → All IsDirectoryEntry entries
+front_proper entries ids front all k d lt = entry_had _ (subst (λ (es : List (List ℕ × Entry)). All IsEntryInRange es) (take_all ids.count entries (omega arith)) front.proper k d lt)
 
-pub front_short : (entries : List (List ℕ × Entry)) (ids : Identifiers) → IsFront ids entries → All (λ (e : List ℕ × Entry). length (compressed e.0) ≤ 255) (take ids.count entries)
+pub front_short : (entries : List (List ℕ × Entry)) (ids : Identifiers) → IsIdentifierPrefix ids entries → All (λ (e : List ℕ × Entry). length (compressed e.0) ≤ 255) (take ids.count entries)
 front_short entries ids front k d lt = name_few _ (entry_had _ (front.proper k d lt)).name
 
 length-named : (entries : List (List ℕ × Entry)) → length (flat_map plain (named entries)) ≡ plain_sizes (name_sizes entries)
@@ -253,7 +253,7 @@ length-named [] = refl
 length-named (e ∷ es) = omega (arith, length-append (plain (of_name e.0 e.1)) (flat_map plain (named es)), length-identifier 0 0 (of_name e.0 e.1), length-named es)
 
 -- its bytes are those of unlengthened identifiers
-pub front_size : (entries : List (List ℕ × Entry)) (ids : Identifiers) → IsFront ids entries → ids.count ≡ length entries → length ids.bytes.items ≡ plain_sizes (name_sizes entries)
+pub front_size : (entries : List (List ℕ × Entry)) (ids : Identifiers) → IsIdentifierPrefix ids entries → ids.count ≡ length entries → length ids.bytes.items ≡ plain_sizes (name_sizes entries)
 front_size entries ids front all =
     let many = length-map entries (λ (e : List ℕ × Entry). of_name e.0 e.1) in
     ap length front.bytes ∙ ap (λ (xs : List Identifier). length (flat_map plain xs)) (take_all ids.count (named entries) (omega arith)) ∙ length-named entries
@@ -263,7 +263,7 @@ front_size entries ids front all =
 behind_next : (next : ℕ) → next + 1 - 1 ≡ next
 behind_next next = omega arith
 
--- no identifier that is kept is passed by the parent's, and behind those that are kept
+-- no identifier that is kept is passed by the parent's, and after those that are kept
 pub left_unknown : (known next : ℕ) (entries : List (List ℕ × Entry)) (bytes : List ℕ) → (next ≡ 0) ⊎ (known < next) → AreLeft known next entries bytes → AreLeft known (next + 1) entries bytes
 left_unknown known next entries bytes over left =
     let rest = take known (named entries) in
@@ -296,7 +296,7 @@ left_within x rest bytes size is left = omega (arith, ap length left, length-app
 pub left_taken : (x : Identifier) (rest bytes : List ℕ) (size : ℕ) → size ≡ plain_size (length x.name) → bytes ≡ plain x ++ rest → take size bytes ≡ plain x
 left_taken x rest bytes size is left = ap (take size) left ∙ take_at (plain x) rest size (omega (arith, length-identifier 0 0 x))
 
--- and goes on behind it
+-- and goes on after it
 pub left_behind : (known next : ℕ) (entries : List (List ℕ × Entry)) (x : Identifier) (bytes : List ℕ) (size : ℕ) → size ≡ plain_size (length x.name)
     → bytes ≡ plain x ++ flat_map plain (drop next (take known (named entries))) → AreLeft known (next + 1) entries (drop size bytes)
 left_behind known next entries x bytes size is left =

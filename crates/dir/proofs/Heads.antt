@@ -6,7 +6,7 @@ use Rattle.ecma.specs.Field.{IsAt}
 use Rattle.ecma.specs.Numbers.{u32_at}
 use Rattle.ecma.proofs.InBytes.{both_at, front_at, back_at}
 use Rattle.ecma.proofs.Pieces.{IsBytes, u8_stands, u16_stands, u32_stands}
-use Rattle.dir.specs.Split.{HasFields, name_size, use_size}
+use Rattle.dir.specs.Split.{HasIdentifierFields, name_size, use_size}
 
 -- those that are the same in each identifier
 pub record AreConstants (bytes : List ℕ) : Type 0 where
@@ -38,7 +38,7 @@ abbrev from_kind : List ℕ → List ℕ
 from_kind bytes = (slice_index bytes 18 ∷ name_size bytes ∷ []) ++ from_size bytes
 
 -- the others say what they say
-pub fields_stand : (bytes : List ℕ) → IsBytes bytes → 38 ≤ length bytes → AreConstants bytes → HasFields bytes
+pub fields_stand : (bytes : List ℕ) → IsBytes bytes → 38 ≤ length bytes → AreConstants bytes → HasIdentifierFields bytes
 fields_stand bytes are long same =
     let used = both_at 36 38 (to_le_bytes w16 (use_size bytes)) [] bytes refl (u16_stands 36 bytes (use_size bytes) are (omega arith) refl) refl in
     let unique = both_at 32 36 (to_le_bytes w32 (u32_at 32 bytes)) (from_use bytes) bytes refl (u32_stands 32 bytes (u32_at 32 bytes) are (omega arith) refl) used in
@@ -50,7 +50,7 @@ fields_stand bytes are long same =
     let kind = both_at 18 19 (slice_index bytes 18 ∷ []) (name_size bytes ∷ from_size bytes) bytes refl (u8_stands 18 bytes (slice_index bytes 18) (omega arith) refl) name in
     both_at 16 18 (to_le_bytes w16 1) (from_kind bytes) bytes refl same.version kind
 
-pub fields_apart : (bytes : List ℕ) → HasFields bytes → AreConstants bytes
+pub fields_apart : (bytes : List ℕ) → HasIdentifierFields bytes → AreConstants bytes
 fields_apart bytes has =
     let kind = back_at 16 18 (to_le_bytes w16 1) (from_kind bytes) bytes refl has in
     let size = back_at 18 20 (slice_index bytes 18 ∷ name_size bytes ∷ []) (from_size bytes) bytes refl kind in

@@ -10,9 +10,9 @@ use Rattle.std.proofs.lemmas.List.{append-nil, nil_from_length, get_or-drop, tak
 use Rattle.dir.specs.declared.entry.Entry.{Entry}
 use Rattle.dir.specs.declared.entry.Kind.{Kind}
 use Rattle.dir.specs.declared.entry.Kind.TheVariants.{File, Directory}
-use Rattle.dir.specs.Directory.{of_parent, characteristics_of, identifiers, IsEntry, IsDirectory}
+use Rattle.dir.specs.Directory.{of_parent, characteristics_of, identifiers, IsDirectoryEntry, IsDirectory}
 use Rattle.dir.specs.Identifier.{Identifier, rounded}
-use Rattle.dir.specs.Layout.{laid, blocks_of, blocked, identifier_blocks, Stands}
+use Rattle.dir.specs.Layout.{laid, block_count, blocked, identifier_blocks, FitsInBlock}
 use Rattle.dir.specs.Split.{AreBytes, FitsIdentifier, size_of, use_size, name_size}
 use Rattle.dir.proofs.Placing.{fits_cases, laid-nil, length-laid, stands_within, onward-full, onward-within}
 use Rattle.dir.proofs.Refusals.{of_entry, all_Fit, one_name, directory_data}
@@ -24,7 +24,7 @@ tail_of P x xs all k d lt = all (suc k) d (omega arith)
 short_tail : (x : Identifier) (xs : List Identifier) → All FitsIdentifier (x ∷ xs) → (y : Identifier) (r : List Identifier) → xs ≡ y ∷ r → length y.name ≤ 255
 short_tail x xs fit y r e = (subst (λ (t : List Identifier). All FitsIdentifier (x ∷ t)) e fit 1 y (omega arith)).name
 
-some_laid : (number at : ℕ) (x : Identifier) (xs : List Identifier) (s : List ℕ) → at < 2048 → FitsIdentifier x → Stands at (x ∷ xs)
+some_laid : (number at : ℕ) (x : Identifier) (xs : List Identifier) (s : List ℕ) → at < 2048 → FitsIdentifier x → FitsInBlock at (x ∷ xs)
     → s ≡ laid number at (x ∷ xs) → s ≡ [] → ⊥
 some_laid number at x xs s inside f stood there none =
     let room = stands_within at x xs f.name (omega arith) stood in
@@ -32,7 +32,7 @@ some_laid number at x xs s inside f stood there none =
 
 -- bytes are laid in one way
 laid_once : (xs ys : List Identifier) (number at : ℕ) (s : List ℕ) → AreBytes s → number + length xs < 2 ^ 32 → at < 2048 → at % 4 ≡ 0
-    → All FitsIdentifier xs → All FitsIdentifier ys → s ≡ laid number at xs → s ≡ laid number at ys → Stands at xs → Stands at ys → xs ≡ ys
+    → All FitsIdentifier xs → All FitsIdentifier ys → s ≡ laid number at xs → s ≡ laid number at ys → FitsInBlock at xs → FitsInBlock at ys → xs ≡ ys
 laid_once [] [] number at s all low inside at4 fx fy ex ey sx sy = refl
 laid_once [] (y ∷ ys) number at s all low inside at4 fx fy ex ey sx sy =
     absurd (some_laid number at y ys s inside (fy 0 y (omega arith)) sy ey (ex ∙ laid-nil number at))
@@ -71,14 +71,14 @@ same_entry a b k i u =
     let P : Kind → ℕ → ℕ → Entry = λ x y z. record { kind = x; icb = y; unique = z } in
     ap (λ (x : Kind). P x a.icb a.unique) k ∙ ap (λ (y : ℕ). P b.kind y a.unique) i ∙ ap (λ (z : ℕ). P b.kind b.icb z) u
 
-one_entry : (a b : List ℕ × Entry) → IsEntry a → IsEntry b → of_entry a ≡ of_entry b → a ≡ b
+one_entry : (a b : List ℕ × Entry) → IsDirectoryEntry a → IsDirectoryEntry b → of_entry a ≡ of_entry b → a ≡ b
 one_entry a b x y e =
     let text : a.0 ≡ b.0 = one_name a.0 b.0 x.name y.name (ap (λ (z : Identifier). z.name) e) in
     let entry : a.1 ≡ b.1 =
     same_entry a.1 b.1 (one_kind a.1.kind b.1.kind (ap (λ (z : Identifier). z.characteristics) e)) (ap (λ (z : Identifier). z.icb) e) (ap (λ (z : Identifier). z.unique) e) in
     ap (λ (t : List ℕ). (t, a.1)) text ∙ ap (λ (z : Entry). (b.0, z)) entry
 
-one_list : (es fs : List (List ℕ × Entry)) → All IsEntry es → All IsEntry fs → map of_entry es ≡ map of_entry fs → es ≡ fs
+one_list : (es fs : List (List ℕ × Entry)) → All IsDirectoryEntry es → All IsDirectoryEntry fs → map of_entry es ≡ map of_entry fs → es ≡ fs
 one_list [] [] x y e = refl
 one_list [] (f ∷ fs) x y e = absurd (cc)
 one_list (e ∷ es) [] x y q = absurd (cc)
@@ -86,7 +86,7 @@ one_list (e ∷ es) (f ∷ fs) x y q =
     let head : of_entry e ≡ of_entry f = cc in
     let tail : map of_entry es ≡ map of_entry fs = cc in
     let first : e ≡ f = one_entry e f (x 0 e (omega arith)) (y 0 f (omega arith)) head in
-    let rest : es ≡ fs = one_list es fs (tail_of IsEntry e es x) (tail_of IsEntry f fs y) tail in
+    let rest : es ≡ fs = one_list es fs (tail_of IsDirectoryEntry e es x) (tail_of IsDirectoryEntry f fs y) tail in
     cc
 
 -- blocks are the data of one directory
@@ -139,7 +139,7 @@ concat_blocked (suc count) bytes few =
     ]
 
 -- a directory's blocks are its data
-pub laid_directory : (parent first : ℕ) (entries : List (List ℕ × Entry)) → parent < 2 ^ 32 → length entries ≤ 512 → All IsEntry entries
+pub laid_directory : (parent first : ℕ) (entries : List (List ℕ × Entry)) → parent < 2 ^ 32 → length entries ≤ 512 → All IsDirectoryEntry entries
     → IsDistinct (pointwise nat_eq) (keys_of entries)
     → IsDirectory parent entries first (length (laid first 0 (identifiers parent entries))) (identifier_blocks first (identifiers parent entries))
 laid_directory parent first entries low few all apart =
@@ -150,5 +150,5 @@ laid_directory parent first entries low few all apart =
       named = all;
       distinct = apart;
       size_is = refl;
-      bytes = concat_blocked (blocks_of (length bytes)) bytes (omega arith);
+      bytes = concat_blocked (block_count (length bytes)) bytes (omega arith);
     }

@@ -5,7 +5,7 @@ use Rattle.std.proofs.lemmas.Bool.{eq-eqb}
 use Rattle.std.proofs.lemmas.Bool.Decides.{nat_tests}
 use Rattle.std.proofs.lemmas.List.{length-append}
 use Rattle.dir.specs.Identifier.{Identifier, plain_size, identifier}
-use Rattle.dir.specs.Layout.{fits, stays, laid, onward, Stands, end_of}
+use Rattle.dir.specs.Layout.{fits, stays, laid, onward, FitsInBlock, identifier_end}
 use Rattle.dir.specs.Split.{name_size}
 use Rattle.dir.proofs.Spelled.{length-identifier, name_size-identifier}
 
@@ -24,7 +24,7 @@ fits_none size some = grind (arith, nat_tests)
 pub plain_bounds : (len : ℕ) → (38 + len ≤ plain_size len) × (plain_size len ≤ 41 + len) × (plain_size len % 4 ≡ 0)
 plain_bounds len = (omega arith, omega arith, omega arith)
 
--- the next identifier is put behind the first
+-- the next identifier is put after the first
 pub laid-stays : (number at : ℕ) (x : Identifier) (rest : List Identifier) → stays rest (2048 - (at + plain_size (length x.name))) ≡ true
     → laid number at (x ∷ rest) ≡ identifier number x 0 ++ laid number (at + plain_size (length x.name)) rest
 unfolding laid
@@ -58,9 +58,9 @@ onward-within number at xs lt =
     let e : (at == 2048) ≡ false = grind (arith, nat_tests) in
     ap (λ (b : Bool). if b then laid (number + 1) 0 xs else laid number at xs) e
 
--- one identifier, and what comes behind it
+-- one identifier, and what comes after it
 pub laid-put : (number at : ℕ) (x : Identifier) (rest : List Identifier) → at + plain_size (length x.name) ≤ 2048
-    → laid number at (x ∷ rest) ≡ identifier number x (end_of at x rest - (at + plain_size (length x.name))) ++ onward number (end_of at x rest) rest
+    → laid number at (x ∷ rest) ≡ identifier number x (identifier_end at x rest - (at + plain_size (length x.name))) ++ onward number (identifier_end at x rest) rest
 laid-put number at x [] room =
     let end = at + plain_size (length x.name) in
     let none : end - end ≡ 0 = omega arith in
@@ -72,10 +72,10 @@ laid-put number at x (y ∷ rest) room =
     by (stays (y ∷ rest) left) refl
   where
     by : (b : Bool) → stays (y ∷ rest) (2048 - (at + plain_size (length x.name))) ≡ b
-        → laid number at (x ∷ y ∷ rest) ≡ identifier number x (end_of at x (y ∷ rest) - (at + plain_size (length x.name))) ++ onward number (end_of at x (y ∷ rest)) (y ∷ rest)
+        → laid number at (x ∷ y ∷ rest) ≡ identifier number x (identifier_end at x (y ∷ rest) - (at + plain_size (length x.name))) ++ onward number (identifier_end at x (y ∷ rest)) (y ∷ rest)
     by true e =
         let end = at + plain_size (length x.name) in
-        let end_is : end_of at x (y ∷ rest) ≡ end = ap (λ (b : Bool). if b then end else 2048) e in
+        let end_is : identifier_end at x (y ∷ rest) ≡ end = ap (λ (b : Bool). if b then end else 2048) e in
         let bounds = plain_bounds (length y.name) in
         let inside : end < 2048 = elim (fits_cases (plain_size (length y.name)) (2048 - end) e) [ inl same ↦ omega arith | inr less ↦ omega arith ] in
         let none : end - end ≡ 0 = omega arith in
@@ -85,13 +85,13 @@ laid-put number at x (y ∷ rest) room =
         ∙ ap (λ (n : ℕ). identifier number x (n - end) ++ onward number n (y ∷ rest)) (sym end_is)
     by false e =
         let end = at + plain_size (length x.name) in
-        let end_is : end_of at x (y ∷ rest) ≡ 2048 = ap (λ (b : Bool). if b then end else 2048) e in
+        let end_is : identifier_end at x (y ∷ rest) ≡ 2048 = ap (λ (b : Bool). if b then end else 2048) e in
         laid-leaves number at x (y ∷ rest) e
         ∙ ap (λ (r : List ℕ). identifier number x (2048 - end) ++ r) (sym (onward-full number 2048 (y ∷ rest) refl))
         ∙ ap (λ (n : ℕ). identifier number x (n - end) ++ onward number n (y ∷ rest)) (sym end_is)
 
 -- the first identifier of a block, or one that may be put, ends within the block
-pub stands_within : (at : ℕ) (x : Identifier) (rest : List Identifier) → length x.name ≤ 255 → at ≤ 2048 → Stands at (x ∷ rest) → at + plain_size (length x.name) ≤ 2048
+pub stands_within : (at : ℕ) (x : Identifier) (rest : List Identifier) → length x.name ≤ 255 → at ≤ 2048 → FitsInBlock at (x ∷ rest) → at + plain_size (length x.name) ≤ 2048
 stands_within at x rest short inside stood =
     let bounds = plain_bounds (length x.name) in
     elim stood [
@@ -100,17 +100,17 @@ stands_within at x rest short inside stood =
     ]
 
 -- and there the next one stands, or begins a block
-pub stands_next : (at : ℕ) (x : Identifier) (rest : List Identifier) → end_of at x rest < 2048 → Stands (end_of at x rest) rest
+pub stands_next : (at : ℕ) (x : Identifier) (rest : List Identifier) → identifier_end at x rest < 2048 → FitsInBlock (identifier_end at x rest) rest
 stands_next at x rest inside = by (stays rest (2048 - (at + plain_size (length x.name)))) refl
   where
-    by : (b : Bool) → stays rest (2048 - (at + plain_size (length x.name))) ≡ b → Stands (end_of at x rest) rest
+    by : (b : Bool) → stays rest (2048 - (at + plain_size (length x.name))) ≡ b → FitsInBlock (identifier_end at x rest) rest
     by true e =
         let end = at + plain_size (length x.name) in
-        let end_is : end_of at x rest ≡ end = ap (λ (b : Bool). if b then end else 2048) e in
+        let end_is : identifier_end at x rest ≡ end = ap (λ (b : Bool). if b then end else 2048) e in
         inr (ap (λ (n : ℕ). stays rest (2048 - n)) end_is ∙ e)
     by false e =
         let end = at + plain_size (length x.name) in
-        let end_is : end_of at x rest ≡ 2048 = ap (λ (b : Bool). if b then end else 2048) e in
+        let end_is : identifier_end at x rest ≡ 2048 = ap (λ (b : Bool). if b then end else 2048) e in
         absurd (omega arith)
 
 -- the length of the first name stands in the bytes
@@ -118,16 +118,16 @@ pub name_size-laid : (number at : ℕ) (x : Identifier) (rest : List Identifier)
     → name_size (laid number at (x ∷ rest)) ≡ length x.name
 name_size-laid number at x rest room =
     ap name_size (laid-put number at x rest room)
-    ∙ name_size-identifier number (end_of at x rest - (at + plain_size (length x.name))) x (onward number (end_of at x rest) rest)
+    ∙ name_size-identifier number (identifier_end at x rest - (at + plain_size (length x.name))) x (onward number (identifier_end at x rest) rest)
 
 pub length-laid : (number at : ℕ) (x : Identifier) (rest : List Identifier) → at + plain_size (length x.name) ≤ 2048
     → 40 ≤ length (laid number at (x ∷ rest))
 length-laid number at x rest room =
-    let more = end_of at x rest - (at + plain_size (length x.name)) in
+    let more = identifier_end at x rest - (at + plain_size (length x.name)) in
     let bounds = plain_bounds (length x.name) in
     omega (
       arith,
       ap length (laid-put number at x rest room),
-      length-append (identifier number x more) (onward number (end_of at x rest) rest),
+      length-append (identifier number x more) (onward number (identifier_end at x rest) rest),
       length-identifier number more x,
     )

@@ -7,7 +7,7 @@ use Rattle.ecma.specs.Tag.{Sealed}
 use Rattle.ecma.proofs.Pieces.{IsBytes, cut}
 use Rattle.dir.specs.Identifier.{Identifier, rounded, plain_size, use_of, head_of, body_of, identifier}
 use Rattle.dir.specs.Kinds.{IsKind}
-use Rattle.dir.specs.Split.{name_size, use_size, size_of, said_by, HasHead, IsPadded, FitsIdentifier}
+use Rattle.dir.specs.Split.{name_size, use_size, size_of, identifier_in, HasHead, IsPadded, FitsIdentifier}
 use Rattle.ecma.proofs.Seals.{is_sealed}
 use Rattle.dir.proofs.Spelled.{identifier_is, length-use_of, length-body_of, name_size-identifier, use_size-identifier, kind-identifier, icb-identifier, unique-identifier, head-identifier, tail-identifier}
 
@@ -21,18 +21,18 @@ size_whole bytes whole = rounded_more (use_size bytes) (name_size bytes) whole
     rounded_more : (u l : ℕ) → u % 4 ≡ 0 → rounded (38 + u + l) ≡ plain_size l + u
     rounded_more u l e = omega arith
 
-pub length-said_by : (bytes : List ℕ) → size_of bytes ≡ length bytes → length (said_by bytes).name ≡ name_size bytes
+pub length-said_by : (bytes : List ℕ) → size_of bytes ≡ length bytes → length (identifier_in bytes).name ≡ name_size bytes
 length-said_by bytes whole =
     let u = use_size bytes in
     length-take-le (name_size bytes) (drop (38 + u) bytes) (omega (arith, length-drop (38 + u) bytes))
 
 -- bytes that pass the tests are an identifier
 pub identifier_read : (number at : ℕ) (bytes behind : List ℕ) → IsBytes bytes → HasHead number bytes → size_of bytes ≡ length bytes
-    → IsPadded at bytes behind → bytes ≡ identifier number (said_by bytes) (use_size bytes)
+    → IsPadded at bytes behind → bytes ≡ identifier number (identifier_in bytes) (use_size bytes)
 identifier_read number at bytes behind fits h whole p =
     let u = use_size bytes in
     let l = name_size bytes in
-    let name = (said_by bytes).name in
+    let name = (identifier_in bytes).name in
     let u4 = use_whole at bytes behind p in
     let size = size_whole bytes u4 in
     let count : length bytes - (38 + u + l) ≡ plain_size l - (38 + l) = omega arith in
@@ -45,10 +45,10 @@ identifier_read number at bytes behind fits h whole p =
     ∙ ap (λ (t : List ℕ). use_of u ++ t) (drop-drop u 38 bytes ∙ names) in
     let body : drop 16 bytes ≡ head_of (slice_index bytes 18) l (u32_at 24 bytes) (u32_at 32 bytes) u ++ (use_of u ++ (name ++ pad)) =
     cut 16 38 (head_of (slice_index bytes 18) l (u32_at 24 bytes) (u32_at 32 bytes) u) bytes _ refl h.fields uses in
-    let same : head_of (slice_index bytes 18) l (u32_at 24 bytes) (u32_at 32 bytes) u ++ (use_of u ++ (name ++ pad)) ≡ body_of (said_by bytes) u =
+    let same : head_of (slice_index bytes 18) l (u32_at 24 bytes) (u32_at 32 bytes) u ++ (use_of u ++ (name ++ pad)) ≡ body_of (identifier_in bytes) u =
     ap (λ (n : ℕ). head_of (slice_index bytes 18) n (u32_at 24 bytes) (u32_at 32 bytes) u ++ (use_of u ++ (name ++ replicate (plain_size n - (38 + n)) 0)))
     (sym (length-said_by bytes whole)) in
-    identifier_is number u (said_by bytes) bytes _ fits h.«sealed» body same
+    identifier_is number u (identifier_in bytes) bytes _ fits h.«sealed» body same
 
 -- what says the same is the same
 pub same_said : (x : Identifier) (name : List ℕ) (kind icb unique : ℕ) → name ≡ x.name → kind ≡ x.characteristics → icb ≡ x.icb → unique ≡ x.unique
@@ -83,7 +83,7 @@ name-identifier number more x rest =
 
 -- the bytes of an identifier say what it says, and pass the tests
 pub said_by-identifier : (number more : ℕ) (x : Identifier) (bytes : List ℕ) → FitsIdentifier x → more < 2 ^ 15
-    → bytes ≡ identifier number x more → said_by bytes ≡ x
+    → bytes ≡ identifier number x more → identifier_in bytes ≡ x
 said_by-identifier number more x bytes f few e =
     let b : bytes ≡ identifier number x more ++ [] = e ∙ sym (append-nil (identifier number x more)) in
     let l : name_size bytes ≡ length x.name = ap name_size b ∙ name_size-identifier number more x [] in

@@ -13,10 +13,10 @@ use Rattle.osta.proofs.Names.{name_spelled}
 use Rattle.osta.proofs.Texts.{one_text}
 use Rattle.dir.specs.declared.entry.Entry.{Entry}
 use Rattle.dir.specs.declared.fids.Fids.{Fids}
-use Rattle.dir.specs.Directory.{of_parent, of_name, identifiers, IsEntry, IsDirectory}
+use Rattle.dir.specs.Directory.{of_parent, of_name, identifiers, IsDirectoryEntry, IsDirectory}
 use Rattle.dir.specs.Identifier.{Identifier}
-use Rattle.dir.specs.Layout.{laid, blocks_of, Stands}
-use Rattle.dir.specs.Reads.{AreShort}
+use Rattle.dir.specs.Layout.{laid, block_count, FitsInBlock}
+use Rattle.dir.specs.Reads.{IsFirstNameShort}
 use Rattle.dir.specs.Split.{FitsIdentifier}
 use Rattle.dir.proofs.Directories.{IsRead, Continues, first_of_all, short_behind}
 use Rattle.dir.proofs.Entries.{name_Fits, parent_Fits}
@@ -34,11 +34,11 @@ pub all_push : {X : Type 0} (P : X → Type 0) (xs : List X) (x : X) → All P x
 all_push P [] x ps p = all_cons P x [] p ps
 all_push P (y ∷ ys) x ps p = all_cons P y (ys ++ x ∷ []) (ps 0 y (omega arith)) (all_push P ys x (λ k d lt. ps (suc k) d (omega arith)) p)
 
-entries_Fit : (es : List (List ℕ × Entry)) → All IsEntry es → All FitsIdentifier (map of_entry es)
+entries_Fit : (es : List (List ℕ × Entry)) → All IsDirectoryEntry es → All FitsIdentifier (map of_entry es)
 entries_Fit [] all = λ k d lt. absurd (omega arith)
 entries_Fit (e ∷ es) all = all_cons FitsIdentifier (of_entry e) (map of_entry es) (name_Fits e.0 e.1 (all 0 e (omega arith))) (entries_Fit es (λ k d lt. all (suc k) d (omega arith)))
 
-pub all_Fit : (parent : ℕ) (es : List (List ℕ × Entry)) → parent < 2 ^ 32 → All IsEntry es → All FitsIdentifier (identifiers parent es)
+pub all_Fit : (parent : ℕ) (es : List (List ℕ × Entry)) → parent < 2 ^ 32 → All IsDirectoryEntry es → All FitsIdentifier (identifiers parent es)
 all_Fit parent es low all = all_cons FitsIdentifier (of_parent parent) (map of_entry es) (parent_Fits parent low) (entries_Fit es all)
 
 -- the entries of which one identifier is that of one
@@ -84,19 +84,19 @@ behind_done p parent es entries done more e =
 pub directory_data : (p : ℕ) (es : List (List ℕ × Entry)) (first size : ℕ) (blocks : List (List ℕ)) → IsDirectory p es first size blocks
     → take size (concat blocks) ≡ laid first 0 (identifiers p es)
 directory_data p es first size blocks d =
-    ap (take size) d.bytes ∙ take_at (laid first 0 (identifiers p es)) (replicate (2048 * blocks_of size - size) 0) size (sym d.size_is)
+    ap (take size) d.bytes ∙ take_at (laid first 0 (identifiers p es)) (replicate (2048 * block_count size - size) 0) size (sym d.size_is)
 
 pub directory_tail : (p : ℕ) (es : List (List ℕ × Entry)) (first size : ℕ) (blocks : List (List ℕ)) → IsDirectory p es first size blocks
-    → drop size (concat blocks) ≡ replicate (2048 * blocks_of size - size) 0
+    → drop size (concat blocks) ≡ replicate (2048 * block_count size - size) 0
 directory_tail p es first size blocks d =
-    ap (drop size) d.bytes ∙ drop_at (laid first 0 (identifiers p es)) (replicate (2048 * blocks_of size - size) 0) size (sym d.size_is)
+    ap (drop size) d.bytes ∙ drop_at (laid first 0 (identifiers p es)) (replicate (2048 * block_count size - size) 0) size (sym d.size_is)
 
 -- data that is not yet read holds a name
 pub name_refused : (whole : List ℕ) (first parent p : ℕ) (entries es : List (List ℕ × Entry)) (fids : Fids)
-    → IsRead whole first (identifiers parent entries) fids → p < 2 ^ 32 → All IsEntry es → whole ≡ laid first 0 (identifiers p es)
+    → IsRead whole first (identifiers parent entries) fids → p < 2 ^ 32 → All IsDirectoryEntry es → whole ≡ laid first 0 (identifiers p es)
     → (length fids.«data».now ≡ 0 → ⊥)
-    → ((text : List ℕ) (e : Entry) (rest : List Identifier) → IsEntry (text, e) → AreShort rest
-    → fids.«data».now ≡ laid (first + fids.index) fids.at (of_name text e ∷ rest) → Stands fids.at (of_name text e ∷ rest) → ⊥) → ⊥
+    → ((text : List ℕ) (e : Entry) (rest : List Identifier) → IsDirectoryEntry (text, e) → IsFirstNameShort rest
+    → fids.«data».now ≡ laid (first + fids.index) fids.at (of_name text e ∷ rest) → FitsInBlock fids.at (of_name text e ∷ rest) → ⊥) → ⊥
 name_refused whole first parent p entries es fids r low all e some refused =
     let k = r.only (identifiers p es) (all_Fit p es low all) e in
     goes k k.more refl
@@ -105,19 +105,19 @@ name_refused whole first parent p entries es fids r low all e some refused =
     goes k [] q = some (ap length (k.there ∙ ap (laid (first + fids.index) fids.at) q ∙ laid-nil (first + fids.index) fids.at))
     goes k (m ∷ ms) q =
         let there = k.there ∙ ap (laid (first + fids.index) fids.at) q in
-        let stood = subst (λ (t : List Identifier). Stands fids.at t) q k.stood in
+        let stood = subst (λ (t : List Identifier). FitsInBlock fids.at t) q k.stood in
         let split : identifiers p es ≡ identifiers parent entries ++ (m ∷ ms) = k.split ∙ ap (λ (t : List Identifier). identifiers parent entries ++ t) q in
         let names : map of_entry es ≡ map of_entry entries ++ (m ∷ ms) = cc in
         let s = split_entries es (map of_entry entries) m ms names in
         let fit : All FitsIdentifier (identifiers parent entries ++ (m ∷ ms)) = subst (λ (t : List Identifier). All FitsIdentifier t) split (all_Fit p es low all) in
-        let item = first_of_all IsEntry s.front s.item s.back (subst (λ (t : List (List ℕ × Entry)). All IsEntry t) s.parts all) in
+        let item = first_of_all IsDirectoryEntry s.front s.item s.back (subst (λ (t : List (List ℕ × Entry)). All IsDirectoryEntry t) s.parts all) in
         refused s.item.0 s.item.1 ms item (short_behind (identifiers parent entries) m ms fit)
         (there ∙ ap (λ (y : Identifier). laid (first + fids.index) fids.at (y ∷ ms)) (sym s.items))
-        (subst (λ (y : Identifier). Stands fids.at (y ∷ ms)) (sym s.items) stood)
+        (subst (λ (y : Identifier). FitsInBlock fids.at (y ∷ ms)) (sym s.items) stood)
 
 -- where all data is read, there are no further names
 pub no_more : (whole : List ℕ) (first parent p : ℕ) (entries es : List (List ℕ × Entry)) (fids : Fids)
-    → IsRead whole first (identifiers parent entries) fids → p < 2 ^ 32 → All IsEntry es → whole ≡ laid first 0 (identifiers p es)
+    → IsRead whole first (identifiers parent entries) fids → p < 2 ^ 32 → All IsDirectoryEntry es → whole ≡ laid first 0 (identifiers p es)
     → length fids.«data».now ≡ 0 → length es ≡ length entries
 no_more whole first parent p entries es fids r low all e none =
     let k = r.only (identifiers p es) (all_Fit p es low all) e in
@@ -130,7 +130,7 @@ no_more whole first parent p entries es fids r low all e none =
         omega (arith, length-map es of_entry, length-map entries of_entry)
     goes k (m ∷ ms) q =
         let there = k.there ∙ ap (laid (first + fids.index) fids.at) q in
-        let stood = subst (λ (t : List Identifier). Stands fids.at t) q k.stood in
+        let stood = subst (λ (t : List Identifier). FitsInBlock fids.at t) q k.stood in
         let split : identifiers p es ≡ identifiers parent entries ++ (m ∷ ms) = k.split ∙ ap (λ (t : List Identifier). identifiers parent entries ++ t) q in
         let fit : All FitsIdentifier (identifiers parent entries ++ (m ∷ ms)) = subst (λ (t : List Identifier). All FitsIdentifier t) split (all_Fit p es low all) in
         let short = (first_of_all FitsIdentifier (identifiers parent entries) m ms fit).name in
@@ -157,7 +157,7 @@ one_name a b x y e = one_text a b (compressed a) (name_spelled a x) (subst (λ (
 
 -- a name that was read and is there among the entries before is there twice
 pub twice_refused : (front entries : List (List ℕ × Entry)) (item : List ℕ × Entry) (back : List (List ℕ × Entry)) (text : List ℕ) (found : Entry)
-    → map of_entry front ≡ map of_entry entries → All IsEntry (front ++ (item ∷ back)) → All IsEntry entries → item.0 ≡ text
+    → map of_entry front ≡ map of_entry entries → All IsDirectoryEntry (front ++ (item ∷ back)) → All IsDirectoryEntry entries → item.0 ≡ text
     → lookup (pointwise nat_eq text) entries ≡ Some found → IsDistinct (pointwise nat_eq) (keys_of (front ++ (item ∷ back))) → ⊥
 unfolding IsDistinct
 twice_refused [] [] item back text found same all known is there apart = absurd (cc)
@@ -196,15 +196,15 @@ none_of (Some x) e = absurd (cc)
 
 -- a name that was read a second time
 pub twice : (whole : List ℕ) (first parent p : ℕ) (entries es : List (List ℕ × Entry)) (fids : Fids) (text : List ℕ) (e : Entry) (old : Option Entry)
-    → IsRead whole first (identifiers parent entries ++ of_name text e ∷ []) fids → IsEntry (text, e) → All IsEntry entries
-    → p < 2 ^ 32 → All IsEntry es → IsDistinct (pointwise nat_eq) (keys_of es) → whole ≡ laid first 0 (identifiers p es)
+    → IsRead whole first (identifiers parent entries ++ of_name text e ∷ []) fids → IsDirectoryEntry (text, e) → All IsDirectoryEntry entries
+    → p < 2 ^ 32 → All IsDirectoryEntry es → IsDistinct (pointwise nat_eq) (keys_of es) → whole ≡ laid first 0 (identifiers p es)
     → old ≡ lookup (pointwise nat_eq text) entries → true ≡ is_some old → ⊥
 twice whole first parent p entries es fids text e old r entry known low all apart there old-is some =
     let k = r.only (identifiers p es) (all_Fit p es low all) there in
     let names : map of_entry es ≡ map of_entry entries ++ (of_name text e ∷ k.more) = behind_done p parent es entries (of_name text e ∷ []) k.more k.split in
     let s = split_entries es (map of_entry entries) (of_name text e) k.more names in
-    let parts_all : All IsEntry (s.front ++ (s.item ∷ s.back)) = subst (λ (t : List (List ℕ × Entry)). All IsEntry t) s.parts all in
-    let item = first_of_all IsEntry s.front s.item s.back parts_all in
+    let parts_all : All IsDirectoryEntry (s.front ++ (s.item ∷ s.back)) = subst (λ (t : List (List ℕ × Entry)). All IsDirectoryEntry t) s.parts all in
+    let item = first_of_all IsDirectoryEntry s.front s.item s.back parts_all in
     let is : s.item.0 ≡ text = one_name s.item.0 text item.name entry.name (ap (λ (y : Identifier). y.name) s.items) in
     let found = some_of old some in
     twice_refused s.front entries s.item s.back text found.0 s.fronts parts_all known is (sym old-is ∙ found.1)
@@ -227,14 +227,14 @@ pub start_there : (first index at : ℕ) (xs : List Identifier) → index ≡ 0 
 start_there first index at xs i a =
     ap (λ (n : ℕ). laid first n xs) (sym a) ∙ ap (λ (n : ℕ). laid n at xs) (omega arith)
 
-pub short_names : (p : ℕ) (es : List (List ℕ × Entry)) → p < 2 ^ 32 → All IsEntry es → AreShort (map of_entry es)
+pub short_names : (p : ℕ) (es : List (List ℕ × Entry)) → p < 2 ^ 32 → All IsDirectoryEntry es → IsFirstNameShort (map of_entry es)
 short_names p es low all = short_behind [] (of_parent p) (map of_entry es) (all_Fit p es low all)
 
 -- what was read is a directory
 pub directory_found : (first size parent : ℕ) (entries : List (List ℕ × Entry)) (blocks : List (List ℕ)) (fids : Fids)
-    → IsRead (take size (concat blocks)) first (identifiers parent entries) fids → parent < 2 ^ 32 → All IsEntry entries → length entries ≤ 512
+    → IsRead (take size (concat blocks)) first (identifiers parent entries) fids → parent < 2 ^ 32 → All IsDirectoryEntry entries → length entries ≤ 512
     → IsDistinct (pointwise nat_eq) (keys_of entries) → length fids.«data».now ≡ 0 → length (take size (concat blocks)) ≡ size
-    → length blocks ≡ blocks_of size → drop size (concat blocks) ≡ replicate (2048 * length blocks - size) 0
+    → length blocks ≡ block_count size → drop size (concat blocks) ≡ replicate (2048 * length blocks - size) 0
     → IsDirectory parent entries first size blocks
 directory_found first size parent entries blocks fids r low all few apart none sized count tail =
     let end : fids.«data».now ≡ laid (first + fids.index) fids.at [] = nil_from_length fids.«data».now none ∙ sym (laid-nil (first + fids.index) fids.at) in

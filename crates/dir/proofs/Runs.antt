@@ -11,14 +11,14 @@ use Rattle.dir.specs.Identifier.{Identifier, identifier, plain_size}
 use Rattle.dir.specs.Directory.{identifiers, identifiers_of, of_name}
 use Rattle.dir.specs.Fronts.{plain, AreKnown, AreLeft}
 use Rattle.dir.specs.Laying.{identifiers_left, left_of, IsFilled, IsFilledTo}
-use Rattle.dir.specs.Layout.{end_of, fits, stays, Stands}
+use Rattle.dir.specs.Layout.{identifier_end, fits, stays, FitsInBlock}
 use Rattle.dir.specs.Split.{name_size}
 use Rattle.dir.proofs.Filling.{drop_some, filled_front, filled_more, identifier_at, stays-some}
 use Rattle.dir.proofs.Fronts.{left_behind, left_known, left_taken, left_within}
 use Rattle.dir.proofs.Placing.{fits_cases, plain_bounds, stands_within}
 use Rattle.dir.proofs.Spelled.{length-identifier, name_size-identifier}
 
--- what is put of the identifiers that are kept, and what is left of them: their bytes stand behind the place already
+-- what is put of the identifiers that are kept, and what is left of them: their bytes stand after the place already
 pub record IsRun (old : Lay) (start : ℕ) (before : List ℕ) (at next : ℕ) (kept block : List ℕ) : Type 0 where
   pub within : at < 2048
   pub further : start ≤ at
@@ -27,7 +27,7 @@ pub record IsRun (old : Lay) (start : ℕ) (before : List ℕ) (at next : ℕ) (
   pub few : next ≤ old.known
   pub left : AreLeft old.known next old.dir.now.entries.entries kept
   pub copied : take (length (take (2048 - at) kept)) (drop at block) ≡ take (2048 - at) kept
-  pub stood : Stands at (left_of old.dir.now next)
+  pub stood : FitsInBlock at (left_of old.dir.now next)
   pub size : length block ≡ 2048
   pub filled : (from : Lay) → IsFilled from old start before → IsFilledTo from old.dir next old.number at block
 
@@ -75,9 +75,9 @@ pub head_room : (old : Lay) (start : ℕ) (before : List ℕ) (at next : ℕ) (k
 head_room old start before at next kept block run head =
     let ids = identifiers_of old.dir.now in
     stands_within at head.x (drop (suc next) ids) head.short (omega (arith, run.within))
-    (subst (λ (t : List Identifier). Stands at t) (drop_some ids next head.x head.there) run.stood)
+    (subst (λ (t : List Identifier). FitsInBlock at t) (drop_some ids next head.x head.there) run.stood)
 
--- and the one behind it begins what is kept behind it
+-- and the one after it begins what is kept after it
 pub head_behind : (old : Lay) (start : ℕ) (before : List ℕ) (at next : ℕ) (kept block : List ℕ) → IsRun old start before at next kept block → next < old.known
     → IsHead (identifiers_of old.dir.now) (next + 1) (drop (plain_size (name_size kept)) kept)
 head_behind old start before at next kept block run more =
@@ -102,7 +102,7 @@ copied_front kept place =
     ]
 
 -- a run begins where the bytes are copied
-pub run_begun : (old : Lay) (start : ℕ) (before into written : List ℕ) → start < 2048 → Stands start (identifiers_left old) → 0 < old.next → old.next ≤ old.known → length before ≡ 2048
+pub run_begun : (old : Lay) (start : ℕ) (before into written : List ℕ) → start < 2048 → FitsInBlock start (identifiers_left old) → 0 < old.next → old.next ≤ old.known → length before ≡ 2048
     → into ≡ take (min (length old.kept.now) (length (drop start before))) old.kept.now ++ drop (min (length old.kept.now) (length (drop start before))) (drop start before)
     → written ≡ take start before ++ into → IsRun old start before start old.next old.kept.now written
 run_begun old start before into written inside stood some few len copied put =
@@ -131,7 +131,7 @@ run_begun old start before into written inside stood some few len copied put =
           filled_front from old.dir old.next old.number start before written f (ap (take start) put ∙ take_at (take start before) into start front) sized;
     }
 
--- what is copied stays so behind it
+-- what is copied stays so after it
 copied_behind : (room size : ℕ) (kept at_place : List ℕ) → size ≤ room → size ≤ length kept
     → take (length (take room kept)) at_place ≡ take room kept
     → take (length (take (room - size) (drop size kept))) (drop size at_place) ≡ take (room - size) (drop size kept)
@@ -148,7 +148,7 @@ copied_first : (room size : ℕ) (kept at_place : List ℕ) → size ≤ room �
 copied_first room size kept at_place fits_room fits_kept copied =
     sym (take-take size (length (take room kept)) at_place (omega (arith, length-take room kept))) ∙ ap (take size) copied ∙ take-take size room kept fits_room
 
--- one more is put, where the one behind it is kept too and stays
+-- one more is put, where the one after it is kept too and stays
 pub run_more : (old : Lay) (start : ℕ) (before : List ℕ) (at next end : ℕ) (kept behind block moved written : List ℕ) → IsRun old start before at next kept block → next < old.known
     → behind ≡ drop (plain_size (name_size kept)) kept → end ≡ at + plain_size (name_size kept)
     → fits (plain_size (name_size behind)) (2048 - end) ≡ true
@@ -188,7 +188,7 @@ run_more old start before at next end kept behind block moved written run more b
     ∙ drop_at (take at block ++ moved) (drop end block) end (omega (arith, length-append (take at block) moved))
     ∙ ap (λ (n : ℕ). drop n block) at_end ∙ sym (drop-drop size at block) in
     let left_room : 2048 - at - size ≡ 2048 - end = omega arith in
-    let end_there : end ≡ end_of at x (left_of dir (next + 1)) =
+    let end_there : end ≡ identifier_end at x (left_of dir (next + 1)) =
     at_end ∙ sym (ap (λ (b : Bool). if b then at + size else 2048) (ap (λ (n : ℕ). stays (left_of dir (next + 1)) (2048 - n)) (sym at_end) ∙ stays_there)) in
     let none : end - (at + size) ≡ 0 = omega arith in
     let put_is : written ≡ take at block ++ (identifier old.number x (end - (at + size)) ++ drop end block) =

@@ -4,7 +4,7 @@ use Rattle.std.specs.Prelude.{fold, if◌then◌else◌}
 use Rattle.std.specs.List.{All}
 use Rattle.osta.proofs.Names.{name_few}
 use Rattle.dir.specs.declared.entry.Entry.{Entry}
-use Rattle.dir.specs.Directory.{IsEntry}
+use Rattle.dir.specs.Directory.{IsDirectoryEntry}
 use Rattle.dir.specs.Identifier.{plain_size}
 use Rattle.dir.specs.Layout.{fits}
 use Rattle.dir.specs.Size.{End, next_end, parent_end, data_end, name_sizes, DirectoriesAreShort}
@@ -22,12 +22,12 @@ next_within e len few room = by (fits (plain_size len) (2048 - e.used)) refl
     by true q = elim (fits_cases (plain_size len) (2048 - e.used) q) [ inl same ↦ omega arith | inr less ↦ omega arith ]
     by false q = let bounds = plain_bounds len in omega arith
 
--- no identifier ends behind its block
+-- no identifier ends past its block
 used_within : (lens : List ℕ) (e : End) → All (λ len. len ≤ 255) lens → e.used ≤ 2048 → (fold next_end e lens).used ≤ 2048
 used_within [] e short room = room
 used_within (len ∷ lens) e short room = used_within lens (next_end e len) (λ k d lt. short (suc k) d (omega arith)) (next_within e len (short 0 len (omega arith)) room)
 
-sizes_few : (entries : List (List ℕ × Entry)) → All IsEntry entries → All (λ len. len ≤ 255) (name_sizes entries)
+sizes_few : (entries : List (List ℕ × Entry)) → All IsDirectoryEntry entries → All (λ len. len ≤ 255) (name_sizes entries)
 sizes_few [] all k d lt = absurd (omega arith)
 sizes_few (e ∷ es) all zero d lt = name_few e.0 (all 0 e (omega arith)).name
 sizes_few (e ∷ es) all (suc k) d lt = sizes_few es (λ j c less. all (suc j) c (omega arith)) k d (omega arith)

@@ -10,7 +10,7 @@ use Rattle.osta.specs.Compressed.{compressed}
 use Rattle.dir.specs.declared.entry.Entry.{Entry}
 use Rattle.dir.specs.Directory.{identifiers}
 use Rattle.dir.specs.Identifier.{plain_size}
-use Rattle.dir.specs.Layout.{fits, blocked, blocks_of, laid, identifier_blocks}
+use Rattle.dir.specs.Layout.{fits, blocked, block_count, laid, identifier_blocks}
 use Rattle.dir.specs.Size.{End, end_bytes, next_end, parent_end, name_sizes, plain_sizes}
 use Rattle.dir.proofs.Sizes.{data_sized_short, fits_not}
 use Rattle.dir.proofs.Placing.{plain_bounds}
@@ -75,10 +75,10 @@ size_is parent entries n first all short =
 
 -- and then blocks are as many as the size says
 pub blocks_are : (parent : ℕ) (entries : List (List ℕ × Entry)) (n first : ℕ) → length entries ≤ n → All (λ (x : List ℕ × Entry). length (compressed x.0) ≤ 255) (take n entries)
-    → length (identifier_blocks first (identifiers parent entries)) ≡ blocks_of (length (laid 0 0 (identifiers parent entries)))
+    → length (identifier_blocks first (identifiers parent entries)) ≡ block_count (length (laid 0 0 (identifiers parent entries)))
 blocks_are parent entries n first all short =
-    length-blocked (blocks_of (length (laid first 0 (identifiers parent entries)))) (laid first 0 (identifiers parent entries))
-    ∙ ap blocks_of (sym (size_is parent entries n first all short) ∙ size_is parent entries n 0 all short)
+    length-blocked (block_count (length (laid first 0 (identifiers parent entries)))) (laid first 0 (identifiers parent entries))
+    ∙ ap block_count (sym (size_is parent entries n first all short) ∙ size_is parent entries n 0 all short)
 
 -- a name takes one block more at most
 pub next_full : (e : End) (len : ℕ) → (next_end e len).full ≤ e.full + 1
@@ -91,7 +91,7 @@ next_full e len = by (fits (plain_size len) (2048 - e.used))
     by true = omega arith
     by false = omega arith
 
--- the first name is put behind the parent
+-- the first name is put after the parent
 pub first_full : (len : ℕ) → len ≤ 255 → (next_end parent_end len).full ≡ 0
 first_full len few = by (fits (plain_size len) (2048 - 40)) refl
   where

@@ -7,14 +7,14 @@ use Rattle.std.proofs.lemmas.List.{length-append}
 use Rattle.osta.specs.Compressed.{compressed}
 use Rattle.osta.proofs.Names.{name_few}
 use Rattle.dir.specs.declared.entry.Entry.{Entry}
-use Rattle.dir.specs.Directory.{of_parent, of_name, identifiers, IsEntry}
+use Rattle.dir.specs.Directory.{of_parent, of_name, identifiers, IsDirectoryEntry}
 use Rattle.dir.specs.Identifier.{Identifier, plain_size, identifier}
 use Rattle.dir.specs.Layout.{fits, laid}
 use Rattle.dir.specs.Size.{End, next_end, parent_end, data_end, end_bytes, plain_sizes, name_sizes}
 use Rattle.dir.proofs.Spelled.{length-identifier}
 use Rattle.dir.proofs.Placing.{plain_bounds, fits_cases, laid-stays, laid-leaves, laid-nil}
 
--- an identifier that is put, and those behind it
+-- an identifier that is put, and those after it
 laid_end : (number full at : ℕ) (x : Identifier) (xs : List Identifier) → length x.name ≤ 255 → ((k : ℕ) (d : Identifier) → k < length xs → length (slice_index_or xs k d).name ≤ 255)
     → at + plain_size (length x.name) ≤ 2048
     → full * 2048 + at + length (laid number at (x ∷ xs)) ≡ end_bytes (fold next_end (record { full = full; used = at + plain_size (length x.name) }) (map (λ (y : Identifier). length y.name) xs))
@@ -89,7 +89,7 @@ filled (len ∷ lens) e before short low =
 pub few_blocks : (lens : List ℕ) → All (λ len. len ≤ 255) lens → (data_end lens).full + 1 ≤ 1 + (40 + plain_sizes lens) / 1720
 few_blocks lens short = let low = filled lens parent_end 40 (λ k d lt. short k d lt) (omega arith) in omega arith
 
-names_short : (entries : List (List ℕ × Entry)) → All IsEntry entries → (k : ℕ) (d : Identifier) → k < length (map (λ (e : List ℕ × Entry). of_name e.0 e.1) entries)
+names_short : (entries : List (List ℕ × Entry)) → All IsDirectoryEntry entries → (k : ℕ) (d : Identifier) → k < length (map (λ (e : List ℕ × Entry). of_name e.0 e.1) entries)
     → length (slice_index_or (map (λ (e : List ℕ × Entry). of_name e.0 e.1) entries) k d).name ≤ 255
 names_short [] all k d lt = absurd (omega arith)
 names_short (e ∷ es) all zero d lt = name_few e.0 (all 0 e (omega arith)).name
@@ -108,7 +108,7 @@ data_sized_by number parent entries short =
     omega (arith, sized) ∙ ap (λ (t : List ℕ). end_bytes (fold next_end parent_end t)) (lengths_same entries)
 
 -- the same where they are names
-pub data_sized : (number parent : ℕ) (entries : List (List ℕ × Entry)) → All IsEntry entries
+pub data_sized : (number parent : ℕ) (entries : List (List ℕ × Entry)) → All IsDirectoryEntry entries
     → length (laid number 0 (identifiers parent entries)) ≡ end_bytes (data_end (name_sizes entries))
 data_sized number parent entries all = data_sized_by number parent entries (names_short entries all)
 

@@ -7,7 +7,7 @@ use Rattle.ecma.specs.EntityId.{developer}
 use Rattle.std.specs.Prelude.{Bool, IsTrue, ◌↔◌}
 use Rattle.std.specs.Str.{bytes_eq}
 use Rattle.std.proofs.lemmas.Slice.Eq.{bytes_eq-Decides}
-use Rattle.dir.specs.Split.{Shows, IsSplit, IsWholeIdentifier, IsUse, name_size, use_size, size_of}
+use Rattle.dir.specs.Split.{ShowsSlices, IsSplit, IsWholeIdentifier, IsUse, name_size, use_size, size_of}
 
 -- a part of a front is that part of the whole
 pub part_of_front : (bytes : List ℕ) (at count size : ℕ) → at + count ≤ size → take count (drop at (take size bytes)) ≡ take count (drop at bytes)
@@ -19,7 +19,7 @@ part_of_front bytes at count size room =
 pub shows_front : (fid : Fid) (bytes front : List ℕ) (used name size : ℕ) → used ≡ use_size bytes → name ≡ name_size bytes
     → size ≡ rounded (38 + used + name) → front ≡ take size bytes
     → fid.bytes.now ≡ front → fid.icb.now ≡ take 16 (drop 20 front) → fid.implementation_use.now ≡ take used (drop 38 front)
-    → fid.name.now ≡ take name (drop (38 + used) front) → Shows fid bytes
+    → fid.name.now ≡ take name (drop (38 + used) front) → ShowsSlices fid bytes
 shows_front fid bytes front used name size use-is name-is size-is front-is shown icb shows named =
     let whole : size ≡ size_of bytes = size-is ∙ ap rounded (omega arith) in
     record {
@@ -41,7 +41,7 @@ pub use_size-front : (n : ℕ) (bytes : List ℕ) → 38 ≤ n → use_size (tak
 use_size-front n bytes long = omega (arith, get_or-take n bytes 36 0 (omega arith), get_or-take n bytes 37 0 (omega arith))
 
 -- the slices of the identifier at the front are those of its own bytes
-pub whole_front : (at : ℕ) (fid : Fid) (bytes : List ℕ) → IsSplit at bytes → Shows fid bytes → IsWholeIdentifier fid
+pub whole_front : (at : ℕ) (fid : Fid) (bytes : List ℕ) → IsSplit at bytes → ShowsSlices fid bytes → IsWholeIdentifier fid
 whole_front at fid bytes split shown =
     let n = size_of bytes in
     let all = split.whole in

@@ -5,8 +5,8 @@ use Rattle.std.proofs.lemmas.Bool.{cases_lt}
 use Rattle.std.proofs.lemmas.List.{take-append-drop, take_at, drop_at, length-append, length-take, get_or-take, get_or_past}
 use Rattle.ecma.proofs.Pieces.{IsBytes}
 use Rattle.dir.specs.Identifier.{Identifier, plain_size, use_of, identifier}
-use Rattle.dir.specs.Layout.{fits, stays, laid, onward, Stands, end_of}
-use Rattle.dir.specs.Split.{name_size, use_size, size_of, said_by, IsSplit, HasHead, IsPadded, IsLengthened, FitsIdentifier}
+use Rattle.dir.specs.Layout.{fits, stays, laid, onward, FitsInBlock, identifier_end}
+use Rattle.dir.specs.Split.{name_size, use_size, size_of, identifier_in, IsSplit, HasHead, IsPadded, IsLengthened, FitsIdentifier}
 use Rattle.dir.proofs.Spelled.{length-identifier, name_size-identifier, use_size-identifier}
 use Rattle.dir.proofs.Placing.{fits_cases, fits_exactly, fits_with, plain_bounds, laid-put, stands_within, stands_next, name_size-laid, length-laid, onward-nil, onward-full}
 use Rattle.dir.proofs.Reading.{use_whole, size_whole, length-said_by, identifier_read, said_by-identifier, HasHead-identifier, filled-identifier, padding-identifier}
@@ -24,8 +24,8 @@ end_read : (at : ℕ) (x : Identifier) (rest : List Identifier) (bytes behind : 
     → length x.name ≡ name_size bytes → length bytes ≡ plain_size (name_size bytes) + use_size bytes → at < 2048 → at + length bytes ≤ 2048
     → ((y : Identifier) (r : List Identifier) → rest ≡ y ∷ r → length y.name ≤ 255)
     → IsPadded at bytes behind → behind ≡ onward number (at + length bytes) rest
-    → (at + length bytes < 2048 → Stands (at + length bytes) rest)
-    → end_of at x rest ≡ at + length bytes
+    → (at + length bytes < 2048 → FitsInBlock (at + length bytes) rest)
+    → identifier_end at x rest ≡ at + length bytes
 end_read at x [] bytes behind number len size inside room short p there stood =
     elim p.lengthened [
       | inl none ↦ omega arith
@@ -65,17 +65,17 @@ end_read at x (y ∷ rest) bytes behind number len size inside room short p ther
     both true n e = e
     both false n e = refl
 
--- what was read stands there, if what is read behind it does
+-- what was read stands there, if what is read after it does
 pub read_stands : (number at : ℕ) (bytes : List ℕ) (rest : List Identifier) → IsBytes bytes → at < 2048 → IsSplit at bytes
     → HasHead number (take (size_of bytes) bytes) → IsPadded at (take (size_of bytes) bytes) (drop (size_of bytes) bytes)
     → ((y : Identifier) (r : List Identifier) → rest ≡ y ∷ r → length y.name ≤ 255)
     → drop (size_of bytes) bytes ≡ onward number (at + size_of bytes) rest
-    → (at + size_of bytes < 2048 → Stands (at + size_of bytes) rest)
-    → (bytes ≡ laid number at (said_by (take (size_of bytes) bytes) ∷ rest)) × Stands at (said_by (take (size_of bytes) bytes) ∷ rest)
+    → (at + size_of bytes < 2048 → FitsInBlock (at + size_of bytes) rest)
+    → (bytes ≡ laid number at (identifier_in (take (size_of bytes) bytes) ∷ rest)) × FitsInBlock at (identifier_in (take (size_of bytes) bytes) ∷ rest)
 read_stands number at bytes rest all inside split head p short there stood =
     let n = size_of bytes in
     let one = take n bytes in
-    let x = said_by one in
+    let x = identifier_in one in
     let whole = split.whole in
     let long = split.long in
     let len : length one ≡ n = omega (arith, length-take n bytes) in
@@ -87,15 +87,15 @@ read_stands number at bytes rest all inside split head p short there stood =
     let name : length x.name ≡ name_size one = length-said_by one size in
     let room : at + length one ≤ 2048 = elim (fits_cases n (2048 - at) split.within) [ inl same ↦ omega arith | inr less ↦ omega arith ] in
     let here : at + n ≡ at + length one = omega arith in
-    let end : end_of at x rest ≡ at + length one =
+    let end : identifier_end at x rest ≡ at + length one =
     end_read at x rest one (drop n bytes) number name (omega arith) inside room short p
     (there ∙ ap (λ (m : ℕ). onward number m rest) here)
-    (λ lt. subst (λ (m : ℕ). Stands m rest) here (stood (omega arith))) in
+    (λ lt. subst (λ (m : ℕ). FitsInBlock m rest) here (stood (omega arith))) in
     let same : one ≡ identifier number x (use_size one) = identifier_read number at one (drop n bytes) (bytes_front n bytes all) head size p in
     let fit : at + plain_size (length x.name) ≤ 2048 = omega (arith, ap plain_size name) in
-    let more : end_of at x rest - (at + plain_size (length x.name)) ≡ use_size one = omega (arith, ap plain_size name) in
+    let more : identifier_end at x rest - (at + plain_size (length x.name)) ≡ use_size one = omega (arith, ap plain_size name) in
     let put : laid number at (x ∷ rest) ≡ identifier number x (use_size one) ++ onward number (at + n) rest =
-    laid-put number at x rest fit ∙ ap (λ (m : ℕ). identifier number x m ++ onward number (end_of at x rest) rest) more
+    laid-put number at x rest fit ∙ ap (λ (m : ℕ). identifier number x m ++ onward number (identifier_end at x rest) rest) more
     ∙ ap (λ (m : ℕ). identifier number x (use_size one) ++ onward number m rest) (end ∙ sym here) in (
       sym (take-append-drop n bytes) ∙ ap (λ (t : List ℕ). t ++ drop n bytes) same ∙ ap (λ (t : List ℕ). identifier number x (use_size one) ++ t) there ∙ sym put,
       inr (elim (fits_cases n (2048 - at) split.within) [
@@ -111,25 +111,25 @@ read_stands number at bytes rest all inside split head p short there stood =
 pub record Found (number at : ℕ) (bytes : List ℕ) (x : Identifier) (rest : List Identifier) : Type 0 where
   pub split : IsSplit at bytes
   pub head : HasHead number (take (size_of bytes) bytes)
-  pub says : said_by (take (size_of bytes) bytes) ≡ x
+  pub says : identifier_in (take (size_of bytes) bytes) ≡ x
   pub padded : IsPadded at (take (size_of bytes) bytes) (drop (size_of bytes) bytes)
   pub behind : drop (size_of bytes) bytes ≡ onward number (at + size_of bytes) rest
-  pub next : at + size_of bytes < 2048 → Stands (at + size_of bytes) rest
+  pub next : at + size_of bytes < 2048 → FitsInBlock (at + size_of bytes) rest
 
 -- how far an identifier of the layout is lengthened
 more_cases : (at : ℕ) (x : Identifier) (rest : List Identifier)
-    → (end_of at x rest ≡ at + plain_size (length x.name))
-    ⊎ ((end_of at x rest ≡ 2048) × (stays rest (2048 - (at + plain_size (length x.name))) ≡ false))
+    → (identifier_end at x rest ≡ at + plain_size (length x.name))
+    ⊎ ((identifier_end at x rest ≡ 2048) × (stays rest (2048 - (at + plain_size (length x.name))) ≡ false))
 more_cases at x rest = by (stays rest (2048 - (at + plain_size (length x.name)))) refl
   where
     by : (b : Bool) → stays rest (2048 - (at + plain_size (length x.name))) ≡ b
-        → (end_of at x rest ≡ at + plain_size (length x.name)) ⊎ ((end_of at x rest ≡ 2048) × (stays rest (2048 - (at + plain_size (length x.name))) ≡ false))
+        → (identifier_end at x rest ≡ at + plain_size (length x.name)) ⊎ ((identifier_end at x rest ≡ 2048) × (stays rest (2048 - (at + plain_size (length x.name))) ≡ false))
     by true e = inl (ap (λ (b : Bool). if b then at + plain_size (length x.name) else 2048) e)
     by false e = inr (ap (λ (b : Bool). if b then at + plain_size (length x.name) else 2048) e, e)
 
--- an identifier that is lengthened at all is lengthened by an EntityID or more, and another one comes behind it
+-- an identifier that is lengthened at all is lengthened by an EntityID or more, and another one comes after it
 lengthened_by : (number at more : ℕ) (x : Identifier) (rest : List Identifier) (bytes behind : List ℕ)
-    → at % 4 ≡ 0 → length x.name ≤ 255 → at < 2048 → Stands at (x ∷ rest)
+    → at % 4 ≡ 0 → length x.name ≤ 255 → at < 2048 → FitsInBlock at (x ∷ rest)
     → ((y : Identifier) (r : List Identifier) → rest ≡ y ∷ r → length y.name ≤ 255)
     → more + (at + plain_size (length x.name)) ≡ 2048 → stays rest (2048 - (at + plain_size (length x.name))) ≡ false
     → length bytes ≡ plain_size (length x.name) + more → use_size bytes ≡ more
@@ -163,13 +163,13 @@ lengthened_by number at more x (y ∷ rest) bytes behind at4 short inside stood 
 -- what the layout has at the front is found there
 pub laid_found : (number at : ℕ) (bytes : List ℕ) (x : Identifier) (rest : List Identifier) → IsBytes bytes → number < 2 ^ 32
     → at < 2048 → at % 4 ≡ 0 → FitsIdentifier x → ((y : Identifier) (r : List Identifier) → rest ≡ y ∷ r → length y.name ≤ 255)
-    → bytes ≡ laid number at (x ∷ rest) → Stands at (x ∷ rest) → Found number at bytes x rest
+    → bytes ≡ laid number at (x ∷ rest) → FitsInBlock at (x ∷ rest) → Found number at bytes x rest
 laid_found number at bytes x rest all in_range inside at4 f next_short there stood =
     let plain = plain_size (length x.name) in
     let bounds = plain_bounds (length x.name) in
     let short = f.name in
     let room = stands_within at x rest short (omega arith) stood in
-    let end = end_of at x rest in
+    let end = identifier_end at x rest in
     let more = end - (at + plain) in
     let tail = onward number end rest in
     let within : (at + plain ≤ end) × (end ≤ 2048) = elim (more_cases at x rest) [ inl e ↦ (omega arith, omega arith) | inr e ↦ let e0 = e.0 in (omega arith, omega arith) ] in
@@ -232,5 +232,5 @@ laid_found number at bytes x rest all in_range inside at4 f next_short there sto
         ];
       };
       behind = two ∙ ap (λ (m : ℕ). onward number m rest) here;
-      next = λ (lt : at + size_of bytes < 2048). subst (λ (m : ℕ). Stands m rest) here (stands_next at x rest (omega arith));
+      next = λ (lt : at + size_of bytes < 2048). subst (λ (m : ℕ). FitsInBlock m rest) here (stands_next at x rest (omega arith));
     }

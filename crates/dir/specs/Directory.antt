@@ -12,7 +12,7 @@ use Rattle.dir.specs.declared.entry.Entry.{Entry}
 use Rattle.dir.specs.declared.entry.Kind.{Kind}
 use Rattle.dir.specs.declared.entry.Kind.TheVariants.{File, Directory}
 use Rattle.dir.specs.Identifier.{Identifier}
-use Rattle.dir.specs.Layout.{laid, blocks_of, identifier_blocks}
+use Rattle.dir.specs.Layout.{laid, block_count, identifier_blocks}
 use Rattle.dir.specs.Split.{AreBytes}
 
 -- the file characteristics of a name
@@ -35,7 +35,7 @@ of_parent icb = record { name = []; characteristics = 0x0A; icb = icb; unique = 
 
 -- the identifier of a name
 abbrev pub of_name : List ℕ → Entry → Identifier
-of_name text e = record { name = compressed text; characteristics = characteristics_of e.kind; icb = e.icb; unique = e.unique }
+of_name text e = record { name = compressed text; characteristics = characteristics_of e.kind; icb = e.virtual_address; unique = e.unique }
 
 -- the identifiers of a directory in their order
 abbrev pub identifiers : ℕ → List (List ℕ × Entry) → List Identifier
@@ -53,20 +53,20 @@ abbrev pub directory_size : Dir → ℕ
 directory_size dir = length (laid 0 0 (identifiers_of dir))
 
 -- what a directory can say of a name
-pub record IsEntry (e : List ℕ × Entry) : Type 0 where
+pub record IsDirectoryEntry (e : List ℕ × Entry) : Type 0 where
   pub name : IsName e.0
-  pub icb : e.1.icb < 2 ^ 32
+  pub icb : e.1.virtual_address < 2 ^ 32
   pub unique : e.1.unique < 2 ^ 32
 
 -- blocks are the data of the directory with this parent and these names: its identifiers as they are laid from the
--- first block's number on, and zeros behind them
+-- first block's number on, and zeros after them
 pub record IsDirectory (parent : ℕ) (entries : List (List ℕ × Entry)) (first size : ℕ) (blocks : List (List ℕ)) : Type 0 where
   pub parent_fits : parent < 2 ^ 32
   pub few : length entries ≤ DIRECTORY_NAMES
-  pub named : All IsEntry entries
+  pub named : All IsDirectoryEntry entries
   pub distinct : IsDistinct (pointwise nat_eq) (keys_of entries)
   pub size_is : size ≡ length (laid first 0 (identifiers parent entries))
-  pub bytes : concat blocks ≡ laid first 0 (identifiers parent entries) ++ replicate (BLOCK_BYTES * blocks_of size - size) 0
+  pub bytes : concat blocks ≡ laid first 0 (identifiers parent entries) ++ replicate (BLOCK_BYTES * block_count size - size) 0
 
 -- blocks are the data of one directory at most
 abbrev pub OneDirectory : Type 0
@@ -77,7 +77,7 @@ OneDirectory =
 -- the blocks of identifiers are the data of their directory
 abbrev pub LaidIsDirectory : Type 0
 LaidIsDirectory =
-    (parent first : ℕ) (entries : List (List ℕ × Entry)) → parent < 2 ^ 32 → length entries ≤ DIRECTORY_NAMES → All IsEntry entries
+    (parent first : ℕ) (entries : List (List ℕ × Entry)) → parent < 2 ^ 32 → length entries ≤ DIRECTORY_NAMES → All IsDirectoryEntry entries
     → IsDistinct (pointwise nat_eq) (keys_of entries)
     → IsDirectory parent entries first (length (laid first 0 (identifiers parent entries))) (identifier_blocks first (identifiers parent entries))
 
@@ -85,4 +85,4 @@ LaidIsDirectory =
 abbrev pub BlocksBegin : Type 0
 BlocksBegin =
     (parent first size : ℕ) (entries : List (List ℕ × Entry)) (blocks : List (List ℕ)) → All (λ block. length block ≡ BLOCK_BYTES) blocks
-    → IsDirectory parent entries first size blocks → (length blocks ≡ blocks_of size) × All (λ block. u16_at 0 block ≡ 257) blocks
+    → IsDirectory parent entries first size blocks → (length blocks ≡ block_count size) × All (λ block. u16_at 0 block ≡ 257) blocks

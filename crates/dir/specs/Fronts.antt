@@ -4,8 +4,8 @@ use Rattle.std.specs.List.{All, flat_map}
 use Rattle.dir.specs.declared.entry.Entry.{Entry}
 use Rattle.dir.specs.declared.kept.Identifiers.{Identifiers}
 use Rattle.dir.specs.Identifier.{Identifier, identifier}
-use Rattle.dir.specs.Directory.{of_name, directory_count, IsEntry}
-use Rattle.dir.specs.Size.{end_of, data_end, name_sizes}
+use Rattle.dir.specs.Directory.{of_name, directory_count, IsDirectoryEntry}
+use Rattle.dir.specs.Size.{end_of_data, data_end, name_sizes}
 use Rattle.osta.specs.Compressed.{compressed}
 
 -- an identifier for the block number 0, not lengthened
@@ -22,16 +22,16 @@ AreLeft known next entries bytes = bytes ≡ flat_map plain (drop (next - 1) (ta
 
 -- a directory can say this of a name. What a struct keeps has one proof at most, so the fact alone is kept, and
 -- proofs/Fronts.antt shows that it is enough
-abbrev pub CanBeSaid : List ℕ × Entry → Type 0
-CanBeSaid e = ∥ IsEntry e ∥₁
+abbrev pub IsEntryInRange : List ℕ × Entry → Type 0
+IsEntryInRange e = ∥ IsDirectoryEntry e ∥₁
 
--- they are those of a front of a directory's names, and what is kept beside them is what these add up to
-pub record IsFront (ids : Identifiers) (entries : List (List ℕ × Entry)) : Type 0 where
+-- they are those of a prefix of a directory's names, and what is kept beside them is what these add up to
+pub record IsIdentifierPrefix (ids : Identifiers) (entries : List (List ℕ × Entry)) : Type 0 where
   pub few : ids.count ≤ length entries
-  pub proper : All CanBeSaid (take ids.count entries)
+  pub proper : All IsEntryInRange (take ids.count entries)
   pub bytes : ids.bytes.items ≡ flat_map plain (take ids.count (named entries))
-  pub size : end_of ids.size ≡ data_end (take ids.count (name_sizes entries))
-  pub full : (end_of ids.size).full ≤ ids.count - 1
+  pub size : end_of_data ids.size ≡ data_end (take ids.count (name_sizes entries))
+  pub full : (end_of_data ids.size).full ≤ ids.count - 1
   pub directories : ids.directories ≡ directory_count (take ids.count entries)
 
 -- so many of a directory's names may be kept: that many there are, and each is short

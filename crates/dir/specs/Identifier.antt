@@ -36,7 +36,7 @@ head_of characteristics len icb unique more = concat (
     ∷ to_le_bytes w16 more  -- 36 length of implementation use
     ∷ [])
 
--- an identifier behind its tag, lengthened by so many bytes
+-- an identifier after its tag, lengthened by so many bytes
 abbrev pub body_of : Identifier → ℕ → List ℕ
 body_of x more =
     head_of x.characteristics (length x.name) x.icb x.unique more

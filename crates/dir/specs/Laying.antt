@@ -7,9 +7,9 @@ use Rattle.dir.specs.declared.entry.Dir.{Dir}
 use Rattle.dir.specs.declared.laying.Lay.{Lay}
 use Rattle.dir.specs.Identifier.{Identifier}
 use Rattle.dir.specs.Directory.{identifiers_of}
-use Rattle.dir.specs.Layout.{identifier_blocks, laid, onward, Stands}
+use Rattle.dir.specs.Layout.{identifier_blocks, laid, onward, FitsInBlock}
 
--- the identifiers behind the first ones of a directory
+-- the identifiers after the first ones of a directory
 abbrev pub left_of : Dir → ℕ → List Identifier
 left_of dir next = drop next (identifiers_of dir)
 
@@ -29,7 +29,7 @@ pub record IsFilledTo (start : Lay) (dir : Bor Dir) (next number at : ℕ) (bloc
   pub long : 0 < at → 38 ≤ at
   pub tagged : 0 < at → u16_at 0 block ≡ 257
   pub filled : laid start.number 0 (identifiers_left start) ≡ take at block ++ onward start.number at (left_of dir.now next)
-  pub stood : at < BLOCK_BYTES → Stands at (left_of dir.now next)
+  pub stood : at < BLOCK_BYTES → FitsInBlock at (left_of dir.now next)
   pub size : length block ≡ BLOCK_BYTES
 
 abbrev pub IsFilled : Lay → Lay → ℕ → List ℕ → Type 0

@@ -5,30 +5,30 @@ use Rattle.limits.specs.declared.TheConstants.{BLOCK_BYTES}
 use Rattle.osta.specs.Compressed.{compressed}
 use Rattle.dir.specs.declared.entry.Entry.{Entry}
 use Rattle.dir.specs.declared.size.DataSize.{DataSize}
-use Rattle.dir.specs.Directory.{identifiers, IsEntry, IsDirectory}
+use Rattle.dir.specs.Directory.{identifiers, IsDirectoryEntry, IsDirectory}
 use Rattle.dir.specs.Identifier.{plain_size}
 use Rattle.dir.specs.Layout.{fits, laid}
 
--- where identifiers end: so many bytes of the block behind so many full blocks
+-- where identifiers end: so many bytes of the block after so many full blocks
 pub record End : Type 0 where
   pub full : ℕ
   pub used : ℕ
 
-abbrev pub end_of : DataSize → End
-end_of s = record { full = s.full; used = s.used }
+abbrev pub end_of_data : DataSize → End
+end_of_data s = record { full = s.full; used = s.used }
 
 -- the end of the parent's identifier
 abbrev pub parent_end : End
 parent_end = record { full = 0; used = 40 }
 
--- the end of an identifier of a name of so many bytes, behind one that ends there
+-- the end of an identifier of a name of so many bytes, after one that ends there
 abbrev pub next_end : End → ℕ → End
 next_end e len =
     let size = plain_size len in
     if fits size (BLOCK_BYTES - e.used) then record { full = e.full; used = e.used + size }
     else record { full = e.full + 1; used = size }
 
--- the end of the last of names of these lengths, behind the parent
+-- the end of the last of names of these lengths, after the parent
 abbrev pub data_end : List ℕ → End
 data_end lens = fold next_end parent_end lens
 
@@ -47,7 +47,7 @@ plain_sizes (len ∷ lens) = plain_size len + plain_sizes lens
 -- the data of a directory ends where the lengths of its names say
 abbrev pub DataIsSized : Type 0
 DataIsSized =
-    (number parent : ℕ) (entries : List (List ℕ × Entry)) → All IsEntry entries
+    (number parent : ℕ) (entries : List (List ℕ × Entry)) → All IsDirectoryEntry entries
     → length (laid number 0 (identifiers parent entries)) ≡ end_bytes (data_end (name_sizes entries))
 
 -- no more blocks are taken than the lengths of the identifiers allow: one that is left has 1,720 of their bytes at least

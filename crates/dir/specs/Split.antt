@@ -31,7 +31,7 @@ pub record IsSplit (at : ℕ) (bytes : List ℕ) : Type 0 where
   pub within : IsTrue (fits (size_of bytes) (BLOCK_BYTES - at))
 
 -- the slices are those of the identifier at the front
-pub record Shows (fid : Fid) (bytes : List ℕ) : Type 0 where
+pub record ShowsSlices (fid : Fid) (bytes : List ℕ) : Type 0 where
   pub bytes_are : fid.bytes.now ≡ take (size_of bytes) bytes
   pub icb : fid.icb.now ≡ take 16 (drop 20 bytes)
   pub implementation_use : fid.implementation_use.now ≡ take (use_size bytes) (drop 38 bytes)
@@ -40,12 +40,12 @@ pub record Shows (fid : Fid) (bytes : List ℕ) : Type 0 where
 -- the slices are those of a whole identifier
 pub record IsWholeIdentifier (fid : Fid) : Type 0 where
   pub long : 38 ≤ length fid.bytes.now
-  pub shown : Shows fid fid.bytes.now
+  pub shown : ShowsSlices fid fid.bytes.now
   pub size : size_of fid.bytes.now ≡ length fid.bytes.now
 
 -- what the bytes of a whole identifier say
-abbrev pub said_by : List ℕ → Identifier
-said_by bytes = record {
+abbrev pub identifier_in : List ℕ → Identifier
+identifier_in bytes = record {
   name = take (name_size bytes) (drop (38 + use_size bytes) bytes);
   characteristics = slice_index bytes 18;
   icb = u32_at 24 bytes;
@@ -53,16 +53,16 @@ said_by bytes = record {
 }
 
 -- the fields are those of an identifier that says what the bytes say
-abbrev pub HasFields : List ℕ → Type 0
-HasFields bytes = IsAt 16 (head_of (slice_index bytes 18) (name_size bytes) (u32_at 24 bytes) (u32_at 32 bytes) (use_size bytes)) bytes
+abbrev pub HasIdentifierFields : List ℕ → Type 0
+HasIdentifierFields bytes = IsAt 16 (head_of (slice_index bytes 18) (name_size bytes) (u32_at 24 bytes) (u32_at 32 bytes) (use_size bytes)) bytes
 
 -- the fields that say the same in each identifier, and the tag
 pub record HasHead (number : ℕ) (bytes : List ℕ) : Type 0 where
   pub «sealed» : Sealed 257 number bytes
   pub kind : IsKind (slice_index bytes 18)
-  pub fields : HasFields bytes
+  pub fields : HasIdentifierFields bytes
 
--- an implementation use lengthens the identifier at a place to its block's end, since what comes behind it was not
+-- an implementation use lengthens the identifier at a place to its block's end, since what comes after it was not
 -- put into the block
 pub record IsLengthened (at : ℕ) (bytes behind : List ℕ) : Type 0 where
   pub some : 32 ≤ use_size bytes
@@ -75,7 +75,7 @@ pub record IsLengthened (at : ℕ) (bytes behind : List ℕ) : Type 0 where
 abbrev pub IsUse : List ℕ → Type 0
 IsUse bytes = take (use_size bytes) (drop 38 bytes) ≡ use_of (use_size bytes)
 
--- behind the name there are zeros
+-- after the name there are zeros
 abbrev pub HasZeros : List ℕ → Type 0
 HasZeros bytes =
     drop (38 + use_size bytes + name_size bytes) bytes ≡ replicate (length bytes - (38 + use_size bytes + name_size bytes)) 0
@@ -94,8 +94,8 @@ pub record FitsIdentifier (x : Identifier) : Type 0 where
   pub unique : x.unique < 2 ^ 32
 
 -- one call of the iterator: none where no identifier stands at the front within the data and its block; else its slices,
--- and what is left begins right behind it
+-- and what is left begins right after it
 abbrev pub GivesNext : Fids → Option Fid → Fids → Type 0
 GivesNext old given new = MatchOption given (¬ IsSplit old.at old.«data».now × (new ≡ old)) (λ fid.
-    IsSplit old.at old.«data».now × Shows fid old.«data».now × (new.«data».now ≡ drop (size_of old.«data».now) old.«data».now)
+    IsSplit old.at old.«data».now × ShowsSlices fid old.«data».now × (new.«data».now ≡ drop (size_of old.«data».now) old.«data».now)
     × (new.at ≡ (if old.at + size_of old.«data».now == BLOCK_BYTES then 0 else old.at + size_of old.«data».now)))

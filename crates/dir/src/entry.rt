@@ -30,7 +30,7 @@ impl Kind {
 pub struct Entry {
     pub kind: Kind,
     /// The virtual address of its file entry.
-    pub icb: u32,
+    pub virtual_address: u32,
     /// The unique ID of its file entry.
     pub unique: u32,
 }

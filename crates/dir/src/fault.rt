@@ -16,11 +16,11 @@ pub enum DirFault {
     Name = 33,
     /// A name that was there before.
     Twice = 34,
-    /// An identifier past its block's end, or with 4 to 28 bytes behind it in the block.
+    /// An identifier past its block's end, or with 4 to 28 bytes after it in the block.
     Span = 35,
     /// Implementation use or padding that is not as the layout has it.
     Pad = 36,
-    /// An identifier past the data's end, bytes behind the data that are not zeros, or more than
+    /// An identifier past the data's end, bytes after the data that are not zeros, or more than
     /// 512 names.
     End = 37,
     /// There is no memory.

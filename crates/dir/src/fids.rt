@@ -50,14 +50,14 @@ impl<'a> Fid<'a> {
 impl<'a> Fid<'a> {
     ghost use Rattle.std.specs.Prelude.{◌≡◌, ◌+◌, ◌≤◌, length, take, drop, IfSome, IsSome, ◌↔◌};
     ghost use Rattle.dir.specs.Item.{said};
-    ghost use Rattle.dir.specs.Split.{HasHead, IsWholeIdentifier, said_by, name_size, use_size};
+    ghost use Rattle.dir.specs.Split.{HasHead, IsWholeIdentifier, identifier_in, name_size, use_size};
 
     /// What the identifier says, if it has a tag for the block of this number and the fields are
     /// those of a file, a directory or a parent.
     pub(crate) fn item(&self, number: u32) -> Option<Item<'a>>
         requires { IsWholeIdentifier self.now }
         ensures exactly { IsSome result ↔ HasHead number self.now.bytes.now }
-        ensures says { IfSome result (λ item. said item ≡ said_by self.now.bytes.now) }
+        ensures describes { IfSome result (λ item. said item ≡ identifier_in self.now.bytes.now) }
     {
         if open_tag(self.bytes, FILE_IDENTIFIER, number).is_err() {
             return None;
@@ -81,7 +81,7 @@ impl Fid<'_> {
     ghost use Rattle.dir.specs.Split.{IsWholeIdentifier, IsPadded, IsLengthened, IsUse, HasZeros};
 
     /// Whether implementation use and padding are as the layout has them, for an identifier at a
-    /// place of its block and the data behind it.
+    /// place of its block and the data after it.
     pub(crate) fn is_padded(&self, at: usize, behind: &[u8]) -> bool
         requires whole { IsWholeIdentifier self.now }
         requires room { at + length self.now.bytes.now ≤ BLOCK_BYTES }
@@ -99,7 +99,7 @@ impl Fid<'_> {
         self.is_lengthened(at, behind)
     }
 
-    /// Whether the bytes behind the name are zeros.
+    /// Whether the bytes after the name are zeros.
     fn has_zeros(&self) -> bool
         requires { IsWholeIdentifier self.now }
         ensures { IsTrue result ↔ HasZeros self.now.bytes.now }
@@ -125,7 +125,7 @@ impl Fid<'_> {
     }
 
     /// Whether the implementation use reaches from a place to the block's end, and the identifier
-    /// behind it was not to be put into that block.
+    /// after it was not to be put into that block.
     fn is_lengthened(&self, at: usize, behind: &[u8]) -> bool
         requires whole { IsWholeIdentifier self.now }
         requires room { at + length self.now.bytes.now ≤ BLOCK_BYTES }
@@ -165,7 +165,7 @@ pub struct Fids<'a> {
 impl<'a> Fids<'a> {
     ghost use Rattle.std.specs.Prelude.{◌≡◌, ◌==◌, if◌then◌else◌, ◌+◌, ◌*◌, ◌^◌, ◌<◌, ◌≤◌, ◌↔◌, length, take, drop, IsOk, IfOk, OnOk, OnErr};
     ghost use Rattle.std.specs.List.{concat};
-    ghost use Rattle.dir.specs.Split.{AreBytes, IsSplit, Shows, size_of};
+    ghost use Rattle.dir.specs.Split.{AreBytes, IsSplit, ShowsSlices, size_of};
 
     /// The identifiers of `size` bytes of data in these blocks.
     pub fn new(blocks: &'a [Block], size: usize) -> Fids<'a>
@@ -197,7 +197,7 @@ impl<'a> Fids<'a> {
     /// The next identifier, or the fault of its lengths. After a fault all is as before.
     pub(crate) fn split(&mut self) -> Result<Fid<'a>, DirFault>
         ensures exactly { IsOk result ↔ IsSplit self.old.at self.old.data.now }
-        ensures shows { IfOk result (λ fid. Shows fid self.old.data.now) }
+        ensures prints { IfOk result (λ fid. ShowsSlices fid self.old.data.now) }
         ensures data { OnOk result (self.new.data.now ≡ drop (size_of self.old.data.now) self.old.data.now) }
         ensures at { OnOk result (let end = self.old.at + size_of self.old.data.now in self.new.at ≡ (if end == BLOCK_BYTES then 0 else end)) }
         ensures index { OnOk result (let end = self.old.at + size_of self.old.data.now in self.new.index ≡ (if end == BLOCK_BYTES then self.old.index + 1 else self.old.index)) }
@@ -237,11 +237,11 @@ impl<'a> Fids<'a> {
 
 impl<'a> Fids<'a> {
     ghost use Rattle.std.specs.Prelude.{◌≡◌, ◌≢◌, ◌+◌, ◌%◌, ◌^◌, ◌<◌, ◌≤◌, ◌↔◌, ℕ, Bool, true, false, List, ◌∷◌, length, IsTrue, IfOk, IfErr};
-    ghost use Rattle.dir.specs.Directory.{of_parent, of_name, IsEntry};
+    ghost use Rattle.dir.specs.Directory.{of_parent, of_name, IsDirectoryEntry};
     ghost use Rattle.dir.specs.Identifier.{Identifier};
     ghost use Rattle.dir.specs.Item.{said};
-    ghost use Rattle.dir.specs.Layout.{laid, Stands};
-    ghost use Rattle.dir.specs.Reads.{Reads, IsInPlace, AreShort};
+    ghost use Rattle.dir.specs.Layout.{laid, FitsInBlock};
+    ghost use Rattle.dir.specs.Reads.{ReadsIdentifier, IsInPlace, IsFirstNameShort};
     ghost use Rattle.dir.specs.Split.{AreBytes, FitsIdentifier};
     ghost use Rattle.dir.specs.declared.entry.Entry.{Entry};
 
@@ -258,11 +258,11 @@ impl<'a> Fids<'a> {
         requires first { first + self.old.index < 2 ^ 32 }
         requires at { self.old.at % 4 ≡ 0 }
         requires bytes { AreBytes self.old.data.now }
-        ensures ok { IfOk result (λ item. Reads is_first first self.old self.new (said item)) }
+        ensures ok { IfOk result (λ item. ReadsIdentifier is_first first self.old self.new (said item)) }
         ensures name { IfOk result (λ item. length item.name.now ≤ 255) }
         // What the layout has there is read.
-        ensures err { IfErr result (λ fault. (x : Identifier) (rest : List Identifier) → FitsIdentifier x → IsInPlace is_first x → AreShort rest
-            → self.old.data.now ≡ laid (first + self.old.index) self.old.at (x ∷ rest) → Stands self.old.at (x ∷ rest) → ⊥) }
+        ensures err { IfErr result (λ fault. (x : Identifier) (rest : List Identifier) → FitsIdentifier x → IsInPlace is_first x → IsFirstNameShort rest
+            → self.old.data.now ≡ laid (first + self.old.index) self.old.at (x ∷ rest) → FitsInBlock self.old.at (x ∷ rest) → ⊥) }
     {
         let at = self.at;
         let number = first + self.index as u32;
@@ -284,9 +284,9 @@ impl<'a> Fids<'a> {
         requires first { first + self.old.index < 2 ^ 32 }
         requires at { self.old.at % 4 ≡ 0 }
         requires bytes { AreBytes self.old.data.now }
-        ensures ok { IfOk result (λ parent. Reads true first self.old self.new (of_parent parent)) }
-        ensures err { IfErr result (λ fault. (parent : ℕ) (rest : List Identifier) → parent < 2 ^ 32 → AreShort rest
-            → self.old.data.now ≡ laid (first + self.old.index) self.old.at (of_parent parent ∷ rest) → Stands self.old.at (of_parent parent ∷ rest) → ⊥) }
+        ensures ok { IfOk result (λ parent. ReadsIdentifier true first self.old self.new (of_parent parent)) }
+        ensures err { IfErr result (λ fault. (parent : ℕ) (rest : List Identifier) → parent < 2 ^ 32 → IsFirstNameShort rest
+            → self.old.data.now ≡ laid (first + self.old.index) self.old.at (of_parent parent ∷ rest) → FitsInBlock self.old.at (of_parent parent ∷ rest) → ⊥) }
     {
         let item = self.read(first, true)?;
         Ok(item.icb)
@@ -297,10 +297,10 @@ impl<'a> Fids<'a> {
         requires first { first + self.old.index < 2 ^ 32 }
         requires at { self.old.at % 4 ≡ 0 }
         requires bytes { AreBytes self.old.data.now }
-        ensures ok { IfOk result (λ r. Reads false first self.old self.new (of_name r.0 r.1)) }
-        ensures entry { IfOk result (λ r. IsEntry (r.0, r.1)) }
-        ensures err { IfErr result (λ fault. fault ≢ DirFault.Memory → (text : List ℕ) (e : Entry) (rest : List Identifier) → IsEntry (text, e) → AreShort rest
-            → self.old.data.now ≡ laid (first + self.old.index) self.old.at (of_name text e ∷ rest) → Stands self.old.at (of_name text e ∷ rest) → ⊥) }
+        ensures ok { IfOk result (λ r. ReadsIdentifier false first self.old self.new (of_name r.0 r.1)) }
+        ensures entry { IfOk result (λ r. IsDirectoryEntry (r.0, r.1)) }
+        ensures err { IfErr result (λ fault. fault ≢ DirFault.Memory → (text : List ℕ) (e : Entry) (rest : List Identifier) → IsDirectoryEntry (text, e) → IsFirstNameShort rest
+            → self.old.data.now ≡ laid (first + self.old.index) self.old.at (of_name text e ∷ rest) → FitsInBlock self.old.at (of_name text e ∷ rest) → ⊥) }
     {
         let item = self.read(first, false)?;
         let Some(name) = Name::of(alloc, item.name)? else {
@@ -308,7 +308,7 @@ impl<'a> Fids<'a> {
         };
         let entry = Entry {
             kind: item.characteristics.kind(),
-            icb: item.icb,
+            virtual_address: item.icb,
             unique: item.unique,
         };
         Ok((name, entry))

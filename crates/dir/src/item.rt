@@ -3,7 +3,7 @@
 ghost use Rattle.limits.specs.declared.TheConstants.{BLOCK_BYTES};
 ghost use Rattle.std.specs.Prelude.{◌≡◌, ◌↔◌, ◌≤◌, IsTrue, length};
 ghost use Rattle.dir.specs.Identifier.{Identifier, identifier, use_of};
-ghost use Rattle.dir.specs.Split.{HasFields};
+ghost use Rattle.dir.specs.Split.{HasIdentifierFields};
 
 use crate::characteristics::Characteristics;
 use crate::entry::Entry;
@@ -46,7 +46,7 @@ pub(crate) struct Item<'a> {
 impl<'a> Item<'a> {
     ghost use Rattle.std.specs.Prelude.{◌≡◌, ◌≤◌, ◌↔◌, Bool, IsTrue, length};
     ghost use Rattle.dir.specs.Directory as directory;
-    ghost use Rattle.dir.specs.Directory.{IsEntry};
+    ghost use Rattle.dir.specs.Directory.{IsDirectoryEntry};
     ghost use Rattle.dir.specs.Item.{said};
     ghost use Rattle.dir.specs.Reads.{IsInPlace};
 
@@ -66,14 +66,14 @@ impl<'a> Item<'a> {
     pub(crate) fn of_name(name: &'a Name, entry: Entry) -> Item<'a>
         ensures value { said result ≡ directory.of_name name.now entry }
         ensures short { length result.name.now ≤ 255 }
-        ensures entry { IsEntry (name.now, entry) }
+        ensures entry { IsDirectoryEntry (name.now, entry) }
     {
         // Read so that the proof has that it is a name.
         let _text = name.as_str();
         Item {
             name: name.compressed(),
             characteristics: Characteristics::of(entry.kind),
-            icb: entry.icb,
+            icb: entry.virtual_address,
             unique: entry.unique,
         }
     }
@@ -126,7 +126,7 @@ impl Item<'_> {
         }
     }
 
-    /// Writes what stands behind the tag, over all of the bytes.
+    /// Writes what stands after the tag, over all of the bytes.
     fn write_body(&self, more: u16, into: &mut [u8])
         requires name { length self.now.name.now ≤ 255 }
         requires more { more ≤ BLOCK_BYTES }
@@ -163,7 +163,7 @@ impl Item<'_> {
 /// in a whole one.
 pub(crate) fn has_fields(bytes: &[u8]) -> bool
     requires { 38 ≤ length bytes.now }
-    ensures { IsTrue result ↔ HasFields bytes.now }
+    ensures { IsTrue result ↔ HasIdentifierFields bytes.now }
 {
     if !is_u16_at(VERSION, bytes, 16) {
         return false;

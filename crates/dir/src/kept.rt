@@ -4,7 +4,7 @@ ghost use Rattle.std.specs.Prelude.{◌≡◌, ℕ, ◌+◌, ◌-◌, ◌*◌, �
 ghost use Rattle.std.specs.List.{All, flat_map, remove};
 ghost use Rattle.dir.specs.declared.entry.Entry.{Entry};
 ghost use Rattle.dir.specs.Fronts.{named, plain};
-ghost use Rattle.dir.specs.Size.{data_end, end_of, name_sizes, plain_sizes};
+ghost use Rattle.dir.specs.Size.{data_end, end_of_data, name_sizes, plain_sizes};
 
 use crate::entry::{Dir, Entry};
 use crate::item::Item;
@@ -16,7 +16,7 @@ use std::alloc::{AllocError, Global};
 /// The bytes of the longest identifier that is not lengthened, that of a name of 255 bytes.
 const MOST_SIZE: usize = 296;
 
-/// The identifiers of the first names of a directory as bytes, one behind another: each for the block number 0, and not
+/// The identifiers of the first names of a directory as bytes, one after another: each for the block number 0, and not
 /// lengthened. What these names add up to is kept with them.
 #[derive(Drop)]
 pub struct Identifiers {
@@ -30,15 +30,15 @@ pub struct Identifiers {
 }
 
 impl Identifiers {
-    ghost use Rattle.dir.specs.Directory.{directory_blocks, directory_count, directory_size, is_directory, of_name, IsEntry};
-    ghost use Rattle.dir.specs.Layout.{blocks_of};
+    ghost use Rattle.dir.specs.Directory.{directory_blocks, directory_count, directory_size, is_directory, of_name, IsDirectoryEntry};
+    ghost use Rattle.dir.specs.Layout.{block_count};
     ghost use Rattle.dir.specs.Size.{end_bytes, next_end};
     ghost use Rattle.osta.specs.Compressed.{compressed};
-    ghost use Rattle.dir.specs.Fronts.{IsFront};
+    ghost use Rattle.dir.specs.Fronts.{IsIdentifierPrefix};
 
     /// Those of no names.
     pub fn new(alloc: Global) -> Identifiers
-        ensures { (entries : List (List ℕ × Entry)) → IsFront result entries }
+        ensures { (entries : List (List ℕ × Entry)) → IsIdentifierPrefix result entries }
     {
         Identifiers {
             bytes: Vec::new(alloc),
@@ -50,7 +50,7 @@ impl Identifiers {
 
     /// Forgets all of them.
     pub fn clear(&mut self)
-        ensures { (entries : List (List ℕ × Entry)) → IsFront self.new entries }
+        ensures { (entries : List (List ℕ × Entry)) → IsIdentifierPrefix self.new entries }
     {
         self.bytes.clear();
         self.count = 0;
@@ -61,8 +61,8 @@ impl Identifiers {
     /// Adds those that are missing of the directory's names, as far as there is memory. Of more names than a directory of a
     /// volume has, none is added.
     pub fn fill(&mut self, dir: &Dir) -> Result<(), AllocError>
-        requires front { IsFront self.old dir.now.entries.entries }
-        ensures front { IsFront self.new dir.now.entries.entries }
+        requires front { IsIdentifierPrefix self.old dir.now.entries.entries }
+        ensures front { IsIdentifierPrefix self.new dir.now.entries.entries }
         ensures all { OnOk result (self.new.count ≡ length dir.now.entries.entries) }
         ensures onward { self.old.count ≤ self.new.count }
     {
@@ -80,9 +80,9 @@ impl Identifiers {
     /// Takes away that of the name at an index, where it is kept, before the name itself goes.
     pub fn remove(&mut self, dir: &Dir, index: usize)
         requires few { length dir.now.entries.entries ≤ MAX_NAMES }
-        requires front { IsFront self.old dir.now.entries.entries }
+        requires front { IsIdentifierPrefix self.old dir.now.entries.entries }
         requires there { index < length dir.now.entries.entries }
-        ensures front { IsFront self.new (remove dir.now.entries.entries index) }
+        ensures front { IsIdentifierPrefix self.new (remove dir.now.entries.entries index) }
         ensures within { index < self.old.count → self.new.count + 1 ≡ self.old.count }
         ensures behind { self.old.count ≤ index → self.new.count ≡ self.old.count }
     {
@@ -100,10 +100,10 @@ impl Identifiers {
     /// The size of the directory's data, at once where all of its names are kept.
     pub fn data_size(&self, dir: &Dir) -> DataSize
         requires few { length dir.now.entries.entries ≤ MAX_NAMES }
-        requires front { IsFront self.now dir.now.entries.entries }
-        ensures size { end_bytes (end_of result) ≡ directory_size dir.now }
-        ensures full { (end_of result).full < MAX_NAMES }
-        ensures blocks { (first : ℕ) → length (directory_blocks dir.now first) ≡ blocks_of (directory_size dir.now) }
+        requires front { IsIdentifierPrefix self.now dir.now.entries.entries }
+        ensures size { end_bytes (end_of_data result) ≡ directory_size dir.now }
+        ensures full { (end_of_data result).full < MAX_NAMES }
+        ensures blocks { (first : ℕ) → length (directory_blocks dir.now first) ≡ block_count (directory_size dir.now) }
     {
         if self.count == dir.entries.len() {
             return self.size;
@@ -114,10 +114,10 @@ impl Identifiers {
     /// The bytes of the identifiers of all of the directory's names, none of them lengthened, at once where they are kept.
     pub fn plain_size(&self, dir: &Dir) -> usize
         requires few { length dir.now.entries.entries ≤ MAX_NAMES }
-        requires front { IsFront self.now dir.now.entries.entries }
+        requires front { IsIdentifierPrefix self.now dir.now.entries.entries }
         ensures size { result ≡ plain_sizes (name_sizes dir.now.entries.entries) }
         ensures few { result ≤ 296 * MAX_NAMES }
-        ensures proper { All IsEntry dir.now.entries.entries }
+        ensures proper { All IsDirectoryEntry dir.now.entries.entries }
     {
         if self.count == dir.entries.len() {
             return self.bytes.len();
@@ -128,7 +128,7 @@ impl Identifiers {
     /// How many of the directory's names are of directories, at once where all of them are kept.
     pub fn directory_count(&self, dir: &Dir) -> u16
         requires few { length dir.now.entries.entries ≤ MAX_NAMES }
-        requires front { IsFront self.now dir.now.entries.entries }
+        requires front { IsIdentifierPrefix self.now dir.now.entries.entries }
         ensures value { result ≡ directory_count dir.now.entries.entries }
         ensures few { result ≤ MAX_NAMES }
     {
@@ -138,15 +138,15 @@ impl Identifiers {
         dir.directory_count()
     }
 
-    /// Adds that of a name behind the others.
+    /// Adds that of a name after the others.
     fn push(&mut self, name: &Name, entry: Entry) -> Result<(), AllocError>
         requires few { self.old.count < MAX_NAMES }
-        requires room { (end_of self.old.size).full < MAX_NAMES }
+        requires room { (end_of_data self.old.size).full < MAX_NAMES }
         requires within { self.old.directories ≤ self.old.count }
-        ensures entry { IsEntry (name.now, entry) }
+        ensures entry { IsDirectoryEntry (name.now, entry) }
         ensures bytes { OnOk result (self.new.bytes.items ≡ self.old.bytes.items ++ plain (of_name name.now entry)) }
         ensures count { OnOk result (self.new.count ≡ self.old.count + 1) }
-        ensures size { OnOk result (end_of self.new.size ≡ next_end (end_of self.old.size) (length (compressed name.now))) }
+        ensures size { OnOk result (end_of_data self.new.size ≡ next_end (end_of_data self.old.size) (length (compressed name.now))) }
         ensures directories { OnOk result (self.new.directories ≡ self.old.directories + (if is_directory entry.kind then 1 else 0)) }
         ensures unchanged { OnErr result (self.new.bytes.items ≡ self.old.bytes.items) }
         ensures sums { OnErr result ((self.new.count ≡ self.old.count) × (self.new.size ≡ self.old.size) × (self.new.directories ≡ self.old.directories)) }
@@ -205,8 +205,8 @@ fn size_without(dir: &Dir, index: usize, count: usize) -> DataSize
     requires few { length dir.now.entries.entries ≤ MAX_NAMES }
     requires there { index < count }
     requires within { count ≤ length dir.now.entries.entries }
-    ensures end { end_of result ≡ data_end (take (count - 1) (name_sizes (remove dir.now.entries.entries index))) }
-    ensures full { (end_of result).full ≤ count - 1 - 1 }
+    ensures end { end_of_data result ≡ data_end (take (count - 1) (name_sizes (remove dir.now.entries.entries index))) }
+    ensures full { (end_of_data result).full ≤ count - 1 - 1 }
 {
     let mut size = DataSize::new();
     for left in 0..count - 1 {

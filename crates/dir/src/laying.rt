@@ -53,9 +53,9 @@ impl<'a> Lay<'a> {
     ghost use Rattle.ecma.specs.Numbers.{u16_at};
     ghost use Rattle.dir.specs.Directory.{directory_blocks, identifiers_of};
     ghost use Rattle.dir.specs.Item.{said};
-    ghost use Rattle.dir.specs.Fronts.{IsFront};
+    ghost use Rattle.dir.specs.Fronts.{IsIdentifierPrefix};
     ghost use Rattle.dir.specs.Laying.{blocks_left, identifiers_left, IsFilled};
-    ghost use Rattle.dir.specs.Layout.{end_of, Stands};
+    ghost use Rattle.dir.specs.Layout.{identifier_end, FitsInBlock};
     ghost use Rattle.dir.specs.declared.laying.Lay.{Lay};
     ghost use Rattle.dir.specs.Identifier.{plain_size, identifier};
 
@@ -77,7 +77,7 @@ impl<'a> Lay<'a> {
 
     /// The same, laid by the identifiers that are kept of its first names.
     pub fn over(dir: &'a Dir, identifiers: &'a Identifiers, first: u32) -> Lay<'a>
-        requires front { IsFront identifiers.now dir.now.entries.entries }
+        requires front { IsIdentifierPrefix identifiers.now dir.now.entries.entries }
         requires few { length dir.now.entries.entries ≤ MAX_NAMES }
         requires first { first ≤ MAX_BLOCKS }
         ensures { blocks_left result ≡ directory_blocks dir.now first }
@@ -92,7 +92,7 @@ impl<'a> Lay<'a> {
         }
     }
 
-    /// The next block, or `None` behind the last.
+    /// The next block, or `None` after the last.
     pub fn next_block(&mut self) -> Option<Block>
         ensures next { MatchOption result (blocks_left self.old ≡ []) (λ block. blocks_left self.old ≡ block ∷ blocks_left self.new) }
         // It begins with an identifier's tag, and so is no file entry.
@@ -127,11 +127,11 @@ impl<'a> Lay<'a> {
         true
     }
 
-    /// Writes the next identifiers from a place of the block on that are kept, as long as the one behind each is kept too and
+    /// Writes the next identifiers from a place of the block on that are kept, as long as the one after each is kept too and
     /// stays in the block, and says where they end. No name is looked at for them.
     fn put_kept(&mut self, start: usize, block: &mut Block) -> usize
         requires inside { start < BLOCK_BYTES }
-        requires stood { Stands start (identifiers_left self.old) }
+        requires stood { FitsInBlock start (identifiers_left self.old) }
         ensures within { result < BLOCK_BYTES }
         ensures onward { start ≤ result }
         ensures filled { (from : Lay) → IsFilled from self.old start block.old → IsFilled from self.new result block.new }
@@ -168,7 +168,7 @@ impl<'a> Lay<'a> {
         ensures dir { self.new.dir ≡ self.old.dir }
         ensures next { self.new.next ≡ self.old.next + 1 }
         ensures number { self.new.number ≡ self.old.number }
-        ensures end { result ≡ end_of at (said item.now) (identifiers_left self.new) }
+        ensures end { result ≡ identifier_end at (said item.now) (identifiers_left self.new) }
         ensures within { result ≤ BLOCK_BYTES }
         ensures onward { at + plain_size (length item.now.name.now) ≤ result }
         ensures block { block.new ≡ take at block.old ++ (identifier self.old.number (said item.now) (result - (at + plain_size (length item.now.name.now))) ++ drop result block.old) }
@@ -185,7 +185,7 @@ impl<'a> Lay<'a> {
         behind
     }
 
-    /// Goes on behind the next identifier, and tells its bytes for the block number 0 and not lengthened, if they are kept.
+    /// Goes past the next identifier, and tells its bytes for the block number 0 and not lengthened, if they are kept.
     fn pass(&mut self, item: &Item<'a>) -> Option<&'a [u8]>
         requires next { slice_get (identifiers_of self.old.dir.now) self.old.next ≡ Some (said item.now) }
         requires short { length item.now.name.now ≤ 255 }

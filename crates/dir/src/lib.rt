@@ -6,7 +6,7 @@
 //! is lengthened to the block's end by implementation use.
 //!
 //! `Lay` and `lay` give exactly these bytes. `read_dir` gives a directory exactly where the blocks are
-//! its data, and else a fault or want of memory; blocks are the data of one directory at most. `Fids`
+//! its data, and else a fault or lack of memory; blocks are the data of one directory at most. `Fids`
 //! shows the identifiers as slices of the blocks. `DataSize` tells the size from the names' lengths
 //! alone. `Identifiers` keeps what `Lay` would spell again where a directory is laid anew, and what the
 //! names add up to.

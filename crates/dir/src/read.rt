@@ -4,7 +4,7 @@ ghost use Rattle.limits.specs.declared.TheConstants.{BLOCK_BYTES};
 ghost use Rattle.std.specs.Prelude.{◌≡◌, ◌≢◌, ◌+◌, ◌-◌, ◌*◌, ◌<◌, ◌≤◌, ◌↔◌, ℕ, List, length, drop, replicate, IsTrue, IfOk, IfErr};
 ghost use Rattle.std.specs.List.{concat};
 ghost use Rattle.dir.specs.Directory.{IsDirectory};
-ghost use Rattle.dir.specs.Layout.{blocks_of};
+ghost use Rattle.dir.specs.Layout.{block_count};
 ghost use Rattle.dir.specs.declared.entry.Entry.{Entry};
 
 use crate::entry::Dir;
@@ -18,7 +18,7 @@ use std::alloc::Global;
 /// The directory whose data of `size` bytes the blocks are, the first of them having this number.
 pub fn read_dir(alloc: Global, blocks: &[Block], size: u32, first: u32) -> Result<Dir, DirFault>
     requires some { 0 < size }
-    requires count { length blocks.now ≡ blocks_of size }
+    requires count { length blocks.now ≡ block_count size }
     requires first { first ≤ MAX_BLOCKS }
     // What is read stands there.
     ensures found { IfOk result (λ dir. IsDirectory dir.parent dir.entries.entries first size blocks.now) }
@@ -43,7 +43,7 @@ pub fn read_dir(alloc: Global, blocks: &[Block], size: u32, first: u32) -> Resul
     Ok(Dir { parent, entries })
 }
 
-/// Whether the bytes of the blocks behind the data are zeros.
+/// Whether the bytes of the blocks after the data are zeros.
 fn ends_in_zeros(blocks: &[Block], size: usize) -> bool
     requires { size ≤ BLOCK_BYTES * length blocks.now }
     ensures { IsTrue result ↔ (drop size (concat blocks.now) ≡ replicate (BLOCK_BYTES * length blocks.now - size) 0) }

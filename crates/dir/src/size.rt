@@ -24,7 +24,7 @@ pub(crate) fn plain_size(name_size: usize) -> usize
     rounded(38 + name_size)
 }
 
-/// Whether so many bytes may be put where `left` bytes of a block are left. Behind them none are
+/// Whether so many bytes may be put where `left` bytes of a block are left. After them none are
 /// left, or enough for the EntityID that begins an implementation use.
 pub(crate) fn fits(size: usize, left: usize) -> bool
     requires { size < 2 ^ 32 }
@@ -44,21 +44,21 @@ pub struct DataSize {
 
 impl DataSize {
     ghost use Rattle.std.specs.Prelude.{◌≡◌, ◌+◌, ◌<◌, ◌≤◌, ◌^◌};
-    ghost use Rattle.dir.specs.Layout.{blocks_of};
-    ghost use Rattle.dir.specs.Size.{end_of, parent_end, next_end, end_bytes};
+    ghost use Rattle.dir.specs.Layout.{block_count};
+    ghost use Rattle.dir.specs.Size.{end_of_data, parent_end, next_end, end_bytes};
 
     /// The data of a directory without names.
     pub fn new() -> DataSize
-        ensures { end_of result ≡ parent_end }
+        ensures { end_of_data result ≡ parent_end }
     {
         DataSize { full: 0, used: 40 }
     }
 
-    /// Adds a name behind the others, of `name_size` bytes in compressed form (1 to 255).
+    /// Adds a name after the others, of `name_size` bytes in compressed form (1 to 255).
     pub fn add(&mut self, name_size: usize)
         requires short { name_size ≤ 255 }
-        requires room { (end_of self.old).full + 1 < 2 ^ 32 }
-        ensures { end_of self.new ≡ next_end (end_of self.old) name_size }
+        requires room { (end_of_data self.old).full + 1 < 2 ^ 32 }
+        ensures { end_of_data self.new ≡ next_end (end_of_data self.old) name_size }
     {
         let size = plain_size(name_size);
         if fits(size, BLOCK_SIZE - self.used as usize) {
@@ -71,16 +71,16 @@ impl DataSize {
 
     /// The information length of the directory's entry, in bytes.
     pub fn bytes(&self) -> u64
-        ensures { result ≡ end_bytes (end_of self.now) }
+        ensures { result ≡ end_bytes (end_of_data self.now) }
     {
         u64::from(self.full) * 2048 + u64::from(self.used)
     }
 
     /// The blocks that the data takes.
     pub fn blocks(&self) -> u32
-        requires { (end_of self.now).full + 1 < 2 ^ 32 }
-        ensures full { result ≡ (end_of self.now).full + 1 }
-        ensures size { result ≡ blocks_of (end_bytes (end_of self.now)) }
+        requires { (end_of_data self.now).full + 1 < 2 ^ 32 }
+        ensures full { result ≡ (end_of_data self.now).full + 1 }
+        ensures size { result ≡ block_count (end_bytes (end_of_data self.now)) }
     {
         self.full + 1
     }

@@ -2,9 +2,9 @@
 
 ghost use Rattle.std.specs.Prelude.{◌≡◌, ◌*◌, ◌<◌, ◌≤◌, ℕ, length};
 ghost use Rattle.std.specs.List.{All};
-ghost use Rattle.dir.specs.Directory.{directory_size, directory_blocks, directory_count, IsEntry};
-ghost use Rattle.dir.specs.Layout.{blocks_of};
-ghost use Rattle.dir.specs.Size.{end_of, end_bytes, name_sizes, plain_sizes};
+ghost use Rattle.dir.specs.Directory.{directory_size, directory_blocks, directory_count, IsDirectoryEntry};
+ghost use Rattle.dir.specs.Layout.{block_count};
+ghost use Rattle.dir.specs.Size.{end_of_data, end_bytes, name_sizes, plain_sizes};
 
 use crate::entry::Dir;
 use crate::item::Item;
@@ -15,9 +15,9 @@ impl Dir {
     /// The size of the directory's data, from the lengths of its names alone, which are at most 512.
     pub fn data_size(&self) -> DataSize
         requires few { length self.now.entries.entries ≤ MAX_NAMES }
-        ensures size { end_bytes (end_of result) ≡ directory_size self.now }
-        ensures full { (end_of result).full < MAX_NAMES }
-        ensures blocks { (first : ℕ) → length (directory_blocks self.now first) ≡ blocks_of (directory_size self.now) }
+        ensures size { end_bytes (end_of_data result) ≡ directory_size self.now }
+        ensures full { (end_of_data result).full < MAX_NAMES }
+        ensures blocks { (first : ℕ) → length (directory_blocks self.now first) ≡ block_count (directory_size self.now) }
     {
         let mut size = DataSize::new();
         for i in 0..self.entries.len() {
@@ -32,7 +32,7 @@ impl Dir {
         requires few { length self.now.entries.entries ≤ MAX_NAMES }
         ensures size { result ≡ plain_sizes (name_sizes self.now.entries.entries) }
         ensures few { result ≤ 296 * MAX_NAMES }
-        ensures proper { All IsEntry self.now.entries.entries }
+        ensures proper { All IsDirectoryEntry self.now.entries.entries }
     {
         let mut size = 0;
         for i in 0..self.entries.len() {

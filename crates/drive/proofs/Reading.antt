@@ -1,7 +1,7 @@
 -- Calls that write nothing, or read nothing, one after another.
 use Rattle.std.proofs.Common.{◌≡◌, ℕ, Bool, true, false, IsTrue, subst, ◌≤◌, ◌==◌, ◌∙◌, ap, sym, refl, arith}
 use Rattle.drive.specs.declared.Drive.{Ghosts}
-use Rattle.drive.specs.Reads.{Follows, Reads, Writes, one_if}
+use Rattle.drive.specs.Reads.{ReadsAndWrites, ReadsOnly, WritesOnly, one_if}
 
 -- where a count did not grow over two calls, it grew in neither
 first_stays : (a b c : ℕ) → a ≤ b → b ≤ c → c ≡ a → b ≡ a
@@ -15,11 +15,11 @@ pub honest_stays : {D : Type 0} (drive : Ghosts D) → ((d : D) → drive.honest
 honest_stays drive law old new same = subst IsTrue (law old ∙ (ap (λ n. n == 0) (sym same) ∙ sym (law new)))
 
 -- nothing was called
-pub reads_none : {D : Type 0} (drive : Ghosts D) (d : D) → Reads drive 0 d d
+pub reads_none : {D : Type 0} (drive : Ghosts D) (d : D) → ReadsOnly drive 0 d d
 reads_none drive d = record { journal = refl; writes = refl; capacity = refl; failures = λ few. omega arith; misreads = omega arith; honest = λ h. h; stays = λ same h. h }
 
--- a call behind one that did not fail
-pub reads_then : {D : Type 0} {drive : Ghosts D} {n : ℕ} {a b c : D} → Reads drive 0 a b → Reads drive n b c → Reads drive n a c
+-- a call after one that did not fail
+pub reads_then : {D : Type 0} {drive : Ghosts D} {n : ℕ} {a b c : D} → ReadsOnly drive 0 a b → ReadsOnly drive n b c → ReadsOnly drive n a c
 reads_then p q = record {
   journal = q.journal ∙ p.journal;
   writes = q.writes ∙ p.writes;
@@ -31,32 +31,32 @@ reads_then p q = record {
 }
 
 -- a call that writes nothing is one that may write
-pub reads_are : {D : Type 0} {drive : Ghosts D} {n : ℕ} {a b : D} → Reads drive n a b → Follows drive n a b
+pub reads_are : {D : Type 0} {drive : Ghosts D} {n : ℕ} {a b : D} → ReadsOnly drive n a b → ReadsAndWrites drive n a b
 reads_are p = record { capacity = p.capacity; failures = p.failures; misreads = p.misreads; honest = p.honest; stays = p.stays }
 
 -- nothing was called
-pub writes_none : {D : Type 0} (drive : Ghosts D) (d : D) → Writes drive false d d
+pub writes_none : {D : Type 0} (drive : Ghosts D) (d : D) → WritesOnly drive false d d
 writes_none drive d = record { capacity = refl; failures = refl; misreads = refl; honest = refl }
 
--- a call behind one that did not fail
-pub writes_then : {D : Type 0} {drive : Ghosts D} {failed : Bool} {a b c : D} → Writes drive false a b → Writes drive failed b c → Writes drive failed a c
+-- a call after one that did not fail
+pub writes_then : {D : Type 0} {drive : Ghosts D} {failed : Bool} {a b c : D} → WritesOnly drive false a b → WritesOnly drive failed b c → WritesOnly drive failed a c
 writes_then p q = record { capacity = q.capacity ∙ p.capacity; failures = cc (q.failures, p.failures); misreads = q.misreads ∙ p.misreads; honest = q.honest ∙ p.honest }
 
 -- a call that reads nothing is one that may read
-pub writes_follow : {D : Type 0} {drive : Ghosts D} {failed : Bool} {a b : D} → Writes drive failed a b → Follows drive (one_if failed) a b
+pub writes_follow : {D : Type 0} {drive : Ghosts D} {failed : Bool} {a b : D} → WritesOnly drive failed a b → ReadsAndWrites drive (one_if failed) a b
 writes_follow {failed = true} p = record { capacity = p.capacity; failures = λ few. omega (arith, p.failures); misreads = omega (arith, p.misreads); honest = subst IsTrue p.honest; stays = λ same. subst IsTrue (sym p.honest) }
 writes_follow {failed = false} p = record { capacity = p.capacity; failures = λ few. omega (arith, p.failures); misreads = omega (arith, p.misreads); honest = subst IsTrue p.honest; stays = λ same. subst IsTrue (sym p.honest) }
 
 -- nothing was called
-pub follows_none : {D : Type 0} (drive : Ghosts D) (d : D) → Follows drive 0 d d
+pub follows_none : {D : Type 0} (drive : Ghosts D) (d : D) → ReadsAndWrites drive 0 d d
 follows_none drive d = reads_are (reads_none drive d)
 
 -- whatever was counted
-pub follows_any : {D : Type 0} {drive : Ghosts D} {n : ℕ} {a b : D} → Follows drive n a b → Follows drive 0 a b
+pub follows_any : {D : Type 0} {drive : Ghosts D} {n : ℕ} {a b : D} → ReadsAndWrites drive n a b → ReadsAndWrites drive 0 a b
 follows_any p = record { capacity = p.capacity; failures = λ few. omega (arith, p.failures); misreads = p.misreads; honest = p.honest; stays = p.stays }
 
--- a call behind one that did not fail
-pub follows_then : {D : Type 0} {drive : Ghosts D} {n : ℕ} {a b c : D} → Follows drive 0 a b → Follows drive n b c → Follows drive n a c
+-- a call after one that did not fail
+pub follows_then : {D : Type 0} {drive : Ghosts D} {n : ℕ} {a b c : D} → ReadsAndWrites drive 0 a b → ReadsAndWrites drive n b c → ReadsAndWrites drive n a c
 follows_then p q = record {
   capacity = q.capacity ∙ p.capacity;
   failures = λ few. let second = q.failures few in omega (arith, p.failures);
@@ -65,6 +65,6 @@ follows_then p q = record {
   stays = λ same h. q.stays (second_stays _ _ _ p.misreads q.misreads same) (p.stays (first_stays _ _ _ p.misreads q.misreads same) h);
 }
 
--- a call that may write behind one that only read
-pub reads_follows : {D : Type 0} {drive : Ghosts D} {n : ℕ} {a b c : D} → Reads drive 0 a b → Follows drive n b c → Follows drive n a c
+-- a call that may write after one that only read
+pub reads_follows : {D : Type 0} {drive : Ghosts D} {n : ℕ} {a b c : D} → ReadsOnly drive 0 a b → ReadsAndWrites drive n b c → ReadsAndWrites drive n a c
 reads_follows p q = follows_then (reads_are p) q

@@ -1,44 +1,44 @@
--- Runs of blocks: one behind another, and what they are to the writes of a drive.
+-- Runs of blocks: one after another, and what they are to the writes of a drive.
 use Rattle.std.proofs.Common.{◌≡◌, ℕ, zero, suc, Bool, true, false, ◌+◌, ◌-◌, ◌≤◌, List, [], ◌∷◌, ◌++◌, length, take, drop, refl, sym, ◌∙◌, ap, subst, arith, append_assoc, append-nil}
 use Rattle.std.proofs.lemmas.Bool.{false≢true}
 use Rattle.std.proofs.lemmas.List.{length-take-le, take-append-drop}
 use Rattle.std.proofs.Math.Seq.{take-add}
-use Rattle.drive.specs.Journal.{Event, written, AddsFront}
+use Rattle.drive.specs.Journal.{Event, written, AddsPrefix}
 use Rattle.drive.specs.Note.{longer}
-use Rattle.drive.specs.Writes.{joined, Runs}
+use Rattle.drive.specs.Writes.{joined, SplitsRun}
 use Rattle.drive.specs.Sending.{Sends}
 use Rattle.drive.specs.declared.Drive.{Ghosts}
 use Rattle.drive.proofs.Fronts.{front_longer, front_after, written_after}
 use Rattle.drive.proofs.Sending.{joined_append}
 
 -- it is what the drive sends
-pub runs_send : {D : Type 0} {drive : Ghosts D} {at : ℕ} {blocks : List (List ℕ)} {failed : Bool} {a b : D} → Runs at blocks failed (drive.journal a) (drive.writes a) (drive.journal b) (drive.writes b) → Sends drive blocks failed a b
+pub runs_send : {D : Type 0} {drive : Ghosts D} {at : ℕ} {blocks : List (List ℕ)} {failed : Bool} {a b : D} → SplitsRun at blocks failed (drive.journal a) (drive.writes a) (drive.journal b) (drive.writes b) → Sends drive blocks failed a b
 runs_send p = record { added = p.added; rest = p.rest; writes = p.writes_are; order = p.order; whole = p.whole }
 
--- what was added is a front of all its blocks
-pub runs_front : {at : ℕ} {blocks : List (List ℕ)} {failed : Bool} {J J' : List Event} {W W' : List (List (List ℕ))} → Runs at blocks failed J W J' W' → AddsFront J at blocks J'
-runs_front {at = at} {J = J} {J' = J'} p = subst (λ (bs : List (List ℕ)). AddsFront J at bs J') p.order (front_longer J J' at (joined p.added) p.rest p.front)
+-- what was added is a prefix of all its blocks
+pub runs_front : {at : ℕ} {blocks : List (List ℕ)} {failed : Bool} {J J' : List Event} {W W' : List (List (List ℕ))} → SplitsRun at blocks failed J W J' W' → AddsPrefix J at blocks J'
+runs_front {at = at} {J = J} {J' = J'} p = subst (λ (bs : List (List ℕ)). AddsPrefix J at bs J') p.order (front_longer J J' at (joined p.added) p.rest p.front)
 
 -- no block
-pub runs_none : (at : ℕ) (J : List Event) (W : List (List (List ℕ))) → Runs at [] false J W J W
+pub runs_none : (at : ℕ) (J : List Event) (W : List (List (List ℕ))) → SplitsRun at [] false J W J W
 runs_none at J W = record { added = []; rest = []; writes_are = sym (append-nil W); order = refl; whole = λ h. refl; front = (0, omega arith, sym (append-nil J)) }
 
 -- one write of all its blocks
-pub runs_one : {at : ℕ} {failed : Bool} {J J' : List Event} {W W' : List (List (List ℕ))} (blocks : List (List ℕ)) → AddsFront J at blocks J' → W' ≡ W ++ blocks ∷ [] → Runs at blocks failed J W J' W'
+pub runs_one : {at : ℕ} {failed : Bool} {J J' : List Event} {W W' : List (List (List ℕ))} (blocks : List (List ℕ)) → AddsPrefix J at blocks J' → W' ≡ W ++ blocks ∷ [] → SplitsRun at blocks failed J W J' W'
 runs_one {at = at} {J = J} {J' = J'} blocks front is = record {
   added = blocks ∷ [];
   rest = [];
   writes_are = is;
   order = append-nil (blocks ++ []) ∙ append-nil blocks;
   whole = λ h. refl;
-  front = subst (λ (bs : List (List ℕ)). AddsFront J at bs J') (sym (append-nil blocks)) front;
+  front = subst (λ (bs : List (List ℕ)). AddsPrefix J at bs J') (sym (append-nil blocks)) front;
 }
 
 all_given : (added : List (List (List ℕ))) (rest blocks : List (List ℕ)) → joined added ++ rest ≡ blocks → rest ≡ [] → joined added ≡ blocks
 all_given added rest blocks order none = sym (append-nil (joined added)) ∙ ap (λ (bs : List (List ℕ)). joined added ++ bs) (sym none) ∙ order
 
--- blocks behind others that were all written
-pub runs_then : {failed : Bool} {J J1 J2 : List Event} {W V U : List (List (List ℕ))} {at next : ℕ} {bs cs : List (List ℕ)} → J1 ≡ J ++ written at bs → next ≡ at + length bs → Runs at bs false J W J1 V → Runs next cs failed J1 V J2 U → Runs at (bs ++ cs) failed J W J2 U
+-- blocks after others that were all written
+pub runs_then : {failed : Bool} {J J1 J2 : List Event} {W V U : List (List (List ℕ))} {at next : ℕ} {bs cs : List (List ℕ)} → J1 ≡ J ++ written at bs → next ≡ at + length bs → SplitsRun at bs false J W J1 V → SplitsRun next cs failed J1 V J2 U → SplitsRun at (bs ++ cs) failed J W J2 U
 runs_then {J = J} {J1 = J1} {J2 = J2} {W = W} {at = at} {next = next} {bs = bs} {cs = cs} is place p q =
     let all : joined p.added ≡ bs = all_given p.added p.rest bs p.order (p.whole refl) in
     record {
@@ -48,12 +48,12 @@ runs_then {J = J} {J1 = J1} {J2 = J2} {W = W} {at = at} {next = next} {bs = bs} 
       order = ap (λ (ds : List (List ℕ)). ds ++ q.rest) (joined_append p.added q.added) ∙ append_assoc (joined p.added) (joined q.added) q.rest
           ∙ ap (λ (ds : List (List ℕ)). joined p.added ++ ds) q.order ∙ ap (λ (ds : List (List ℕ)). ds ++ cs) all;
       whole = q.whole;
-      front = subst (λ (ds : List (List ℕ)). AddsFront J at ds J2) (ap (λ (ds : List (List ℕ)). ds ++ joined q.added) (sym all) ∙ sym (joined_append p.added q.added))
+      front = subst (λ (ds : List (List ℕ)). AddsPrefix J at ds J2) (ap (λ (ds : List (List ℕ)). ds ++ joined q.added) (sym all) ∙ sym (joined_append p.added q.added))
           (front_after J J1 J2 at next bs (joined q.added) is place q.front);
     }
 
 -- a failure among some blocks is one among these and more
-pub runs_longer : {failed : Bool} {J J' : List Event} {W W' : List (List (List ℕ))} {at : ℕ} {bs : List (List ℕ)} (cs : List (List ℕ)) → Runs at bs failed J W J' W' → Runs at (bs ++ cs) true J W J' W'
+pub runs_longer : {failed : Bool} {J J' : List Event} {W W' : List (List (List ℕ))} {at : ℕ} {bs : List (List ℕ)} (cs : List (List ℕ)) → SplitsRun at bs failed J W J' W' → SplitsRun at (bs ++ cs) true J W J' W'
 runs_longer cs p = record {
   added = p.added;
   rest = p.rest ++ cs;
@@ -63,8 +63,8 @@ runs_longer cs p = record {
   front = p.front;
 }
 
-pub runs_as : {failed : Bool} {J J' : List Event} {W W' : List (List (List ℕ))} {at : ℕ} {bs cs : List (List ℕ)} → bs ≡ cs → Runs at bs failed J W J' W' → Runs at cs failed J W J' W'
-runs_as {failed = failed} {J = J} {J' = J'} {W = W} {W' = W'} {at = at} same p = subst (λ (ds : List (List ℕ)). Runs at ds failed J W J' W') same p
+pub runs_as : {failed : Bool} {J J' : List Event} {W W' : List (List (List ℕ))} {at : ℕ} {bs cs : List (List ℕ)} → bs ≡ cs → SplitsRun at bs failed J W J' W' → SplitsRun at cs failed J W J' W'
+runs_as {failed = failed} {J = J} {J' = J'} {W = W} {W' = W'} {at = at} same p = subst (λ (ds : List (List ℕ)). SplitsRun at ds failed J W J' W') same p
 
 -- In a loop over packets: one more is the front of what is left.
 module _ (at d : ℕ) (all p : List (List ℕ)) (le : d + length p ≤ length all) (is : p ≡ take (length p) (drop d all)) where
@@ -77,14 +77,14 @@ module _ (at d : ℕ) (all p : List (List ℕ)) (le : d + length p ≤ length al
   pub packet_written : (J J1 J2 : List Event) → J1 ≡ J ++ written at (take d all) → J2 ≡ J1 ++ written (at + d) p → J2 ≡ J ++ written at (take (d + length p) all)
   packet_written J J1 J2 k k' = written_after J J1 J2 at (at + d) (take d all) p k begun k' ∙ ap (λ (bs : List (List ℕ)). J ++ written at bs) longer_front
 
-  pub packet_runs : {failed : Bool} {J J1 J2 : List Event} {W V U : List (List (List ℕ))} → J1 ≡ J ++ written at (take d all) → Runs at (take d all) false J W J1 V → Runs (at + d) p failed J1 V J2 U → Runs at (take (d + length p) all) failed J W J2 U
+  pub packet_runs : {failed : Bool} {J J1 J2 : List Event} {W V U : List (List (List ℕ))} → J1 ≡ J ++ written at (take d all) → SplitsRun at (take d all) false J W J1 V → SplitsRun (at + d) p failed J1 V J2 U → SplitsRun at (take (d + length p) all) failed J W J2 U
   packet_runs k r q = runs_as longer_front (runs_then k begun r q)
 
   -- or it failed
-  pub packet_broken : {J J1 J2 : List Event} {W V U : List (List (List ℕ))} → J1 ≡ J ++ written at (take d all) → Runs at (take d all) false J W J1 V → Runs (at + d) p true J1 V J2 U → Runs at all true J W J2 U
+  pub packet_broken : {J J1 J2 : List Event} {W V U : List (List (List ℕ))} → J1 ≡ J ++ written at (take d all) → SplitsRun at (take d all) false J W J1 V → SplitsRun (at + d) p true J1 V J2 U → SplitsRun at all true J W J2 U
   packet_broken k r q = runs_as (take-append-drop (d + length p) all) (runs_longer (drop (d + length p) all) (packet_runs k r q))
 
--- what is left of two lists behind the first
+-- what is left of two lists after the first
 drop_behind : (first second : List (List ℕ)) (d : ℕ) → length first ≤ d → drop d (first ++ second) ≡ drop (d - length first) second
 drop_behind [] second d h = ap (λ n. drop n second) (let same : d ≡ d - 0 = omega arith in same)
 drop_behind (b ∷ first) second zero h = absurd (omega (arith, h))

@@ -26,7 +26,7 @@ all_sent added rest blocks order none = sym (append-nil (joined added)) ∙ ap (
 pub sent_all : {D : Type 0} {drive : Ghosts D} {blocks : List (List ℕ)} {a b : D} (p : Sends drive blocks false a b) → joined p.added ≡ blocks
 sent_all {blocks = blocks} p = all_sent p.added p.rest blocks p.order (p.whole refl)
 
--- blocks behind others that all went out
+-- blocks after others that all went out
 pub sends_then : {D : Type 0} {drive : Ghosts D} {failed : Bool} {bs cs : List (List ℕ)} {a b c : D} → Sends drive bs false a b → Sends drive cs failed b c → Sends drive (bs ++ cs) failed a c
 sends_then {drive = drive} {bs = bs} {cs = cs} {a = a} p q = record {
   added = p.added ++ q.added;
@@ -64,7 +64,7 @@ alone_stopped last p = record {
   whole = λ h. absurd (false≢true (sym h));
 }
 
--- the last block was given to a write alone, behind all others
+-- the last block was given to a write alone, after all others
 pub alone_sent : {D : Type 0} {drive : Ghosts D} {bs : List (List ℕ)} {failed : Bool} {a b c : D} (last : List ℕ) → Sends drive bs false a b → drive.writes c ≡ drive.writes b ++ (last ∷ []) ∷ [] → SendsAlone drive bs last failed a c
 alone_sent {drive = drive} {a = a} last p is = record {
   added = p.added ++ (last ∷ []) ∷ [];

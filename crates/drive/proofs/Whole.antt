@@ -3,7 +3,7 @@ use Rattle.std.proofs.Common.{◌≡◌, ℕ, zero, suc, ◌<◌, List, [], ◌�
 use Rattle.std.specs.Prelude.{All, replicate}
 use Rattle.std.proofs.lemmas.List.{length-take, length-append, length-replicate}
 use Rattle.drive.specs.Note.{fitted}
-use Rattle.drive.specs.Journal.{Event, written, held, blocks_of, Once, AreWhole}
+use Rattle.drive.specs.Journal.{Event, written, held, event_blocks, Once, AreWhole}
 use Rattle.drive.proofs.Once.{held_once}
 
 abbrev pub AreBlocks : List (List ℕ) → Type 0
@@ -42,7 +42,7 @@ whole-fitted (suc n) [] (suc k) d h = whole-fitted n [] k d (omega (arith, h))
 whole-fitted (suc n) (b ∷ image) zero d h = omega (arith, length-take 2048 (b ++ replicate 2048 0), length-append b (replicate 2048 0), length-replicate {A = ℕ} 2048 0)
 whole-fitted (suc n) (b ∷ image) (suc k) d h = whole-fitted n image k d (omega (arith, h))
 
-blocks-whole : (J : List Event) → AreWhole J → AreBlocks (blocks_of J)
+blocks-whole : (J : List Event) → AreWhole J → AreBlocks (event_blocks J)
 blocks-whole [] all k d h = absurd (omega (arith, h))
 blocks-whole (e ∷ J) all zero d h = all 0 e (omega arith)
 blocks-whole (e ∷ J) all (suc k) d h = blocks-whole J (λ i x lt. all (suc i) x (omega (arith, lt))) k d (omega (arith, h))

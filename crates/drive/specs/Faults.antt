@@ -53,8 +53,8 @@ scheduled_at schedule call = option_map (λ (s : Scheduled). s.keep) (find (λ (
 abbrev pub added_on_schedule : Option ℕ → ℕ → ℕ
 added_on_schedule scheduled count = min (unwrap_or scheduled count) count
 
-abbrev pub added : Option ℕ → Option Fault → ℕ → ℕ
-added scheduled armed count = unwrap_or (cut_by armed (added_on_schedule scheduled count)) (added_on_schedule scheduled count)
+abbrev pub blocks_before_fault : Option ℕ → Option Fault → ℕ → ℕ
+blocks_before_fault scheduled armed count = unwrap_or (cut_by armed (added_on_schedule scheduled count)) (added_on_schedule scheduled count)
 
 -- whether it fails
 abbrev pub write_fails : Option ℕ → Option Fault → ℕ → Bool

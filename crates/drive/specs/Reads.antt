@@ -4,34 +4,34 @@ use Rattle.drive.specs.Journal.{counted}
 use Rattle.drive.specs.declared.Drive.{Ghosts}
 
 -- so many failures were counted at least, while the count is below its top
-abbrev pub Counts : ℕ → ℕ → ℕ → Type 0
-Counts n before now = now < 2 ^ 64 - 1 → before + n ≤ now
+abbrev pub CountsFailures : ℕ → ℕ → ℕ → Type 0
+CountsFailures n before now = now < 2 ^ 64 - 1 → before + n ≤ now
 
 -- one for a call that failed
 abbrev pub one_if : Bool → ℕ
 one_if failed = if failed then 1 else 0
 
 -- Nothing was written, at least so many failures were counted, and no misread is forgotten. Honesty is not gained, and stays where no misread was added.
-pub record Reads {D : Type 0} (drive : Ghosts D) (failed : ℕ) (old new : D) : Type 0 where
+pub record ReadsOnly {D : Type 0} (drive : Ghosts D) (failed : ℕ) (old new : D) : Type 0 where
   pub journal : drive.journal new ≡ drive.journal old
   pub writes : drive.writes new ≡ drive.writes old
   pub capacity : drive.capacity new ≡ drive.capacity old
-  pub failures : Counts failed (drive.failures old) (drive.failures new)
+  pub failures : CountsFailures failed (drive.failures old) (drive.failures new)
   pub misreads : drive.misreads old ≤ drive.misreads new
   pub honest : IsTrue (drive.honest new) → IsTrue (drive.honest old)
   pub stays : drive.misreads new ≡ drive.misreads old → IsTrue (drive.honest old) → IsTrue (drive.honest new)
 
 -- Whatever was written, a failure was counted where one was met, and nothing was read.
-pub record Writes {D : Type 0} (drive : Ghosts D) (failed : Bool) (old new : D) : Type 0 where
+pub record WritesOnly {D : Type 0} (drive : Ghosts D) (failed : Bool) (old new : D) : Type 0 where
   pub capacity : drive.capacity new ≡ drive.capacity old
   pub failures : drive.failures new ≡ counted failed (drive.failures old)
   pub misreads : drive.misreads new ≡ drive.misreads old
   pub honest : drive.honest new ≡ drive.honest old
 
 -- Whatever was written and read, the rest is as of a call that writes nothing.
-pub record Follows {D : Type 0} (drive : Ghosts D) (failed : ℕ) (old new : D) : Type 0 where
+pub record ReadsAndWrites {D : Type 0} (drive : Ghosts D) (failed : ℕ) (old new : D) : Type 0 where
   pub capacity : drive.capacity new ≡ drive.capacity old
-  pub failures : Counts failed (drive.failures old) (drive.failures new)
+  pub failures : CountsFailures failed (drive.failures old) (drive.failures new)
   pub misreads : drive.misreads old ≤ drive.misreads new
   pub honest : IsTrue (drive.honest new) → IsTrue (drive.honest old)
   pub stays : drive.misreads new ≡ drive.misreads old → IsTrue (drive.honest old) → IsTrue (drive.honest new)

@@ -11,7 +11,7 @@ pub record Sends {D : Type 0} (drive : Ghosts D) (blocks : List (List ℕ)) (fai
   pub order : joined added ++ rest ≡ blocks
   pub whole : failed ≡ false → rest ≡ []
 
--- The same, and behind the writes of these blocks one of the last block alone: all of these writes, or, where one failed, those up to that one.
+-- The same, and after the writes of these blocks one of the last block alone: all of these writes, or, where one failed, those up to that one.
 pub record SendsAlone {D : Type 0} (drive : Ghosts D) (blocks : List (List ℕ)) (last : List ℕ) (failed : Bool) (old new : D) : Type 0 where
   pub added : List (List (List ℕ))
   pub others : List (List (List ℕ))

@@ -1,10 +1,10 @@
--- Blocks that go out in writes, each synced before the next begins, and what a loss of power leaves of them where a disk keeps the blocks of a write that is not yet synced in any order.
+-- Blocks that go out in writes, each synced before the next begins, and what a power loss leaves of them where a disk keeps the blocks of a write that is not yet synced in any order.
 use Rattle.std.specs.Prelude.{◌≡◌, ◌⊎◌, ℕ, suc, ◌<◌, ◌≤◌, Bool, false, if◌then◌else◌, List, [], ◌∷◌, ◌++◌, length, replicate, slice_get, Some}
 use Rattle.std.specs.List.{flat_map}
-use Rattle.drive.specs.Journal.{Event, AddsFront}
+use Rattle.drive.specs.Journal.{Event, AddsPrefix}
 use Rattle.limits.specs.declared.TheConstants.{BLOCK_BYTES}
 
--- what is read where a block did not reach the medium and one behind it did
+-- what is read where a block did not reach the medium and one after it did
 abbrev pub unwritten : List ℕ
 unwritten = replicate BLOCK_BYTES 0
 
@@ -12,20 +12,20 @@ unwritten = replicate BLOCK_BYTES 0
 abbrev pub joined : List (List (List ℕ)) → List (List ℕ)
 joined writes = flat_map (λ write. write) writes
 
--- the writes have these blocks, and behind them all the last block, which goes out alone
+-- the writes have these blocks, and after them all the last block, which goes out alone
 pub record LastIsAlone (blocks : List (List ℕ)) (last : List ℕ) (writes : List (List (List ℕ))) : Type 0 where
   pub before : List (List (List ℕ))
   pub order : joined before ≡ blocks
   pub writes_are : writes ≡ before ++ (last ∷ []) ∷ []
 
--- A run of blocks was given to writes, in order: all of them, or, where a write failed, those up to the last one that it was given. What was added to the journal is a front of what the writes were given.
-pub record Runs (at : ℕ) (blocks : List (List ℕ)) (failed : Bool) (journal : List Event) (writes : List (List (List ℕ))) (journal' : List Event) (writes' : List (List (List ℕ))) : Type 0 where
+-- A run of blocks was given to writes, in order: all of them, or, where a write failed, those up to the last one that it was given. What was added to the journal is a prefix of what the writes were given.
+pub record SplitsRun (at : ℕ) (blocks : List (List ℕ)) (failed : Bool) (journal : List Event) (writes : List (List (List ℕ))) (journal' : List Event) (writes' : List (List (List ℕ))) : Type 0 where
   pub added : List (List (List ℕ))
   pub rest : List (List ℕ)
   pub writes_are : writes' ≡ writes ++ added
   pub order : joined added ++ rest ≡ blocks
   pub whole : failed ≡ false → rest ≡ []
-  pub front : AddsFront journal at (joined added) journal'
+  pub front : AddsPrefix journal at (joined added) journal'
 
 -- A torn image of a write: as many blocks or fewer, at each place the one that was written or one of zeros.
 pub record IsTorn (write left : List (List ℕ)) : Type 0 where

@@ -3,7 +3,7 @@
 //! What is answered must be on the disk. So a file that is written is held alone, by an exclusive lock, and
 //! synced before anything is read of it: what an earlier process left in the system's cache is on the disk
 //! before it is taken for written. Then the system is made to forget that cache, so that what is read is what
-//! the disk has, also behind a sync that failed in that process. Each write ends with a sync. Behind a write or
+//! the disk has, also after a sync that failed in that process. Each write ends with a sync. After a write or
 //! a sync that failed the file is cut back to the blocks that it had, and synced, before anything else: the
 //! system may take the pages of a failed sync for written, and neither another sync nor writing them again
 //! brings them to the disk.
@@ -95,7 +95,7 @@ impl Image {
             .read_soon(offset(at), u64::from(count) * BLOCK_BYTES);
     }
 
-    /// The bytes behind the last whole block, at the front of `into`: how many they are, at most 2,047.
+    /// The bytes after the last whole block, at the front of `into`: how many they are, at most 2,047.
     pub(crate) fn part(&self, into: &mut Block) -> Result<usize, DriveFault>
         ensures { IfOk result (λ n. n < BLOCK_BYTES) }
     {
@@ -106,7 +106,7 @@ impl Image {
         Ok(len)
     }
 
-    /// Writes the blocks of both slices, the second behind the first, behind those that count, and waits until the
+    /// Writes the blocks of both slices, the second after the first, after those that count, and waits until the
     /// disk has them all. Blocks for another address are a fault, so that none is written twice.
     pub(crate) fn append(
         &mut self,
@@ -130,7 +130,7 @@ impl Image {
         Err(DriveFault)
     }
 
-    /// Cuts off what a failed write may have left behind these blocks, where that was not done yet. A file
+    /// Cuts off what a failed write may have left after these blocks, where that was not done yet. A file
     /// that is shorter was cut by another, and is left.
     fn cut_back(&mut self, count: u32) -> Result<(), DriveFault> {
         if !self.is_torn {
@@ -189,7 +189,7 @@ pub(crate) fn open_to_read<R: Files<File = File>>(rt: &R, path: &str) -> Result<
     fault_of(File::open(rt, path))
 }
 
-/// Syncs the folder in which the file at this path stands, so that a loss of power does not take its name.
+/// Syncs the folder in which the file at this path stands, so that a power loss does not take its name.
 pub fn sync_folder<R: Files<File = File>>(rt: &R, path: &str) -> Result<(), DriveFault> {
     let folder = match path.rsplit_once('/') {
         Some(("", _)) => "/",

@@ -1,17 +1,17 @@
 //! Blocks on their way to a drive, in packets that one write may be given.
 ghost use Rattle.std.specs.Prelude.{◌≡◌, ◌+◌, ◌*◌, ◌/◌, ◌==◌, ◌<◌, ◌≤◌, if◌then◌else◌, ℕ, List, ◌∷◌, ◌++◌, [], length, take, drop, vec_len, is_err, IfOk, OnOk, OnErr};
 ghost use Rattle.std.specs.Vec.{vec_capacity};
-ghost use Rattle.drive.specs.Journal.{written, next_of, AddsFront};
-ghost use Rattle.drive.specs.Reads.{Writes};
+ghost use Rattle.drive.specs.Journal.{written, next_of, AddsPrefix};
+ghost use Rattle.drive.specs.Reads.{WritesOnly};
 ghost use Rattle.drive.specs.Sending.{Sends, SendsAlone};
-ghost use Rattle.drive.specs.Waiting.{Waiting, end_of, Takes, Stops};
+ghost use Rattle.drive.specs.Waiting.{Waiting, next_address, TakesBlocks, Stops};
 
 use crate::{Block, Drive, DriveFault, PACKET};
 use std::alloc::{AllocError, Global};
 use std::marker::Model;
 use std::slice;
 
-/// The next packet of the blocks of both slices behind so many of them: at most 32, of one slice.
+/// The next packet of the blocks of both slices after so many of them: at most 32, of one slice.
 pub(crate) fn packet_of<'b>(first: &'b [Block], second: &'b [Block], done: usize) -> &'b [Block]
     requires { done < length first.now + length second.now }
     ensures blocks { result.now ≡ take (length result.now) (drop done (first.now ++ second.now)) }
@@ -26,8 +26,8 @@ pub(crate) fn packet_of<'b>(first: &'b [Block], second: &'b [Block], done: usize
     &second[begun..second.len().min(begun + PACKET)]
 }
 
-/// Writes the blocks from this address on: all but the last in one run, and the last in a write of its own, behind
-/// the finished writes of all others. So whatever part of a write a loss of power leaves, the last block stands
+/// Writes the blocks from this address on: all but the last in one run, and the last in a write of its own, after
+/// the finished writes of all others. So whatever part of a write a power loss leaves, the last block stands
 /// only where the others do.
 pub fn write_last_alone<D: Drive>(
     drive: &mut D,
@@ -37,15 +37,15 @@ pub fn write_last_alone<D: Drive>(
     requires begins { at ≤ next_of (D.journal drive.old) }
     requires fits { at + length blocks.now ≤ D.capacity drive.old }
     ensures ok { OnOk result (D.journal drive.new ≡ D.journal drive.old ++ written at blocks.now) }
-    ensures err { OnErr result (AddsFront (D.journal drive.old) at blocks.now (D.journal drive.new)) }
+    ensures err { OnErr result (AddsPrefix (D.journal drive.old) at blocks.now (D.journal drive.new)) }
     ensures none { blocks.now ≡ [] → drive.new ≡ drive.old }
     ensures alone { (before : List (List ℕ)) (last : List ℕ) → blocks.now ≡ before ++ last ∷ [] → SendsAlone D.Drive before last (is_err result) drive.old drive.new }
-    ensures writes { Writes D.Drive (is_err result) drive.old drive.new }
+    ensures writes { WritesOnly D.Drive (is_err result) drive.old drive.new }
 {
     if blocks.is_empty() {
         return Ok(());
     }
-    // Asked so that the proof has the range of a capacity.
+    // Unused: brings the range of a capacity into the proof.
     let _capacity = drive.capacity();
     let (before, last) = blocks.split_at(blocks.len() - 1);
     drive.write_run(at, before, &before[..0])?;
@@ -54,7 +54,7 @@ pub fn write_last_alone<D: Drive>(
 }
 
 /// Takes blocks for addresses that follow each other, and writes them in runs: blocks that it was lent, as they
-/// lie, and behind them a packet of those that it was given one by one. To a caller it is the blocks that wait
+/// lie, and after them a packet of those that it was given one by one. To a caller it is the blocks that wait
 /// and the address of the first of them.
 #[derive(Drop)]
 pub struct PacketWriter<'b> {
@@ -93,11 +93,11 @@ impl<'b> PacketWriter<'b> {
     /// Takes a block, which waits. Where a whole packet waits already, what waits is written first.
     pub fn put<D: Drive>(&mut self, drive: &mut D, block: &Block) -> Result<(), DriveFault>
         requires begins { self.old.at ≤ next_of (D.journal drive.old) }
-        requires fits { end_of self.old < D.capacity drive.old }
-        ensures ok { OnOk result (Takes D.Drive drive.old self.old (block.now ∷ []) drive.new self.new) }
+        requires fits { next_address self.old < D.capacity drive.old }
+        ensures ok { OnOk result (TakesBlocks D.Drive drive.old self.old (block.now ∷ []) drive.new self.new) }
         ensures waits { OnOk result (0 < length self.new.blocks) }
         ensures err { OnErr result (Stops D.Drive drive.old self.old [] drive.new) }
-        ensures writes { Writes D.Drive (is_err result) drive.old drive.new }
+        ensures writes { WritesOnly D.Drive (is_err result) drive.old drive.new }
     {
         if self.packet.len() == PACKET {
             return self.put_first(drive, block);
@@ -110,11 +110,11 @@ impl<'b> PacketWriter<'b> {
     /// Writes what waits, and takes a block, which waits alone.
     fn put_first<D: Drive>(&mut self, drive: &mut D, block: &Block) -> Result<(), DriveFault>
         requires begins { self.old.at ≤ next_of (D.journal drive.old) }
-        requires fits { end_of self.old < D.capacity drive.old }
-        ensures ok { OnOk result (Takes D.Drive drive.old self.old (block.now ∷ []) drive.new self.new) }
+        requires fits { next_address self.old < D.capacity drive.old }
+        ensures ok { OnOk result (TakesBlocks D.Drive drive.old self.old (block.now ∷ []) drive.new self.new) }
         ensures waits { OnOk result (0 < length self.new.blocks) }
         ensures err { OnErr result (Stops D.Drive drive.old self.old [] drive.new) }
-        ensures writes { Writes D.Drive (is_err result) drive.old drive.new }
+        ensures writes { WritesOnly D.Drive (is_err result) drive.old drive.new }
     {
         match self.finish(drive) {
             Ok(()) => {
@@ -129,10 +129,10 @@ impl<'b> PacketWriter<'b> {
     /// Takes the blocks one after another.
     pub fn put_all<D: Drive>(&mut self, drive: &mut D, blocks: &[Block]) -> Result<(), DriveFault>
         requires begins { self.old.at ≤ next_of (D.journal drive.old) }
-        requires fits { end_of self.old + length blocks.now ≤ D.capacity drive.old }
-        ensures ok { OnOk result (Takes D.Drive drive.old self.old blocks.now drive.new self.new) }
+        requires fits { next_address self.old + length blocks.now ≤ D.capacity drive.old }
+        ensures ok { OnOk result (TakesBlocks D.Drive drive.old self.old blocks.now drive.new self.new) }
         ensures err { OnErr result (Stops D.Drive drive.old self.old blocks.now drive.new) }
-        ensures writes { Writes D.Drive (is_err result) drive.old drive.new }
+        ensures writes { WritesOnly D.Drive (is_err result) drive.old drive.new }
     {
         for block in blocks {
             self.put(drive, block)?;
@@ -143,10 +143,10 @@ impl<'b> PacketWriter<'b> {
     /// Takes blocks that go out as they lie, and are not copied. What waits before them is written first.
     pub fn lend<D: Drive>(&mut self, drive: &mut D, blocks: &'b [Block]) -> Result<(), DriveFault>
         requires begins { self.old.at ≤ next_of (D.journal drive.old) }
-        requires fits { end_of self.old + length blocks.now ≤ D.capacity drive.old }
-        ensures ok { OnOk result (Takes D.Drive drive.old self.old blocks.now drive.new self.new) }
+        requires fits { next_address self.old + length blocks.now ≤ D.capacity drive.old }
+        ensures ok { OnOk result (TakesBlocks D.Drive drive.old self.old blocks.now drive.new self.new) }
         ensures err { OnErr result (Stops D.Drive drive.old self.old blocks.now drive.new) }
-        ensures writes { Writes D.Drive (is_err result) drive.old drive.new }
+        ensures writes { WritesOnly D.Drive (is_err result) drive.old drive.new }
     {
         match self.finish(drive) {
             Ok(()) => {
@@ -160,14 +160,14 @@ impl<'b> PacketWriter<'b> {
     /// Writes the blocks that wait, as one run.
     pub fn finish<D: Drive>(&mut self, drive: &mut D) -> Result<(), DriveFault>
         requires begins { self.old.at ≤ next_of (D.journal drive.old) }
-        requires fits { end_of self.old ≤ D.capacity drive.old }
+        requires fits { next_address self.old ≤ D.capacity drive.old }
         ensures ok { OnOk result (D.journal drive.new ≡ D.journal drive.old ++ written self.old.at self.old.blocks) }
-        ensures empty { OnOk result (self.new ≡ record { at = end_of self.old; blocks = [] }) }
-        ensures err { OnErr result (AddsFront (D.journal drive.old) self.old.at self.old.blocks (D.journal drive.new)) }
+        ensures empty { OnOk result (self.new ≡ record { at = next_address self.old; blocks = [] }) }
+        ensures err { OnErr result (AddsPrefix (D.journal drive.old) self.old.at self.old.blocks (D.journal drive.new)) }
         ensures sends { Sends D.Drive self.old.blocks (is_err result) drive.old drive.new }
-        ensures writes { Writes D.Drive (is_err result) drive.old drive.new }
+        ensures writes { WritesOnly D.Drive (is_err result) drive.old drive.new }
     {
-        // Asked so that the proof has the range of a capacity.
+        // Unused: brings the range of a capacity into the proof.
         let _capacity = drive.capacity();
         if self.lent.is_empty() && self.packet.is_empty() {
             return Ok(());
@@ -187,14 +187,14 @@ impl<'b> PacketWriter<'b> {
     pub fn finish_alone<D: Drive>(&mut self, drive: &mut D) -> Result<(), DriveFault>
         requires one { length self.old.blocks ≡ 1 }
         requires begins { self.old.at ≤ next_of (D.journal drive.old) }
-        requires fits { end_of self.old ≤ D.capacity drive.old }
+        requires fits { next_address self.old ≤ D.capacity drive.old }
         ensures ok { OnOk result (D.journal drive.new ≡ D.journal drive.old ++ written self.old.at self.old.blocks) }
-        ensures empty { OnOk result (self.new ≡ record { at = end_of self.old; blocks = [] }) }
-        ensures err { OnErr result (AddsFront (D.journal drive.old) self.old.at self.old.blocks (D.journal drive.new)) }
+        ensures empty { OnOk result (self.new ≡ record { at = next_address self.old; blocks = [] }) }
+        ensures err { OnErr result (AddsPrefix (D.journal drive.old) self.old.at self.old.blocks (D.journal drive.new)) }
         ensures sent { D.writes drive.new ≡ D.writes drive.old ++ self.old.blocks ∷ [] }
-        ensures writes { Writes D.Drive (is_err result) drive.old drive.new }
+        ensures writes { WritesOnly D.Drive (is_err result) drive.old drive.new }
     {
-        // Asked so that the proof has the range of a capacity.
+        // Unused: brings the range of a capacity into the proof.
         let _capacity = drive.capacity();
         match drive.write(self.at, self.one()) {
             Ok(()) => {

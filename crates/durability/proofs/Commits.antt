@@ -1,13 +1,13 @@
--- A commit: at each front of it what stood stands, and at its end the state after the request.
+-- A commit: at each prefix of it what stood stands, and at its end the state after the request.
 use Rattle.std.proofs.Common.{◌≡◌, ◌⊎◌, inl, inr, ℕ, suc, ◌+◌, ◌-◌, ◌≤◌, ◌<◌, List, [], ◌∷◌, ◌++◌, length, take, drop, slice_get, Option, Some, refl, sym, ◌∙◌, ap, subst, subst₂, arith, append_assoc, length-append}
 use Rattle.std.proofs.lemmas.Option.{slice_get_within}
 use Rattle.std.proofs.lemmas.List.{take-append-le, take-take, take-append-drop, take_at, take_all}
 use Rattle.model.specs.Session.{State, Request, after_one}
-use Rattle.model.specs.Change.{IsReached, Keeps}
+use Rattle.model.specs.Change.{IsReached, IsKeptUnder}
 use Rattle.model.proofs.Maps.{some_at}
 use Rattle.model.proofs.Made.{reach_has, reach_one}
 use Rattle.durability.specs.Formats.{Block, Formats, AreExact}
-use Rattle.durability.specs.Volume.{Medium, partition_start, graph_of, IsStoredAt, NoneImitates, IsLast, HasTable, Tells, Stands, StoodBefore, Past}
+use Rattle.durability.specs.Volume.{Medium, partition_start, graph_of, IsStoredAt, NoneImitates, IsLast, HasTable, Describes, RecoversTo, RecoveredBefore, RecoveredTo}
 use Rattle.durability.specs.Step.{Moves, CarriesOut}
 use Rattle.durability.proofs.Lists.{side, get-append, get_past, take_past}
 use Rattle.durability.proofs.Mediums.{Before, none-take, within, stands_more, stood_less, past_both}
@@ -20,26 +20,26 @@ split : (at : ℕ) (B bs : Medium) → B ++ bs ≡ take at B ++ (drop at B ++ bs
 split at B bs = ap (λ (M : Medium). M ++ bs) (sym (take-append-drop at B)) ∙ append_assoc (take at B) (drop at B) bs
 
 module _ (formats : Formats) (capacity volume : ℕ) where
-  module _ (B bs : Medium) (S : State) (none : NoneImitates formats (length B) bs) (stands : Stands formats capacity volume B S) where
-    -- what stood stands at each front of blocks none of which imitates
-    pub stands_front : (j : ℕ) → Stands formats capacity volume (B ++ take j bs) S
+  module _ (B bs : Medium) (S : State) (none : NoneImitates formats (length B) bs) (stands : RecoversTo formats capacity volume B S) where
+    -- what stood stands at each prefix of blocks none of which imitates
+    pub stands_front : (j : ℕ) → RecoversTo formats capacity volume (B ++ take j bs) S
     stands_front j = stands_more formats B (take j bs) (none-take formats j (length B) bs none) capacity volume S stands
 
-    stands_at : (k : ℕ) (M : Medium) → length B ≤ k → take k M ≡ take k (B ++ bs) → Stands formats capacity volume (take k M) S
-    stands_at k M low e =
+    are_fields_at : (k : ℕ) (M : Medium) → length B ≤ k → take k M ≡ take k (B ++ bs) → RecoversTo formats capacity volume (take k M) S
+    are_fields_at k M low e =
         let j : k ≡ length B + (k - length B) = omega arith in
-        subst (λ (N : Medium). Stands formats capacity volume N S) (sym (e ∙ take_past k (k - length B) B bs j)) (stands_front (k - length B))
+        subst (λ (N : Medium). RecoversTo formats capacity volume N S) (sym (e ∙ take_past k (k - length B) B bs j)) (stands_front (k - length B))
 
-  -- a front of a commit, without its last block
-  pub moves_front : (B bs : Medium) (S : State) → NoneImitates formats (length B) bs → Stands formats capacity volume B S → Moves formats capacity volume B S (B ++ bs) S
+  -- a prefix of a commit, without its last block
+  pub moves_front : (B bs : Medium) (S : State) → NoneImitates formats (length B) bs → RecoversTo formats capacity volume B S → Moves formats capacity volume B S (B ++ bs) S
   moves_front B bs S none stands = record {
     more = (bs, refl);
-    fronts = λ k low high. stands_at B bs S none stands k (B ++ bs) low refl;
+    fronts = λ k low high. are_fields_at B bs S none stands k (B ++ bs) low refl;
     ends = stands_more formats B bs none capacity volume S stands;
     past = λ k T past. (past_both formats capacity volume T B bs none k).0 past;
   }
 
-  module _ (exact : AreExact formats) (B bs : Medium) (mark : Block) (S : State) (r : Request) (stands : Stands formats capacity volume B S) (out : CarriesOut formats capacity volume B S stands r bs mark) where
+  module _ (exact : AreExact formats) (B bs : Medium) (mark : Block) (S : State) (r : Request) (stands : RecoversTo formats capacity volume B S) (out : CarriesOut formats capacity volume B S stands r bs mark) where
     inside : stands.at < length B
     inside = within formats B stands.at stands.block stands.last
 
@@ -64,7 +64,7 @@ module _ (formats : Formats) (capacity volume : ℕ) where
         (stored_one formats exact (take stands.at B) stands.tells.table.entries) (stored_one formats exact (B ++ bs) out.table.entries)
         (record { is = stands.tells.tree; makes = stands.tells.makes; identities = stands.tells.identities }) out.follows
 
-    tells : Tells formats capacity volume (B ++ bs) (length B + length bs) mark (after_one S r)
+    tells : Describes formats capacity volume (B ++ bs) (length B + length bs) mark (after_one S r)
     tells = record {
       table = out.table;
       has = out.has;
@@ -89,16 +89,16 @@ module _ (formats : Formats) (capacity volume : ℕ) where
       few_identities = few_after S r stands.tells.few_identities;
     }
 
-    stands_end : Stands formats capacity volume ((B ++ bs) ++ mark ∷ []) (after_one S r)
+    stands_end : RecoversTo formats capacity volume ((B ++ bs) ++ mark ∷ []) (after_one S r)
     stands_end = record {
       at = length B + length bs;
       block = mark;
       last = last;
-      tells = subst (λ (M : Medium). Tells formats capacity volume M (length B + length bs) mark (after_one S r)) (sym (take_at (B ++ bs) (mark ∷ []) (length B + length bs) size)) tells;
+      tells = subst (λ (M : Medium). Describes formats capacity volume M (length B + length bs) mark (after_one S r)) (sym (take_at (B ++ bs) (mark ∷ []) (length B + length bs) size)) tells;
     }
 
     -- the chain goes on from the old table entry
-    past_end : (k : ℕ) (T : State) → Past formats capacity volume B k T → Past formats capacity volume ((B ++ bs) ++ mark ∷ []) k T
+    past_end : (k : ℕ) (T : State) → RecoveredTo formats capacity volume B k T → RecoveredTo formats capacity volume ((B ++ bs) ++ mark ∷ []) k T
     past_end k T (old, steps, count, stood) =
         let same : take ((stands.at - partition_start) + 258) ((B ++ bs) ++ mark ∷ []) ≡ cut formats capacity volume B S stands =
         cut_same formats capacity volume B S stands (bs ++ mark ∷ []) ((B ++ bs) ++ mark ∷ []) (append_assoc B bs (mark ∷ [])) in
@@ -108,7 +108,7 @@ module _ (formats : Formats) (capacity volume : ℕ) where
           omega (arith, stands.last.is.0),
           omega (arith, stands.tells.commits, out.commits),
           stood_less formats capacity volume T steps (cut formats capacity volume B S stands) (drop (stands.at + 1) B) (none_behind formats capacity volume B S stands)
-              (subst (λ (M : Medium). StoodBefore formats steps capacity volume M T) (sym (take-append-drop (stands.at + 1) B)) stood),
+              (subst (λ (M : Medium). RecoveredBefore formats steps capacity volume M T) (sym (take-append-drop (stands.at + 1) B)) stood),
         ) in (
           record {
             at = length B + length bs;
@@ -142,12 +142,12 @@ module _ (formats : Formats) (capacity volume : ℕ) where
     pub moves_whole : Moves formats capacity volume B S ((B ++ bs) ++ mark ∷ []) (after_one S r)
     moves_whole = record {
       more = (bs ++ mark ∷ [], append_assoc B bs (mark ∷ []));
-      fronts = λ k low high. stands_at B bs S out.none stands k ((B ++ bs) ++ mark ∷ []) low (take-append-le k (B ++ bs) (mark ∷ []) (omega (arith, high, size, length-append (B ++ bs) (mark ∷ []))));
+      fronts = λ k low high. are_fields_at B bs S out.none stands k ((B ++ bs) ++ mark ∷ []) low (take-append-le k (B ++ bs) (mark ∷ []) (omega (arith, high, size, length-append (B ++ bs) (mark ∷ []))));
       ends = stands_end;
       past = past_end;
     }
 
-    -- Whichever front of a commit's blocks is written: the old state stands behind it, or all of them are and the new one does.
+    -- Whichever front of a commit's blocks is written: the old state stands after it, or all of them are and the new one does.
     pub moves_some : (j : ℕ) → j ≤ length (bs ++ mark ∷ [])
         → Moves formats capacity volume B S (B ++ take j (bs ++ mark ∷ [])) S ⊎ ((j ≡ length (bs ++ mark ∷ [])) × Moves formats capacity volume B S (B ++ take j (bs ++ mark ∷ [])) (after_one S r))
     moves_some j le = go (side j (length (bs ++ mark ∷ [])))
@@ -163,13 +163,13 @@ module _ (formats : Formats) (capacity volume : ℕ) where
             inr (omega arith, subst (λ (M : Medium). Moves formats capacity volume B S M (after_one S r)) (sym e) moves_whole)
 
   -- an address whose entry in a new table is the old one keeps what is stored
-  pub keeps : (B bs : Medium) (S : State) (stands : Stands formats capacity volume B S) (V : List (Option ℕ)) (address : ℕ) → slice_get V address ≡ slice_get stands.tells.table.entries address
-      → Keeps (graph_of formats (take stands.at B) stands.tells.table.entries) (graph_of formats (B ++ bs) V) address
+  pub keeps : (B bs : Medium) (S : State) (stands : RecoversTo formats capacity volume B S) (V : List (Option ℕ)) (address : ℕ) → slice_get V address ≡ slice_get stands.tells.table.entries address
+      → IsKeptUnder (graph_of formats (take stands.at B) stands.tells.table.entries) (graph_of formats (B ++ bs) V) address
   keeps B bs S stands V address same s g = subst (λ (M : Medium). graph_of formats M V address s) (sym (split stands.at B bs))
       (stored_more formats (take stands.at B) (drop stands.at B ++ bs) stands.tells.table.entries V address same s g)
 
   -- an address that a path reaches has an entry in the table
-  pub reached_used : AreExact formats → (B : Medium) (S : State) (stands : Stands formats capacity volume B S) (address : ℕ)
+  pub reached_used : AreExact formats → (B : Medium) (S : State) (stands : RecoversTo formats capacity volume B S) (address : ℕ)
       → IsReached (graph_of formats (take stands.at B) stands.tells.table.entries) address → (number : ℕ) × (slice_get stands.tells.table.entries address ≡ Some (Some number))
   reached_used exact B S stands address (path, reach) =
       let graph = graph_of formats (take stands.at B) stands.tells.table.entries in

@@ -7,7 +7,7 @@ use Rattle.model.specs.Session.{after_one, formatted}
 use Rattle.model.proofs.Fresh.{sound_fresh, no_files, one_directory}
 use Rattle.durability.specs.Formats.{Block, Kind, NodeFields, Table_, AreExact, AreBounded}
 use Rattle.durability.specs.Formats.Kind.{Directory, File, Table}
-use Rattle.durability.specs.Volume.{IsTableEntry, NoneImitates, Stands, LastTable}
+use Rattle.durability.specs.Volume.{IsVatIcbAt, NoneImitates, RecoversTo, LastTable}
 use Rattle.durability.specs.Step.{CarriesOut, IsFormat, Moves}
 use Rattle.durability.specs.Example.{root_fields, table_fields, refusal, first_table, second_table, small, new_blocks, mark, new_medium, used_medium, ExampleStands}
 use Rattle.durability.proofs.Mediums.{none-append}
@@ -61,7 +61,7 @@ is_table File = false
 is_table Table = true
 
 -- a block that does not begin with 248 does not imitate
-plain : (block : Block) (at : ℕ) → (head block ≡ 248 → ⊥) → IsTableEntry small block at → ⊥
+plain : (block : Block) (at : ℕ) → (head block ≡ 248 → ⊥) → IsVatIcbAt small block at → ⊥
 unfolding head is_table
 plain block at h (far, fields, kind, inl a) = true≢false (sym (ap is_table kind) ∙ ap (λ (f : NodeFields). is_table f.kind) a.1)
 plain block at h (far, fields, kind, inr a) = h (ap head a.0)
@@ -98,10 +98,10 @@ is_format = record {
   root = record { number = 2; used = refl; block = 4 ∷ []; there = refl; fields = root_fields; entry = inl (refl, refl); moment = refl; identity = refl; links = refl; body = (refl, (omega arith, (refl, refl))) };
 }
 
-stands_new : Stands small 3000 3000 new_medium (formatted 0)
+stands_new : RecoversTo small 3000 3000 new_medium (formatted 0)
 stands_new = format_stands small 3000 3000 [] 0 new_blocks mark is_format exact
 
-module _ (stands : Stands small 3000 3000 new_medium (formatted 0)) (table : stands.tells.table ≡ first_table) (at : stands.at ≡ 261) where
+module _ (stands : RecoversTo small 3000 3000 new_medium (formatted 0)) (table : stands.tells.table ≡ first_table) (at : stands.at ≡ 261) where
   carries_out : CarriesOut small 3000 3000 new_medium (formatted 0) stands refusal ([] ∷ []) mark
   unfolding head
   carries_out = record {

@@ -4,13 +4,13 @@ use Rattle.std.proofs.lemmas.Bool.{eqb-true}
 use Rattle.std.proofs.lemmas.Option.{none-some, same_Some, slice_get_within}
 use Rattle.std.proofs.lemmas.List.{take-append-le, take_at}
 use Rattle.model.specs.Session.{State, formatted, root_alone}
-use Rattle.model.specs.Graph.{Stored, whole}
+use Rattle.model.specs.Graph.{Stored, as_stored}
 use Rattle.model.specs.Graph.Body.{Entries}
 use Rattle.model.specs.Change.{stored_in, root_stored}
 use Rattle.model.proofs.Made.{one_in}
 use Rattle.model.proofs.Fresh.{sound_fresh, made_fresh, no_files, one_directory}
 use Rattle.durability.specs.Formats.{Block, Formats, AreExact}
-use Rattle.durability.specs.Volume.{Medium, partition_start, graph_of, IsStoredAt, IsTableEntry, IsLast, Tells, Stands}
+use Rattle.durability.specs.Volume.{Medium, partition_start, graph_of, IsStoredAt, IsVatIcbAt, IsLast, Describes, RecoversTo}
 use Rattle.durability.specs.Step.{IsFormat}
 use Rattle.durability.proofs.Lists.{get_past}
 use Rattle.durability.proofs.Mediums.{none_take_at}
@@ -19,10 +19,10 @@ use Rattle.durability.proofs.Trees.{makes_kept}
 
 module _ (formats : Formats) (capacity volume : ℕ) (label : List ℕ) (moment : ℕ) (blocks : List Block) (mark : Block) (is : IsFormat formats capacity volume label moment blocks mark) where
   -- nothing stands before the last block
-  pub none_before : (k : ℕ) (S : State) → k ≤ 261 → Stands formats capacity volume (take k (blocks ++ mark ∷ [])) S → ⊥
+  pub none_before : (k : ℕ) (S : State) → k ≤ 261 → RecoversTo formats capacity volume (take k (blocks ++ mark ∷ [])) S → ⊥
   none_before k S le s =
       let front : take k (blocks ++ mark ∷ []) ≡ take k blocks = take-append-le k blocks (mark ∷ []) (omega (arith, is.long)) in
-      none_take_at formats 0 k blocks is.none s.at s.block (ap (λ (M : Medium). slice_get M s.at) (sym front) ∙ s.last.there) (subst (λ n. IsTableEntry formats s.block n) (let e : s.at ≡ 0 + s.at = omega arith in e) s.last.is)
+      none_take_at formats 0 k blocks is.none s.at s.block (ap (λ (M : Medium). slice_get M s.at) (sym front) ∙ s.last.there) (subst (λ n. IsVatIcbAt formats s.block n) (let e : s.at ≡ 0 + s.at = omega arith in e) s.last.is)
 
   pub last : IsLast formats (blocks ++ mark ∷ []) 261 mark
   last = record {
@@ -37,16 +37,16 @@ module _ (formats : Formats) (capacity volume : ℕ) (label : List ℕ) (moment 
       go : (b : Bool) → (address == 1) ≡ b → graph_of formats blocks is.table.entries address s
       go true t =
           let one : address ≡ 1 = eqb-true address 1 t in
-          let stored : whole 0 moment (Entries 1 []) ≡ s = same_Some (whole 0 moment (Entries 1 [])) s (rw t at e) in
+          let stored : as_stored 0 moment (Entries 1 []) ≡ s = same_Some (as_stored 0 moment (Entries 1 [])) s (rw t at e) in
           rw one (subst (λ (x : Stored). IsStoredAt formats blocks is.table.entries 1 x) stored is.root)
       go false f = absurd (none-some s (rw f at e))
 
-  pub format_stands : AreExact formats → Stands formats capacity volume (blocks ++ mark ∷ []) (formatted moment)
+  pub format_stands : AreExact formats → RecoversTo formats capacity volume (blocks ++ mark ∷ []) (formatted moment)
   format_stands exact = record {
     at = 261;
     block = mark;
     last = last;
-    tells = subst (λ (M : Medium). Tells formats capacity volume M 261 mark (formatted moment)) (sym (take_at blocks (mark ∷ []) 261 is.long)) (record {
+    tells = subst (λ (M : Medium). Describes formats capacity volume M 261 mark (formatted moment)) (sym (take_at blocks (mark ∷ []) 261 is.long)) (record {
       table = is.table;
       has = is.has;
       commits = is.commits;

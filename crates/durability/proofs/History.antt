@@ -4,7 +4,7 @@ use Rattle.std.proofs.lemmas.Option.{same_Some}
 use Rattle.std.proofs.lemmas.List.{take-append-le, take-take, take-append-drop, length-take-le}
 use Rattle.model.specs.Session.{State}
 use Rattle.durability.specs.Formats.{Block, Table_, Formats, AreExact}
-use Rattle.durability.specs.Volume.{Medium, partition_start, NoneImitates, IsLast, HasTable, Stands, LastTable, StoodBefore, Past}
+use Rattle.durability.specs.Volume.{Medium, partition_start, NoneImitates, IsLast, HasTable, RecoversTo, LastTable, RecoveredBefore, RecoveredTo}
 use Rattle.durability.proofs.Lists.{get-drop}
 use Rattle.durability.proofs.Mediums.{none_from, within, last_less}
 use Rattle.durability.proofs.One.{last_one, table_one, stands_one}
@@ -18,7 +18,7 @@ module _ (formats : Formats) where
       (table_one formats exact (take a.at B) a.at a.block a.table b.table a.moment b.moment a.has
       (subst₂ (λ (n : ℕ) (x : Block). HasTable formats (take n B) n x b.table b.moment) (sym at) (sym block) b.has)).0
 
-  module _ (capacity volume : ℕ) (B : Medium) (S : State) (stands : Stands formats capacity volume B S) where
+  module _ (capacity volume : ℕ) (B : Medium) (S : State) (stands : RecoversTo formats capacity volume B S) where
     abbrev pub standing_table : LastTable formats B
     standing_table = record { at = stands.at; block = stands.block; last = stands.last; table = stands.tells.table; moment = S.moment; has = stands.tells.has }
 
@@ -51,29 +51,29 @@ module _ (formats : Formats) where
         let n : (stands.at - partition_start) + 258 ≡ stands.at + 1 = omega (arith, stands.last.is.0) in
         ap (λ k. take k whole) n ∙ ap (λ (M : Medium). take (stands.at + 1) M) e ∙ take-append-le (stands.at + 1) B more (omega (arith, inside))
 
-  pub commits_of : AreExact formats → (capacity volume : ℕ) (B : Medium) (S : State) (stands : Stands formats capacity volume B S) (old : LastTable formats B) → old.table.commits ≡ S.commits
+  pub commits_of : AreExact formats → (capacity volume : ℕ) (B : Medium) (S : State) (stands : RecoversTo formats capacity volume B S) (old : LastTable formats B) → old.table.commits ≡ S.commits
   commits_of exact capacity volume B S stands old =
       ap (λ (t : Table_). t.commits) (last_table_one exact B old (record { at = stands.at; block = stands.block; last = stands.last; table = stands.tells.table; moment = S.moment; has = stands.tells.has })) ∙ stands.tells.commits
 
   -- the state that stands is the one after all commits
-  pub past_now : (capacity volume : ℕ) (B : Medium) (S : State) → Stands formats capacity volume B S → Past formats capacity volume B S.commits S
+  pub past_now : (capacity volume : ℕ) (B : Medium) (S : State) → RecoversTo formats capacity volume B S → RecoveredTo formats capacity volume B S.commits S
   past_now capacity volume B S stands = (standing_table capacity volume B S stands, 0, omega (arith, stands.tells.commits), stands)
 
   module _ (exact : AreExact formats) where
     -- at most one state stood so many steps back
-    stood_one : (capacity volume capacity' volume' : ℕ) (S T : State) (steps : ℕ) (B : Medium) → StoodBefore formats steps capacity volume B S → StoodBefore formats steps capacity' volume' B T → S ≡ T
+    stood_one : (capacity volume capacity' volume' : ℕ) (S T : State) (steps : ℕ) (B : Medium) → RecoveredBefore formats steps capacity volume B S → RecoveredBefore formats steps capacity' volume' B T → S ≡ T
     stood_one capacity volume capacity' volume' S T zero B s t = stands_one formats exact capacity volume capacity' volume' B S T s t
     stood_one capacity volume capacity' volume' S T (suc steps) B (last, previous, is, below, at, commits, s) (last', previous', is', below', at', commits', t) =
         let same : previous ≡ previous' = same_Some previous previous' (sym is ∙ ap (λ (u : Table_). u.previous) (last_table_one exact B last last') ∙ is') in
-        stood_one capacity volume capacity' volume' S T steps (take (previous + 258) B) s (subst (λ n. StoodBefore formats steps capacity' volume' (take (n + 258) B) T) (sym same) t)
+        stood_one capacity volume capacity' volume' S T steps (take (previous + 258) B) s (subst (λ n. RecoveredBefore formats steps capacity' volume' (take (n + 258) B) T) (sym same) t)
 
     -- nor after a number of commits
-    pub past_one : (capacity volume capacity' volume' : ℕ) (B : Medium) (k : ℕ) (S T : State) → Past formats capacity volume B k S → Past formats capacity' volume' B k T → S ≡ T
+    pub past_one : (capacity volume capacity' volume' : ℕ) (B : Medium) (k : ℕ) (S T : State) → RecoveredTo formats capacity volume B k S → RecoveredTo formats capacity' volume' B k T → S ≡ T
     past_one capacity volume capacity' volume' B k S T (last, steps, count, s) (last', steps', count', t) =
         let table : last.table.commits ≡ last'.table.commits = ap (λ (u : Table_). u.commits) (last_table_one exact B last last') in
         let same : steps ≡ steps' = omega arith in
-        stood_one capacity volume capacity' volume' S T steps B s (subst (λ n. StoodBefore formats n capacity' volume' B T) (sym same) t)
+        stood_one capacity volume capacity' volume' S T steps B s (subst (λ n. RecoveredBefore formats n capacity' volume' B T) (sym same) t)
 
     -- and there is none above the count
-    pub past_within : (capacity volume : ℕ) (B : Medium) (k : ℕ) (S T : State) → Past formats capacity volume B k S → Stands formats capacity volume B T → k ≤ T.commits
+    pub past_within : (capacity volume : ℕ) (B : Medium) (k : ℕ) (S T : State) → RecoveredTo formats capacity volume B k S → RecoversTo formats capacity volume B T → k ≤ T.commits
     past_within capacity volume B k S T (last, steps, count, s) stands = omega (arith, commits_of exact capacity volume B T stands last)

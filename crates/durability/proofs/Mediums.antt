@@ -4,22 +4,22 @@ use Rattle.std.proofs.lemmas.Option.{none-some, same_Some, slice_get_within}
 use Rattle.std.proofs.lemmas.List.{take-append-le, length-take}
 use Rattle.model.specs.Session.{State}
 use Rattle.durability.specs.Formats.{Block, Formats}
-use Rattle.durability.specs.Volume.{Medium, partition_start, IsTableEntry, NoneImitates, IsLast, HasTable, Tells, Stands, LastTable, StoodBefore, Past}
+use Rattle.durability.specs.Volume.{Medium, partition_start, IsVatIcbAt, NoneImitates, IsLast, HasTable, Describes, RecoversTo, LastTable, RecoveredBefore, RecoveredTo}
 use Rattle.durability.proofs.Lists.{side, get-append, get_past, get-take}
 
 module _ (formats : Formats) where
-  pub none_at : (at j i : ℕ) (bs : List Block) (b : Block) → NoneImitates formats at bs → slice_get bs j ≡ Some b → i ≡ at + j → IsTableEntry formats b i → ⊥
+  pub none_at : (at j i : ℕ) (bs : List Block) (b : Block) → NoneImitates formats at bs → slice_get bs j ≡ Some b → i ≡ at + j → IsVatIcbAt formats b i → ⊥
   none_at at j i [] b n e p t = none-some b e
   none_at at zero i (x ∷ bs) b n e p t =
       let here : i ≡ at = omega arith in
-      n.0 (subst (λ (y : Block). IsTableEntry formats y at) (sym (same_Some x b e)) (subst (λ k. IsTableEntry formats b k) here t))
+      n.0 (subst (λ (y : Block). IsVatIcbAt formats y at) (sym (same_Some x b e)) (subst (λ k. IsVatIcbAt formats b k) here t))
   none_at at (suc j) i (x ∷ bs) b n e p t = none_at (suc at) j i bs b n.1 e (omega arith) t
 
-  pub none_from : (at : ℕ) (bs : List Block) → ((j : ℕ) (b : Block) → slice_get bs j ≡ Some b → IsTableEntry formats b (at + j) → ⊥) → NoneImitates formats at bs
+  pub none_from : (at : ℕ) (bs : List Block) → ((j : ℕ) (b : Block) → slice_get bs j ≡ Some b → IsVatIcbAt formats b (at + j) → ⊥) → NoneImitates formats at bs
   none_from at [] h = tt
   none_from at (b ∷ bs) h = (
-    (λ t. h 0 b refl (subst (λ n. IsTableEntry formats b n) (let e : at ≡ at + 0 = omega arith in e) t)),
-    none_from (suc at) bs (λ j c e t. h (suc j) c e (subst (λ n. IsTableEntry formats c n) (let same : suc at + j ≡ at + suc j = omega arith in same) t)),
+    (λ t. h 0 b refl (subst (λ n. IsVatIcbAt formats b n) (let e : at ≡ at + 0 = omega arith in e) t)),
+    none_from (suc at) bs (λ j c e t. h (suc j) c e (subst (λ n. IsVatIcbAt formats c n) (let same : suc at + j ≡ at + suc j = omega arith in same) t)),
   )
 
   pub none-take : (j at : ℕ) (bs : List Block) → NoneImitates formats at bs → NoneImitates formats at (take j bs)
@@ -32,7 +32,7 @@ module _ (formats : Formats) where
   none-append at (b ∷ xs) ys x y = (x.0, none-append (suc at) xs ys x.1 (subst (λ n. NoneImitates formats n ys) (let e : at + suc (length xs) ≡ suc at + length xs = omega arith in e) y))
 
   -- no front of such blocks has a table entry
-  pub none_take_at : (at k : ℕ) (bs : List Block) → NoneImitates formats at bs → (i : ℕ) (b : Block) → slice_get (take k bs) i ≡ Some b → IsTableEntry formats b (at + i) → ⊥
+  pub none_take_at : (at k : ℕ) (bs : List Block) → NoneImitates formats at bs → (i : ℕ) (b : Block) → slice_get (take k bs) i ≡ Some b → IsVatIcbAt formats b (at + i) → ⊥
   none_take_at at k bs n i b e t = none_at at i (at + i) (take k bs) b (none-take k at bs n) e refl t
 
   pub within : (B : Medium) (at : ℕ) (block : Block) → IsLast formats B at block → at < length B
@@ -40,7 +40,7 @@ module _ (formats : Formats) where
 
   module _ (B : Medium) (bs : List Block) (none : NoneImitates formats (length B) bs) where
     -- a table entry at its address is not among the new blocks
-    imitates_below : (i : ℕ) (b : Block) → slice_get (B ++ bs) i ≡ Some b → IsTableEntry formats b i → i < length B
+    imitates_below : (i : ℕ) (b : Block) → slice_get (B ++ bs) i ≡ Some b → IsVatIcbAt formats b i → i < length B
     imitates_below i b e t = go (side i (length B))
       where
         go : (i < length B) ⊎ (length B ≤ i) → i < length B
@@ -67,20 +67,20 @@ module _ (formats : Formats) where
     front_same n h = take-append-le n B bs h
 
     module _ (capacity volume : ℕ) (S : State) where
-      pub stands_more : Stands formats capacity volume B S → Stands formats capacity volume (B ++ bs) S
+      pub stands_more : RecoversTo formats capacity volume B S → RecoversTo formats capacity volume (B ++ bs) S
       stands_more s = record {
         at = s.at;
         block = s.block;
         last = last_more s.at s.block s.last;
-        tells = let h = within B s.at s.block s.last in subst (λ (M : Medium). Tells formats capacity volume M s.at s.block S) (sym (front_same s.at (omega arith))) s.tells;
+        tells = let h = within B s.at s.block s.last in subst (λ (M : Medium). Describes formats capacity volume M s.at s.block S) (sym (front_same s.at (omega arith))) s.tells;
       }
 
-      pub stands_less : Stands formats capacity volume (B ++ bs) S → Stands formats capacity volume B S
+      pub stands_less : RecoversTo formats capacity volume (B ++ bs) S → RecoversTo formats capacity volume B S
       stands_less s = record {
         at = s.at;
         block = s.block;
         last = last_less s.at s.block s.last;
-        tells = let h = imitates_below s.at s.block s.last.there s.last.is in subst (λ (M : Medium). Tells formats capacity volume M s.at s.block S) (front_same s.at (omega arith)) s.tells;
+        tells = let h = imitates_below s.at s.block s.last.there s.last.is in subst (λ (M : Medium). Describes formats capacity volume M s.at s.block S) (front_same s.at (omega arith)) s.tells;
       }
 
     abbrev table_more : LastTable formats B → LastTable formats (B ++ bs)
@@ -105,10 +105,10 @@ module _ (formats : Formats) where
 
   -- a step of the chain
   abbrev pub Before : ℕ → ℕ → ℕ → State → ℕ → ℕ → Medium → Type 0
-  Before steps capacity volume S at commits M = (before : LastTable formats M) × (before.at ≡ at) × (before.table.commits + 1 ≡ commits) × StoodBefore formats steps capacity volume M S
+  Before steps capacity volume S at commits M = (before : LastTable formats M) × (before.at ≡ at) × (before.table.commits + 1 ≡ commits) × RecoveredBefore formats steps capacity volume M S
 
   module _ (capacity volume : ℕ) (S : State) where
-    pub stood_more : (steps : ℕ) (B : Medium) (bs : List Block) → NoneImitates formats (length B) bs → StoodBefore formats steps capacity volume B S → StoodBefore formats steps capacity volume (B ++ bs) S
+    pub stood_more : (steps : ℕ) (B : Medium) (bs : List Block) → NoneImitates formats (length B) bs → RecoveredBefore formats steps capacity volume B S → RecoveredBefore formats steps capacity volume (B ++ bs) S
     stood_more zero B bs none s = stands_more B bs none capacity volume S s
     stood_more (suc steps) B bs none (last, previous, is_previous, before, at, commits, rest) =
         let inside = slice_get_within (take (previous + 258) B) before.at before.block before.last.there in
@@ -120,7 +120,7 @@ module _ (formats : Formats) where
         cut_within : (p : ℕ) (C : Medium) → p + 257 < length (take (p + 258) C) → p + 258 ≤ length C
         cut_within p C h = grind (arith, length-take)
 
-    pub stood_less : (steps : ℕ) (B : Medium) (bs : List Block) → NoneImitates formats (length B) bs → StoodBefore formats steps capacity volume (B ++ bs) S → StoodBefore formats steps capacity volume B S
+    pub stood_less : (steps : ℕ) (B : Medium) (bs : List Block) → NoneImitates formats (length B) bs → RecoveredBefore formats steps capacity volume (B ++ bs) S → RecoveredBefore formats steps capacity volume B S
     stood_less zero B bs none s = stands_less B bs none capacity volume S s
     stood_less (suc steps) B bs none (last, previous, is_previous, before, at, commits, rest) =
         let inside : before.at < previous + 258 = omega (arith, at) in
@@ -130,10 +130,10 @@ module _ (formats : Formats) where
         let tail = subst (Before steps capacity volume S (previous + partition_start) last.table.commits) same (before, at, commits, rest) in
         (table_less B bs none last, previous, is_previous, tail.0, tail.1, tail.2, tail.3)
 
-    pub stands_both : (B : Medium) (bs : List Block) → NoneImitates formats (length B) bs → Stands formats capacity volume B S ↔ Stands formats capacity volume (B ++ bs) S
+    pub stands_both : (B : Medium) (bs : List Block) → NoneImitates formats (length B) bs → RecoversTo formats capacity volume B S ↔ RecoversTo formats capacity volume (B ++ bs) S
     stands_both B bs none = (stands_more B bs none capacity volume S, stands_less B bs none capacity volume S)
 
-    pub past_both : (B : Medium) (bs : List Block) → NoneImitates formats (length B) bs → (k : ℕ) → Past formats capacity volume B k S ↔ Past formats capacity volume (B ++ bs) k S
+    pub past_both : (B : Medium) (bs : List Block) → NoneImitates formats (length B) bs → (k : ℕ) → RecoveredTo formats capacity volume B k S ↔ RecoveredTo formats capacity volume (B ++ bs) k S
     past_both B bs none k = (
       (λ (last, steps, count, stood). (table_more B bs none last, steps, count, stood_more steps B bs none stood)),
       (λ (last, steps, count, stood). (table_less B bs none last, steps, count, stood_less steps B bs none stood)),

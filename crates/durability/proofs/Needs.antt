@@ -9,7 +9,7 @@ use Rattle.model.specs.Operation.{Operation, code_of, is_other, done}
 use Rattle.model.specs.Operation.Operation.{Create, Replace, MakeDir, Rename, Remove}
 use Rattle.model.specs.Session.{State, Request, ClientRecord, after_one}
 use Rattle.model.specs.Addresses.{free_address}
-use Rattle.model.specs.Graph.{Graph, Stored, Entry, Body, Reach, entries_in, entries_of, content_in, node_of, whole, is_directory}
+use Rattle.model.specs.Graph.{Graph, Stored, Entry, Body, Reach, entries_in, entries_of, content_in, node_of, as_stored, is_directory}
 use Rattle.model.specs.Graph.Body.{Bytes, Entries}
 use Rattle.model.specs.Change.{Found, new_body, with_entries, with_parent, without, renamed}
 use Rattle.model.proofs.Lists.{map-filter, contains_map, not_in_nil, bytes_eq-itself}
@@ -17,7 +17,7 @@ use Rattle.model.proofs.Codes.{may_add, may_remove, may_rename, paths_same}
 use Rattle.model.proofs.Paths.{ends, parent-push}
 use Rattle.model.proofs.ListsAfter.{ListsRenamed, lists_after}
 use Rattle.durability.specs.Formats.{Block, Table_, Formats, AreExact, AreBounded, AreDistinct, AreShort}
-use Rattle.durability.specs.Volume.{Medium, partition_start, blocks_for, graph_of, Stands}
+use Rattle.durability.specs.Volume.{Medium, partition_start, blocks_for, graph_of, RecoversTo}
 use Rattle.durability.specs.Commit.{most_inside, file_blocks, most_for_file, most_for_directory, most_for_directory_at, most_for_nodes, most_for_table, table_size, need}
 use Rattle.durability.specs.Plan.{zeros, packed, Writing, Written, IsPlaced, PlacesFile, PlacesBody, WritesNode, WritesNodes, IsPlanned, Plans, PlansAddition, PlansReplacement, PlansRemoval, PlansRenaming, PlansMove, turned}
 use Rattle.durability.specs.Plan.PlacesFile.{nowhere, inside, outside}
@@ -114,7 +114,7 @@ module _ (formats : Formats) (spelled : Name → ℕ) (short : AreShort formats 
   parent_short (Bytes bytes) above d = absurd (true≢false (sym d))
   parent_short (Entries parent entries) above d = refl
 
-  module _ (capacity volume : ℕ) (exact : AreExact formats) (bounded : AreBounded formats) (distinct : AreDistinct formats) (B : Medium) (S : State) (stands : Stands formats capacity volume B S) where
+  module _ (capacity volume : ℕ) (exact : AreExact formats) (bounded : AreBounded formats) (distinct : AreDistinct formats) (B : Medium) (S : State) (stands : RecoversTo formats capacity volume B S) where
     abbrev graph : Graph
     graph = graph_of formats (take stands.at B) stands.tells.table.entries
 
@@ -210,12 +210,12 @@ module _ (formats : Formats) (spelled : Name → ℕ) (short : AreShort formats 
         gainer = gains_short (parent_of to) plan.beyond (last_of to) (renamed plan.name plan.moved) plan.to_last (may_rename from to S.tree e).directory (names_at tree' (parent_of to)) (lists.gets plan.elsewhere)
 
         abbrev turn : Writing
-        turn = record { address = plan.moved.address; stored = whole plan.stored.identity plan.stored.moment (with_parent plan.beyond.address plan.stored.body) }
+        turn = record { address = plan.moved.address; stored = as_stored plan.stored.identity plan.stored.moment (with_parent plan.beyond.address plan.stored.body) }
 
         abbrev both : List Writing
         both =
-            record { address = plan.above.address; stored = whole plan.above.stored.identity r.moment (with_entries (without from) plan.above.stored.body) }
-            ∷ record { address = plan.beyond.address; stored = whole plan.beyond.stored.identity r.moment (with_entries (λ entries. entries ++ renamed plan.name plan.moved ∷ []) plan.beyond.stored.body) }
+            record { address = plan.above.address; stored = as_stored plan.above.stored.identity r.moment (with_entries (without from) plan.above.stored.body) }
+            ∷ record { address = plan.beyond.address; stored = as_stored plan.beyond.stored.identity r.moment (with_entries (λ entries. entries ++ renamed plan.name plan.moved ∷ []) plan.beyond.stored.body) }
             ∷ []
 
         abbrev picked : Bool → List Writing
@@ -250,7 +250,7 @@ module _ (formats : Formats) (spelled : Name → ℕ) (short : AreShort formats 
       renames_short from to nodes e (inl plan) = renaming_short from to nodes e plan
       renames_short from to nodes e (inr plan) = move_short from to nodes e plan
 
-      -- the nodes that a plan writes may take as many blocks as the tree behind it says
+      -- the nodes that a plan writes may take as many blocks as the tree after it says
       pub nodes_need : (op : Operation) (nodes : List Writing) (gone : List ℕ) → code_of op S.tree ≡ 0 → Plans graph free op r.moment S.next_identity nodes gone → most_for_all nodes ≡ most_for_nodes spelled op (after_tree op)
       nodes_need (Create path bytes) nodes gone e (plan, none) =
           addition_short path (names_at (after_tree (Create path bytes)) (parent_of path)) (most_for_file bytes) nodes (File bytes) (may_add path S.tree e).directory (lists_after r.moment S.next_identity S.tree stands.tells.tree (Create path bytes) e) plan refl

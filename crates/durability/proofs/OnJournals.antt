@@ -1,12 +1,12 @@
 -- Commits and runs on a drive's journal.
 use Rattle.std.proofs.Common.{◌≡◌, ◌⊎◌, inl, inr, ℕ, ◌+◌, List, [], ◌∷◌, ◌++◌, length, take, sym, ◌∙◌, ap, subst, arith}
-use Rattle.drive.specs.Journal.{Event, held, Once, AddsFront, written}
+use Rattle.drive.specs.Journal.{Event, held, Once, AddsPrefix, written}
 use Rattle.drive.specs.Writes.{LastIsAlone, IsLeft}
 use Rattle.drive.proofs.Once.{held_once, held_front, length-blocks_of}
 use Rattle.drive.proofs.Fronts.{front_whole, front_keeps, front_once, front_length, held_write, held_cut}
 use Rattle.model.specs.Session.{State, Request, after_one, after}
 use Rattle.durability.specs.Formats.{Block, Formats, AreExact, AreBounded, AreDistinct}
-use Rattle.durability.specs.Volume.{Stands}
+use Rattle.durability.specs.Volume.{RecoversTo}
 use Rattle.durability.specs.Step.{Moves, CarriesOut}
 use Rattle.durability.specs.Plan.{IsPlanned}
 use Rattle.durability.specs.Runs.{Delivery, Answer, Holds}
@@ -21,7 +21,7 @@ length-held J once = ap (λ (B : List Block). length B) (held_once J once) ∙ l
 module _ (formats : Formats) (capacity volume : ℕ) where
   -- Whichever front of a commit's planned blocks was written: what stood stands on the journal, or all of them are there and the state after the request does.
   pub commit_advances : AreExact formats → AreBounded formats → AreDistinct formats → (J J' : List Event) (S : State) (r : Request) (blocks : List Block) (mark : Block) → Once J
-      → (stands : Stands formats capacity volume (held J) S) → IsPlanned formats capacity volume (held J) S stands r blocks mark → AddsFront J (length J) (blocks ++ mark ∷ []) J'
+      → (stands : RecoversTo formats capacity volume (held J) S) → IsPlanned formats capacity volume (held J) S stands r blocks mark → AddsPrefix J (length J) (blocks ++ mark ∷ []) J'
       → Advances formats capacity volume J S J' S ⊎ ((length J' ≡ length J + length (blocks ++ mark ∷ [])) × Advances formats capacity volume J S J' (after_one S r))
   commit_advances exact bounded distinct J J' S r blocks mark once stands plan front = go (moves_some formats capacity volume exact (held J) blocks mark S r stands carries front.0 front.1)
     where
@@ -46,9 +46,9 @@ module _ (formats : Formats) (capacity volume : ℕ) where
       go (inl stays) = inl (with_moves S stays)
       go (inr whole) = inr (omega (arith, whole.0, front_length J J' (length J) all front), with_moves (after_one S r) whole.1)
 
-  -- And whatever a loss of power left of them, where the last went out alone.
+  -- And whatever a power loss left of them, where the last went out alone.
   pub torn_advances : AreExact formats → AreBounded formats → AreDistinct formats → (J J' : List Event) (S : State) (r : Request) (blocks : List Block) (mark : Block) → Once J
-      → (stands : Stands formats capacity volume (held J) S) → IsPlanned formats capacity volume (held J) S stands r blocks mark
+      → (stands : RecoversTo formats capacity volume (held J) S) → IsPlanned formats capacity volume (held J) S stands r blocks mark
       → (writes : List (List Block)) (left : List Block) → LastIsAlone blocks mark writes → IsLeft writes left → J' ≡ J ++ written (length J) left
       → Advances formats capacity volume J S J' S ⊎ ((left ≡ blocks ++ mark ∷ []) × Advances formats capacity volume J S J' (after_one S r))
   torn_advances exact bounded distinct J J' S r blocks mark once stands plan writes left are is behind =
@@ -57,8 +57,8 @@ module _ (formats : Formats) (capacity volume : ℕ) where
         | inr whole ↦ inr (whole.0, with_moves (after_one S r) whole.1)
       ]
     where
-      all : AddsFront J (length J) left J'
-      all = subst (λ (K : List Event). AddsFront J (length J) left K) (sym behind) (front_whole J (length J) left)
+      all : AddsPrefix J (length J) left J'
+      all = subst (λ (K : List Event). AddsPrefix J (length J) left K) (sym behind) (front_whole J (length J) left)
 
       with_moves : (S' : State) → Moves formats capacity volume (held J) S (held J ++ left) S' → Advances formats capacity volume J S J' S'
       with_moves S' moves = record {
@@ -77,5 +77,5 @@ module _ (formats : Formats) (capacity volume : ℕ) where
     stands = λ k low high.
         let at = h.stands k (omega (arith, length-held J once)) (omega (arith, length-held J' once')) in
         let same : take k (held J') ≡ held (take k J') = ap (λ (B : List Block). take k B) (held_once J' once') ∙ sym (held_front k J' once') in
-        (at.0, subst (λ (B : List Block). Stands formats capacity volume B (after S (take (h.c k) h.committed))) same at.1);
+        (at.0, subst (λ (B : List Block). RecoversTo formats capacity volume B (after S (take (h.c k) h.committed))) same at.1);
   }

@@ -6,7 +6,7 @@ use Rattle.model.specs.Graph.{MakesTree}
 use Rattle.model.proofs.Made.{one_tree}
 use Rattle.durability.specs.Formats.{Block, NodePlace, NodeFields, Table_, Formats, AreExact}
 use Rattle.durability.specs.Formats.NodePlace.{Nowhere, Extent, Inside}
-use Rattle.durability.specs.Volume.{Medium, partition_start, extent, bytes_in, graph_of, IsLast, HasTable, Tells, Stands}
+use Rattle.durability.specs.Volume.{Medium, partition_start, extent, bytes_in, graph_of, IsLast, HasTable, Describes, RecoversTo}
 use Rattle.durability.proofs.Lists.{side}
 
 first_of : NodePlace → ℕ
@@ -44,7 +44,7 @@ module _ (formats : Formats) where
         )
 
     -- a table entry says one state, whatever drive and volume it is read in
-    tells_one : (capacity volume capacity' volume' : ℕ) (M : Medium) (at : ℕ) (block : Block) (S T : State) → Tells formats capacity volume M at block S → Tells formats capacity' volume' M at block T → S ≡ T
+    tells_one : (capacity volume capacity' volume' : ℕ) (M : Medium) (at : ℕ) (block : Block) (S T : State) → Describes formats capacity volume M at block S → Describes formats capacity' volume' M at block T → S ≡ T
     tells_one capacity volume capacity' volume' M at block S T s t =
         let both = table_one M at block s.table t.table S.moment T.moment s.has t.has in
         let table = both.0 in
@@ -57,9 +57,9 @@ module _ (formats : Formats) where
         let table_length : S.table_length ≡ T.table_length = sym s.table_length ∙ ap (λ (u : Table_). length u.entries) table ∙ t.table_length in
         λ i. record { tree = tree i; records = records i; commits = commits i; next_identity = next_identity i; table_length = table_length i; moment = moment i }
 
-    pub stands_one : (capacity volume capacity' volume' : ℕ) (B : Medium) (S T : State) → Stands formats capacity volume B S → Stands formats capacity' volume' B T → S ≡ T
+    pub stands_one : (capacity volume capacity' volume' : ℕ) (B : Medium) (S T : State) → RecoversTo formats capacity volume B S → RecoversTo formats capacity' volume' B T → S ≡ T
     stands_one capacity volume capacity' volume' B S T s t =
         let at = last_one B s.at t.at s.block t.block s.last t.last in
         let block : s.block ≡ t.block = same_Some s.block t.block (sym s.last.there ∙ ap (λ n. slice_get B n) at ∙ t.last.there) in
         tells_one capacity volume capacity' volume' (take s.at B) s.at s.block S T s.tells
-        (subst₂ (λ (n : ℕ) (b : Block). Tells formats capacity' volume' (take n B) n b T) (sym at) (sym block) t.tells)
+        (subst₂ (λ (n : ℕ) (b : Block). Describes formats capacity' volume' (take n B) n b T) (sym at) (sym block) t.tells)

@@ -13,9 +13,9 @@ use Rattle.model.specs.Operation.{Operation, code_of, done, tree_after, files_ma
 use Rattle.model.specs.Operation.Operation.{Create, Replace, MakeDir, Rename, Remove}
 use Rattle.model.specs.Session.{State, Request, after_one}
 use Rattle.model.specs.Addresses.{free_address}
-use Rattle.model.specs.Graph.{Graph, Stored, Entry, Body, IsFunctional, Names, Leads, Reach, entries_of, content_in, whole, links_in, is_directory}
+use Rattle.model.specs.Graph.{Graph, Stored, Entry, Body, IsFunctional, Names, PathLeads, Reach, entries_of, content_in, as_stored, links_in, is_directory}
 use Rattle.model.specs.Graph.Body.{Bytes, Entries}
-use Rattle.model.specs.Change.{Changes, IsReached, Keeps, Found, Added, Replaced, Removed, Renamed, Moved, with_entries, with_parent, renamed, without}
+use Rattle.model.specs.Change.{ChangesNodes, IsReached, IsKeptUnder, Found, Added, Replaced, Removed, Renamed, Moved, with_entries, with_parent, renamed, without}
 use Rattle.model.proofs.Maps.{some_at}
 use Rattle.model.proofs.Paths.{push_longer}
 use Rattle.model.proofs.Codes.{MayRename, may_rename}
@@ -27,7 +27,7 @@ use Rattle.durability.specs.Formats.Kind.{Table as TableEntry}
 use Rattle.durability.specs.Formats.NodePlace.{Extent}
 use Rattle.durability.specs.Step.{FollowsRequest, CarriesOut}
 use Rattle.std.proofs.lemmas.Grind.{div_ceil_times}
-use Rattle.durability.specs.Volume.{Medium, partition_start, IsWithin, extent, bytes_in, HasTable, NoneImitates, IsStoredAt, graph_of, Stands}
+use Rattle.durability.specs.Volume.{Medium, partition_start, IsWithin, extent, bytes_in, HasTable, NoneImitates, IsStoredAt, graph_of, RecoversTo}
 use Rattle.durability.proofs.Packed.{length-packed, bytes-packed}
 use Rattle.durability.specs.Plan.{zeros, packed, Writing, Written, WritesNodes, with_entry, with_written, without_all, entries_after, IsPlanned, Plans, turned, PlansAddition, PlansReplacement, PlansRemoval, PlansRenaming, PlansMove}
 use Rattle.durability.proofs.Commits.{keeps, reached_used}
@@ -37,7 +37,7 @@ use Rattle.durability.proofs.Tables.{IsNotGone, IsNotWritten, AreApart, longer_b
 use Rattle.durability.proofs.Written.{AllIn, nodes_stored, placed_extent, none_nodes, none_placed}
 
 -- one name more at the end of a path
-reach_more : (graph : Graph) (q : Path) (v w : ℕ) (name : Name) (to : ℕ) → Leads graph v q w → Names graph w name to → Leads graph v (q ++ name ∷ []) to
+reach_more : (graph : Graph) (q : Path) (v w : ℕ) (name : Name) (to : ℕ) → PathLeads graph v q w → Names graph w name to → PathLeads graph v (q ++ name ∷ []) to
 reach_more graph [] v w name to l n = (to, subst (λ x. Names graph x name to) (sym l) n, refl)
 reach_more graph (x ∷ q) v w name to l n = (l.0, l.1, reach_more graph q l.0 w name to l.2 n)
 
@@ -75,17 +75,17 @@ nodes_counted op moment identity tree is e =
 -- nodes that are written over a graph: they stand there afterwards, and all else that was reached stays
 pub record Laid (graph graph' : Graph) (nodes : List Writing) (gone : List ℕ) : Type 0 where
   pub stored : AllIn graph' nodes
-  pub kept : (address : ℕ) → IsNotNode address nodes → IsNotGone address gone → Keeps graph graph' address
+  pub kept : (address : ℕ) → IsNotNode address nodes → IsNotGone address gone → IsKeptUnder graph graph' address
 
 -- what a move writes, by whether a directory is moved
 module _ (graph : Graph) (from to : Path) (moment : ℕ) (nodes : List Writing) (p : PlansMove graph from to moment nodes) where
   abbrev turned_node : Writing
-  turned_node = record { address = p.moved.address; stored = whole p.stored.identity p.stored.moment (with_parent p.beyond.address p.stored.body) }
+  turned_node = record { address = p.moved.address; stored = as_stored p.stored.identity p.stored.moment (with_parent p.beyond.address p.stored.body) }
 
   abbrev pair : List Writing
   pair =
-      record { address = p.above.address; stored = whole p.above.stored.identity moment (with_entries (without from) p.above.stored.body) }
-      ∷ record { address = p.beyond.address; stored = whole p.beyond.stored.identity moment (with_entries (λ entries. entries ++ renamed p.name p.moved ∷ []) p.beyond.stored.body) }
+      record { address = p.above.address; stored = as_stored p.above.stored.identity moment (with_entries (without from) p.above.stored.body) }
+      ∷ record { address = p.beyond.address; stored = as_stored p.beyond.stored.identity moment (with_entries (λ entries. entries ++ renamed p.name p.moved ∷ []) p.beyond.stored.body) }
       ∷ []
 
   abbrev chosen : Bool → List Writing
@@ -140,7 +140,7 @@ module _ (graph graph' : Graph) where
   same_body (Bytes bytes) above file = refl
   same_body (Entries parent entries) above file = absurd (true≢false file)
 
-  file_same : (s : Stored) (above : ℕ) → is_directory s ≡ false → s.links ≡ links_in s.body → s ≡ whole s.identity s.moment (with_parent above s.body)
+  file_same : (s : Stored) (above : ℕ) → is_directory s ≡ false → s.links ≡ links_in s.body → s ≡ as_stored s.identity s.moment (with_parent above s.body)
   file_same s above file links =
       let body : s.body ≡ with_parent above s.body = same_body s.body above file in
       let count : s.links ≡ links_in (with_parent above s.body) = links ∙ ap links_in body in
@@ -148,12 +148,12 @@ module _ (graph graph' : Graph) where
 
   module _ (one : IsFunctional graph) (from to : Path) (moment : ℕ) (nodes : List Writing) (p : PlansMove graph from to moment nodes) (links : p.stored.links ≡ links_in p.stored.body)
       (loses : p.moved.address ≡ p.above.address → ⊥) (gets : p.moved.address ≡ p.beyond.address → ⊥) (l : Laid graph graph' nodes []) where
-    turn : (s : Stored) → graph p.moved.address s → whole p.stored.identity p.stored.moment (with_parent p.beyond.address p.stored.body) ≡ whole s.identity s.moment (with_parent p.beyond.address s.body)
-    turn s there = ap (λ (t : Stored). whole t.identity t.moment (with_parent p.beyond.address t.body)) (one p.moved.address p.stored s p.there there)
+    turn : (s : Stored) → graph p.moved.address s → as_stored p.stored.identity p.stored.moment (with_parent p.beyond.address p.stored.body) ≡ as_stored s.identity s.moment (with_parent p.beyond.address s.body)
+    turn s there = ap (λ (t : Stored). as_stored t.identity t.moment (with_parent p.beyond.address t.body)) (one p.moved.address p.stored s p.there there)
 
     -- what stands for the three, by what is written
-    from_parts : AllIn graph' (pair graph from to moment nodes p) → ((s : Stored) → graph p.moved.address s → graph' p.moved.address (whole s.identity s.moment (with_parent p.beyond.address s.body)))
-        → ((other : ℕ) → IsReached graph other → (other ≡ p.above.address → ⊥) → (other ≡ p.beyond.address → ⊥) → (other ≡ p.moved.address → ⊥) → Keeps graph graph' other) → Moved graph graph' from to moment
+    from_parts : AllIn graph' (pair graph from to moment nodes p) → ((s : Stored) → graph p.moved.address s → graph' p.moved.address (as_stored s.identity s.moment (with_parent p.beyond.address s.body)))
+        → ((other : ℕ) → IsReached graph other → (other ≡ p.above.address → ⊥) → (other ≡ p.beyond.address → ⊥) → (other ≡ p.moved.address → ⊥) → IsKeptUnder graph graph' other) → Moved graph graph' from to moment
     from_parts both turns keeps = record {
       elsewhere = p.elsewhere;
       above = p.above;
@@ -236,7 +236,7 @@ module _ (formats : Formats) where
       ap (λ ws. length (with_written V ws)) w ∙ length-written nodes (from + length first) others rest (with_entry V node.address (Some number)) all
       ∙ ap (λ n. size_after n nodes) (length_longer V node.address (Some number))
 
-module _ (formats : Formats) (capacity volume : ℕ) (exact : AreExact formats) (distinct : AreDistinct formats) (B : Medium) (S : State) (stands : Stands formats capacity volume B S) where
+module _ (formats : Formats) (capacity volume : ℕ) (exact : AreExact formats) (distinct : AreDistinct formats) (B : Medium) (S : State) (stands : RecoversTo formats capacity volume B S) where
   abbrev V : List (Option ℕ)
   V = stands.tells.table.entries
 
@@ -371,7 +371,7 @@ module _ (formats : Formats) (capacity volume : ℕ) (exact : AreExact formats) 
     abbrev graph' : Graph
     graph' = graph_of formats (B ++ blocks) W
 
-    keeps_behind : (address : ℕ) → IsNotNode address p.nodes → IsNotGone address p.gone → Keeps graph graph' address
+    keeps_behind : (address : ℕ) → IsNotNode address p.nodes → IsNotGone address p.gone → IsKeptUnder graph graph' address
     keeps_behind address unnode ungone =
         keeps formats capacity volume B blocks S stands W address (same_behind V p.written p.gone address (unwritten formats p.nodes start p.node_blocks p.written p.writes address unnode) ungone)
 
@@ -418,7 +418,7 @@ module _ (formats : Formats) (capacity volume : ℕ) (exact : AreExact formats) 
       apart : NodesApart (length V) p.nodes
       gone : GoneWithin (length V) p.gone
       size : size_after (length V) p.nodes ≡ max (length V) (1 + len (done op r.moment S.next_identity S.tree))
-      changes : Changes graph graph' op r.moment S.next_identity
+      changes : ChangesNodes graph graph' op r.moment S.next_identity
 
     renaming : (source target : Path) → code_of (Rename source target) S.tree ≡ 0 → p.gone ≡ [] → PlansRenaming graph source target r.moment p.nodes ⊎ PlansMove graph source target r.moment p.nodes → Carried (Rename source target)
     renaming source target e none (inl plan) =
@@ -552,9 +552,9 @@ module _ (formats : Formats) (capacity volume : ℕ) (exact : AreExact formats) 
 
     held : IsWithin (B ++ blocks) p.first (length p.bytes) × (extent (B ++ blocks) p.first (length p.bytes) ≡ packed p.bytes)
     held =
-        let whole : (B ++ p.node_blocks) ++ (p.table_blocks ++ []) ≡ B ++ blocks =
+        let as_stored : (B ++ p.node_blocks) ++ (p.table_blocks ++ []) ≡ B ++ blocks =
         ap (λ (bs : List Block). (B ++ p.node_blocks) ++ bs) (append-nil p.table_blocks) ∙ append_assoc B p.node_blocks p.table_blocks ∙ ap (λ (bs : List Block). B ++ bs) (sym p.blocks_are) in
-        subst (λ (M : Medium). IsWithin M p.first (length p.bytes) × (extent M p.first (length p.bytes) ≡ packed p.bytes)) whole
+        subst (λ (M : Medium). IsWithin M p.first (length p.bytes) × (extent M p.first (length p.bytes) ≡ packed p.bytes)) as_stored
         (placed_extent formats (B ++ p.node_blocks) p.bytes (start + length p.node_blocks) p.first p.table_blocks [] (omega (arith, low, length-append B p.node_blocks)) (omega (arith, low, length-append B p.node_blocks)) p.placed)
 
     pub has_table : HasTable formats (B ++ blocks) (length B + length blocks) mark p.table (after_one S r).moment

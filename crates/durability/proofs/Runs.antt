@@ -1,11 +1,11 @@
--- What a run says of each front of the medium.
+-- What a run says of each prefix of the medium.
 use Rattle.std.proofs.Common.{◌≡◌, ◌⊎◌, inl, inr, ⊎_elim, ℕ, zero, suc, ◌+◌, ◌-◌, ◌≤◌, ◌<◌, cond, nat_lt, List, [], ◌∷◌, ◌++◌, length, take, Option, Some, None, refl, sym, ◌∙◌, ap, subst, subst₂, arith, add-zero, append_assoc, append-nil, length-append, lt-ltb, le-ltb}
 use Rattle.std.specs.Option.{option_to_list}
 use Rattle.std.proofs.lemmas.List.{take-append-le, take_at, take_all}
 use Rattle.model.specs.Session.{State, Request, Due, after_one, after, due}
 use Rattle.model.specs.Session.Due.{Repeat, Stale, Gap, ClientsFull, New}
 use Rattle.durability.specs.Formats.{Formats}
-use Rattle.durability.specs.Volume.{Medium, Stands, Past}
+use Rattle.durability.specs.Volume.{Medium, RecoversTo, RecoveredTo}
 use Rattle.durability.specs.Step.{Moves}
 use Rattle.model.specs.Runs.{AllNew}
 use Rattle.durability.specs.Runs.{Delivery, Answer, Effect, AnswersNew, AnswersDue, Row, Fits, AtMarks, Runs, Holds}
@@ -91,16 +91,16 @@ module _ (formats : Formats) (need : State → Request → ℕ) (drive volume : 
     c : ℕ → ℕ
     fits : Fits need volume (length B') S (length B) n ds answers marks counts C
     front : (K : Medium) × (B' ≡ B ++ K)
-    stands : (k : ℕ) → length B ≤ k → k ≤ length B' → Stands formats drive volume (take k B') (after S (take (c k - n) C))
+    stands : (k : ℕ) → length B ≤ k → k ≤ length B' → RecoversTo formats drive volume (take k B') (after S (take (c k - n) C))
     never_falls : (j k : ℕ) → j ≤ k → c j ≤ c k
     at_start : c (length B) ≡ n
     at_marks : AtRisingMarks c (length B) marks counts
     at_end : c (length B') ≡ n + length C
-    past : (k : ℕ) (T : State) → Past formats drive volume B k T → Past formats drive volume B' k T
+    past : (k : ℕ) (T : State) → RecoveredTo formats drive volume B k T → RecoveredTo formats drive volume B' k T
     new : AllNew S C
-    commits : (j : ℕ) → j ≤ length C → Past formats drive volume B' (S.commits + j) (after S (take j C))
+    commits : (j : ℕ) → j ≤ length C → RecoveredTo formats drive volume B' (S.commits + j) (after S (take j C))
 
-  from_none : (n : ℕ) (S : State) (B : Medium) → Stands formats drive volume B S → From n S B B [] [] []
+  from_none : (n : ℕ) (S : State) (B : Medium) → RecoversTo formats drive volume B S → From n S B B [] [] []
   from_none n S B stands = record {
     marks = [];
     counts = [];
@@ -123,7 +123,7 @@ module _ (formats : Formats) (need : State → Request → ℕ) (drive volume : 
       take_nothing (suc k) = refl
 
   module _ (n : ℕ) (S : State) (B B1 B' : Medium) (d : Delivery) (ds : List Delivery) (answer : Option Answer) (effect : Effect) (rest : List Answer) (C1 : List Request)
-      (row : Row need S (length B) volume d answer effect) (size : length B1 ≡ length B + effect.blocks) (moves : Moves formats drive volume B S B1 (after S effect.done)) (stands : Stands formats drive volume B S)
+      (row : Row need S (length B) volume d answer effect) (size : length B1 ≡ length B + effect.blocks) (moves : Moves formats drive volume B S B1 (after S effect.done)) (stands : RecoversTo formats drive volume B S)
       (later : From (n + length effect.done) (after S effect.done) B1 B' ds rest C1) where
     abbrev c : ℕ → ℕ
     c k = pick k (length B1) n (later.c k)
@@ -132,20 +132,20 @@ module _ (formats : Formats) (need : State → Request → ℕ) (drive volume : 
     reaches = let e : length B' ≡ length (B1 ++ later.front.0) = ap (λ (M : Medium). length M) later.front.1 in omega (arith, length-append B1 later.front.0)
 
     -- inside the delivery what stood stands
-    inside : (k : ℕ) → length B ≤ k → k < length B1 → Stands formats drive volume (take k B') (after S (take (c k - n) (effect.done ++ C1)))
+    inside : (k : ℕ) → length B ≤ k → k < length B1 → RecoversTo formats drive volume (take k B') (after S (take (c k - n) (effect.done ++ C1)))
     inside k low high =
         let front : take k B' ≡ take k B1 = ap (λ (M : Medium). take k M) later.front.1 ∙ take-append-le k B1 later.front.0 (omega arith) in
         let count : c k - n ≡ 0 = omega (arith, pick_low k (length B1) n (later.c k) high) in
         rw (front, count) (moves.fronts k low high)
 
     -- from its end on the later run says it
-    behind : (k : ℕ) → length B1 ≤ k → k ≤ length B' → Stands formats drive volume (take k B') (after S (take (c k - n) (effect.done ++ C1)))
+    behind : (k : ℕ) → length B1 ≤ k → k ≤ length B' → RecoversTo formats drive volume (take k B') (after S (take (c k - n) (effect.done ++ C1)))
     behind k low high =
         let least : n + length effect.done ≤ later.c k = omega (arith, later.at_start, later.never_falls (length B1) k low) in
         let count : c k - n ≡ length effect.done + (later.c k - (n + length effect.done)) = omega (arith, pick_high k (length B1) n (later.c k) low) in
         let same : after S (take (c k - n) (effect.done ++ C1)) ≡ after (after S effect.done) (take (later.c k - (n + length effect.done)) C1) =
         ap (λ (D : List Request). after S D) (take_past (c k - n) (later.c k - (n + length effect.done)) effect.done C1 count) ∙ after-append effect.done (take (later.c k - (n + length effect.done)) C1) S in
-        subst (λ (T : State). Stands formats drive volume (take k B') T) (sym same) (later.stands k low high)
+        subst (λ (T : State). RecoversTo formats drive volume (take k B') T) (sym same) (later.stands k low high)
 
     grows : (j k : ℕ) → j ≤ k → (j < length B1) ⊎ (length B1 ≤ j) → (k < length B1) ⊎ (length B1 ≤ k) → c j ≤ c k
     grows j k le (inl a) (inl b) = omega (arith, pick_low j (length B1) n (later.c j) a, pick_low k (length B1) n (later.c k) b)
@@ -161,16 +161,16 @@ module _ (formats : Formats) (need : State → Request → ℕ) (drive volume : 
         let none : length effect.done ≡ 0 = ap (λ (D : List Request). length D) (quiet S effect (row_commits need S (length B) volume d answer effect row) still) in
         pick_high (length B) (length B1) n (later.c (length B)) ge ∙ ap (λ k. later.c k) same ∙ later.at_start ∙ (let e : n + length effect.done ≡ n = omega arith in e)
 
-    commits_more : (done : List Request) → (done ≡ []) ⊎ ((r : Request) × (done ≡ r ∷ []) × (1 ≤ effect.blocks) × (due S r.client r.number ≡ New)) → Past formats drive volume B' S.commits S
-        → ((j : ℕ) → j ≤ length C1 → Past formats drive volume B' ((after S done).commits + j) (after (after S done) (take j C1)))
-        → (j : ℕ) → j ≤ length (done ++ C1) → Past formats drive volume B' (S.commits + j) (after S (take j (done ++ C1)))
+    commits_more : (done : List Request) → (done ≡ []) ⊎ ((r : Request) × (done ≡ r ∷ []) × (1 ≤ effect.blocks) × (due S r.client r.number ≡ New)) → RecoveredTo formats drive volume B' S.commits S
+        → ((j : ℕ) → j ≤ length C1 → RecoveredTo formats drive volume B' ((after S done).commits + j) (after (after S done) (take j C1)))
+        → (j : ℕ) → j ≤ length (done ++ C1) → RecoveredTo formats drive volume B' (S.commits + j) (after S (take j (done ++ C1)))
     commits_more done (inl none) now rest_commits = rw none (rw none at rest_commits)
     commits_more done (inr one) now rest_commits = rw one.1 (one_more one.0 (rw one.1 at rest_commits))
       where
-        one_more : (r : Request) → ((j : ℕ) → j ≤ length C1 → Past formats drive volume B' ((after_one S r).commits + j) (after (after_one S r) (take j C1)))
-            → (j : ℕ) → j ≤ length (r ∷ C1) → Past formats drive volume B' (S.commits + j) (after S (take j (r ∷ C1)))
-        one_more r p zero le = subst (λ m. Past formats drive volume B' m S) (let e : S.commits ≡ S.commits + 0 = omega arith in e) now
-        one_more r p (suc i) le = subst (λ m. Past formats drive volume B' m (after (after_one S r) (take i C1))) (let e : (S.commits + 1) + i ≡ S.commits + suc i = omega arith in e) (p i (omega arith))
+        one_more : (r : Request) → ((j : ℕ) → j ≤ length C1 → RecoveredTo formats drive volume B' ((after_one S r).commits + j) (after (after_one S r) (take j C1)))
+            → (j : ℕ) → j ≤ length (r ∷ C1) → RecoveredTo formats drive volume B' (S.commits + j) (after S (take j (r ∷ C1)))
+        one_more r p zero le = subst (λ m. RecoveredTo formats drive volume B' m S) (let e : S.commits ≡ S.commits + 0 = omega arith in e) now
+        one_more r p (suc i) le = subst (λ m. RecoveredTo formats drive volume B' m (after (after_one S r) (take i C1))) (let e : (S.commits + 1) + i ≡ S.commits + suc i = omega arith in e) (p i (omega arith))
 
     all_new : (done : List Request) → (done ≡ []) ⊎ ((r : Request) × (done ≡ r ∷ []) × (1 ≤ effect.blocks) × (due S r.client r.number ≡ New)) → AllNew (after S done) C1 → AllNew S (done ++ C1)
     all_new done (inl none) rest_new = rw none (rw none at rest_new)
@@ -208,8 +208,8 @@ module _ (formats : Formats) (need : State → Request → ℕ) (drive volume : 
       commits = commits_more effect.done (row_commits need S (length B) volume d answer effect row) (later.past S.commits S (moves.past S.commits S (past_now formats drive volume B S stands))) later.commits;
     }
 
-  -- what a run says of each front
-  from_runs : (n : ℕ) (ds : List Delivery) (S : State) (B : Medium) (answers : List Answer) (C : List Request) (B' : Medium) (S' : State) → Stands formats drive volume B S
+  -- what a run says of each prefix
+  from_runs : (n : ℕ) (ds : List Delivery) (S : State) (B : Medium) (answers : List Answer) (C : List Request) (B' : Medium) (S' : State) → RecoversTo formats drive volume B S
       → Runs formats need drive volume B S ds answers C B' S' → From n S B B' ds answers C
   from_runs n [] S B answers C B' S' stands (ea, ec, eb, es) =
       rw (ea, ec, eb) (from_none n S B stands)
@@ -217,7 +217,7 @@ module _ (formats : Formats) (need : State → Request → ℕ) (drive volume : 
       let later = from_runs (n + length effect.done) ds (after S effect.done) B1 rest C1 B' S' moves.ends more in
       rw (ea, ec) (from_more n S B B1 B' d ds answer effect rest C1 row size moves stands later)
 
-  pub holds : (S : State) (B B' : Medium) (ds : List Delivery) (answers : List Answer) (C : List Request) (S' : State) → Stands formats drive volume B S
+  pub holds : (S : State) (B B' : Medium) (ds : List Delivery) (answers : List Answer) (C : List Request) (S' : State) → RecoversTo formats drive volume B S
       → Runs formats need drive volume B S ds answers C B' S' → Holds formats need drive volume S B B' ds answers
   holds S B B' ds answers C S' stands runs =
       let f = from_runs 0 ds S B answers C B' S' stands runs in
@@ -230,7 +230,7 @@ module _ (formats : Formats) (need : State → Request → ℕ) (drive volume : 
         new = f.new;
         once = each_once S C f.new;
         front = ap (λ (M : Medium). take (length B) M) f.front.1 ∙ take_at B f.front.0 (length B) refl;
-        stands = λ k low high. (omega (arith, f.never_falls k (length B') high, f.at_end), subst (λ n. Stands formats drive volume (take k B') (after S (take n C))) (let e : f.c k - 0 ≡ f.c k = omega arith in e) (f.stands k low high));
+        stands = λ k low high. (omega (arith, f.never_falls k (length B') high, f.at_end), subst (λ n. RecoversTo formats drive volume (take k B') (after S (take n C))) (let e : f.c k - 0 ≡ f.c k = omega arith in e) (f.stands k low high));
         never_falls = f.never_falls;
         at_start = f.at_start;
         at_marks = marks_plain f.c (length B) f.marks f.counts f.at_marks;
@@ -239,7 +239,7 @@ module _ (formats : Formats) (need : State → Request → ℕ) (drive volume : 
         later = f.commits;
       }
 
-  -- one more delivery behind a run
+  -- one more delivery after a run
   pub runs_more : (ds : List Delivery) (S : State) (B : Medium) (answers : List Answer) (C : List Request) (B' : Medium) (S' : State) (d : Delivery) (answer : Option Answer) (effect : Effect) (B'' : Medium)
       → Runs formats need drive volume B S ds answers C B' S'
       → Row need S' (length B') volume d answer effect → length B'' ≡ length B' + effect.blocks → Moves formats drive volume B' S' B'' (after S' effect.done)
@@ -293,9 +293,9 @@ module _ (formats : Formats) (need : State → Request → ℕ) (drive volume : 
     runs_join ds es (after S effect.done) M rest answers' D C' B1 S1 B2 S2 more later,
   )
 
-  -- behind a run the state after all its commits stands
-  pub runs_end : (ds : List Delivery) (S : State) (B : Medium) (answers : List Answer) (C : List Request) (B' : Medium) (S' : State) → Stands formats drive volume B S
-      → Runs formats need drive volume B S ds answers C B' S' → Stands formats drive volume B' S' × (S' ≡ after S C)
+  -- after a run the state after all its commits stands
+  pub runs_end : (ds : List Delivery) (S : State) (B : Medium) (answers : List Answer) (C : List Request) (B' : Medium) (S' : State) → RecoversTo formats drive volume B S
+      → Runs formats need drive volume B S ds answers C B' S' → RecoversTo formats drive volume B' S' × (S' ≡ after S C)
   runs_end [] S B answers C B' S' stands (ea, ec, eb, same) = rw (ec, eb, same) (stands, refl)
   runs_end (d ∷ ds) S B answers C B' S' stands (M, answer, effect, rest, D, row, size, moves, ea, ec, more) =
       let end = runs_end ds (after S effect.done) M rest D B' S' moves.ends more in

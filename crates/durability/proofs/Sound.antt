@@ -10,7 +10,7 @@ use Rattle.model.specs.Laws.{IsSound}
 use Rattle.model.proofs.Counts.{len_both}
 use Rattle.durability.specs.Formats.{NodePlace, NodeFields, Formats, AreBounded}
 use Rattle.durability.specs.Formats.NodePlace.{Nowhere, Extent, Inside}
-use Rattle.durability.specs.Volume.{Medium, HoldsDirectory, HoldsBody, extent, Stands}
+use Rattle.durability.specs.Volume.{Medium, HoldsDirectory, HoldsBody, extent, RecoversTo}
 
 module _ (formats : Formats) (bounded : AreBounded formats) where
   few_entries : (M : Medium) (size : ℕ) (place : NodePlace) (parent : ℕ) (es : List Entry) → HoldsDirectory formats M size place parent es → length es ≤ 512
@@ -23,7 +23,7 @@ module _ (formats : Formats) (bounded : AreBounded formats) where
   few_names M fields (Entries parent es) h = omega (arith, few_entries M fields.size fields.place parent es h.1, length-map es (λ (e : Entry). e.name))
 
   -- What the laws of the model ask of a state holds of the one that stands.
-  pub stands_sound : (capacity volume : ℕ) (B : Medium) (S : State) → Stands formats capacity volume B S → IsSound S
+  pub stands_sound : (capacity volume : ℕ) (B : Medium) (S : State) → RecoversTo formats capacity volume B S → IsSound S
   stands_sound capacity volume B S s =
       let nodes = bounded.nodes s.tells.table _ _ s.tells.has.is in
       let both = len_both S.tree in

@@ -1,10 +1,10 @@
--- What a table's entry leads to: one thing at most, and the same on a medium that goes on, by any table with that entry.
+-- What a VAT ICB leads to: one thing at most, and the same on a medium that goes on, by any table with that entry.
 use Rattle.std.proofs.Common.{◌≡◌, ◌↔◌, ℕ, ◌+◌, Bool, true, false, List, ◌++◌, slice_get, Option, Some, sym, ◌∙◌, ap, subst, arith, length-append}
 use Rattle.std.proofs.lemmas.Bool.{true≢false}
 use Rattle.std.proofs.lemmas.Option.{same_Some, slice_get_within}
 use Rattle.model.specs.Graph.{Stored, Body, Entry, IsFunctional}
 use Rattle.model.specs.Graph.Body.{Bytes, Entries}
-use Rattle.model.specs.Change.{Keeps}
+use Rattle.model.specs.Change.{IsKeptUnder}
 use Rattle.durability.specs.Formats.{Block, Kind, NodePlace, NodeFields, Formats, AreExact}
 use Rattle.durability.specs.Formats.Kind.{Directory, File, Table}
 use Rattle.durability.specs.Formats.NodePlace.{Nowhere, Extent, Inside}
@@ -48,7 +48,7 @@ module _ (formats : Formats) where
   body_more M more fields (Entries parent es) a = (a.0, directory_more M more fields.size fields.place parent es a.1)
 
   -- where the entry of the address is the same, what was stored is stored
-  pub stored_more : (M more : Medium) (V V' : List (Option ℕ)) (address : ℕ) → slice_get V' address ≡ slice_get V address → Keeps (graph_of formats M V) (graph_of formats (M ++ more) V') address
+  pub stored_more : (M more : Medium) (V V' : List (Option ℕ)) (address : ℕ) → slice_get V' address ≡ slice_get V address → IsKeptUnder (graph_of formats M V) (graph_of formats (M ++ more) V') address
   stored_more M more V V' address same s a = record {
     number = a.number;
     used = same ∙ a.used;

@@ -128,7 +128,7 @@ gone_grows : (gone : List ℕ) (V : List Entry) → length V ≤ length (without
 gone_grows [] V = omega arith
 gone_grows (g ∷ gone) V = omega (arith, gone_grows gone (with_entry V g None), length_grows V g None)
 
--- what was written is found in the table behind, and all else as it was
+-- what was written is found in the table after, and all else as it was
 pub lead_behind : (V : List Entry) (written : List Written) (gone : List ℕ) → AreApart (length V) written → Lead (entries_after V written gone) written
 lead_behind V written gone apart = written_lead written (without_all V gone) (apart_more written (length V) (length (without_all V gone)) (gone_grows gone V) apart)
 

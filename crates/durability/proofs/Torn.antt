@@ -1,4 +1,4 @@
--- What a loss of power leaves of writes has no table entry but the last block, where that went out alone behind the others.
+-- What a power loss leaves of writes has no table entry but the last block, where that went out alone after the others.
 use Rattle.std.proofs.Common.{◌≡◌, ◌⊎◌, inl, inr, ℕ, zero, suc, ◌+◌, ◌-◌, ◌≤◌, ◌<◌, List, [], ◌∷◌, ◌++◌, length, take, Some, refl, sym, ◌∙◌, ap, subst, arith, append_assoc, append-nil, length-append}
 use Rattle.std.proofs.lemmas.List.{take-append-le}
 use Rattle.std.proofs.lemmas.Option.{same_Some, slice_get_within}
@@ -7,7 +7,7 @@ use Rattle.model.specs.Session.{State, Request, Due, due, after_one, after, form
 use Rattle.model.specs.Session.Due.{New}
 use Rattle.model.proofs.Runs.{after-append}
 use Rattle.durability.specs.Formats.{Block, Formats, AreExact, AreBounded, AreDistinct}
-use Rattle.durability.specs.Volume.{Medium, partition_start, IsTableEntry, NoneImitates, Stands, Past}
+use Rattle.durability.specs.Volume.{Medium, partition_start, IsVatIcbAt, NoneImitates, RecoversTo, RecoveredTo}
 use Rattle.durability.specs.Step.{Moves, CarriesOut, IsFormat}
 use Rattle.durability.specs.Plan.{zeros, IsPlanned}
 use Rattle.durability.specs.Runs.{Delivery, Answer, Effect, AnswersDue, Row, Runs}
@@ -15,7 +15,7 @@ use Rattle.durability.specs.Runs.Message.{Asks}
 use Rattle.durability.specs.Runs.Delivery.{Delivered}
 use Rattle.durability.specs.Runs.Answer.{Fault}
 use Rattle.durability.specs.Runs.AnswersNew.{failed}
-use Rattle.durability.specs.Torn.{AreAlike, NothingStands, Endures, IsTried, AreTried, AreCommitted}
+use Rattle.durability.specs.Torn.{AreAlike, RecoversToNothing, Endures, IsTried, AreTried, AreCommitted}
 use Rattle.durability.proofs.Lists.{side, take_past}
 use Rattle.drive.proofs.Sending.{joined_append}
 use Rattle.durability.proofs.Writes.{last_left, joined_writes, writes_short, split_left}
@@ -34,7 +34,7 @@ commits_after (r ∷ done) S = omega (arith, commits_after done (after_one S r))
 module _ (formats : Formats) (distinct : AreDistinct formats) where
   -- ---- none of it imitates
 
-  zeros_none : (at : ℕ) (b : Block) → b ≡ zeros → IsTableEntry formats b at → ⊥
+  zeros_none : (at : ℕ) (b : Block) → b ≡ zeros → IsVatIcbAt formats b at → ⊥
   zeros_none at b same (far, fields, kind, entry) = distinct.zeros (at - partition_start) fields (subst (λ (x : Block). formats.IsEntry fields x (at - partition_start)) same entry)
 
   none_torn : (at : ℕ) (write left : List Block) → NoneImitates formats at write → IsTorn write left → NoneImitates formats at left
@@ -82,32 +82,32 @@ module _ (formats : Formats) (distinct : AreDistinct formats) where
     }
 
     -- without its last block
-    pub part_alike : (B : Medium) (S : State) (stands : Stands formats capacity volume B S) (r : Request) (blocks : List Block) (mark : Block) → IsPlanned formats capacity volume B S stands r blocks mark
+    pub part_alike : (B : Medium) (S : State) (stands : RecoversTo formats capacity volume B S) (r : Request) (blocks : List Block) (mark : Block) → IsPlanned formats capacity volume B S stands r blocks mark
         → (writes : List (List Block)) (left : List Block) → joined writes ≡ blocks → IsLeft writes left → AreAlike formats capacity volume B (B ++ left)
     part_alike B S stands r blocks mark plan writes left order is =
         let out = planned_carries formats capacity volume exact distinct B S stands bounded r blocks mark plan in
         alike B left (none_left (length B) writes left (subst (λ (xs : List Block). NoneImitates formats (length B) xs) (sym order) out.none) is)
 
-    -- what stands behind moves
-    endures_same : (B left : Medium) (S : State) → Stands formats capacity volume B S → Moves formats capacity volume B S (B ++ left) S → Endures formats capacity volume B S [] (B ++ left)
+    -- what stands after moves
+    endures_same : (B left : Medium) (S : State) → RecoversTo formats capacity volume B S → Moves formats capacity volume B S (B ++ left) S → Endures formats capacity volume B S [] (B ++ left)
     endures_same B left S stands moves = record {
       more = moves.more;
       stands = moves.ends;
       alone = λ other_capacity other_volume T is. stands_one formats exact other_capacity other_volume capacity volume (B ++ left) T S is moves.ends;
       past = moves.past;
       later = λ j few.
-          subst (λ n. Past formats capacity volume (B ++ left) n (after S (take j []))) (let e : S.commits ≡ S.commits + j = omega (arith, few) in e)
-          (subst (λ (T : State). Past formats capacity volume (B ++ left) S.commits T) (none_done j) (moves.past S.commits S (past_now formats capacity volume B S stands)));
+          subst (λ n. RecoveredTo formats capacity volume (B ++ left) n (after S (take j []))) (let e : S.commits ≡ S.commits + j = omega (arith, few) in e)
+          (subst (λ (T : State). RecoveredTo formats capacity volume (B ++ left) S.commits T) (none_done j) (moves.past S.commits S (past_now formats capacity volume B S stands)));
     }
       where
         none_done : (j : ℕ) → S ≡ after S (take j [])
         none_done zero = refl
         none_done (suc j) = refl
 
-    endures_none : (B left : Medium) (S : State) → Stands formats capacity volume B S → NoneImitates formats (length B) left → Endures formats capacity volume B S [] (B ++ left)
+    endures_none : (B left : Medium) (S : State) → RecoversTo formats capacity volume B S → NoneImitates formats (length B) left → Endures formats capacity volume B S [] (B ++ left)
     endures_none B left S stands none = endures_same B left S stands (moves_front formats capacity volume B left S none stands)
 
-    endures_one : (B left : Medium) (S : State) (r : Request) → Stands formats capacity volume B S → Moves formats capacity volume B S (B ++ left) (after_one S r) → Endures formats capacity volume B S (r ∷ []) (B ++ left)
+    endures_one : (B left : Medium) (S : State) (r : Request) → RecoversTo formats capacity volume B S → Moves formats capacity volume B S (B ++ left) (after_one S r) → Endures formats capacity volume B S (r ∷ []) (B ++ left)
     endures_one B left S r stands moves = record {
       more = moves.more;
       stands = moves.ends;
@@ -116,13 +116,13 @@ module _ (formats : Formats) (distinct : AreDistinct formats) where
       later = λ j few. one j few;
     }
       where
-        one : (j : ℕ) → j ≤ length (r ∷ []) → Past formats capacity volume (B ++ left) (S.commits + j) (after S (take j (r ∷ [])))
-        one zero few = subst (λ n. Past formats capacity volume (B ++ left) n S) (let e : S.commits ≡ S.commits + 0 = omega arith in e) (moves.past S.commits S (past_now formats capacity volume B S stands))
-        one (suc zero) few = subst (λ n. Past formats capacity volume (B ++ left) n (after_one S r)) (let e : (after_one S r).commits ≡ S.commits + suc zero = omega arith in e) (past_now formats capacity volume (B ++ left) (after_one S r) moves.ends)
+        one : (j : ℕ) → j ≤ length (r ∷ []) → RecoveredTo formats capacity volume (B ++ left) (S.commits + j) (after S (take j (r ∷ [])))
+        one zero few = subst (λ n. RecoveredTo formats capacity volume (B ++ left) n S) (let e : S.commits ≡ S.commits + 0 = omega arith in e) (moves.past S.commits S (past_now formats capacity volume B S stands))
+        one (suc zero) few = subst (λ n. RecoveredTo formats capacity volume (B ++ left) n (after_one S r)) (let e : (after_one S r).commits ≡ S.commits + suc zero = omega arith in e) (past_now formats capacity volume (B ++ left) (after_one S r) moves.ends)
         one (suc (suc j)) few = absurd (omega arith)
 
     -- Whatever is left of a commit: the old state stands, or all of it is there and the state after the request does.
-    pub commit_torn : (B : Medium) (S : State) (stands : Stands formats capacity volume B S) (r : Request) (blocks : List Block) (mark : Block) → IsPlanned formats capacity volume B S stands r blocks mark
+    pub commit_torn : (B : Medium) (S : State) (stands : RecoversTo formats capacity volume B S) (r : Request) (blocks : List Block) (mark : Block) → IsPlanned formats capacity volume B S stands r blocks mark
         → (writes : List (List Block)) (left : List Block) → LastIsAlone blocks mark writes → IsLeft writes left
         → Moves formats capacity volume B S (B ++ left) S ⊎ ((left ≡ blocks ++ mark ∷ []) × Moves formats capacity volume B S (B ++ left) (after_one S r))
     commit_torn B S stands r blocks mark plan writes left are is =
@@ -134,8 +134,8 @@ module _ (formats : Formats) (distinct : AreDistinct formats) where
               inr (whole, subst (λ (M : Medium). Moves formats capacity volume B S M (after_one S r)) (sym e) (moves_whole formats capacity volume exact B blocks mark S r stands out))
         ]
 
-    -- all but the last block, and behind them nothing or zeros; or the last block
-    pub mark_decides : (B : Medium) (S : State) (stands : Stands formats capacity volume B S) (r : Request) (blocks : List Block) (mark : Block) → IsPlanned formats capacity volume B S stands r blocks mark
+    -- all but the last block, and after them nothing or zeros; or the last block
+    pub mark_decides : (B : Medium) (S : State) (stands : RecoversTo formats capacity volume B S) (r : Request) (blocks : List Block) (mark : Block) → IsPlanned formats capacity volume B S stands r blocks mark
         → Endures formats capacity volume B S [] (B ++ blocks) × Endures formats capacity volume B S [] (B ++ (blocks ++ zeros ∷ [])) × Endures formats capacity volume B S (r ∷ []) (B ++ (blocks ++ mark ∷ []))
     mark_decides B S stands r blocks mark plan =
         let out = planned_carries formats capacity volume exact distinct B S stands bounded r blocks mark plan in
@@ -172,25 +172,25 @@ module _ (formats : Formats) (distinct : AreDistinct formats) where
         let ends : after S (first ++ second) ≡ after (after S first) second = after-append first second S in
         record {
           more = (f.more.0 ++ s.more.0, s.more.1 ∙ ap (λ (xs : Medium). xs ++ s.more.0) f.more.1 ∙ append_assoc B f.more.0 s.more.0);
-          stands = subst (λ (T : State). Stands formats capacity volume N T) (sym ends) s.stands;
+          stands = subst (λ (T : State). RecoversTo formats capacity volume N T) (sym ends) s.stands;
           alone = λ other_capacity other_volume T is. s.alone other_capacity other_volume T is ∙ sym ends;
           past = λ commits T was. s.past commits T (f.past commits T was);
           later = λ j few. at j few (side j (length first));
         }
       where
-        at : (j : ℕ) → j ≤ length (first ++ second) → (j < length first) ⊎ (length first ≤ j) → Past formats capacity volume N (S.commits + j) (after S (take j (first ++ second)))
+        at : (j : ℕ) → j ≤ length (first ++ second) → (j < length first) ⊎ (length first ≤ j) → RecoveredTo formats capacity volume N (S.commits + j) (after S (take j (first ++ second)))
         at j few (inl low) =
-            subst (λ (D : List Request). Past formats capacity volume N (S.commits + j) (after S D)) (sym (take-append-le j first second (omega (arith, low))))
+            subst (λ (D : List Request). RecoveredTo formats capacity volume N (S.commits + j) (after S D)) (sym (take-append-le j first second (omega (arith, low))))
             (s.past (S.commits + j) (after S (take j first)) (f.later j (omega (arith, low))))
         at j few (inr high) =
             let i : ℕ = j - length first in
             let split : take j (first ++ second) ≡ first ++ take i second = take_past j i first second (omega (arith, high)) in
             let state : after (after S first) (take i second) ≡ after S (take j (first ++ second)) = sym (ap (λ (D : List Request). after S D) split ∙ after-append first (take i second) S) in
             let count : (after S first).commits + i ≡ S.commits + j = omega (arith, high, commits_after first S) in
-            subst (λ n. Past formats capacity volume N n (after S (take j (first ++ second)))) count
-            (subst (λ (T : State). Past formats capacity volume N ((after S first).commits + i) T) state (s.later i (omega (arith, high, few, length-append first second))))
+            subst (λ n. RecoveredTo formats capacity volume N n (after S (take j (first ++ second)))) count
+            (subst (λ (T : State). RecoveredTo formats capacity volume N ((after S first).commits + i) T) state (s.later i (omega (arith, high, few, length-append first second))))
 
-    pub endures : (requests : List Request) (B : Medium) (S : State) (done : List Request) (behind : Medium) → Stands formats capacity volume B S → AreTried formats capacity volume B S requests done behind
+    pub endures : (requests : List Request) (B : Medium) (S : State) (done : List Request) (behind : Medium) → RecoversTo formats capacity volume B S → AreTried formats capacity volume B S requests done behind
         → Endures formats capacity volume B S done behind
     endures [] B S done behind stands (none, same) =
         rw (none, same) (subst (λ (M : Medium). Endures formats capacity volume B S [] M) (append-nil B) (endures_none B [] S stands tt))
@@ -199,7 +199,7 @@ module _ (formats : Formats) (distinct : AreDistinct formats) where
         rw order (endures_join B (B ++ left) behind S now later f (endures requests (B ++ left) (after S now) later behind f.stands more))
 
     -- at any moment of commits in turn: the state after the first of them
-    moments : (requests : List Request) (B : Medium) (S : State) (writes : List (List Block)) (left : List Block) → Stands formats capacity volume B S → AreCommitted formats capacity volume B S requests writes
+    moments : (requests : List Request) (B : Medium) (S : State) (writes : List (List Block)) (left : List Block) → RecoversTo formats capacity volume B S → AreCommitted formats capacity volume B S requests writes
         → IsLeft writes left → (j : ℕ) × (j ≤ length requests) × Endures formats capacity volume B S (take j requests) (B ++ left)
     moments [] B S writes left stands none is =
         let empty : left ≡ [] = subst (λ (ws : List (List Block)). IsLeft ws left) none is in
@@ -228,7 +228,7 @@ module _ (formats : Formats) (distinct : AreDistinct formats) where
             )
 
     -- all of them whole
-    all_whole : (requests : List Request) (B : Medium) (S : State) (writes : List (List Block)) → Stands formats capacity volume B S → AreCommitted formats capacity volume B S requests writes
+    all_whole : (requests : List Request) (B : Medium) (S : State) (writes : List (List Block)) → RecoversTo formats capacity volume B S → AreCommitted formats capacity volume B S requests writes
         → Endures formats capacity volume B S requests (B ++ joined writes)
     all_whole [] B S writes stands none = rw none (endures_none B [] S stands tt)
     all_whole (r ∷ requests) B S writes stands (standing, blocks, mark, first, others, plan, are, order, more) =
@@ -240,8 +240,8 @@ module _ (formats : Formats) (distinct : AreDistinct formats) where
         (endures_join B (B ++ (blocks ++ mark ∷ [])) ((B ++ (blocks ++ mark ∷ [])) ++ joined others) S (r ∷ []) requests one
         (all_whole requests (B ++ (blocks ++ mark ∷ [])) (after_one S r) others one.stands more))
 
-    -- Those that were answered are whole. Of others, begun behind them, the first are.
-    pub answered_endure : (answered others : List Request) (B : Medium) (S : State) (first second : List (List Block)) (left : List Block) → Stands formats capacity volume B S
+    -- Those that were answered are whole. Of others, begun after them, the first are.
+    pub answered_endure : (answered others : List Request) (B : Medium) (S : State) (first second : List (List Block)) (left : List Block) → RecoversTo formats capacity volume B S
         → AreCommitted formats capacity volume B S answered first → AreCommitted formats capacity volume (B ++ joined first) (after S answered) others second → IsLeft second left
         → (j : ℕ) × (j ≤ length others) × Endures formats capacity volume B S (answered ++ take j others) ((B ++ joined first) ++ left)
     answered_endure answered others B S first second left stands before behind is =
@@ -251,9 +251,9 @@ module _ (formats : Formats) (distinct : AreDistinct formats) where
 
     -- ---- runs
 
-    -- A loss of power in a commit is, in the account of a run, a delivery that is answered by a fault.
+    -- A power loss in a commit is, in the account of a run, a delivery that is answered by a fault.
     pub torn_runs : (need : State → Request → ℕ) (ds : List Delivery) (S : State) (B : Medium) (answers : List Answer) (C : List Request) (B' : Medium) (S' : State) → Runs formats need capacity volume B S ds answers C B' S'
-        → (stands : Stands formats capacity volume B' S') (r : Request) (blocks : List Block) (mark : Block) → IsPlanned formats capacity volume B' S' stands r blocks mark
+        → (stands : RecoversTo formats capacity volume B' S') (r : Request) (blocks : List Block) (mark : Block) → IsPlanned formats capacity volume B' S' stands r blocks mark
         → due S' r.client r.number ≡ New → length (blocks ++ mark ∷ []) ≤ need S' r → length B' + need S' r ≤ volume
         → (writes : List (List Block)) (left : List Block) → LastIsAlone blocks mark writes → IsLeft writes left
         → (done : List Request) × ((done ≡ []) ⊎ ((done ≡ r ∷ []) × (left ≡ blocks ++ mark ∷ [])))
@@ -281,19 +281,19 @@ module _ (formats : Formats) (distinct : AreDistinct formats) where
 
     -- ---- a format
 
-    none_stands : (B : Medium) → NoneImitates formats 0 B → NothingStands formats B
+    none_stands : (B : Medium) → NoneImitates formats 0 B → RecoversToNothing formats B
     none_stands B none other_capacity other_volume S s = none_at formats 0 s.at s.at B s.block none s.last.there (omega arith) s.last.is
 
     -- without its last block
     pub format_part : (label : List ℕ) (moment : ℕ) (blocks : List Block) (mark : Block) → IsFormat formats capacity volume label moment blocks mark
-        → (writes : List (List Block)) (left : List Block) → joined writes ≡ blocks → IsLeft writes left → NothingStands formats left
+        → (writes : List (List Block)) (left : List Block) → joined writes ≡ blocks → IsLeft writes left → RecoversToNothing formats left
     format_part label moment blocks mark format writes left order is =
         none_stands left (none_left 0 writes left (subst (λ (xs : List Block). NoneImitates formats 0 xs) (sym order) format.none) is)
 
     pub format_torn : (label : List ℕ) (moment : ℕ) (blocks : List Block) (mark : Block) → IsFormat formats capacity volume label moment blocks mark
         → (writes : List (List Block)) (left : List Block) → LastIsAlone blocks mark writes → IsLeft writes left
-        → NothingStands formats left ⊎ ((left ≡ blocks ++ mark ∷ []) × Stands formats capacity volume left (formatted moment))
+        → RecoversToNothing formats left ⊎ ((left ≡ blocks ++ mark ∷ []) × RecoversTo formats capacity volume left (formatted moment))
     format_torn label moment blocks mark format writes left are is = elim (none_or_whole 0 blocks mark writes left format.none are is) [
       | inl none ↦ inl (none_stands left none)
-      | inr whole ↦ inr (whole, subst (λ (M : Medium). Stands formats capacity volume M (formatted moment)) (sym whole) (format_stands formats capacity volume label moment blocks mark format exact))
+      | inr whole ↦ inr (whole, subst (λ (M : Medium). RecoversTo formats capacity volume M (formatted moment)) (sym whole) (format_stands formats capacity volume label moment blocks mark format exact))
     ]

@@ -1,4 +1,4 @@
--- The tree behind a request, where what is stored follows.
+-- The tree after a request, where what is stored follows.
 use Rattle.std.proofs.Common.{◌≡◌, ℕ, ◌+◌, ◌≤◌, ◌==◌, ◌&&◌, if◌then◌else◌, Bool, true, false, Some, refl, sym, ◌∙◌, subst, eq-eqb, arith}
 use Rattle.std.proofs.lemmas.Bool.{eqb-true, true≢false}
 use Rattle.model.specs.Tree.{Path, Node, Tree, IsTree}
@@ -6,7 +6,7 @@ use Rattle.model.specs.Operation.{Operation, code_of, done}
 use Rattle.model.specs.Operation.Operation.{Create, Replace, MakeDir, Rename, Remove}
 use Rattle.model.specs.Session.{State, Request, after_one, draws_identity}
 use Rattle.model.specs.Graph.{Graph, MakesTree, IsFunctional}
-use Rattle.model.specs.Change.{IsReached, Keeps, Found}
+use Rattle.model.specs.Change.{IsReached, IsKeptUnder, Found}
 use Rattle.std.specs.FinMap.{get}
 use Rattle.model.specs.Identities.{HasIdentities, next_after}
 use Rattle.model.proofs.Maps.{has_some}
@@ -17,7 +17,7 @@ use Rattle.model.proofs.Operations.{kept, makes_after}
 use Rattle.durability.specs.Step.{FollowsRequest}
 
 -- a graph that keeps what paths reach makes the same tree
-pub makes_kept : (graph graph' : Graph) (tree : Tree) → IsFunctional graph → IsFunctional graph' → IsTree tree → MakesTree graph tree → ((address : ℕ) → IsReached graph address → Keeps graph graph' address) → MakesTree graph' tree
+pub makes_kept : (graph graph' : Graph) (tree : Tree) → IsFunctional graph → IsFunctional graph' → IsTree tree → MakesTree graph tree → ((address : ℕ) → IsReached graph address → IsKeptUnder graph graph' address) → MakesTree graph' tree
 makes_kept graph graph' tree one one' is makes keeps =
     let place = place_of graph tree one is makes in
     let placed = placed_from_makes graph tree one is makes in
@@ -51,7 +51,7 @@ more_drawn false next commits l = omega arith
 pub few_after : (S : State) (r : Request) → S.next_identity ≤ 16 + S.commits → (after_one S r).next_identity ≤ 16 + (S.commits + 1)
 few_after S r l = more_drawn (draws_identity r.operation && (code_of r.operation S.tree == 0)) S.next_identity S.commits l
 
--- and behind the request
+-- and after the request
 pub made_after : (graph graph' : Graph) (S : State) (r : Request) → IsFunctional graph → IsFunctional graph' → Made graph S.tree S.next_identity → FollowsRequest graph graph' S r → Made graph' (after_one S r).tree (after_one S r).next_identity
 made_after graph graph' S r one one' m follows = go (code_of r.operation S.tree == 0) refl
   where

@@ -16,7 +16,7 @@ one_torn b (x ∷ []) torn = elim (torn.each 0 (omega arith)) [
 ]
 one_torn b (x ∷ y ∷ left) torn = absurd (omega (arith, torn.short))
 
--- Where a block goes out alone behind the others: what is left of the others, or all of them and behind them zeros or the block.
+-- Where a block goes out alone after the others: what is left of the others, or all of them and after them zeros or the block.
 pub last_left : (writes : List (List Block)) (mark : Block) (left : List Block) → IsLeft (writes ++ (mark ∷ []) ∷ []) left
     → IsLeft writes left ⊎ ((left ≡ joined writes ++ unwritten ∷ []) ⊎ (left ≡ joined writes ++ mark ∷ []))
 last_left [] mark left (inl torn) = one_torn mark left torn
@@ -37,7 +37,7 @@ left_short (write ∷ writes) left (inl torn) = omega (arith, torn.short, length
 left_short (write ∷ writes) left (inr (rest, whole, more)) =
     omega (arith, left_short writes rest more, ap (λ (xs : List Block). length xs) whole, length-append write rest, length-append write (joined writes))
 
--- a front of them is left of them, and so are none and all
+-- a prefix of them is left of them, and so are none and all
 pub fronts_left : (k : ℕ) (writes : List (List Block)) → IsLeft writes (take k (joined writes))
 fronts_left k [] = no_more k
   where
@@ -77,7 +77,7 @@ split_left (write ∷ writes) others left (inr (rest, whole, more)) = elim (spli
   | inr behind ↦ inr (behind.0, whole ∙ ap (λ (xs : List Block). write ++ xs) behind.1 ∙ sym (append_assoc write (joined writes) behind.0), behind.2)
 ]
 
--- behind writes that are whole
+-- after writes that are whole
 pub whole_left : (before writes : List (List Block)) (left : List Block) → IsLeft writes left → IsLeft (before ++ writes) (joined before ++ left)
 whole_left [] writes left is = is
 whole_left (write ∷ before) writes left is = inr (joined before ++ left, append_assoc write (joined before) left, whole_left before writes left is)
@@ -96,7 +96,7 @@ get-torn_by keep (block ∷ blocks) zero h = go (keep 0)
     go false = inr refl
 get-torn_by keep (block ∷ blocks) (suc i) h = get-torn_by (λ j. keep (suc j)) blocks i (omega arith)
 
--- whichever blocks are kept of a front of the write that had not returned
+-- whichever blocks are kept of a prefix of the write that had not returned
 pub choices_left : (before : List (List Block)) (write : List Block) (others : List (List Block)) (keep : ℕ → Bool) (n : ℕ) → IsLeft (before ++ write ∷ others) (joined before ++ take n (torn_by keep write))
 choices_left before write others keep n = whole_left before (write ∷ others) (take n (torn_by keep write)) (inl (record { short = omega (arith, size); each = each }))
   where

@@ -9,7 +9,7 @@ use Rattle.model.proofs.Lists.{contains_here, contains_there}
 use Rattle.durability.specs.Formats.{Block, Kind, NodePlace, NodeFields, Formats, AreDistinct}
 use Rattle.durability.specs.Formats.Kind.{Directory, File, Table}
 use Rattle.durability.specs.Formats.NodePlace.{Nowhere, Extent, Inside}
-use Rattle.durability.specs.Volume.{Medium, partition_start, blocks_for, IsWithin, extent, bytes_in, HoldsFile, HoldsDirectory, HoldsBody, IsStoredAt, graph_of, IsTableEntry, NoneImitates}
+use Rattle.durability.specs.Volume.{Medium, partition_start, blocks_for, IsWithin, extent, bytes_in, HoldsFile, HoldsDirectory, HoldsBody, IsStoredAt, graph_of, IsVatIcbAt, NoneImitates}
 use Rattle.durability.specs.Plan.{zeros, packed, kind_of_body, Writing, Written, IsPlaced, PlacesFile, PlacesBody, WritesNode, WritesNodes}
 use Rattle.durability.specs.Plan.PlacesFile.{nowhere, inside, outside}
 use Rattle.durability.proofs.Lists.{get_past}
@@ -92,7 +92,7 @@ module _ (formats : Formats) where
         body = body_held B node.stored.body from w.before w.place w.size (w.entry ∷ []) node.stored.moment node.stored.links node.stored.identity low is w.body;
       })
 
-  -- nodes that were written one behind the other are stored
+  -- nodes that were written one after the other are stored
   pub nodes_stored : (nodes : List Writing) (B : Medium) (from : ℕ) (blocks : List Block) (written : List Written) (more : List Block) (table : List (Option ℕ)) → partition_start ≤ length B → from ≡ length B - partition_start
       → WritesNodes formats nodes from blocks written → Lead table written → AllIn (graph_of formats (B ++ (blocks ++ more)) table) nodes
   nodes_stored [] B from blocks written more table low is w lead = tt
@@ -112,7 +112,7 @@ module _ (formats : Formats) where
     is_table Table = 1
 
     -- an entry of a file or a directory imitates nowhere
-    plain_entry : (body : Body) (fields : NodeFields) (block : Block) (location at : ℕ) → fields.kind ≡ kind_of_body body → formats.IsEntry fields block location → IsTableEntry formats block at → ⊥
+    plain_entry : (body : Body) (fields : NodeFields) (block : Block) (location at : ℕ) → fields.kind ≡ kind_of_body body → formats.IsEntry fields block location → IsVatIcbAt formats block at → ⊥
     unfolding is_table
     plain_entry (Bytes bytes) fields block location at kind e (low, other, table, is) =
         let same = sym table ∙ sym (distinct.kind block location (at - partition_start) fields other e is) ∙ kind in omega (arith, ap is_table same)

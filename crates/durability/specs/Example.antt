@@ -6,7 +6,7 @@ use Rattle.model.specs.Session.{Request, ClientRecord, after_one, formatted}
 use Rattle.durability.specs.Formats.{Block, NodeFields, Table_, Formats, AreExact, AreBounded}
 use Rattle.durability.specs.Formats.Kind.{Directory, Table}
 use Rattle.durability.specs.Formats.NodePlace.{Extent}
-use Rattle.durability.specs.Volume.{Medium, Stands, Past}
+use Rattle.durability.specs.Volume.{Medium, RecoversTo, RecoveredTo}
 
 abbrev pub root_fields : NodeFields
 root_fields = record { kind = Directory; moment = 0; links = 1; identity = 0; size = 40; place = Extent 1 }
@@ -52,5 +52,5 @@ used_medium = new_medium ++ [] ∷ mark ∷ []
 
 abbrev pub ExampleStands : Type 0
 ExampleStands = AreExact small × AreBounded small
-    × Stands small 3000 3000 new_medium (formatted 0) × Stands small 3000 3000 used_medium (after_one (formatted 0) refusal)
-    × Past small 3000 3000 used_medium 0 (formatted 0) × Past small 3000 3000 used_medium 1 (after_one (formatted 0) refusal)
+    × RecoversTo small 3000 3000 new_medium (formatted 0) × RecoversTo small 3000 3000 used_medium (after_one (formatted 0) refusal)
+    × RecoveredTo small 3000 3000 used_medium 0 (formatted 0) × RecoveredTo small 3000 3000 used_medium 1 (after_one (formatted 0) refusal)

@@ -3,21 +3,21 @@ use Rattle.std.specs.Prelude.{◌≡◌, ℕ, ◌≤◌, List, ◌++◌, length,
 use Rattle.drive.specs.Journal.{Event, held, Once}
 use Rattle.model.specs.Session.{State, Request, after}
 use Rattle.durability.specs.Formats.{Formats}
-use Rattle.durability.specs.Volume.{Stands}
+use Rattle.durability.specs.Volume.{RecoversTo}
 use Rattle.durability.specs.Step.{Moves}
 use Rattle.durability.specs.Runs.{Delivery, Answer, Holds}
 
 module _ (formats : Formats) where
-  -- The journal goes on from the one before, each address once. At each front before its end what stood stands, at its end the new state.
+  -- The journal goes on from the one before, each address once. At each prefix before its end what stood stands, at its end the new state.
   pub record Advances (capacity volume : ℕ) (before : List Event) (S : State) (behind : List Event) (S' : State) : Type 0 where
     pub front : take (length before) behind ≡ before
     pub once : Once behind
     pub moves : Moves formats capacity volume (held before) S (held behind) S'
 
-  -- The headline on a journal: at each front of what was written what stands is the state after the first of the committed requests.
+  -- The headline on a journal: at each prefix of what was written what stands is the state after the first of the committed requests.
   pub record HoldsOnJournal (need : State → Request → ℕ) (drive volume : ℕ) (S : State) (before behind : List Event) (deliveries : List Delivery) (answers : List Answer) : Type 0 where
     pub front : take (length before) behind ≡ before
     pub once : Once behind
     pub holds : Holds formats need drive volume S (held before) (held behind) deliveries answers
     pub stands : (k : ℕ) → length before ≤ k → k ≤ length behind
-        → (holds.c k ≤ length holds.committed) × Stands formats drive volume (held (take k behind)) (after S (take (holds.c k) holds.committed))
+        → (holds.c k ≤ length holds.committed) × RecoversTo formats drive volume (held (take k behind)) (after S (take (holds.c k) holds.committed))

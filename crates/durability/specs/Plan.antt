@@ -1,4 +1,4 @@
--- The blocks that a request writes: which nodes, in which order and where, and the table behind them.
+-- The blocks that a request writes: which nodes, in which order and where, and the table after them.
 use Rattle.std.specs.Prelude.{◌≡◌, ℕ, zero, suc, ◌+◌, ◌*◌, ◌-◌, ◌<◌, ◌≤◌, ◌==◌, if◌then◌else◌, List, [], ◌∷◌, ◌++◌, ◌⊎◌, length, take, drop, replicate, slice_set, Contains, Option, Some, None}
 use Rattle.limits.specs.declared.TheConstants.{BLOCK_BYTES}
 use Rattle.model.specs.Tree.{Name, Path, Content, parent_of, last_of, has_names, files_of, directories_of}
@@ -7,24 +7,24 @@ use Rattle.model.specs.Operation.{Operation, code_of}
 use Rattle.model.specs.Operation.Operation.{Create, Replace, MakeDir, Rename, Remove}
 use Rattle.model.specs.Session.{State, Request, after_one}
 use Rattle.model.specs.Addresses.{free_address}
-use Rattle.model.specs.Graph.{Graph, Stored, Entry, Body, whole, entries_of, is_directory}
+use Rattle.model.specs.Graph.{Graph, Stored, Entry, Body, as_stored, entries_of, is_directory}
 use Rattle.model.specs.Graph.Body.{Bytes, Entries}
 use Rattle.model.specs.Change.{Found, with_entries, with_parent, new_body, without, renamed}
 use Rattle.durability.specs.Formats.{Block, Kind, NodePlace, Table_, Formats}
 use Rattle.durability.specs.Formats.Kind.{File as FileEntry, Directory as DirectoryEntry, Table as TableEntry}
 use Rattle.durability.specs.Formats.NodePlace.{Nowhere, Extent, Inside}
-use Rattle.durability.specs.Volume.{Medium, partition_start, blocks_for, NoneImitates, Stands, graph_of}
+use Rattle.durability.specs.Volume.{Medium, partition_start, blocks_for, NoneImitates, RecoversTo, graph_of}
 use Rattle.durability.specs.Commit.{most_inside, table_size}
 
 abbrev pub zeros : Block
 zeros = replicate BLOCK_BYTES 0
 
--- so many blocks of the bytes, zeros behind them
+-- so many blocks of the bytes, zeros after them
 abbrev pub blocks_from : ℕ → List ℕ → List Block
 blocks_from zero bytes = []
 blocks_from (suc n) bytes = (take BLOCK_BYTES bytes ++ replicate (BLOCK_BYTES - length (take BLOCK_BYTES bytes)) 0) ∷ blocks_from n (drop BLOCK_BYTES bytes)
 
--- the bytes in blocks, zeros behind them in the last
+-- the bytes in blocks, zeros after them in the last
 abbrev pub packed : List ℕ → List Block
 packed bytes = blocks_from (blocks_for (length bytes)) bytes
 
@@ -42,7 +42,7 @@ abbrev pub kind_of_body : Body → Kind
 kind_of_body (Bytes bytes) = FileEntry
 kind_of_body (Entries parent entries) = DirectoryEntry
 
--- a table's entry, changed or added at its end
+-- a VAT ICB, changed or added at its end
 abbrev pub with_entry : List (Option ℕ) → ℕ → Option ℕ → List (Option ℕ)
 with_entry table address entry = if address == length table then table ++ entry ∷ [] else slice_set table address entry
 
@@ -54,7 +54,7 @@ abbrev pub without_all : List (Option ℕ) → List ℕ → List (Option ℕ)
 without_all table [] = table
 without_all table (address ∷ gone) = without_all (with_entry table address None) gone
 
--- the table behind a commit: the entries of what was removed are unused, those of what was written lead there
+-- the table after a commit: the entries of what was removed are unused, those of what was written lead there
 abbrev pub entries_after : List (Option ℕ) → List Written → List ℕ → List (Option ℕ)
 entries_after table written gone = with_written (without_all table gone) written
 
@@ -64,10 +64,10 @@ pub record PlansAddition (graph : Graph) (free : ℕ) (path : Path) (content : C
   pub name : Name
   pub last : last_of path ≡ name ∷ []
   pub nodes_are : nodes ≡
-      record { address = free; stored = whole identity moment (new_body above.address content) }
+      record { address = free; stored = as_stored identity moment (new_body above.address content) }
       ∷ record {
         address = above.address;
-        stored = whole above.stored.identity moment
+        stored = as_stored above.stored.identity moment
             (with_entries (λ entries. entries ++ record { name = name; is_directory = has_names content; address = free; identity = identity } ∷ []) above.stored.body);
       }
       ∷ []
@@ -75,14 +75,14 @@ pub record PlansAddition (graph : Graph) (free : ℕ) (path : Path) (content : C
 -- a file's bytes; no directory is written
 pub record PlansReplacement (graph : Graph) (path : Path) (bytes : List ℕ) (moment : ℕ) (nodes : List Writing) : Type 0 where
   pub file : Found graph path
-  pub nodes_are : nodes ≡ record { address = file.address; stored = whole file.stored.identity moment (Bytes bytes) } ∷ []
+  pub nodes_are : nodes ≡ record { address = file.address; stored = as_stored file.stored.identity moment (Bytes bytes) } ∷ []
 
 -- the directory above, without the name; what was there is unused from now on
 pub record PlansRemoval (graph : Graph) (path : Path) (moment : ℕ) (nodes : List Writing) (gone : List ℕ) : Type 0 where
   pub above : Found graph (parent_of path)
   pub node : Found graph path
   pub gone_is : gone ≡ node.address ∷ []
-  pub nodes_are : nodes ≡ record { address = above.address; stored = whole above.stored.identity moment (with_entries (without path) above.stored.body) } ∷ []
+  pub nodes_are : nodes ≡ record { address = above.address; stored = as_stored above.stored.identity moment (with_entries (without path) above.stored.body) } ∷ []
 
 -- another name within one directory
 pub record PlansRenaming (graph : Graph) (from to : Path) (moment : ℕ) (nodes : List Writing) : Type 0 where
@@ -95,14 +95,14 @@ pub record PlansRenaming (graph : Graph) (from to : Path) (moment : ℕ) (nodes 
   pub to_last : last_of to ≡ name ∷ []
   pub nodes_are : nodes ≡ record {
     address = above.address;
-    stored = whole above.stored.identity moment
+    stored = as_stored above.stored.identity moment
         (with_entries (λ entries. without from entries ++ renamed name moved ∷ []) above.stored.body);
   } ∷ []
 
 -- a directory that is moved names the directory above it anew; a file is not written
 abbrev pub turned : Entry → Stored → ℕ → List Writing
 turned moved stored above =
-    if is_directory stored then record { address = moved.address; stored = whole stored.identity stored.moment (with_parent above stored.body) } ∷ [] else []
+    if is_directory stored then record { address = moved.address; stored = as_stored stored.identity stored.moment (with_parent above stored.body) } ∷ [] else []
 
 -- to another directory: what is moved, the directory that loses the name, the directory that gets one
 pub record PlansMove (graph : Graph) (from to : Path) (moment : ℕ) (nodes : List Writing) : Type 0 where
@@ -118,11 +118,11 @@ pub record PlansMove (graph : Graph) (from to : Path) (moment : ℕ) (nodes : Li
   pub to_last : last_of to ≡ name ∷ []
   pub nodes_are : nodes ≡
       turned moved stored beyond.address
-      ++ record { address = above.address; stored = whole above.stored.identity moment (with_entries (without from) above.stored.body) }
-      ∷ record { address = beyond.address; stored = whole beyond.stored.identity moment (with_entries (λ entries. entries ++ renamed name moved ∷ []) beyond.stored.body) }
+      ++ record { address = above.address; stored = as_stored above.stored.identity moment (with_entries (without from) above.stored.body) }
+      ∷ record { address = beyond.address; stored = as_stored beyond.stored.identity moment (with_entries (λ entries. entries ++ renamed name moved ∷ []) beyond.stored.body) }
       ∷ []
 
--- the nodes that an operation answered 0 writes, in their order, and the virtual addresses that are unused behind it
+-- the nodes that an operation answered 0 writes, in their order, and the virtual addresses that are unused after it
 abbrev pub Plans : Graph → ℕ → Operation → ℕ → ℕ → List Writing → List ℕ → Type 0
 Plans graph free (Create path bytes) moment identity nodes gone = PlansAddition graph free path (File bytes) moment identity nodes × (gone ≡ [])
 Plans graph free (MakeDir path) moment identity nodes gone = PlansAddition graph free path (Directory []) moment identity nodes × (gone ≡ [])
@@ -141,7 +141,7 @@ module _ (formats : Formats) where
   -- data at the least clear start, blocks of zeros before it
   pub record IsPlaced (bytes : List ℕ) (from first : ℕ) (blocks : List Block) : Type 0 where
     pub start : IsClearStart (packed bytes) from first
-    pub whole : blocks ≡ replicate (first - from) zeros ++ packed bytes
+    pub as_stored : blocks ≡ replicate (first - from) zeros ++ packed bytes
 
   -- the blocks before a file's entry, and where the entry says that its bytes are
   pub data PlacesFile (bytes : List ℕ) (from : ℕ) (blocks : List Block) (place : NodePlace) : Type 0 where
@@ -165,7 +165,7 @@ module _ (formats : Formats) where
     pub body : PlacesBody node.stored.body from before place size
     pub is : formats.IsEntry (record { kind = kind_of_body node.stored.body; moment = node.stored.moment; links = node.stored.links; identity = node.stored.identity; size = size; place = place }) entry node.address
 
-  -- the blocks of these nodes, one behind the other, and where their entries are
+  -- the blocks of these nodes, one after the other, and where their entries are
   abbrev pub WritesNodes : List Writing → ℕ → List Block → List Written → Type 0
   WritesNodes [] from blocks written = (blocks ≡ []) × (written ≡ [])
   WritesNodes (node ∷ nodes) from blocks written =
@@ -173,8 +173,8 @@ module _ (formats : Formats) where
       × (blocks ≡ first ++ others) × (written ≡ record { address = node.address; number = number } ∷ rest)
       × WritesNode node from first number × WritesNodes nodes (from + length first) others rest
 
-  -- The planned blocks of a request at the state that stands, and its table entry behind them.
-  pub record IsPlanned (capacity volume : ℕ) (medium : Medium) (S : State) (stands : Stands formats capacity volume medium S) (request : Request) (blocks : List Block) (mark : Block) : Type 0 where
+  -- The planned blocks of a request at the state that stands, and its table entry after them.
+  pub record IsPlanned (capacity volume : ℕ) (medium : Medium) (S : State) (stands : RecoversTo formats capacity volume medium S) (request : Request) (blocks : List Block) (mark : Block) : Type 0 where
     pub nodes : List Writing
     pub gone : List ℕ
     pub done : code_of request.operation S.tree ≡ 0 → Plans (graph_of formats (take stands.at medium) stands.tells.table.entries) (free_address stands.tells.table.entries) request.operation request.moment S.next_identity nodes gone

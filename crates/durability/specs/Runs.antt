@@ -1,4 +1,4 @@
--- Runs of an engine over deliveries: which answer each may get, what it commits, how far it writes, and what stands at each front.
+-- Runs of an engine over deliveries: which answer each may get, what it commits, how far it writes, and what stands at each prefix.
 use Rattle.std.specs.Prelude.{cond, ◌==◌, ◌≡◌, ◌⊎◌, ℕ, ◌+◌, ◌<◌, ◌≤◌, Bool, true, false, List, [], ◌∷◌, ◌++◌, length, take, map, Option, Some, None}
 use Rattle.std.specs.Option.{option_to_list}
 use Rattle.std.specs.FinMap.{get}
@@ -8,7 +8,7 @@ use Rattle.model.specs.Session.{State, Request, Reply, Due, due, reply_to, after
 use Rattle.model.specs.Runs.{AllNew, EachOnce}
 use Rattle.model.specs.Session.Due.{Repeat, Stale, Gap, ClientsFull, New}
 use Rattle.durability.specs.Formats.{Formats}
-use Rattle.durability.specs.Volume.{Medium, Stands, Past}
+use Rattle.durability.specs.Volume.{Medium, RecoversTo, RecoveredTo}
 use Rattle.durability.specs.Step.{Moves}
 
 pub data Query : Type 0 where
@@ -96,7 +96,7 @@ Row need S mark capacity (Delivered NoMemory) (Some answer) effect = (answer ≡
 Row need S mark capacity (Delivered (Queries query)) (Some answer) effect = ((answer ≡ told S.tree query) ⊎ MayFail answer) × Nothing effect
 Row need S mark capacity (Delivered (Asks r)) (Some answer) effect = AnswersDue S mark capacity (need S r) r (due S r.client r.number) answer effect
 
--- Each delivery's answer, the journal's length behind it and how many requests are committed by then. Before the first these are mark and count, behind the last the length is `end`.
+-- Each delivery's answer, the journal's length after it and how many requests are committed by then. Before the first these are mark and count, after the last the length is `end`.
 abbrev pub Fits : (State → Request → ℕ) → ℕ → ℕ → State → ℕ → ℕ → List Delivery → List Answer → List ℕ → List ℕ → List Request → Type 0
 Fits need capacity end S mark count [] answers marks counts C = (answers ≡ []) × (marks ≡ []) × (counts ≡ []) × (C ≡ []) × (mark ≡ end)
 Fits need capacity end S mark count (d ∷ ds) answers marks counts C =
@@ -123,7 +123,7 @@ module _ (formats : Formats) where
       × (answers ≡ option_to_list answer ++ rest) × (C ≡ effect.done ++ C1)
       × Runs need drive volume B1 (after S effect.done) ds rest C1 B' S'
 
-  -- The headline. The medium was `before` and is `behind`; each address was written once, in order, so a front of the journal is a front of the medium.
+  -- The headline. The medium was `before` and is `behind`; each address was written once, in order, so a prefix of the journal is a prefix of the medium.
   pub record Holds (need : State → Request → ℕ) (drive volume : ℕ) (S : State) (before behind : Medium) (deliveries : List Delivery) (answers : List Answer) : Type 0 where
     pub committed : List Request
     pub marks : List ℕ
@@ -133,11 +133,11 @@ module _ (formats : Formats) where
     pub new : AllNew S committed
     pub once : EachOnce committed
     pub front : take (length before) behind ≡ before
-    pub stands : (k : ℕ) → length before ≤ k → k ≤ length behind → (c k ≤ length committed) × Stands formats drive volume (take k behind) (after S (take (c k) committed))
+    pub stands : (k : ℕ) → length before ≤ k → k ≤ length behind → (c k ≤ length committed) × RecoversTo formats drive volume (take k behind) (after S (take (c k) committed))
     pub never_falls : (j k : ℕ) → j ≤ k → c j ≤ c k
     pub at_start : c (length before) ≡ 0
     pub at_marks : AtMarks c marks counts
     pub at_end : c (length behind) ≡ length committed
     -- what stood before is remembered, and so is each commit of the run
-    pub past : (k : ℕ) (T : State) → Past formats drive volume before k T → Past formats drive volume behind k T
-    pub later : (j : ℕ) → j ≤ length committed → Past formats drive volume behind (S.commits + j) (after S (take j committed))
+    pub past : (k : ℕ) (T : State) → RecoveredTo formats drive volume before k T → RecoveredTo formats drive volume behind k T
+    pub later : (j : ℕ) → j ≤ length committed → RecoveredTo formats drive volume behind (S.commits + j) (after S (take j committed))

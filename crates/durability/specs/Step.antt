@@ -4,28 +4,28 @@ use Rattle.limits.specs.declared.TheConstants.{FORMAT_BLOCKS, FIRST_UNIQUE}
 use Rattle.model.specs.Tree.{files_of, directories_of}
 use Rattle.model.specs.Operation.{code_of}
 use Rattle.model.specs.Session.{State, Request, after_one}
-use Rattle.model.specs.Graph.{Graph, whole}
+use Rattle.model.specs.Graph.{Graph, as_stored}
 use Rattle.model.specs.Graph.Body.{Entries}
-use Rattle.model.specs.Change.{Changes, IsReached, Keeps}
+use Rattle.model.specs.Change.{ChangesNodes, IsReached, IsKeptUnder}
 use Rattle.durability.specs.Formats.{Block, Table_, Formats}
-use Rattle.durability.specs.Volume.{Medium, partition_start, IsStoredAt, NoneImitates, HasTable, Stands, Past, graph_of}
+use Rattle.durability.specs.Volume.{Medium, partition_start, IsStoredAt, NoneImitates, HasTable, RecoversTo, RecoveredTo, graph_of}
 
 -- What is stored changes as the request's operation does; where the request is refused, what paths reach stays.
 pub record FollowsRequest (graph graph' : Graph) (state : State) (request : Request) : Type 0 where
-  pub done : code_of request.operation state.tree ≡ 0 → Changes graph graph' request.operation request.moment state.next_identity
-  pub refused : (code_of request.operation state.tree ≡ 0 → ⊥) → (address : ℕ) → IsReached graph address → Keeps graph graph' address
+  pub done : code_of request.operation state.tree ≡ 0 → ChangesNodes graph graph' request.operation request.moment state.next_identity
+  pub refused : (code_of request.operation state.tree ≡ 0 → ⊥) → (address : ℕ) → IsReached graph address → IsKeptUnder graph graph' address
 
 module _ (formats : Formats) where
-  -- The medium goes on from the one before. At each front before its end what stood stands, at its end the new state.
+  -- The medium goes on from the one before. At each prefix before its end what stood stands, at its end the new state.
   pub record Moves (capacity volume : ℕ) (before : Medium) (S : State) (behind : Medium) (S' : State) : Type 0 where
     pub more : (added : List Block) × (behind ≡ before ++ added)
-    pub fronts : (k : ℕ) → length before ≤ k → k < length behind → Stands formats capacity volume (take k behind) S
-    pub ends : Stands formats capacity volume behind S'
+    pub fronts : (k : ℕ) → length before ≤ k → k < length behind → RecoversTo formats capacity volume (take k behind) S
+    pub ends : RecoversTo formats capacity volume behind S'
     -- and what stood before is remembered
-    pub past : (commits : ℕ) (state : State) → Past formats capacity volume before commits state → Past formats capacity volume behind commits state
+    pub past : (commits : ℕ) (state : State) → RecoveredTo formats capacity volume before commits state → RecoveredTo formats capacity volume behind commits state
 
-  -- The blocks of a commit, and its table entry behind them, carry out the request at the state that stands.
-  pub record CarriesOut (capacity volume : ℕ) (medium : Medium) (S : State) (stands : Stands formats capacity volume medium S) (request : Request) (blocks : List Block) (mark : Block) : Type 0 where
+  -- The blocks of a commit, and its table entry after them, carry out the request at the state that stands.
+  pub record CarriesOut (capacity volume : ℕ) (medium : Medium) (S : State) (stands : RecoversTo formats capacity volume medium S) (request : Request) (blocks : List Block) (mark : Block) : Type 0 where
     pub none : NoneImitates formats (length medium) blocks
     pub some : 1 ≤ length blocks
     pub table : Table_
@@ -41,7 +41,7 @@ module _ (formats : Formats) where
     pub set : slice_get table.entries 0 ≡ slice_get stands.tells.table.entries 0
     pub follows : FollowsRequest (graph_of formats (take stands.at medium) stands.tells.table.entries) (graph_of formats (medium ++ blocks) table.entries) S request
 
-  -- The blocks of a format, and its table entry behind them.
+  -- The blocks of a format, and its table entry after them.
   pub record IsFormat (capacity volume : ℕ) (label : List ℕ) (moment : ℕ) (blocks : List Block) (mark : Block) : Type 0 where
     pub long : length blocks ≡ FORMAT_BLOCKS - 1
     pub none : NoneImitates formats 0 blocks
@@ -61,4 +61,4 @@ module _ (formats : Formats) where
     pub set_block : Block
     pub set_there : slice_get blocks (set_number + partition_start) ≡ Some set_block
     pub set_is : formats.IsFileSet label moment set_block
-    pub root : IsStoredAt formats blocks table.entries 1 (whole 0 moment (Entries 1 []))
+    pub root : IsStoredAt formats blocks table.entries 1 (as_stored 0 moment (Entries 1 []))

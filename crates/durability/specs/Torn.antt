@@ -1,32 +1,32 @@
--- What stands behind a loss of power, whichever blocks of the write that had not returned the disk kept.
+-- What a medium recovers to after a power loss, whichever blocks of the write that had not returned the disk kept.
 use Rattle.std.specs.Prelude.{◌≡◌, ◌↔◌, ℕ, ◌+◌, ◌≤◌, List, [], ◌∷◌, ◌++◌, length, take}
 use Rattle.drive.specs.Writes.{LastIsAlone, IsLeft}
 use Rattle.model.specs.Session.{State, Request, after_one, after}
 use Rattle.durability.specs.Formats.{Block, Formats}
-use Rattle.durability.specs.Volume.{Medium, Stands, Past}
+use Rattle.durability.specs.Volume.{Medium, RecoversTo, RecoveredTo}
 use Rattle.durability.specs.Plan.{IsPlanned}
 
 module _ (formats : Formats) where
   -- On both media the same states stand, and the same states stood before.
   pub record AreAlike (capacity volume : ℕ) (medium other : Medium) : Type 0 where
-    pub stands : (S : State) → Stands formats capacity volume medium S ↔ Stands formats capacity volume other S
-    pub past : (commits : ℕ) (S : State) → Past formats capacity volume medium commits S ↔ Past formats capacity volume other commits S
+    pub stands : (S : State) → RecoversTo formats capacity volume medium S ↔ RecoversTo formats capacity volume other S
+    pub past : (commits : ℕ) (S : State) → RecoveredTo formats capacity volume medium commits S ↔ RecoveredTo formats capacity volume other commits S
 
   -- no state stands, whatever drive and volume it is read in
-  abbrev pub NothingStands : Medium → Type 0
-  NothingStands medium = (capacity volume : ℕ) (S : State) → Stands formats capacity volume medium S → ⊥
+  abbrev pub RecoversToNothing : Medium → Type 0
+  RecoversToNothing medium = (capacity volume : ℕ) (S : State) → RecoversTo formats capacity volume medium S → ⊥
 
   -- The medium goes on from one on which S stood, and holds what is left of these commits in turn. What stands is the state after those that are whole, and no other; what stood before is remembered, and so is each of these.
   pub record Endures (capacity volume : ℕ) (before : Medium) (S : State) (done : List Request) (behind : Medium) : Type 0 where
     pub more : (added : List Block) × (behind ≡ before ++ added)
-    pub stands : Stands formats capacity volume behind (after S done)
-    pub alone : (other_capacity other_volume : ℕ) (T : State) → Stands formats other_capacity other_volume behind T → T ≡ after S done
-    pub past : (commits : ℕ) (T : State) → Past formats capacity volume before commits T → Past formats capacity volume behind commits T
-    pub later : (j : ℕ) → j ≤ length done → Past formats capacity volume behind (S.commits + j) (after S (take j done))
+    pub stands : RecoversTo formats capacity volume behind (after S done)
+    pub alone : (other_capacity other_volume : ℕ) (T : State) → RecoversTo formats other_capacity other_volume behind T → T ≡ after S done
+    pub past : (commits : ℕ) (T : State) → RecoveredTo formats capacity volume before commits T → RecoveredTo formats capacity volume behind commits T
+    pub later : (j : ℕ) → j ≤ length done → RecoveredTo formats capacity volume behind (S.commits + j) (after S (take j done))
 
   -- A request at the state that stands is committed by its planned blocks, and so much is left of their writes; `done` has the request where that is all of them.
   pub record IsTried (capacity volume : ℕ) (medium : Medium) (S : State) (request : Request) (left : List Block) (done : List Request) : Type 0 where
-    pub stands : Stands formats capacity volume medium S
+    pub stands : RecoversTo formats capacity volume medium S
     pub blocks : List Block
     pub mark : Block
     pub planned : IsPlanned formats capacity volume medium S stands request blocks mark
@@ -36,7 +36,7 @@ module _ (formats : Formats) where
     pub whole : left ≡ blocks ++ mark ∷ [] → done ≡ request ∷ []
     pub part : (left ≡ blocks ++ mark ∷ [] → ⊥) → done ≡ []
 
-  -- Requests in turn, each begun where a state stands, behind whatever is left of those before it; `done` has those that are there whole.
+  -- Requests in turn, each begun where a state stands, after whatever is left of those before it; `done` has those that are there whole.
   abbrev pub AreTried : ℕ → ℕ → Medium → State → List Request → List Request → Medium → Type 0
   AreTried capacity volume medium S [] done behind = (done ≡ []) × (behind ≡ medium)
   AreTried capacity volume medium S (request ∷ requests) done behind =
@@ -47,6 +47,6 @@ module _ (formats : Formats) where
   abbrev pub AreCommitted : ℕ → ℕ → Medium → State → List Request → List (List Block) → Type 0
   AreCommitted capacity volume medium S [] writes = writes ≡ []
   AreCommitted capacity volume medium S (request ∷ requests) writes =
-      (stands : Stands formats capacity volume medium S) × (blocks : List Block) × (mark : Block) × (first rest : List (List Block))
+      (stands : RecoversTo formats capacity volume medium S) × (blocks : List Block) × (mark : Block) × (first rest : List (List Block))
       × IsPlanned formats capacity volume medium S stands request blocks mark × LastIsAlone blocks mark first × (writes ≡ first ++ rest)
       × AreCommitted capacity volume (medium ++ (blocks ++ mark ∷ [])) (after_one S request) requests rest

@@ -50,7 +50,7 @@ module _ (formats : Formats) where
   HoldsBody medium fields (Bytes bytes) = (fields.kind ≡ File) × HoldsFile medium fields.size fields.place bytes
   HoldsBody medium fields (Entries parent entries) = (fields.kind ≡ Directory) × HoldsDirectory medium fields.size fields.place parent entries
 
-  -- what the table's entry of a virtual address leads to on the medium
+  -- what the VAT ICB of a virtual address leads to on the medium
   pub record IsStoredAt (medium : Medium) (table : List (Option ℕ)) (address : ℕ) (stored : Stored) : Type 0 where
     pub number : ℕ
     pub used : slice_get table address ≡ Some (Some number)
@@ -66,20 +66,20 @@ module _ (formats : Formats) where
   abbrev pub graph_of : Medium → List (Option ℕ) → Graph
   graph_of medium table = λ address stored. IsStoredAt medium table address stored
 
-  -- The block imitates where it would stand at this address: it is the entry of a table there.
-  abbrev pub IsTableEntry : Block → ℕ → Type 0
-  IsTableEntry block address = (partition_start ≤ address) × (fields : NodeFields) × (fields.kind ≡ Table) × formats.IsEntry fields block (address - partition_start)
+  -- The block imitates where it would stand at this address: it is a VAT ICB there.
+  abbrev pub IsVatIcbAt : Block → ℕ → Type 0
+  IsVatIcbAt block address = (partition_start ≤ address) × (fields : NodeFields) × (fields.kind ≡ Table) × formats.IsEntry fields block (address - partition_start)
 
   -- none of the blocks, which lie from this address on, imitates
   abbrev pub NoneImitates : ℕ → List Block → Type 0
   NoneImitates at [] = Unit {0}
-  NoneImitates at (block ∷ blocks) = (IsTableEntry block at → ⊥) × NoneImitates (suc at) blocks
+  NoneImitates at (block ∷ blocks) = (IsVatIcbAt block at → ⊥) × NoneImitates (suc at) blocks
 
   -- the last table entry of a medium, and its address
   pub record IsLast (medium : Medium) (at : ℕ) (block : Block) : Type 0 where
     pub there : slice_get medium at ≡ Some block
-    pub is : IsTableEntry block at
-    pub no_later : (later : ℕ) (other : Block) → at < later → slice_get medium later ≡ Some other → IsTableEntry other later → ⊥
+    pub is : IsVatIcbAt block at
+    pub no_later : (later : ℕ) (other : Block) → at < later → slice_get medium later ≡ Some other → IsVatIcbAt other later → ⊥
 
   -- the table whose entry this block is at this address, of this moment; its data are on the blocks below
   pub record HasTable (below : Medium) (at : ℕ) (block : Block) (table : Table_) (moment : ℕ) : Type 0 where
@@ -93,7 +93,7 @@ module _ (formats : Formats) where
     pub is : formats.IsTable table (at - partition_start) (bytes_in fields.size (extent below first fields.size))
 
   -- The block at this address, and all that it leads to on the blocks below, says the state, on a drive of this capacity in a volume of that one.
-  pub record Tells (capacity volume : ℕ) (below : Medium) (at : ℕ) (block : Block) (state : State) : Type 0 where
+  pub record Describes (capacity volume : ℕ) (below : Medium) (at : ℕ) (block : Block) (state : State) : Type 0 where
     pub table : Table_
     pub has : HasTable below at block table state.moment
     pub commits : table.commits ≡ state.commits
@@ -117,11 +117,11 @@ module _ (formats : Formats) where
     pub few_identities : state.next_identity ≤ FIRST_UNIQUE + state.commits
 
   -- The state stands on the medium: the last table entry says it.
-  pub record Stands (capacity volume : ℕ) (medium : Medium) (state : State) : Type 0 where
+  pub record RecoversTo (capacity volume : ℕ) (medium : Medium) (state : State) : Type 0 where
     pub at : ℕ
     pub block : Block
     pub last : IsLast medium at block
-    pub tells : Tells capacity volume (take at medium) at block state
+    pub tells : Describes capacity volume (take at medium) at block state
 
   -- the last table entry of a medium with its table
   pub record LastTable (medium : Medium) : Type 0 where
@@ -133,13 +133,13 @@ module _ (formats : Formats) where
     pub has : HasTable (take at medium) at block table moment
 
   -- so many steps back along the chain of tables, this state stood
-  abbrev pub StoodBefore : ℕ → ℕ → ℕ → Medium → State → Type 0
-  StoodBefore zero capacity volume medium state = Stands capacity volume medium state
-  StoodBefore (suc steps) capacity volume medium state =
+  abbrev pub RecoveredBefore : ℕ → ℕ → ℕ → Medium → State → Type 0
+  RecoveredBefore zero capacity volume medium state = RecoversTo capacity volume medium state
+  RecoveredBefore (suc steps) capacity volume medium state =
       (last : LastTable medium) × (previous : ℕ) × (last.table.previous ≡ Some previous)
       × (before : LastTable (take (previous + (partition_start + 1)) medium)) × (before.at ≡ previous + partition_start) × (before.table.commits + 1 ≡ last.table.commits)
-      × StoodBefore steps capacity volume (take (previous + (partition_start + 1)) medium) state
+      × RecoveredBefore steps capacity volume (take (previous + (partition_start + 1)) medium) state
 
   -- the state after the first `commits` commits
-  abbrev pub Past : ℕ → ℕ → Medium → ℕ → State → Type 0
-  Past capacity volume medium commits state = (last : LastTable medium) × (steps : ℕ) × (commits + steps ≡ last.table.commits) × StoodBefore steps capacity volume medium state
+  abbrev pub RecoveredTo : ℕ → ℕ → Medium → ℕ → State → Type 0
+  RecoveredTo capacity volume medium commits state = (last : LastTable medium) × (steps : ℕ) × (commits + steps ≡ last.table.commits) × RecoveredBefore steps capacity volume medium state

@@ -3,7 +3,7 @@
 //!
 //! Nothing here runs. `specs/` says what stands and what a commit must bring, `proofs/` has the laws: blocks that imitate
 //! no table entry change nothing, a medium stands for one state at most, a commit is there with its last block and not
-//! before, and a run of commits, repeats, refusals and restarts leaves at each front the state after the first of its
+//! before, and a run of commits, repeats, refusals and restarts leaves at each prefix the state after the first of its
 //! commits. The crate that has the formats states these laws for them.
 #![tactic(auto)]
 

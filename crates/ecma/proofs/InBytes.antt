@@ -44,7 +44,7 @@ u64_is at n block small stands =
       cell 7 (at + 4 + 2 + 1) (omega arith) (omega arith),
     )
 
--- two texts stand one behind the other
+-- two texts stand one after the other
 pub both_at : (at next : ℕ) (a b block : List ℕ) → next ≡ at + length a → IsAt at a block → IsAt next b block → IsAt at (a ++ b) block
 both_at at next a b block place first second =
     ap (λ (n : ℕ). take n (drop at block)) (length-append a b)
@@ -68,7 +68,7 @@ back_at at next a b block place both =
     ∙ ap (drop (length a)) both
     ∙ drop_at a b (length a) refl
 
--- zeros behind zeros
+-- zeros after zeros
 pub zeros_more : (at n m : ℕ) (block : List ℕ) → take n (drop at block) ≡ replicate n 0 → take m (drop (at + n) block) ≡ replicate m 0
     → take (n + m) (drop at block) ≡ replicate (n + m) 0
 zeros_more at n m block front back =

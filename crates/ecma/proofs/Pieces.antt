@@ -18,7 +18,7 @@ pub concat_onto : (ps : List (List ℕ)) (rest : List ℕ) → concat ps ++ rest
 concat_onto [] rest = refl
 concat_onto (p ∷ ps) rest = append_assoc p (concat ps) rest ∙ ap (λ (x : List ℕ). p ++ x) (concat_onto ps rest)
 
--- a text that stands at a place, and what comes behind it
+-- a text that stands at a place, and what comes after it
 pub cut : (at next : ℕ) (text block rest : List ℕ) → next ≡ at + length text → IsAt at text block → drop next block ≡ rest → drop at block ≡ text ++ rest
 cut at next text block rest place stands behind =
     let tail : drop (length text) (drop at block) ≡ drop next block = drop-drop (length text) at block ∙ ap (λ (n : ℕ). drop n block) (sym place) in

@@ -27,7 +27,7 @@ last_factors t = by_first (by_second (wide_fourth t))
 abbrev quad_quotient : ℕ → ℕ
 quad_quotient t = last_factors (quad_eighth (quad_sixteenth (by_thirty_second t)))
 
--- ---- and the rest of it, reckoned from the two halves
+-- ---- and the rest of it, computed from the two halves
 
 -- a shift to the left in 128 bits
 abbrev left : ℕ → ℕ → ℕ

@@ -4,7 +4,7 @@ use Rattle.std.specs.Prelude.{ℕ, List, [], ◌∷◌, ◌++◌, codes, take, r
 use Rattle.std.specs.List.{concat}
 use Rattle.ecma.specs.declared.entity.EntityId.{EntityId}
 
--- the bytes with zeros behind them, n in all: an array of n bytes as it is
+-- the bytes with zeros after them, n in all: an array of n bytes as it is
 abbrev pub zero_filled : ℕ → List ℕ → List ℕ
 zero_filled n bytes = take n (bytes ++ replicate n 0)
 

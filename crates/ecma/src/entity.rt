@@ -1,7 +1,7 @@
 /// An entity identifier (ECMA-167 1/7.4), its flags 0.
 #[derive(Clone, Copy, Debug, PartialEq, Eq)]
 pub struct EntityId {
-    /// A text, with zeros behind it.
+    /// A text, with zeros after it.
     pub identifier: [u8; 23],
     pub suffix: [u8; 8],
 }

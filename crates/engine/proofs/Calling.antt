@@ -18,7 +18,7 @@ use Rattle.model.specs.Session.{State, Request, ClientRecord, Due, due, due_by, 
 use Rattle.model.specs.Session.Due.{Repeat, Stale, Gap, ClientsFull, New}
 use Rattle.durability.specs.Commit.{need}
 use Rattle.durability.specs.Formats.{Table_}
-use Rattle.durability.specs.Volume.{Medium, Stands}
+use Rattle.durability.specs.Volume.{Medium, RecoversTo}
 use Rattle.durability.specs.Step.{Moves}
 use Rattle.durability.specs.Journal.{Advances}
 use Rattle.durability.specs.Runs.{Delivery, Query, Effect, Row, AnswersNew, AnswersDue, MayFail, told}
@@ -26,47 +26,47 @@ use Rattle.durability.specs.Runs as medium
 use Rattle.durability.specs.Runs.AnswersNew.{committed, failed as fails, full, no_memory}
 use Rattle.durability.proofs.Commits.{moves_front}
 use Rattle.udf.specs.Udf.{udf, spelled}
-use Rattle.udf.specs.Said.{said_record}
+use Rattle.udf.specs.Said.{model_record}
 use Rattle.store.specs.declared.store.Store.{Store}
-use Rattle.store.specs.Asked.{said_request, said_query}
-use Rattle.store.specs.Calls.{Knows, StillKnows, Applies, IsDone, IsFailed, IsLeftBehind, Gets, Lists, Stats}
+use Rattle.store.specs.Asked.{model_request, said_query}
+use Rattle.store.specs.Calls.{IsOpenOn, IsStillOpenOn, Applies, IsCommitDone, IsFailed, IsLeftUnwritten, Gets, Lists, Stats}
 use Rattle.engine.specs.Situation.{Situation, IsOpen, with_store}
 use Rattle.engine.specs.Answered.{due_of}
-use Rattle.engine.specs.Said.{said_message, said_answer}
+use Rattle.engine.specs.Said.{model_message, model_answer}
 use Rattle.engine.specs.Steps.{HoldsState, IsStep}
-use Rattle.engine.specs.Called.{failed, refused, applied, got, listed, shown, get_refused, list_refused, stat_refused, IsShort, Uses, IsDealt, IsQueried, Calls, CallsAreSteps, RestartsAreSteps}
+use Rattle.engine.specs.Called.{failed, refused, applied, get_answer, list_answer, stat_answer, get_refused, list_refused, stat_refused, IsShort, Uses, IsDealt, IsQueried, Calls, CallsAreSteps, RestartsAreSteps}
 
 -- ---- where nothing is written
 
 abbrev nothing : Effect
 nothing = record { done = []; blocks = 0 }
 
-pub stay : (capacity volume : ℕ) (J : List Event) (S : State) → Once J → Stands udf capacity volume (held J) S → Advances udf capacity volume J S J S
+pub stay : (capacity volume : ℕ) (J : List Event) (S : State) → Once J → RecoversTo udf capacity volume (held J) S → Advances udf capacity volume J S J S
 stay capacity volume J S once stands = record {
   front = take_all (length J) J (omega arith);
   once = once;
   moves = subst (λ (M : Medium). Moves udf capacity volume (held J) S M S) (append-nil (held J)) (moves_front udf capacity volume (held J) [] S tt stands);
 }
 
-stands_there : (s t : Situation) (volume : ℕ) (S : State) → t.journal ≡ s.journal → t.capacity ≡ s.capacity → Stands udf s.capacity volume (held s.journal) S → Stands udf t.capacity volume (held t.journal) S
+stands_there : (s t : Situation) (volume : ℕ) (S : State) → t.journal ≡ s.journal → t.capacity ≡ s.capacity → RecoversTo udf s.capacity volume (held s.journal) S → RecoversTo udf t.capacity volume (held t.journal) S
 stands_there s t volume S journal capacity stands =
-    subst (λ (J : List Event). Stands udf t.capacity volume (held J) S) (sym journal) (subst (λ (c : ℕ). Stands udf c volume (held s.journal) S) (sym capacity) stands)
+    subst (λ (J : List Event). RecoversTo udf t.capacity volume (held J) S) (sym journal) (subst (λ (c : ℕ). RecoversTo udf c volume (held s.journal) S) (sym capacity) stands)
 
 -- a journal goes on from its front
 pub front_grows : (J K : List Event) → take (length J) K ≡ J → length J ≤ length K
 front_grows J K front = omega (arith, ap (λ (L : List Event). length L) front, length-take (length J) K)
 
 -- the one store that is kept
-kept_knows : (volume : ℕ) (S : State) (s : Situation) (kept : Store) → s.store ≡ Some kept → StillKnows s.capacity volume s.journal S kept → (store : Store) → IsOpen s store → Knows s.capacity volume s.journal S store
-kept_knows volume S s kept there still store here = subst (λ (x : Store). StillKnows s.capacity volume s.journal S x) (same_Some kept store (sym there ∙ here.0)) still here.1
+kept_knows : (volume : ℕ) (S : State) (s : Situation) (kept : Store) → s.store ≡ Some kept → IsStillOpenOn s.capacity volume s.journal S kept → (store : Store) → IsOpen s store → IsOpenOn s.capacity volume s.journal S store
+kept_knows volume S s kept there still store here = subst (λ (x : Store). IsStillOpenOn s.capacity volume s.journal S x) (same_Some kept store (sym there ∙ here.0)) still here.1
 
-pub none_knows : (volume : ℕ) (S : State) (s : Situation) → s.store ≡ None → (store : Store) → IsOpen s store → Knows s.capacity volume s.journal S store
+pub none_knows : (volume : ℕ) (S : State) (s : Situation) → s.store ≡ None → (store : Store) → IsOpen s store → IsOpenOn s.capacity volume s.journal S store
 none_knows volume S s none store here = absurd (none-some store (sym none ∙ here.0))
 
 module _ (volume : ℕ) where
   quiet : (d : Delivery) (a : Option medium.Answer) (S : State) (before behind : Situation) → Row (need spelled) S (length before.journal) volume d a nothing
-      → Once before.journal → Stands udf before.capacity volume (held before.journal) S → behind.journal ≡ before.journal → behind.capacity ≡ before.capacity
-      → ((store : Store) → IsOpen behind store → Knows behind.capacity volume behind.journal S store) → IsStep volume d S before a S behind
+      → Once before.journal → RecoversTo udf before.capacity volume (held before.journal) S → behind.journal ≡ before.journal → behind.capacity ≡ before.capacity
+      → ((store : Store) → IsOpen behind store → IsOpenOn behind.capacity volume behind.journal S store) → IsStep volume d S before a S behind
   quiet d a S before behind row once stands journal capacity knows = record {
     effect = nothing;
     row = row;
@@ -92,9 +92,9 @@ module _ (volume : ℕ) where
 
   -- ---- shortages
 
-  may_fail : (refuse : StoreFault → Answer) → refuse fault.Device ≡ answer.Fault → refuse fault.Memory ≡ answer.Memory → (refusal : StoreFault) (a : Answer) → IsShortage refusal → a ≡ refuse refusal → MayFail (said_answer a)
-  may_fail refuse device memory refusal a (inl e) is = inl (ap said_answer (is ∙ ap refuse e ∙ device))
-  may_fail refuse device memory refusal a (inr e) is = inr (ap said_answer (is ∙ ap refuse e ∙ memory))
+  may_fail : (refuse : StoreFault → Answer) → refuse fault.Device ≡ answer.Fault → refuse fault.Memory ≡ answer.Memory → (refusal : StoreFault) (a : Answer) → IsShortage refusal → a ≡ refuse refusal → MayFail (model_answer a)
+  may_fail refuse device memory refusal a (inl e) is = inl (ap model_answer (is ∙ ap refuse e ∙ device))
+  may_fail refuse device memory refusal a (inr e) is = inr (ap model_answer (is ∙ ap refuse e ∙ memory))
 
   short_due : (S : State) (mark capacity most : ℕ) (r : Request) (d : Due) (a : medium.Answer) → MayFail a → AnswersDue S mark capacity most r d a nothing
   short_due S mark capacity most r (Repeat reply) a may = (inr may, (refl, refl))
@@ -104,43 +104,43 @@ module _ (volume : ℕ) where
   short_due S mark capacity most r New a (inl e) = subst (λ (x : medium.Answer). AnswersNew S mark capacity most r x nothing) (sym e) (fails nothing (inl refl) (omega arith) (λ some. absurd (omega arith)))
   short_due S mark capacity most r New a (inr e) = subst (λ (x : medium.Answer). AnswersNew S mark capacity most r x nothing) (sym e) (no_memory nothing (refl, refl))
 
-  short_step : (d : Delivery) (S : State) (before : Situation) (a : Answer) (behind : Situation) → HoldsState volume S before → IsShort before a behind → Row (need spelled) S (length before.journal) volume d (Some (said_answer a)) nothing
-      → (S' : State) × IsStep volume d S before (Some (said_answer a)) S' behind
-  short_step d S before a behind at short row = (S, quiet d (Some (said_answer a)) S before behind row at.once at.stands short.journal short.capacity (none_knows volume S behind short.store))
+  short_step : (d : Delivery) (S : State) (before : Situation) (a : Answer) (behind : Situation) → HoldsState volume S before → IsShort before a behind → Row (need spelled) S (length before.journal) volume d (Some (model_answer a)) nothing
+      → (S' : State) × IsStep volume d S before (Some (model_answer a)) S' behind
+  short_step d S before a behind at short row = (S, quiet d (Some (model_answer a)) S before behind row at.once at.stands short.journal short.capacity (none_knows volume S behind short.store))
 
-  short_fails : (before : Situation) (a : Answer) (behind : Situation) → IsShort before a behind → MayFail (said_answer a)
+  short_fails : (before : Situation) (a : Answer) (behind : Situation) → IsShort before a behind → MayFail (model_answer a)
   short_fails before a behind short = may_fail failed refl refl short.refusal a short.shortage short.told
 
   -- ---- queries
 
-  get_told : (S : State) (path : _) (result : Result (List ℕ) StoreFault) (a : Answer) → Gets S path result → a ≡ got result → (said_answer a ≡ told S.tree (medium.Query.Get path)) ⊎ MayFail (said_answer a)
-  get_told S path (Ok bytes) a gets is = inl (ap said_answer is ∙ sym gets)
+  get_told : (S : State) (path : _) (result : Result (List ℕ) StoreFault) (a : Answer) → Gets S path result → a ≡ get_answer result → (model_answer a ≡ told S.tree (medium.Query.Get path)) ⊎ MayFail (model_answer a)
+  get_told S path (Ok bytes) a gets is = inl (ap model_answer is ∙ sym gets)
   get_told S path (Err refusal) a (inl short) is = inr (may_fail get_refused refl refl refusal a short is)
-  get_told S path (Err refusal) a (inr (inl (e, shows))) is = inl (ap said_answer (is ∙ ap get_refused e) ∙ sym shows)
-  get_told S path (Err refusal) a (inr (inr (e, shows))) is = inl (ap said_answer (is ∙ ap get_refused e) ∙ sym shows)
+  get_told S path (Err refusal) a (inr (inl (e, shows))) is = inl (ap model_answer (is ∙ ap get_refused e) ∙ sym shows)
+  get_told S path (Err refusal) a (inr (inr (e, shows))) is = inl (ap model_answer (is ∙ ap get_refused e) ∙ sym shows)
 
-  list_told : (S : State) (path : _) (result : Result _ StoreFault) (a : Answer) → Lists S path result → a ≡ listed result → (said_answer a ≡ told S.tree (medium.Query.List_ path)) ⊎ MayFail (said_answer a)
-  list_told S path (Ok names) a lists is = inl (ap said_answer is ∙ sym lists)
+  list_told : (S : State) (path : _) (result : Result _ StoreFault) (a : Answer) → Lists S path result → a ≡ list_answer result → (model_answer a ≡ told S.tree (medium.Query.List_ path)) ⊎ MayFail (model_answer a)
+  list_told S path (Ok names) a lists is = inl (ap model_answer is ∙ sym lists)
   list_told S path (Err refusal) a (inl short) is = inr (may_fail list_refused refl refl refusal a short is)
-  list_told S path (Err refusal) a (inr (inl (e, shows))) is = inl (ap said_answer (is ∙ ap list_refused e) ∙ sym shows)
-  list_told S path (Err refusal) a (inr (inr (e, shows))) is = inl (ap said_answer (is ∙ ap list_refused e) ∙ sym shows)
+  list_told S path (Err refusal) a (inr (inl (e, shows))) is = inl (ap model_answer (is ∙ ap list_refused e) ∙ sym shows)
+  list_told S path (Err refusal) a (inr (inr (e, shows))) is = inl (ap model_answer (is ∙ ap list_refused e) ∙ sym shows)
 
-  stat_told : (S : State) (path : _) (result : Result _ StoreFault) (a : Answer) → Stats S path result → a ≡ shown result → (said_answer a ≡ told S.tree (medium.Query.Stat path)) ⊎ MayFail (said_answer a)
-  stat_told S path (Ok status) a stats is = inl (ap said_answer is ∙ sym stats)
+  stat_told : (S : State) (path : _) (result : Result _ StoreFault) (a : Answer) → Stats S path result → a ≡ stat_answer result → (model_answer a ≡ told S.tree (medium.Query.Stat path)) ⊎ MayFail (model_answer a)
+  stat_told S path (Ok status) a stats is = inl (ap model_answer is ∙ sym stats)
   stat_told S path (Err refusal) a (inl short) is = inr (may_fail stat_refused refl refl refusal a short is)
-  stat_told S path (Err refusal) a (inr (e, shows)) is = inl (ap said_answer (is ∙ ap stat_refused e) ∙ sym shows)
+  stat_told S path (Err refusal) a (inr (e, shows)) is = inl (ap model_answer (is ∙ ap stat_refused e) ∙ sym shows)
 
-  query_told : (S : State) (q : asked.Query) (a : Answer) → IsQueried S q a → (said_answer a ≡ told S.tree (said_query q)) ⊎ MayFail (said_answer a)
+  query_told : (S : State) (q : asked.Query) (a : Answer) → IsQueried S q a → (model_answer a ≡ told S.tree (said_query q)) ⊎ MayFail (model_answer a)
   query_told S (query.Get path) a (result, gets, is) = get_told S path result a gets is
   query_told S (query.List path) a (result, lists, is) = list_told S path result a lists is
   query_told S (query.Stat path) a (result, stats, is) = stat_told S path result a stats is
 
   -- ---- what is due
 
-  pub same_due : (S : State) (s : Situation) (store : Store) (client number : ℕ) → Knows s.capacity volume s.journal S store → due_of store client number ≡ due S client number
+  pub same_due : (S : State) (s : Situation) (store : Store) (client number : ℕ) → IsOpenOn s.capacity volume s.journal S store → due_of store client number ≡ due S client number
   same_due S s store client number knows =
-      let records : map said_record store.vat.sessions.records.items ≡ S.records = ap (λ (b : Table_). b.records) knows.table ∙ knows.stands.tells.records in
-      let count : length store.vat.sessions.records.items ≡ length S.records = sym (length-map store.vat.sessions.records.items said_record) ∙ ap (λ (xs : List ClientRecord). length xs) records in
+      let records : map model_record store.vat.sessions.records.items ≡ S.records = ap (λ (b : Table_). b.records) knows.table ∙ knows.stands.tells.records in
+      let count : length store.vat.sessions.records.items ≡ length S.records = sym (length-map store.vat.sessions.records.items model_record) ∙ ap (λ (xs : List ClientRecord). length xs) records in
       λ i. due_by number (count i) (record_of client (records i))
 
   -- ---- requests
@@ -150,15 +150,15 @@ module _ (volume : ℕ) where
     delivery = medium.Delivery.Delivered (medium.Message.Asks r)
 
     abbrev IsNew : Effect → Type 0
-    IsNew effect = AnswersNew S (length during.journal) volume (need spelled S r) r (said_answer a) effect
+    IsNew effect = AnswersNew S (length during.journal) volume (need spelled S r) r (model_answer a) effect
 
-    new_row : (effect : Effect) → IsNew effect → Row (need spelled) S (length during.journal) volume delivery (Some (said_answer a)) effect
-    new_row effect row = subst (λ (d : Due). AnswersDue S (length during.journal) volume (need spelled S r) r d (said_answer a) effect) (sym new) row
+    new_row : (effect : Effect) → IsNew effect → Row (need spelled) S (length during.journal) volume delivery (Some (model_answer a)) effect
+    new_row effect row = subst (λ (d : Due). AnswersDue S (length during.journal) volume (need spelled S r) r d (model_answer a) effect) (sym new) row
 
     -- the journal went on
     moved : (done : List Request) (row : IsNew (record { done = done; blocks = length behind.journal - length during.journal })) → length during.journal ≤ length behind.journal
         → Advances udf during.capacity volume during.journal S behind.journal (after S done) → behind.capacity ≡ during.capacity
-        → ((store : Store) → IsOpen behind store → Knows behind.capacity volume behind.journal (after S done) store) → IsStep volume delivery S during (Some (said_answer a)) (after S done) behind
+        → ((store : Store) → IsOpen behind store → IsOpenOn behind.capacity volume behind.journal (after S done) store) → IsStep volume delivery S during (Some (model_answer a)) (after S done) behind
     moved done row grows advances capacity knows = record {
       effect = record { done = done; blocks = length behind.journal - length during.journal };
       row = new_row (record { done = done; blocks = length behind.journal - length during.journal }) row;
@@ -166,25 +166,25 @@ module _ (volume : ℕ) where
       state = refl;
       advances = advances;
       capacity = capacity;
-      at = record { once = advances.once; stands = subst (λ (c : ℕ). Stands udf c volume (held behind.journal) (after S done)) (sym capacity) advances.moves.ends; knows = knows };
+      at = record { once = advances.once; stands = subst (λ (c : ℕ). RecoversTo udf c volume (held behind.journal) (after S done)) (sym capacity) advances.moves.ends; knows = knows };
     }
 
     module _ (kept : Store) (store : behind.store ≡ Some kept) (capacity : behind.capacity ≡ during.capacity) where
-      knows_kept : (T : State) → StillKnows during.capacity volume behind.journal T kept → (x : Store) → IsOpen behind x → Knows behind.capacity volume behind.journal T x
-      knows_kept T still = kept_knows volume T behind kept store (subst (λ (c : ℕ). StillKnows c volume behind.journal T kept) (sym capacity) still)
+      knows_kept : (T : State) → IsStillOpenOn during.capacity volume behind.journal T kept → (x : Store) → IsOpen behind x → IsOpenOn behind.capacity volume behind.journal T x
+      knows_kept T still = kept_knows volume T behind kept store (subst (λ (c : ℕ). IsStillOpenOn c volume behind.journal T kept) (sym capacity) still)
 
-      when_done : (reply : _) → IsDone during.capacity volume during.journal S r reply behind.journal kept → a ≡ answer.Reply reply → (S' : State) × IsStep volume delivery S during (Some (said_answer a)) S' behind
+      when_done : (reply : _) → IsCommitDone during.capacity volume during.journal S r reply behind.journal kept → a ≡ answer.Reply reply → (S' : State) × IsStep volume delivery S during (Some (model_answer a)) S' behind
       when_done reply d is =
           let effect : Effect = record { done = r ∷ []; blocks = length behind.journal - length during.journal } in
-          let told_is : said_answer a ≡ medium.Answer.Replied (reply_to S r) = ap said_answer is ∙ ap (λ x. medium.Answer.Replied x) d.reply_is in
+          let told_is : model_answer a ≡ medium.Answer.Replied (reply_to S r) = ap model_answer is ∙ ap (λ x. medium.Answer.Replied x) d.reply_is in
           let row : IsNew (record { done = r ∷ []; blocks = length behind.journal - length during.journal }) =
           subst (λ (x : medium.Answer). AnswersNew S (length during.journal) volume (need spelled S r) r x (record { done = r ∷ []; blocks = length behind.journal - length during.journal })) (sym told_is)
           (committed (record { done = r ∷ []; blocks = length behind.journal - length during.journal }) refl (omega (arith, d.some)) (omega (arith, d.few)) d.room) in
           (after S (r ∷ []), moved (r ∷ []) row (omega (arith, d.some)) d.advances capacity (knows_kept (after S (r ∷ [])) d.knows))
 
-      when_failed : IsFailed during.capacity volume during.journal S r behind.journal kept → a ≡ answer.Fault → length during.journal ≤ length behind.journal → (S' : State) × IsStep volume delivery S during (Some (said_answer a)) S' behind
+      when_failed : IsFailed during.capacity volume during.journal S r behind.journal kept → a ≡ answer.Fault → length during.journal ≤ length behind.journal → (S' : State) × IsStep volume delivery S during (Some (model_answer a)) S' behind
       when_failed f is grows =
-          let told_is : said_answer a ≡ medium.Answer.Fault = ap said_answer is in
+          let told_is : model_answer a ≡ medium.Answer.Fault = ap model_answer is in
           let row : IsNew (record { done = f.done; blocks = length behind.journal - length during.journal }) =
           subst (λ (x : medium.Answer). AnswersNew S (length during.journal) volume (need spelled S r) r x (record { done = f.done; blocks = length behind.journal - length during.journal })) (sym told_is)
           (fails (record { done = f.done; blocks = length behind.journal - length during.journal }) (whether f.whether) (omega (arith, f.few)) (λ some. f.room (omega (arith, some)))) in
@@ -194,41 +194,41 @@ module _ (volume : ℕ) where
           whether (inl none) = inl none
           whether (inr (one, some)) = inr (one, omega (arith, some))
 
-      when_left : Once during.journal → Stands udf during.capacity volume (held during.journal) S → IsLeftBehind during.capacity volume during.journal S behind.journal kept → IsNew nothing → (S' : State) × IsStep volume delivery S during (Some (said_answer a)) S' behind
+      when_left : Once during.journal → RecoversTo udf during.capacity volume (held during.journal) S → IsLeftUnwritten during.capacity volume during.journal S behind.journal kept → IsNew nothing → (S' : State) × IsStep volume delivery S during (Some (model_answer a)) S' behind
       when_left once stands left row =
-          (S, quiet delivery (Some (said_answer a)) S during behind (new_row nothing row) once stands left.journal capacity (knows_kept S left.knows))
+          (S, quiet delivery (Some (model_answer a)) S during behind (new_row nothing row) once stands left.journal capacity (knows_kept S left.knows))
 
-      as_new : (x : medium.Answer) (effect : Effect) → said_answer a ≡ x → AnswersNew S (length during.journal) volume (need spelled S r) r x effect → IsNew effect
+      as_new : (x : medium.Answer) (effect : Effect) → model_answer a ≡ x → AnswersNew S (length during.journal) volume (need spelled S r) r x effect → IsNew effect
       as_new x effect e row = subst (λ (y : medium.Answer). AnswersNew S (length during.journal) volume (need spelled S r) r y effect) (sym e) row
 
-      when_applied : Once during.journal → Stands udf during.capacity volume (held during.journal) S → (result : _) → Applies during.capacity volume during.journal S r result behind.journal kept → a ≡ applied result
-          → (S' : State) × IsStep volume delivery S during (Some (said_answer a)) S' behind
+      when_applied : Once during.journal → RecoversTo udf during.capacity volume (held during.journal) S → (result : _) → Applies during.capacity volume during.journal S r result behind.journal kept → a ≡ applied result
+          → (S' : State) × IsStep volume delivery S during (Some (model_answer a)) S' behind
       when_applied once stands (Ok reply) d is = when_done reply d is
       when_applied once stands (Err refusal) (inl (e, f)) is = when_failed f (is ∙ ap refused e) (front_grows during.journal behind.journal f.advances.front)
-      when_applied once stands (Err refusal) (inr (inl (e, left))) is = when_left once stands left (as_new medium.Answer.Memory nothing (ap said_answer (is ∙ ap refused e)) (no_memory nothing (refl, refl)))
-      when_applied once stands (Err refusal) (inr (inr (e, left, over))) is = when_left once stands left (as_new medium.Answer.Full nothing (ap said_answer (is ∙ ap refused e)) (full nothing (refl, refl) over))
+      when_applied once stands (Err refusal) (inr (inl (e, left))) is = when_left once stands left (as_new medium.Answer.Memory nothing (ap model_answer (is ∙ ap refused e)) (no_memory nothing (refl, refl)))
+      when_applied once stands (Err refusal) (inr (inr (e, left, over))) is = when_left once stands left (as_new medium.Answer.Full nothing (ap model_answer (is ∙ ap refused e)) (full nothing (refl, refl) over))
 
   -- a request for which another thing is due
-  settled : (S : State) (r : Request) (during : Situation) (store : Store) (a : Answer) (behind : Situation) → Knows during.capacity volume during.journal S store → behind ≡ with_store (Some store) during
-      → AnswersDue S (length during.journal) volume (need spelled S r) r (due S r.client r.number) (said_answer a) nothing
-      → IsStep volume (medium.Delivery.Delivered (medium.Message.Asks r)) S during (Some (said_answer a)) S behind
+  settled : (S : State) (r : Request) (during : Situation) (store : Store) (a : Answer) (behind : Situation) → IsOpenOn during.capacity volume during.journal S store → behind ≡ with_store (Some store) during
+      → AnswersDue S (length during.journal) volume (need spelled S r) r (due S r.client r.number) (model_answer a) nothing
+      → IsStep volume (medium.Delivery.Delivered (medium.Message.Asks r)) S during (Some (model_answer a)) S behind
   settled S r during store a behind knows same row =
-      subst (λ (s : Situation). IsStep volume (medium.Delivery.Delivered (medium.Message.Asks r)) S during (Some (said_answer a)) S s) (sym same)
-      (quiet (medium.Delivery.Delivered (medium.Message.Asks r)) (Some (said_answer a)) S during (with_store (Some store) during) row knows.once knows.stands refl refl
+      subst (λ (s : Situation). IsStep volume (medium.Delivery.Delivered (medium.Message.Asks r)) S during (Some (model_answer a)) S s) (sym same)
+      (quiet (medium.Delivery.Delivered (medium.Message.Asks r)) (Some (model_answer a)) S during (with_store (Some store) during) row knows.once knows.stands refl refl
       (kept_knows volume S (with_store (Some store) during) store refl (λ here. knows)))
 
-  due_row : (S : State) (r : Request) (during : Situation) (a : Answer) (d : Due) → d ≡ due S r.client r.number → AnswersDue S (length during.journal) volume (need spelled S r) r d (said_answer a) nothing
-      → AnswersDue S (length during.journal) volume (need spelled S r) r (due S r.client r.number) (said_answer a) nothing
-  due_row S r during a d e row = subst (λ (x : Due). AnswersDue S (length during.journal) volume (need spelled S r) r x (said_answer a) nothing) e row
+  due_row : (S : State) (r : Request) (during : Situation) (a : Answer) (d : Due) → d ≡ due S r.client r.number → AnswersDue S (length during.journal) volume (need spelled S r) r d (model_answer a) nothing
+      → AnswersDue S (length during.journal) volume (need spelled S r) r (due S r.client r.number) (model_answer a) nothing
+  due_row S r during a d e row = subst (λ (x : Due). AnswersDue S (length during.journal) volume (need spelled S r) r x (model_answer a) nothing) e row
 
-  dealt : (d : Due) (S : State) (r : asking.Request) (during : Situation) (store : Store) (a : Answer) (behind : Situation) → d ≡ due S r.client r.number → Knows during.capacity volume during.journal S store
-      → IsDealt d volume S r during store a behind → (S' : State) × IsStep volume (medium.Delivery.Delivered (medium.Message.Asks (said_request r))) S during (Some (said_answer a)) S' behind
+  dealt : (d : Due) (S : State) (r : asking.Request) (during : Situation) (store : Store) (a : Answer) (behind : Situation) → d ≡ due S r.client r.number → IsOpenOn during.capacity volume during.journal S store
+      → IsDealt d volume S r during store a behind → (S' : State) × IsStep volume (medium.Delivery.Delivered (medium.Message.Asks (model_request r))) S during (Some (model_answer a)) S' behind
   dealt (Repeat kept) S r during store a behind e knows (reply, is, same, stays) =
-      (S, settled S (said_request r) during store a behind knows stays (due_row S (said_request r) during a (Repeat kept) e (inl (ap said_answer is ∙ ap (λ x. medium.Answer.Replied x) same), (refl, refl))))
-  dealt (Stale latest) S r during store a behind e knows (is, stays) = (S, settled S (said_request r) during store a behind knows stays (due_row S (said_request r) during a (Stale latest) e (inl (ap said_answer is), (refl, refl))))
-  dealt (Gap latest) S r during store a behind e knows (is, stays) = (S, settled S (said_request r) during store a behind knows stays (due_row S (said_request r) during a (Gap latest) e (inl (ap said_answer is), (refl, refl))))
-  dealt ClientsFull S r during store a behind e knows (is, stays) = (S, settled S (said_request r) during store a behind knows stays (due_row S (said_request r) during a ClientsFull e (inl (ap said_answer is), (refl, refl))))
-  dealt New S r during store a behind e knows done = when_applied S (said_request r) during a behind (sym e) done.kept done.store done.capacity knows.once knows.stands done.result done.applies done.told
+      (S, settled S (model_request r) during store a behind knows stays (due_row S (model_request r) during a (Repeat kept) e (inl (ap model_answer is ∙ ap (λ x. medium.Answer.Replied x) same), (refl, refl))))
+  dealt (Stale latest) S r during store a behind e knows (is, stays) = (S, settled S (model_request r) during store a behind knows stays (due_row S (model_request r) during a (Stale latest) e (inl (ap model_answer is), (refl, refl))))
+  dealt (Gap latest) S r during store a behind e knows (is, stays) = (S, settled S (model_request r) during store a behind knows stays (due_row S (model_request r) during a (Gap latest) e (inl (ap model_answer is), (refl, refl))))
+  dealt ClientsFull S r during store a behind e knows (is, stays) = (S, settled S (model_request r) during store a behind knows stays (due_row S (model_request r) during a ClientsFull e (inl (ap model_answer is), (refl, refl))))
+  dealt New S r during store a behind e knows done = when_applied S (model_request r) during a behind (sym e) done.kept done.store done.capacity knows.once knows.stands done.result done.applies done.told
 
   -- ---- messages
 
@@ -237,27 +237,27 @@ module _ (volume : ℕ) where
   use_step d S before during store a behind uses (S', step) = (S', step_from d a S S' before during behind uses.journal uses.capacity step)
 
   calls_step : (m : Message) (S : State) (before : Situation) (a : Answer) (behind : Situation) → HoldsState volume S before → Calls volume m S before a behind
-      → (S' : State) × IsStep volume (medium.Delivery.Delivered (said_message m)) S before (Some (said_answer a)) S' behind
+      → (S' : State) × IsStep volume (medium.Delivery.Delivered (model_message m)) S before (Some (model_answer a)) S' behind
   calls_step (message.Malformed cause) S before a behind at (is, same) = (
     S,
-    subst (λ (s : Situation). IsStep volume (medium.Delivery.Delivered (said_message (message.Malformed cause))) S before (Some (said_answer a)) S s) (sym same)
-        (quiet _ (Some (said_answer a)) S before before (inl (ap said_answer is), (refl, refl)) at.once at.stands refl refl at.knows),
+    subst (λ (s : Situation). IsStep volume (medium.Delivery.Delivered (model_message (message.Malformed cause))) S before (Some (model_answer a)) S s) (sym same)
+        (quiet _ (Some (model_answer a)) S before before (inl (ap model_answer is), (refl, refl)) at.once at.stands refl refl at.knows),
   )
   calls_step message.NoMemory S before a behind at (is, same) = (
     S,
-    subst (λ (s : Situation). IsStep volume (medium.Delivery.Delivered medium.Message.NoMemory) S before (Some (said_answer a)) S s) (sym same)
-        (quiet _ (Some (said_answer a)) S before before (ap said_answer is, (refl, refl)) at.once at.stands refl refl at.knows),
+    subst (λ (s : Situation). IsStep volume (medium.Delivery.Delivered medium.Message.NoMemory) S before (Some (model_answer a)) S s) (sym same)
+        (quiet _ (Some (model_answer a)) S before before (ap model_answer is, (refl, refl)) at.once at.stands refl refl at.knows),
   )
   calls_step (message.Query q) S before a behind at (inl short) = short_step _ S before a behind at short (inr (short_fails before a behind short), (refl, refl))
   calls_step (message.Query q) S before a behind at (inr (during, store, uses, read)) =
       use_step _ S before during store _ behind uses (
         S,
-        quiet (medium.Delivery.Delivered (medium.Message.Queries (said_query q))) (Some (said_answer a)) S during behind (query_told S q a read.result, (refl, refl)) uses.knows.once uses.knows.stands read.journal read.capacity
+        quiet (medium.Delivery.Delivered (medium.Message.Queries (said_query q))) (Some (model_answer a)) S during behind (query_told S q a read.result, (refl, refl)) uses.knows.once uses.knows.stands read.journal read.capacity
             (kept_knows volume S behind read.kept read.store read.knows),
       )
   calls_step (message.Request r) S before a behind at (inl short) =
       short_step _ S before a behind at short
-      (short_due S (length before.journal) volume (need spelled S (said_request r)) (said_request r) (due S r.client r.number) (said_answer a) (short_fails before a behind short))
+      (short_due S (length before.journal) volume (need spelled S (model_request r)) (model_request r) (due S r.client r.number) (model_answer a) (short_fails before a behind short))
   calls_step (message.Request r) S before a behind at (inr (during, store, uses, done)) =
       use_step _ S before during store _ behind uses
       (dealt (due_of store r.client r.number) S r during store a behind (same_due S during store r.client r.number uses.knows) uses.knows done)

@@ -3,7 +3,7 @@ use Rattle.std.proofs.Common.{◌≡◌, List, [], ◌∷◌, ◌++◌, Option, 
 use Rattle.std.specs.Option.{option_to_list}
 use Rattle.std.proofs.lemmas.List.{append-nil, take_more}
 use Rattle.std.proofs.lemmas.List.Sums.{sum_by-append}
-use Rattle.drive.specs.Reads.{Counts}
+use Rattle.drive.specs.Reads.{CountsFailures}
 use Rattle.request.specs.declared.answer.Answer.{Answer}
 use Rattle.engine.specs.declared.runs.Delivery.{Delivery}
 use Rattle.engine.specs.declared.runs.Delivery.TheVariants.{Frame, Restart}
@@ -43,13 +43,13 @@ next_delivered deliveries i d answers later s t u told lt is h k e =
 
 -- ---- how many failures of the drive answers stand for
 
-counted : (d : Delivery) (s t : Situation) (told : Option Answer) → Delivers d s told t → Counts (sum_by faults (option_to_list told)) s.failures t.failures
+counted : (d : Delivery) (s t : Situation) (told : Option Answer) → Delivers d s told t → CountsFailures (sum_by faults (option_to_list told)) s.failures t.failures
 counted Restart s t None h most = omega (arith, ap (λ (x : Situation). x.failures) h)
 counted Restart s t (Some a) h most = absurd h
 counted (Frame payload) s t None h most = absurd h
 counted (Frame payload) s t (Some a) h most = let one = h.2.answered.failures most in omega (arith, one)
 
-pub all_counted : (deliveries : List Delivery) (s : Situation) (answers : List Answer) (t : Situation) → AllDelivered deliveries s answers t → Counts (sum_by faults answers) s.failures t.failures
+pub all_counted : (deliveries : List Delivery) (s : Situation) (answers : List Answer) (t : Situation) → AllDelivered deliveries s answers t → CountsFailures (sum_by faults answers) s.failures t.failures
 all_counted [] s answers t h most = rw h.0 (omega (arith, ap (λ (x : Situation). x.failures) h.1))
 all_counted (d ∷ deliveries) s answers t h most =
     let later = all_counted deliveries h.1 h.2 t h.5 most in

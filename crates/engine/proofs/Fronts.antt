@@ -1,4 +1,4 @@
--- What a commit leaves on the medium lies behind what was there.
+-- What a commit leaves on the medium lies after what was there.
 use Rattle.std.proofs.Common.{◌≡◌, inl, inr, false, ℕ, List, [], ◌++◌, take, sym, ◌∙◌, append-nil}
 use Rattle.std.proofs.lemmas.Bool.{false≢true}
 use Rattle.drive.specs.Journal.{Event, next_of, written}

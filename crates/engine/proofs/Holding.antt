@@ -1,4 +1,4 @@
--- Steps that are rows, one behind the other, are a run of the medium's.
+-- Steps that are rows, one after the other, are a run of the medium's.
 use Rattle.std.proofs.Common.{◌≡◌, ℕ, ◌+◌, ◌≤◌, List, [], ◌∷◌, ◌++◌, length, take, refl, sym, ap, ◌∙◌, subst, arith}
 use Rattle.std.proofs.lemmas.List.{take_all, take-take}
 use Rattle.drive.specs.Journal.{Event, held, Once}
@@ -21,7 +21,7 @@ record Made (volume capacity : ℕ) (ds : List Delivery) (S : State) (before : S
   front : take (length before.journal) behind.journal ≡ before.journal
   grows : length before.journal ≤ length behind.journal
 
--- a front of a front
+-- a prefix of a front
 pub front_on : (J K L : List Event) → take (length J) K ≡ J → length J ≤ length K → take (length K) L ≡ K → take (length J) L ≡ J
 front_on J K L first le second = shorter ∙ ap (λ (M : List Event). take (length J) M) second ∙ first
   where

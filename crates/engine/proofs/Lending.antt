@@ -4,27 +4,27 @@ use Rattle.std.specs.Prelude.{is_some, unwrap_or}
 use Rattle.std.proofs.lemmas.Bool.{false≢true}
 use Rattle.drive.specs.Journal.{Event, Once, held}
 use Rattle.model.specs.Session.{State}
-use Rattle.durability.specs.Volume.{Stands}
+use Rattle.durability.specs.Volume.{RecoversTo}
 use Rattle.udf.specs.Udf.{udf}
 use Rattle.store.specs.declared.store.Store.{Store}
-use Rattle.store.specs.Calls.{Knows}
+use Rattle.store.specs.Calls.{IsOpenOn}
 use Rattle.engine.specs.Situation.{Situation}
 use Rattle.engine.specs.Steps.{HoldsState}
 
 -- the state that stands is known to the store that is open then
 pub holds_opened : (volume : ℕ) (S : State) (before behind : Situation) (store : Store) → behind.store ≡ Some store → behind.journal ≡ before.journal → behind.capacity ≡ before.capacity
-    → HoldsState volume S before → Knows before.capacity volume before.journal S store → HoldsState volume S behind
+    → HoldsState volume S before → IsOpenOn before.capacity volume before.journal S store → HoldsState volume S behind
 holds_opened volume S before behind store is journal size at knows = record {
   once = subst (λ (J : List Event). Once J) (sym journal) at.once;
-  stands = subst (λ (c : ℕ). Stands udf c volume (held behind.journal) S) (sym size) (subst (λ (J : List Event). Stands udf before.capacity volume (held J) S) (sym journal) at.stands);
-  knows = λ kept there. subst (λ (k : Store). Knows behind.capacity volume behind.journal S k) (ap (λ (o : Option Store). unwrap_or o store) (sym is ∙ there.0))
-      (subst (λ (c : ℕ). Knows c volume behind.journal S store) (sym size) (subst (λ (J : List Event). Knows before.capacity volume J S store) (sym journal) knows));
+  stands = subst (λ (c : ℕ). RecoversTo udf c volume (held behind.journal) S) (sym size) (subst (λ (J : List Event). RecoversTo udf before.capacity volume (held J) S) (sym journal) at.stands);
+  knows = λ kept there. subst (λ (k : Store). IsOpenOn behind.capacity volume behind.journal S k) (ap (λ (o : Option Store). unwrap_or o store) (sym is ∙ there.0))
+      (subst (λ (c : ℕ). IsOpenOn c volume behind.journal S store) (sym size) (subst (λ (J : List Event). IsOpenOn before.capacity volume J S store) (sym journal) knows));
 }
 
 -- and it stands where none is
 pub holds_closed : (volume : ℕ) (S : State) (before behind : Situation) → behind.store ≡ None → behind.journal ≡ before.journal → behind.capacity ≡ before.capacity → HoldsState volume S before → HoldsState volume S behind
 holds_closed volume S before behind is journal size at = record {
   once = subst (λ (J : List Event). Once J) (sym journal) at.once;
-  stands = subst (λ (c : ℕ). Stands udf c volume (held behind.journal) S) (sym size) (subst (λ (J : List Event). Stands udf before.capacity volume (held J) S) (sym journal) at.stands);
+  stands = subst (λ (c : ℕ). RecoversTo udf c volume (held behind.journal) S) (sym size) (subst (λ (J : List Event). RecoversTo udf before.capacity volume (held J) S) (sym journal) at.stands);
   knows = λ kept there. absurd (false≢true (ap (λ (o : Option Store). is_some o) (sym is ∙ there.0)));
 }

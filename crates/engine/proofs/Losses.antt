@@ -1,4 +1,4 @@
--- Runs that are cut off by losses of power, one after another.
+-- Runs that are cut off by power losses, one after another.
 use Rattle.std.proofs.Common.{◌≡◌, ◌⊎◌, inl, inr, ℕ, zero, suc, ◌+◌, ◌-◌, ◌<◌, ◌≤◌, List, [], ◌∷◌, ◌++◌, length, take, Some, refl, sym, ap, ◌∙◌, subst, arith, append_assoc, append-nil, length-append}
 use Rattle.std.specs.Option.{option_to_list}
 use Rattle.std.proofs.lemmas.List.{append_cancel_left, map-append, take_all, take-append-le}
@@ -10,7 +10,7 @@ use Rattle.model.specs.Runs.{AllNew}
 use Rattle.model.proofs.Runs.{after-append}
 use Rattle.model.proofs.Sessions.{each_once}
 use Rattle.durability.specs.Formats.{Block}
-use Rattle.durability.specs.Volume.{Stands, Past}
+use Rattle.durability.specs.Volume.{RecoversTo, RecoveredTo}
 use Rattle.durability.specs.Commit.{need}
 use Rattle.durability.specs.Journal.{Advances, HoldsOnJournal}
 use Rattle.durability.specs.Runs.{Delivery, Answer}
@@ -23,13 +23,13 @@ use Rattle.request.specs.declared.message.Message.{Message}
 use Rattle.engine.specs.declared.runs.Delivery as delivered
 use Rattle.engine.specs.Answered.{faults}
 use Rattle.engine.specs.Situation.{Situation, with_store}
-use Rattle.engine.specs.Said.{AllSaid, said_answer, said_answers, said_message, said_told}
+use Rattle.engine.specs.Said.{AllSaid, model_answer, model_answers, model_message, said_told}
 use Rattle.engine.specs.Steps.{AllSteps, HoldsState}
 use Rattle.engine.specs.Delivered.{AllDelivered, faults_told}
 use Rattle.engine.specs.Headline.{AllWithstand}
 use Rattle.engine.specs.Served.{AllAnswered, EachWithstands, brought}
-use Rattle.engine.specs.Withstanding.{AsksFor, Brings, Withstands}
-use Rattle.engine.specs.Losses.{Life, IsCut, AreCut, Survives, IsLost, IsRunCut, IsStreamCut, LosesRun, LosesStream, RunsReach, LossesReach, ServedReach}
+use Rattle.engine.specs.Withstanding.{AsksFor, Brings, MessageSurvivesPowerLoss}
+use Rattle.engine.specs.Losses.{Life, IsRunCutShort, AreCut, Survives, IsLost, IsRunCut, IsStreamCut, LosesRun, LosesStream, RunsReach, LossesReach, ServedReach}
 use Rattle.engine.proofs.Calling.{front_grows}
 use Rattle.engine.proofs.Holding.{front_on, steps_hold}
 use Rattle.engine.proofs.Running.{all_said_more, at_end, said_more, steps_more}
@@ -37,14 +37,14 @@ use Rattle.engine.proofs.Withstanding.{held_ended, held_stands}
 
 -- ---- one run
 
--- a loss of power cuts a run off
+-- a power loss cuts a run off
 cut_here : (volume : ℕ) (S : State) (before : Situation) (said : List Delivery) (answers : List Answer) (T : State) (during next : Situation) (asked : Request → Type 0) (failed : ℕ) (lost : List Event) → HoldsState volume S before
-    → AllSteps volume said S before answers T during → during.capacity ≡ before.capacity → Withstands volume T asked failed during next → IsLost during next lost
-    → (under : List Request) × IsCut before.capacity volume S before.journal (record { said = said; answers = answers; under = under }) lost × ((under ≡ []) ⊎ ((request : Request) × (under ≡ request ∷ []) × asked request))
+    → AllSteps volume said S before answers T during → during.capacity ≡ before.capacity → MessageSurvivesPowerLoss volume T asked failed during next → IsLost during next lost
+    → (under : List Request) × IsRunCutShort before.capacity volume S before.journal (record { said = said; answers = answers; under = under }) lost × ((under ≡ []) ⊎ ((request : Request) × (under ≡ request ∷ []) × asked request))
 cut_here volume S before said answers T during next asked failed lost at steps size w l =
     let run : HoldsOnJournal udf (need spelled) before.capacity volume S before.journal during.journal said answers = steps_hold volume said S before answers T during at steps in
     let there : HoldsState volume T during = at_end volume said S before answers T during at steps in
-    let stood : Stands udf before.capacity volume (held during.journal) T = subst (λ (c : ℕ). Stands udf c volume (held during.journal) T) size there.stands in
+    let stood : RecoversTo udf before.capacity volume (held during.journal) T = subst (λ (c : ℕ). RecoversTo udf c volume (held during.journal) T) size there.stands in
     let state : T ≡ after S run.holds.committed = held_ended volume before.capacity said S before.journal during.journal answers T run stood in
     let committed = run.holds.committed in
     let same : w.added ≡ l.added = append_cancel_left during.writes w.added l.added (sym w.writes_are ∙ l.are) in
@@ -75,35 +75,35 @@ cut_here volume S before said answers T during next asked failed lost at steps s
     ]
 
 module _ (volume : ℕ) (S : State) (before : Situation) (at : HoldsState volume S before) where
-  -- in a run, behind the deliveries that were answered
-  cut_along : (done : List delivered.Delivery) (said : List Delivery) (given : List told.Answer) (T : State) (during : Situation) → AllSaid done said → AllSteps volume said S before (said_answers given) T during → during.capacity ≡ before.capacity
+  -- in a run, after the deliveries that were answered
+  cut_along : (done : List delivered.Delivery) (said : List Delivery) (given : List told.Answer) (T : State) (during : Situation) → AllSaid done said → AllSteps volume said S before (model_answers given) T during → during.capacity ≡ before.capacity
       → (deliveries : List delivered.Delivery) (answers : List told.Answer) (behind : Situation) (all : AllDelivered deliveries during answers behind) (S' : State) → AllWithstand volume deliveries T during answers behind all S'
       → (lost : List Event) → LosesRun deliveries during answers behind all lost → IsRunCut before.capacity volume S before.journal (done ++ deliveries) (given ++ answers) lost
   cut_along done said given T during are steps size [] answers behind all S' each lost none = absurd none
   cut_along done said given T during are steps size (d ∷ deliveries) answers behind (a, next, rest, delivers, order, more) S' (one, is, U, step, withstands, later) lost (inl here) =
-      let c = cut_here volume S before said (said_answers given) T during next (Brings d) (faults_told a) lost at steps size withstands here in
+      let c = cut_here volume S before said (model_answers given) T during next (Brings d) (faults_told a) lost at steps size withstands here in
       record { done = done; now = d; later = deliveries; order = refl; given = given; others = answers; answers_are = refl; said = said; are_said = are; under = c.0; cut = c.1; brought = c.2 }
   cut_along done said given T during are steps size (d ∷ deliveries) answers behind (a, next, rest, delivers, order, more) S' (one, is, U, step, withstands, later) lost (inr there) =
-      let so : AllSteps volume (said ++ one ∷ []) S before (said_answers (given ++ option_to_list a)) U next =
-      subst (λ (xs : List Answer). AllSteps volume (said ++ one ∷ []) S before xs U next) (said_more given a) (steps_more volume said S before (said_answers given) T during one (said_told a) U next steps step) in
+      let so : AllSteps volume (said ++ one ∷ []) S before (model_answers (given ++ option_to_list a)) U next =
+      subst (λ (xs : List Answer). AllSteps volume (said ++ one ∷ []) S before xs U next) (said_more given a) (steps_more volume said S before (model_answers given) T during one (said_told a) U next steps step) in
       let c = cut_along (done ++ d ∷ []) (said ++ one ∷ []) (given ++ option_to_list a) U next (all_said_more done said d one are is) so (step.capacity ∙ size) deliveries rest behind more S' later lost there in
       subst (λ (ds : List delivered.Delivery). IsRunCut before.capacity volume S before.journal ds (given ++ answers) lost) (append_assoc done (d ∷ []) deliveries)
       (subst (λ (xs : List told.Answer). IsRunCut before.capacity volume S before.journal ((done ++ d ∷ []) ++ deliveries) xs lost) (append_assoc given (option_to_list a) rest ∙ ap (λ (xs : List told.Answer). given ++ xs) (sym order)) c)
 
-  -- in a stream, behind the messages that were answered
-  cut_among : (done : List Message) (given : List told.Answer) (T : State) (during : Situation) → AllSteps volume (brought done) S before (said_answers given) T during → during.capacity ≡ before.capacity
+  -- in a stream, after the messages that were answered
+  cut_among : (done : List Message) (given : List told.Answer) (T : State) (during : Situation) → AllSteps volume (brought done) S before (model_answers given) T during → during.capacity ≡ before.capacity
       → (messages : List Message) (answers : List told.Answer) (behind : Situation) (all : AllAnswered messages during answers behind) (S' : State) → EachWithstands volume messages T during answers behind all S'
       → (lost : List Event) → LosesStream messages during answers behind all lost → IsStreamCut before.capacity volume S before.journal (done ++ messages) (given ++ answers) lost
   cut_among done given T during steps size [] answers behind all S' each lost none = absurd none
   cut_among done given T during steps size (m ∷ messages) [] behind all S' each lost none = absurd none
   cut_among done given T during steps size (m ∷ messages) (a ∷ answers) behind (next, one, rest) S' (U, step, withstands, later) lost (inl here) =
-      let c = cut_here volume S before (brought done) (said_answers given) T during next (AsksFor m) (faults a) lost at steps size withstands here in
+      let c = cut_here volume S before (brought done) (model_answers given) T during next (AsksFor m) (faults a) lost at steps size withstands here in
       record { done = done; now = m; later = messages; order = refl; given = given; others = a ∷ answers; answers_are = refl; under = c.0; cut = c.1; asked = c.2 }
   cut_among done given T during steps size (m ∷ messages) (a ∷ answers) behind (next, one, rest) S' (U, step, withstands, later) lost (inr there) =
-      let more = steps_more volume (brought done) S before (said_answers given) T during (Delivered (said_message m)) (Some (said_answer a)) U next steps step in
-      let so : AllSteps volume (brought (done ++ m ∷ [])) S before (said_answers (given ++ a ∷ [])) U next =
+      let more = steps_more volume (brought done) S before (model_answers given) T during (Delivered (model_message m)) (Some (model_answer a)) U next steps step in
+      let so : AllSteps volume (brought (done ++ m ∷ [])) S before (model_answers (given ++ a ∷ [])) U next =
       subst (λ (xs : List Answer). AllSteps volume (brought (done ++ m ∷ [])) S before xs U next) (said_more given (Some a))
-      (subst (λ (ds : List Delivery). AllSteps volume ds S before (said_answers given ++ said_answer a ∷ []) U next) (sym (map-append (λ n. Delivered (said_message n)) done (m ∷ []))) more) in
+      (subst (λ (ds : List Delivery). AllSteps volume ds S before (model_answers given ++ model_answer a ∷ []) U next) (sym (map-append (λ n. Delivered (model_message n)) done (m ∷ []))) more) in
       let c = cut_among (done ++ m ∷ []) (given ++ a ∷ []) U next so (step.capacity ∙ size) messages answers behind rest S' later lost there in
       subst (λ (ms : List Message). IsStreamCut before.capacity volume S before.journal ms (given ++ a ∷ answers) lost) (append_assoc done (m ∷ []) messages)
       (subst (λ (xs : List told.Answer). IsStreamCut before.capacity volume S before.journal ((done ++ m ∷ []) ++ messages) xs lost) (append_assoc given (a ∷ []) answers) c)
@@ -130,7 +130,7 @@ few_under S under (inl none) = rw none (tt, omega arith)
 few_under S under (inr (request, one, new)) = rw one ((new, tt), omega arith)
 
 module _ (capacity volume : ℕ) where
-  survives_none : (S : State) (before : List Event) → Once before → Stands udf capacity volume (held before) S → Survives capacity volume S before [] before
+  survives_none : (S : State) (before : List Event) → Once before → RecoversTo udf capacity volume (held before) S → Survives capacity volume S before [] before
   survives_none S before once stands = record {
     front = take_all (length before) before (omega arith);
     once = once;
@@ -141,8 +141,8 @@ module _ (capacity volume : ℕ) where
     later = λ j few. at j few;
   }
     where
-      at : (j : ℕ) → j ≤ 0 → Past udf capacity volume (held before) (S.commits + j) (after S (take j []))
-      at zero few = subst (λ n. Past udf capacity volume (held before) n S) (let e : S.commits ≡ S.commits + 0 = omega arith in e) (past_now udf capacity volume (held before) S stands)
+      at : (j : ℕ) → j ≤ 0 → RecoveredTo udf capacity volume (held before) (S.commits + j) (after S (take j []))
+      at zero few = subst (λ n. RecoveredTo udf capacity volume (held before) n S) (let e : S.commits ≡ S.commits + 0 = omega arith in e) (past_now udf capacity volume (held before) S stands)
       at (suc j) few = absurd (omega arith)
 
   survives_join : (S : State) (before between behind : List Event) (first second : List Request) → Survives capacity volume S before first between → Survives capacity volume (after S first) between second behind
@@ -152,27 +152,27 @@ module _ (capacity volume : ℕ) where
       record {
         front = front_on before between behind f.front (front_grows before between f.front) s.front;
         once = s.once;
-        stands = subst (λ (T : State). Stands udf capacity volume (held behind) T) (sym (after-append first second S)) s.stands;
+        stands = subst (λ (T : State). RecoversTo udf capacity volume (held behind) T) (sym (after-append first second S)) s.stands;
         new = new;
         each_once = each_once S (first ++ second) new;
         past = λ commits T was. s.past commits T (f.past commits T was);
         later = λ j few. at j few (side j (length first));
       }
     where
-      at : (j : ℕ) → j ≤ length (first ++ second) → (j < length first) ⊎ (length first ≤ j) → Past udf capacity volume (held behind) (S.commits + j) (after S (take j (first ++ second)))
+      at : (j : ℕ) → j ≤ length (first ++ second) → (j < length first) ⊎ (length first ≤ j) → RecoveredTo udf capacity volume (held behind) (S.commits + j) (after S (take j (first ++ second)))
       at j few (inl low) =
-          subst (λ (D : List Request). Past udf capacity volume (held behind) (S.commits + j) (after S D)) (sym (take-append-le j first second (omega (arith, low))))
+          subst (λ (D : List Request). RecoveredTo udf capacity volume (held behind) (S.commits + j) (after S D)) (sym (take-append-le j first second (omega (arith, low))))
           (s.past (S.commits + j) (after S (take j first)) (f.later j (omega (arith, low))))
       at j few (inr high) =
           let i : ℕ = j - length first in
           let split : take j (first ++ second) ≡ first ++ take i second = take_past j i first second (omega (arith, high)) in
           let state : after (after S first) (take i second) ≡ after S (take j (first ++ second)) = sym (ap (λ (D : List Request). after S D) split ∙ after-append first (take i second) S) in
           let count : (after S first).commits + i ≡ S.commits + j = omega (arith, high, commits_after first S) in
-          subst (λ n. Past udf capacity volume (held behind) n (after S (take j (first ++ second)))) count
-          (subst (λ (T : State). Past udf capacity volume (held behind) ((after S first).commits + i) T) state (s.later i (omega (arith, high, few, length-append first second))))
+          subst (λ n. RecoveredTo udf capacity volume (held behind) n (after S (take j (first ++ second)))) count
+          (subst (λ (T : State). RecoveredTo udf capacity volume (held behind) ((after S first).commits + i) T) state (s.later i (omega (arith, high, few, length-append first second))))
 
   -- what is left of a commit
-  survives_lost : (S : State) (before behind : List Event) (under : List Request) → Stands udf capacity volume (held before) S → Advances udf capacity volume before S behind (after S under) → AllNew S under → length under ≤ 1
+  survives_lost : (S : State) (before behind : List Event) (under : List Request) → RecoversTo udf capacity volume (held before) S → Advances udf capacity volume before S behind (after S under) → AllNew S under → length under ≤ 1
       → Survives capacity volume S before under behind
   survives_lost S before behind under stood a new one = record {
     front = a.front;
@@ -184,19 +184,19 @@ module _ (capacity volume : ℕ) where
     later = λ j few. at j under few one a.moves.ends;
   }
     where
-      first : (n : ℕ) → n ≡ S.commits → Past udf capacity volume (held behind) n S
-      first n e = subst (λ m. Past udf capacity volume (held behind) m S) (sym e) (a.moves.past S.commits S (past_now udf capacity volume (held before) S stood))
+      first : (n : ℕ) → n ≡ S.commits → RecoveredTo udf capacity volume (held behind) n S
+      first n e = subst (λ m. RecoveredTo udf capacity volume (held behind) m S) (sym e) (a.moves.past S.commits S (past_now udf capacity volume (held before) S stood))
 
-      at : (j : ℕ) (left : List Request) → j ≤ length left → length left ≤ 1 → Stands udf capacity volume (held behind) (after S left) → Past udf capacity volume (held behind) (S.commits + j) (after S (take j left))
+      at : (j : ℕ) (left : List Request) → j ≤ length left → length left ≤ 1 → RecoversTo udf capacity volume (held behind) (after S left) → RecoveredTo udf capacity volume (held behind) (S.commits + j) (after S (take j left))
       at zero [] few most ends = first (S.commits + 0) (omega arith)
       at zero (r ∷ left) few most ends = first (S.commits + 0) (omega arith)
       at (suc j) [] few most ends = absurd (omega arith)
       at (suc zero) (r ∷ []) few most ends =
-          subst (λ n. Past udf capacity volume (held behind) n (after_one S r)) (let e : (after_one S r).commits ≡ S.commits + suc zero = omega arith in e) (past_now udf capacity volume (held behind) (after_one S r) ends)
+          subst (λ n. RecoveredTo udf capacity volume (held behind) n (after_one S r)) (let e : (after_one S r).commits ≡ S.commits + suc zero = omega arith in e) (past_now udf capacity volume (held behind) (after_one S r) ends)
       at (suc (suc j)) (r ∷ []) few most ends = absurd (omega arith)
       at (suc j) (r ∷ s ∷ left) few most ends = absurd (omega arith)
 
-  survives_cut : (S : State) (before behind : List Event) (life : Life) (cut : IsCut capacity volume S before life behind) → Survives capacity volume S before (cut.run.holds.committed ++ life.under) behind
+  survives_cut : (S : State) (before behind : List Event) (life : Life) (cut : IsRunCutShort capacity volume S before life behind) → Survives capacity volume S before (cut.run.holds.committed ++ life.under) behind
   survives_cut S before behind life cut =
       survives_join S before cut.during behind committed life.under run
       (survives_lost (after S committed) cut.during behind life.under stood (subst (λ (T : State). Advances udf capacity volume cut.during (after S committed) behind T) (after-append committed life.under S) cut.advances) under.0 under.1)
@@ -204,7 +204,7 @@ module _ (capacity volume : ℕ) where
       committed : List Request
       committed = cut.run.holds.committed
 
-      stood : Stands udf capacity volume (held cut.during) (after S committed)
+      stood : RecoversTo udf capacity volume (held cut.during) (after S committed)
       stood = held_stands volume capacity life.said S before cut.during life.answers cut.run
 
       run : Survives capacity volume S before committed cut.during
@@ -221,7 +221,7 @@ module _ (capacity volume : ℕ) where
       under : AllNew (after S committed) life.under × (length life.under ≤ 1)
       under = few_under (after S committed) life.under cut.few
 
-  survives_all : (lives : List Life) (S : State) (before : List Event) (done : List Request) (behind : List Event) → Once before → Stands udf capacity volume (held before) S → AreCut capacity volume S before lives done behind
+  survives_all : (lives : List Life) (S : State) (before : List Event) (done : List Request) (behind : List Event) → Once before → RecoversTo udf capacity volume (held before) S → AreCut capacity volume S before lives done behind
       → Survives capacity volume S before done behind
   survives_all [] S before done behind once stands (none, same) =
       subst (λ (D : List Request). Survives capacity volume S before D behind) (sym none) (subst (λ (J : List Event). Survives capacity volume S before [] J) (sym same) (survives_none S before once stands))

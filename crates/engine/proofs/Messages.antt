@@ -8,13 +8,13 @@ use Rattle.std.proofs.Math.Seq.{take-append_seam, take-append-add, take-length}
 use Rattle.request.specs.declared.answer.Answer.{Answer}
 use Rattle.request.specs.declared.message.Message.{Message}
 use Rattle.request.specs.Answers.{answer_frame}
-use Rattle.request.specs.Frames.{Takes, IsIdle, MessagesAre, fed}
+use Rattle.request.specs.Frames.{TakesMessage, IsIdle, MessagesAre, fed}
 use Rattle.request.specs.Streams.{ReadsPiece}
 use Rattle.request.proofs.FrameLaws.{feeding, taking}
 use Rattle.engine.specs.declared.serving.ServeFault.{ServeFault}
 use Rattle.engine.specs.declared.serving.ServeFault.TheVariants as faults
 use Rattle.engine.specs.Situation.{Situation}
-use Rattle.engine.specs.Streams.{LeavesBy, PutsFront, PutsUntil, TakesPiece}
+use Rattle.engine.specs.Streams.{LeavesBy, PutsPrefix, PutsUntil, TakesPiece}
 use Rattle.engine.specs.Delivered.{IsAnswered}
 use Rattle.engine.specs.Served.{AllAnswered, AllTold, AllTaken, LastUntold, LeftAt, LeftBy, frames_of, Answering, AnswersSome, Serving, ServesSome, ServesUntil, ServesAll}
 use Rattle.engine.proofs.Served.{answered_more, served_holds, served_withstand}
@@ -29,8 +29,8 @@ answered_append (n ∷ messages) (b ∷ answers) more others s t u h k = (h.0, h
 
 -- one message more was taken
 pub taken_more : (messages : List Message) (reader between after : Option (List ℕ)) (m : Message)
-    → AllTaken reader messages between → Takes between m after → AllTaken reader (messages ++ m ∷ []) after
-taken_more [] reader between after m h k = (after, subst (λ (x : Option (List ℕ)). Takes x m after) h k, refl)
+    → AllTaken reader messages between → TakesMessage between m after → AllTaken reader (messages ++ m ∷ []) after
+taken_more [] reader between after m h k = (after, subst (λ (x : Option (List ℕ)). TakesMessage x m after) h k, refl)
 taken_more (n ∷ messages) reader between after m h k = (h.0, h.1, taken_more messages h.0 between after m h.2 k)
 
 -- messages that are taken are the next ones of the stream
@@ -53,13 +53,13 @@ appends_more (Some xs) None c x y h k = absurd h
 appends_more (Some xs) (Some ys) None x y h k = absurd k
 appends_more (Some xs) (Some ys) (Some zs) x y h k = k ∙ ap (λ (l : List ℕ). l ++ y) h ∙ append_assoc xs x y
 
--- some bytes, and then a front of others
-pub front_more : (a b c : Option (List ℕ)) (x y : List ℕ) → Appends a b x → PutsFront b c y → PutsFront a c (x ++ y)
+-- some bytes, and then a prefix of others
+pub front_more : (a b c : Option (List ℕ)) (x y : List ℕ) → Appends a b x → PutsPrefix b c y → PutsPrefix a c (x ++ y)
 front_more a b c x y h k =
     (length x + k.0, subst (λ (l : List ℕ). Appends a c l) (sym (take-append-add x y k.0)) (appends_more a b c x (take k.0 y) h k.1))
 
--- some bytes are a front of them and more
-pub front_of : (a b : Option (List ℕ)) (x y : List ℕ) → Appends a b x → PutsFront a b (x ++ y)
+-- some bytes are a prefix of them and more
+pub front_of : (a b : Option (List ℕ)) (x y : List ℕ) → Appends a b x → PutsPrefix a b (x ++ y)
 front_of a b x y h = (length x, subst (λ (l : List ℕ). Appends a b l) (sym (take-append_seam x y)) h)
 
 -- bytes were read, and then others
@@ -75,7 +75,7 @@ left_of None = 0
 left_of (Some bytes) = length bytes + 1
 
 -- a message that is taken leaves less
-pub taken_less : (reader after : Option (List ℕ)) (m : Message) → Takes reader m after → left_of after < left_of reader
+pub taken_less : (reader after : Option (List ℕ)) (m : Message) → TakesMessage reader m after → left_of after < left_of reader
 taken_less None after m h = absurd h
 taken_less (Some bytes) None m h = omega arith
 taken_less (Some bytes) (Some rest) m h =
@@ -90,8 +90,8 @@ pub nothing_read : (a : Option (List ℕ)) → Consumes a a []
 nothing_read None = tt
 nothing_read (Some xs) = refl
 
--- a front of no bytes is written where none are
-pub no_front : (a b : Option (List ℕ)) (x : List ℕ) → Keeps a b → PutsFront a b x
+-- a prefix of no bytes is written where none are
+pub no_front : (a b : Option (List ℕ)) (x : List ℕ) → Keeps a b → PutsPrefix a b x
 no_front None b x k = (0, tt)
 no_front (Some xs) None x k = absurd k
 no_front (Some xs) (Some ys) x k = (0, k ∙ sym (append-nil xs))
@@ -108,7 +108,7 @@ keeps_told (Some xs) (Some ys) None x h k = absurd k
 keeps_told (Some xs) (Some ys) (Some zs) x h k = k ∙ h
 
 -- a front was written where they were not written whole
-pub until_front : (fault : ServeFault) (a b : Option (List ℕ)) (x : List ℕ) → PutsUntil fault a b x → PutsFront a b x
+pub until_front : (fault : ServeFault) (a b : Option (List ℕ)) (x : List ℕ) → PutsUntil fault a b x → PutsPrefix a b x
 until_front faults.Read a b x h = absurd h
 until_front faults.Write a b x h = h
 until_front faults.Memory a b x h = no_front a b x h
@@ -121,7 +121,7 @@ left_at faults.Read others last reader o v w told h = absurd h
 left_at faults.Write others last reader o v w told h = inr (h.0, (others, last, refl, appends_more o v w (frames_of others) (take h.0 (answer_frame last)) told h.1))
 left_at faults.Memory others last reader o v w told h = (others, last, refl, appends_more o v w (frames_of others) [] told (kept_none v w h))
 
--- the same behind other answers, each of which was written
+-- the same after other answers, each of which was written
 last_more : (answers more : List Answer) (count : ℕ) (o v w : Option (List ℕ)) → Appends o v (frames_of answers) → LastUntold more count v w → LastUntold (answers ++ more) count o w
 last_more answers more count o v w told (others, last, is, h) =
     let part : List ℕ = take count (answer_frame last) in (
@@ -158,7 +158,7 @@ answering_none reader s o = record { messages = []; answers = []; taken = refl; 
 
 -- one message more was taken and answered
 pub answering_more : (reader between after : Option (List ℕ)) (s t u : Situation) (o v w : Option (List ℕ)) (m : Message) (a : Answer)
-    → Answering reader between s t o v → Takes between m after → IsAnswered m t a u → Appends v w (answer_frame a) → Answering reader after s u o w
+    → Answering reader between s t o v → TakesMessage between m after → IsAnswered m t a u → Appends v w (answer_frame a) → Answering reader after s u o w
 answering_more reader between after s t u o v w m a h takes answered told = record {
   messages = h.messages ++ m ∷ [];
   answers = h.answers ++ a ∷ [];
@@ -170,13 +170,13 @@ answering_more reader between after s t u o v w m a h takes answered told = reco
 
 -- the same where the answer's frame was not written whole
 pub answering_some : (fault : ServeFault) (reader between after : Option (List ℕ)) (s t u : Situation) (o v w : Option (List ℕ)) (m : Message) (a : Answer)
-    → Answering reader between s t o v → Takes between m after → IsAnswered m t a u → PutsUntil fault v w (answer_frame a) → AnswersSome fault reader after s u o w
+    → Answering reader between s t o v → TakesMessage between m after → IsAnswered m t a u → PutsUntil fault v w (answer_frame a) → AnswersSome fault reader after s u o w
 answering_some fault reader between after s t u o v w m a h takes answered until = record {
   messages = h.messages ++ m ∷ [];
   answers = h.answers ++ a ∷ [];
   taken = taken_more h.messages reader between after m h.taken takes;
   answered = answered_more h.messages h.answers s t u m a h.answered answered;
-  front = subst (λ (x : List ℕ). PutsFront o w x) (sym (flat_map-append answer_frame h.answers (a ∷ []) ∙ ap (λ (x : List ℕ). frames_of h.answers ++ x) (append-nil (answer_frame a))))
+  front = subst (λ (x : List ℕ). PutsPrefix o w x) (sym (flat_map-append answer_frame h.answers (a ∷ []) ∙ ap (λ (x : List ℕ). frames_of h.answers ++ x) (append-nil (answer_frame a))))
       (front_more o v w (frames_of h.answers) (answer_frame a) h.told (until_front fault v w (answer_frame a) until));
   left = left_at fault h.answers a after o v w h.told until;
 }
@@ -188,7 +188,7 @@ answering_kept reader after later s t o v w e idle h k = record {
   answers = h.answers;
   taken = subst (λ (r : Option (List ℕ)). AllTaken reader h.messages r) (sym e) h.taken;
   answered = h.answered;
-  front = subst (λ (x : List ℕ). PutsFront o w x) (append-nil (frames_of h.answers)) (front_more o v w (frames_of h.answers) [] h.told (no_front v w [] k));
+  front = subst (λ (x : List ℕ). PutsPrefix o w x) (append-nil (frames_of h.answers)) (front_more o v w (frames_of h.answers) [] h.told (no_front v w [] k));
   left = inl (subst IsIdle (sym e) idle, keeps_told o v w (frames_of h.answers) h.told k);
 }
 
@@ -232,12 +232,12 @@ serving_some fault reader between after s t u i l n o v w piece h takes some e m
         answered = answered;
         holds = served_holds (h.messages ++ more.messages) s (h.answers ++ more.answers) u answered;
         withstands = served_withstand (h.messages ++ more.messages) s (h.answers ++ more.answers) u answered;
-        front = subst (λ (x : List ℕ). PutsFront o w x) (sym (frames_append h.answers more.answers)) (front_more o v w (frames_of h.answers) (frames_of more.answers) h.told more.front);
+        front = subst (λ (x : List ℕ). PutsPrefix o w x) (sym (frames_append h.answers more.answers)) (front_more o v w (frames_of h.answers) (frames_of more.answers) h.told more.front);
       };
       left_by = left_more fault (h.bytes ++ piece) h.answers more.answers after o v w (some_behind h.bytes piece some) h.told more.left;
     }
 
-whole_front : (a b : Option (List ℕ)) (x : List ℕ) → Appends a b x → PutsFront a b x
+whole_front : (a b : Option (List ℕ)) (x : List ℕ) → Appends a b x → PutsPrefix a b x
 whole_front a b x h = (length x, subst (λ (y : List ℕ). Appends a b y) (sym (take-length x)) h)
 
 -- a piece more was read, and there was no memory for it
@@ -280,7 +280,7 @@ kept_some reader s t i l n o v h k = record {
   front = whole_front o v (frames_of h.answers) h.told;
 }
 
--- for want of memory
+-- for lack of memory
 serving_short : (reader : Option (List ℕ)) (s t : Situation) (i l n o v : Option (List ℕ)) → Serving reader s t i l o v → IsIdle reader → Keeps l n → ServesUntil faults.Memory s t i n o v
 unfolding kept_some
 serving_short reader s t i l n o v h idle k = record { some = kept_some reader s t i l n o v h k; left_by = inr (inr (idle, h.told)) }

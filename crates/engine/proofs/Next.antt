@@ -8,7 +8,7 @@ use Rattle.std.proofs.lemmas.List.Elements.{All-from_recursion, recursion_from_A
 use Rattle.model.specs.Session.{Due, Reply, due_by, record_of, kept_or_stale}
 use Rattle.model.specs.Session.Due.{Repeat, Stale, Gap, ClientsFull, New}
 use Rattle.vat.specs.declared.record.Record.{Record}
-use Rattle.udf.specs.Said.{said_record}
+use Rattle.udf.specs.Said.{model_record}
 use Rattle.store.specs.TableChange.{IsNext}
 
 abbrev is_new : Due → Bool
@@ -43,13 +43,13 @@ module _ (client number clients : ℕ) where
   others r [] same h = tt
   others r (x ∷ rs) same h = (λ e. absurd (h.0 (same ∙ sym e)), others r rs same h.1)
 
-  known : (rs : List Record) → AllPairs (λ a b. a.client ≢ b.client) rs → due_by number clients (record_of client (map said_record rs)) ≡ New → AllByRecursion IsKnown rs
+  known : (rs : List Record) → AllPairs (λ a b. a.client ≢ b.client) rs → due_by number clients (record_of client (map model_record rs)) ≡ New → AllByRecursion IsKnown rs
   known [] apart e = tt
   known (r ∷ rs) apart e =
       go (r.client == client) refl (known rs (λ i j d lt within. apart (suc i) (suc j) d (omega arith) (omega arith))) e
     where
-      go : (t : Bool) → (r.client == client) ≡ t → (due_by number clients (record_of client (map said_record rs)) ≡ New → AllByRecursion IsKnown rs)
-          → due_by number clients (cond t (Some (said_record r)) (record_of client (map said_record rs))) ≡ New → AllByRecursion IsKnown (r ∷ rs)
+      go : (t : Bool) → (r.client == client) ≡ t → (due_by number clients (record_of client (map model_record rs)) ≡ New → AllByRecursion IsKnown rs)
+          → due_by number clients (cond t (Some (model_record r)) (record_of client (map model_record rs))) ≡ New → AllByRecursion IsKnown (r ∷ rs)
       go true q rest e = (
         λ same. eqb-true number (r.latest + 1) (next_of (nat_lt r.latest number) (number == r.latest + 1) r.latest _ e),
         others r rs (eqb-true r.client client q) (recursion_from_All _ rs (λ k d lt. apart 0 (suc k) d (omega arith) (omega arith))),
@@ -57,11 +57,11 @@ module _ (client number clients : ℕ) where
       go false q rest e =
           (λ same. let bad : (r.client == client) ≡ true = grind (arith, nat_tests) in absurd (search rules), rest e)
 
-  unfound : (rs : List Record) → AllByRecursion (λ r. r.client ≢ client) rs → record_of client (map said_record rs) ≡ None
+  unfound : (rs : List Record) → AllByRecursion (λ r. r.client ≢ client) rs → record_of client (map model_record rs) ≡ None
   unfound [] h = refl
   unfound (r ∷ rs) h =
       let no : (r.client == client) ≡ false = grind (arith, nat_tests, h.0) in
-      ap (λ (b : Bool). cond b (Some (said_record r)) (record_of client (map said_record rs))) no ∙ unfound rs h.1
+      ap (λ (b : Bool). cond b (Some (model_record r)) (record_of client (map model_record rs))) no ∙ unfound rs h.1
 
   first : due_by number clients None ≡ New → (number ≡ 1) × (clients < 64)
   first e =
@@ -73,7 +73,7 @@ module _ (client number clients : ℕ) where
 
 -- what is due is new, so that the number is the client's next one
 pub is_next : (client number : ℕ) (rs : List Record) → AllPairs (λ a b. a.client ≢ b.client) rs
-    → due_by number (length rs) (record_of client (map said_record rs)) ≡ New → IsNext client number rs
+    → due_by number (length rs) (record_of client (map model_record rs)) ≡ New → IsNext client number rs
 is_next client number rs apart e = record {
   known = All-from_recursion _ rs (known client number (length rs) rs apart e);
   unknown = λ none. first client number (length rs) (ap (due_by number (length rs)) (sym (unfound client number (length rs) rs (recursion_from_All _ rs none))) ∙ e);

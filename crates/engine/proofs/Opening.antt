@@ -7,11 +7,11 @@ use Rattle.model.specs.Session.{State}
 use Rattle.recover.specs.Faults.{IsShortage}
 use Rattle.recover.specs.declared.fault.StoreFault.{StoreFault}
 use Rattle.store.specs.declared.store.Store.{Store}
-use Rattle.store.specs.Calls.{Knows, Opens}
-use Rattle.store.specs.Opened.{NothingStands}
+use Rattle.store.specs.Calls.{IsOpenOn, Opens}
+use Rattle.store.specs.Opened.{RecoversToNothingHere}
 
 module _ (capacity volume : ℕ) (J : List Event) (S : State) where
-  pub opened_knows : (result : Result Store StoreFault) → Opens capacity volume J S result → IfOk result (Knows capacity volume J S)
+  pub opened_knows : (result : Result Store StoreFault) → Opens capacity volume J S result → IfOk result (IsOpenOn capacity volume J S)
   opened_knows (Ok store) opens = opens.0
   opened_knows (Err refusal) opens = tt
 
@@ -21,7 +21,7 @@ module _ (capacity volume : ℕ) (J : List Event) (S : State) where
 
 -- where nothing stands none is opened
 pub nothing_opened : (capacity : ℕ) (J : List Event) (result : Result Store StoreFault) {Honest : Type 0}
-    → IfOk result (λ store. Honest → Once J → (S : State) × Knows capacity store.capacity J S store) → Honest → Once J → NothingStands capacity (held J) → IfOk result (λ store. ⊥)
+    → IfOk result (λ store. Honest → Once J → (S : State) × IsOpenOn capacity store.capacity J S store) → Honest → Once J → RecoversToNothingHere capacity (held J) → IfOk result (λ store. ⊥)
 nothing_opened capacity J (Ok store) stands honest once nothing = let state = stands honest once in nothing store.capacity state.0 state.1.stands
 nothing_opened capacity J (Err refusal) stands honest once nothing = tt
 

@@ -12,7 +12,7 @@ keeps_on (Some xs) None c x h k = absurd h
 keeps_on (Some xs) (Some ys) None x h k = absurd k
 keeps_on (Some xs) (Some ys) (Some zs) x h k = k ∙ h
 
--- What was written is a front of the bytes, and the rest is what is behind it.
+-- What was written is a prefix of the bytes, and the rest is what is after it.
 pub record Written (a b : Option (List ℕ)) (bytes rest : List ℕ) : Type 0 where
   pub count : ℕ
   pub within : count ≤ length bytes

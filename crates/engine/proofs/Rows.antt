@@ -3,16 +3,16 @@ use Rattle.std.proofs.Common.{◌≡◌, ℕ, ◌+◌, ◌≤◌, ◌++◌, List
 use Rattle.drive.specs.Journal.{Event}
 use Rattle.model.specs.Session.{State, Due}
 use Rattle.model.specs.Session.Due.{New}
-use Rattle.drive.specs.Reads.{Counts}
+use Rattle.drive.specs.Reads.{CountsFailures}
 use Rattle.request.specs.declared.answer.Answer.{Answer}
 use Rattle.request.specs.declared.message.Message.{Message}
 use Rattle.request.specs.declared.message.Message.TheVariants as message
 use Rattle.request.specs.declared.message.Query.{Query}
 use Rattle.request.specs.declared.message.Request.{Request}
 use Rattle.store.specs.declared.store.Store.{Store}
-use Rattle.store.specs.Calls.{Knows}
+use Rattle.store.specs.Calls.{IsOpenOn}
 use Rattle.engine.specs.Situation.{Situation, AddsBlocks, situation}
-use Rattle.engine.specs.Answered.{Answered, due_of, IsCommitted, IsDue, OpensStore, MessageRow, faults}
+use Rattle.engine.specs.Answered.{Answered, due_of, IsCommitted, IsAnsweredAsDue, OpensStore, MessageRow, faults}
 use Rattle.engine.specs.Called.{Calls, IsApplied, IsDealt, IsRead, IsShort, Uses}
 
 -- the same store beside a drive that was not called
@@ -26,7 +26,7 @@ pub record Opened (before during : Situation) (store : Store) : Type 0 where
   pub opens : OpensStore before during store
   pub capacity : during.capacity ≡ before.capacity
   pub honest : IsTrue during.honest → IsTrue before.honest
-  pub failures : Counts 0 before.failures during.failures
+  pub failures : CountsFailures 0 before.failures during.failures
 
 follows_behind : (before during after : Situation) (store : Store) → Opened before during store → AddsBlocks during after → AddsBlocks before after
 follows_behind before during after store o f = record {
@@ -36,11 +36,11 @@ follows_behind before during after store o f = record {
   honest = λ h. o.honest (f.honest h);
 }
 
-counts_behind : (n f0 f1 f2 : ℕ) → Counts 0 f0 f1 → Counts n f1 f2 → Counts n f0 f2
+counts_behind : (n f0 f1 f2 : ℕ) → CountsFailures 0 f0 f1 → CountsFailures n f1 f2 → CountsFailures n f0 f2
 counts_behind n f0 f1 f2 a b = λ lt. let k : f1 + n ≤ f2 = b lt in let l : f0 + 0 ≤ f1 = a (omega (arith, k, lt)) in omega (arith, k, l)
 
 pub request_answered : (asked : Message) (request : Request) (before during after : Situation) (store : Store) (a : Answer) → asked ≡ message.Request request → Opened before during store
-    → IsDue (due_of store request.client request.number) during a after → AddsBlocks during after → Counts (faults a) during.failures after.failures
+    → IsAnsweredAsDue (due_of store request.client request.number) during a after → AddsBlocks during after → CountsFailures (faults a) during.failures after.failures
     → Answered asked before a after
 request_answered asked request before during after store a e o due follows failures = record {
   follows = follows_behind before during after store o follows;
@@ -49,8 +49,8 @@ request_answered asked request before during after store a e o due follows failu
 }
 
 -- what holds of a new request, where that is what is due
-pub committed_due : (due : Due) (before : Situation) (a : Answer) (after : Situation) → New ≡ due → IsCommitted before a after → IsDue due before a after
-committed_due due before a after e h = subst (λ (d : Due). IsDue d before a after) e h
+pub committed_due : (due : Due) (before : Situation) (a : Answer) (after : Situation) → New ≡ due → IsCommitted before a after → IsAnsweredAsDue due before a after
+committed_due due before a after e h = subst (λ (d : Due). IsAnsweredAsDue d before a after) e h
 
 pub dealt_new : (due : Due) (volume : ℕ) (S : State) (request : Request) (during : Situation) (store : Store) (a : Answer) (behind : Situation) → New ≡ due
     → IsApplied volume S request during a behind → IsDealt due volume S request during store a behind
@@ -59,9 +59,9 @@ dealt_new due volume S request during store a behind e h = subst (λ (d : Due). 
 -- ---- at the state that stands
 
 -- what a store knows, beside a drive that shows the same
-pub knows_there : (capacity later volume : ℕ) (J K : List Event) (S : State) (store : Store) → later ≡ capacity → K ≡ J → Knows capacity volume J S store → Knows later volume K S store
+pub knows_there : (capacity later volume : ℕ) (J K : List Event) (S : State) (store : Store) → later ≡ capacity → K ≡ J → IsOpenOn capacity volume J S store → IsOpenOn later volume K S store
 knows_there capacity later volume J K S store size journal knows =
-    subst (λ (c : ℕ). Knows c volume K S store) (sym size) (subst (λ (L : List Event). Knows capacity volume L S store) (sym journal) knows)
+    subst (λ (c : ℕ). IsOpenOn c volume K S store) (sym size) (subst (λ (L : List Event). IsOpenOn capacity volume L S store) (sym journal) knows)
 
 module _ (volume : ℕ) (S : State) where
   pub request_calls : (asked : Message) (request : Request) (before during behind : Situation) (store : Store) (a : Answer) → asked ≡ message.Request request → Uses volume S before during store

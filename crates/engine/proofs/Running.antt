@@ -9,7 +9,7 @@ use Rattle.engine.specs.declared.runs.Delivery as delivered
 use Rattle.engine.specs.declared.runs.Delivery.TheVariants.{Frame, Restart}
 use Rattle.engine.specs.Situation.{Situation, situation}
 use Rattle.engine.specs.Delivered.{AllDelivered, Delivers}
-use Rattle.engine.specs.Said.{IsDeliverySaid, AllSaid, said_answer, said_answers, said_message, said_told}
+use Rattle.engine.specs.Said.{IsDeliverySaid, AllSaid, model_answer, model_answers, model_message, said_told}
 use Rattle.engine.specs.Steps.{HoldsState, IsStep, AllSteps}
 use Rattle.engine.specs.Headline.{DeliversBy, RunsBegin, RunsGoOn, RunsAreHeld}
 use Rattle.engine.proofs.Calling.{none_knows, calls_are_steps, restarts_are_steps}
@@ -24,10 +24,10 @@ delivers_step volume Restart S before (Some a) behind at is = absurd is
 delivers_step volume (Frame payload) S before None behind at is = absurd is
 delivers_step volume (Frame payload) S before (Some a) behind at (m, tells, calls) =
     let step = calls_are_steps volume m S before a behind at calls in
-    (medium.Delivery.Delivered (said_message m), (m, tells, refl), step.0, step.1)
+    (medium.Delivery.Delivered (model_message m), (m, tells, refl), step.0, step.1)
 
 module _ (volume : ℕ) where
-  -- what stands behind the last step
+  -- what stands after the last step
   pub at_end : (ds : List Delivery) (S : State) (before : Situation) (answers : List medium.Answer) (T : State) (behind : Situation) → HoldsState volume S before → AllSteps volume ds S before answers T behind → HoldsState volume T behind
   at_end [] S before answers T behind at (none, state, same) = subst (λ (U : State). HoldsState volume U behind) (sym state) (subst (λ (s : Situation). HoldsState volume S s) (sym same) at)
   at_end (d ∷ ds) S before answers T behind at (a, U, during, rest, step, told, steps) = at_end ds U during rest T behind step.at steps
@@ -53,10 +53,10 @@ module _ (volume : ℕ) where
     steps_more ds U mid rest T during d a S' behind steps step,
   )
 
-pub said_more : (answers : List Answer) (told : Option Answer) → said_answers answers ++ option_to_list (said_told told) ≡ said_answers (answers ++ option_to_list told)
+pub said_more : (answers : List Answer) (told : Option Answer) → model_answers answers ++ option_to_list (said_told told) ≡ model_answers (answers ++ option_to_list told)
 said_more [] None = refl
 said_more [] (Some a) = refl
-said_more (b ∷ answers) told = ap (λ (xs : List medium.Answer). said_answer b ∷ xs) (said_more answers told)
+said_more (b ∷ answers) told = ap (λ (xs : List medium.Answer). model_answer b ∷ xs) (said_more answers told)
 
 pub all_said_more : (deliveries : List delivered.Delivery) (ds : List Delivery) (one : delivered.Delivery) (d : Delivery) → AllSaid deliveries ds → IsDeliverySaid one d → AllSaid (deliveries ++ one ∷ []) (ds ++ d ∷ [])
 all_said_more [] [] one d all is = (is, tt)
@@ -72,18 +72,18 @@ runs_begin volume S journal failures capacity honest writes once stands = (
 
 pub runs_go_on : RunsGoOn
 runs_go_on volume deliveries S before answers during at run d told behind delivers =
-    let one = delivers_step volume d run.state during told behind (at_end volume run.said S before (said_answers answers) run.state during at run.steps) delivers in
+    let one = delivers_step volume d run.state during told behind (at_end volume run.said S before (model_answers answers) run.state during at run.steps) delivers in
     record {
       said = run.said ++ one.0 ∷ [];
       are_said = all_said_more deliveries run.said d one.0 run.are_said one.1;
       state = one.2;
       steps = subst (λ (xs : List medium.Answer). AllSteps volume (run.said ++ one.0 ∷ []) S before xs one.2 behind) (said_more answers told)
-          (steps_more volume run.said S before (said_answers answers) run.state during one.0 (said_told told) one.2 behind run.steps one.3);
+          (steps_more volume run.said S before (model_answers answers) run.state during one.0 (said_told told) one.2 behind run.steps one.3);
     }
 
 pub runs_are_held : RunsAreHeld
 runs_are_held volume deliveries S before answers behind at run =
-    record { said = run.said; are_said = run.are_said; holds = steps_hold volume run.said S before (said_answers answers) run.state behind at run.steps }
+    record { said = run.said; are_said = run.are_said; holds = steps_hold volume run.said S before (model_answers answers) run.state behind at run.steps }
 
 -- ---- deliveries, one after another
 
@@ -107,6 +107,6 @@ delivers_by volume (Frame payload) S before None behind is honest at = absurd is
 delivers_by volume (Frame payload) S before (Some a) behind (m, tells, one) honest at = (m, tells, one.calls volume S honest at)
 
 -- its answer, and those of the others
-pub said_rest : (told : Option Answer) (rest : List Answer) → said_answers (option_to_list told ++ rest) ≡ option_to_list (said_told told) ++ said_answers rest
+pub said_rest : (told : Option Answer) (rest : List Answer) → model_answers (option_to_list told ++ rest) ≡ option_to_list (said_told told) ++ model_answers rest
 said_rest None rest = refl
 said_rest (Some a) rest = refl

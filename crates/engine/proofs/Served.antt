@@ -1,13 +1,13 @@
--- What messages that were answered by their store's calls leave at each front of the journal, and of what a loss of power leaves.
+-- What messages that were answered by their store's calls leave at each prefix of the journal, and of what a power loss leaves.
 use Rattle.std.proofs.Common.{◌≡◌, ℕ, ◌+◌, List, [], ◌∷◌, ◌++◌, IsTrue, Some, sum_by, refl, ap, subst, arith}
 use Rattle.std.proofs.lemmas.List.Sums.{sum_by-cons}
-use Rattle.drive.specs.Reads.{Counts}
+use Rattle.drive.specs.Reads.{CountsFailures}
 use Rattle.request.specs.declared.answer.Answer.{Answer}
 use Rattle.request.specs.declared.message.Message.{Message}
 use Rattle.model.specs.Session.{State}
 use Rattle.engine.specs.Answered.{faults}
 use Rattle.engine.specs.Situation.{Situation}
-use Rattle.engine.specs.Said.{said_answer, said_answers}
+use Rattle.engine.specs.Said.{model_answer, model_answers}
 use Rattle.engine.specs.Steps.{HoldsState, AllSteps}
 use Rattle.engine.specs.Delivered.{IsAnswered}
 use Rattle.engine.specs.Served.{AllAnswered, EachWithstands, ServedHolds, ServedWithstands, brought}
@@ -22,7 +22,7 @@ answered_more [] (b ∷ answers) s t u m a h k = absurd h
 answered_more (n ∷ messages) [] s t u m a h k = absurd h
 answered_more (n ∷ messages) (b ∷ answers) s t u m a h k = (h.0, h.1, answered_more messages answers h.0 t u m a h.2 k)
 
--- what is honest behind them was so before
+-- what is honest after them was so before
 answered_honest : (messages : List Message) (before : Situation) (answers : List Answer) (behind : Situation) → AllAnswered messages before answers behind → IsTrue behind.honest → IsTrue before.honest
 answered_honest [] before [] behind same honest = subst (λ (s : Situation). IsTrue s.honest) same honest
 answered_honest [] before (a ∷ answers) behind h honest = absurd h
@@ -30,19 +30,19 @@ answered_honest (m ∷ messages) before [] behind h honest = absurd h
 answered_honest (m ∷ messages) before (a ∷ answers) behind (during, one, rest) honest = one.answered.follows.honest (answered_honest messages during answers behind rest honest)
 
 answered_steps : (volume : ℕ) (messages : List Message) (S : State) (before : Situation) (answers : List Answer) (behind : Situation) → AllAnswered messages before answers behind → IsTrue behind.honest → HoldsState volume S before
-    → (T : State) × AllSteps volume (brought messages) S before (said_answers answers) T behind
+    → (T : State) × AllSteps volume (brought messages) S before (model_answers answers) T behind
 answered_steps volume [] S before [] behind same honest at = (S, (refl, refl, same))
 answered_steps volume [] S before (a ∷ answers) behind h honest at = absurd h
 answered_steps volume (m ∷ messages) S before [] behind h honest at = absurd h
 answered_steps volume (m ∷ messages) S before (a ∷ answers) behind (during, one, rest) honest at =
     let step = calls_are_steps volume m S before a during at (one.calls volume S (answered_honest messages during answers behind rest honest) at) in
     let later = answered_steps volume messages step.0 during answers behind rest honest step.1.at in
-    (later.0, (Some (said_answer a), step.0, during, said_answers answers, step.1, refl, later.1))
+    (later.0, (Some (model_answer a), step.0, during, model_answers answers, step.1, refl, later.1))
 
 pub served_holds : (messages : List Message) (before : Situation) (answers : List Answer) (behind : Situation) → AllAnswered messages before answers behind → ServedHolds messages before answers behind
 served_holds messages before answers behind h volume S honest at =
     let steps = answered_steps volume messages S before answers behind h honest at in
-    steps_hold volume (brought messages) S before (said_answers answers) steps.0 behind at steps.1
+    steps_hold volume (brought messages) S before (model_answers answers) steps.0 behind at steps.1
 
 -- each message in turn is a step, and withstands
 each_withstands : (volume : ℕ) (messages : List Message) (S : State) (before : Situation) (answers : List Answer) (behind : Situation) (all : AllAnswered messages before answers behind) → IsTrue behind.honest → HoldsState volume S before
@@ -60,7 +60,7 @@ pub served_withstand : (messages : List Message) (before : Situation) (answers :
 served_withstand messages before answers behind all volume S honest at = each_withstands volume messages S before answers behind all honest at
 
 -- no more answers stand for a failure of the drive than it counted
-pub answered_counted : (messages : List Message) (before : Situation) (answers : List Answer) (behind : Situation) → AllAnswered messages before answers behind → Counts (sum_by faults answers) before.failures behind.failures
+pub answered_counted : (messages : List Message) (before : Situation) (answers : List Answer) (behind : Situation) → AllAnswered messages before answers behind → CountsFailures (sum_by faults answers) before.failures behind.failures
 answered_counted [] before [] behind same most = omega (arith, ap (λ (s : Situation). s.failures) same)
 answered_counted [] before (a ∷ answers) behind all most = absurd all
 answered_counted (m ∷ messages) before [] behind all most = absurd all

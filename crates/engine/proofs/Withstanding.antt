@@ -1,8 +1,8 @@
--- What a loss of power leaves, one call more at a time.
+-- What a power loss leaves, one call more at a time.
 use Rattle.std.proofs.Common.{◌≡◌, inl, inr, ℕ, ◌≤◌, Bool, true, IsTrue, List, [], ◌∷◌, ◌++◌, length, take, Option, Some, None, refl, sym, ap, ◌∙◌, subst, arith, append-nil}
 use Rattle.std.proofs.Math.Seq.{take-length}
 use Rattle.std.proofs.lemmas.List.{take_all}
-use Rattle.drive.specs.Journal.{AddsFront, Event, held, written, Once}
+use Rattle.drive.specs.Journal.{AddsPrefix, Event, held, written, Once}
 use Rattle.drive.specs.Writes.{joined}
 use Rattle.request.specs.declared.answer.Answer.{Answer}
 use Rattle.model.specs.Session.{State, Request, due, after, after_one}
@@ -11,29 +11,29 @@ use Rattle.durability.specs.Formats.{Block}
 use Rattle.durability.specs.Commit.{need}
 use Rattle.durability.specs.Journal.{Advances, HoldsOnJournal}
 use Rattle.durability.specs.Runs as medium
-use Rattle.durability.specs.Volume.{Stands}
+use Rattle.durability.specs.Volume.{RecoversTo}
 use Rattle.udf.specs.Udf.{udf, spelled}
 use Rattle.store.specs.Calls as store
-use Rattle.store.specs.Calls.{Knows}
+use Rattle.store.specs.Calls.{IsOpenOn}
 use Rattle.store.specs.declared.store.Store.{Store}
 use Rattle.engine.specs.Answered.{due_of, faults}
 use Rattle.engine.specs.declared.runs.Delivery.{Delivery}
 use Rattle.engine.specs.declared.runs.Delivery.TheVariants.{Frame, Restart}
 use Rattle.engine.specs.Situation.{Situation, situation, with_store}
-use Rattle.engine.specs.Said.{said_answers, said_told}
+use Rattle.engine.specs.Said.{model_answers, said_told}
 use Rattle.engine.specs.Steps.{HoldsState}
 use Rattle.engine.specs.Delivered.{AllDelivered, Delivers, faults_told}
 use Rattle.engine.specs.Headline.{AllWithstand, IsRun, RunHolds, RunWithstands}
 use Rattle.engine.proofs.Running.{delivered_honest, delivers_by, delivers_step, runs_begin, runs_are_held, said_rest}
-use Rattle.engine.specs.Withstanding.{AsksFor, Withstands, Brings}
+use Rattle.engine.specs.Withstanding.{AsksFor, MessageSurvivesPowerLoss, Brings}
 use Rattle.durability.proofs.One.{stands_one}
 use Rattle.udf.proofs.Formats.{exact}
 use Rattle.drive.proofs.Once.{held_once, length-blocks_of}
 use Rattle.engine.proofs.Calling.{front_grows, same_due, stay}
 
 -- nothing was written
-pub unwritten : (volume : ℕ) (S : State) (asked : Request → Type 0) (failed : ℕ) (before behind : Situation) → Once before.journal → Stands udf before.capacity volume (held before.journal) S
-    → behind.journal ≡ before.journal → behind.writes ≡ before.writes → Withstands volume S asked failed before behind
+pub unwritten : (volume : ℕ) (S : State) (asked : Request → Type 0) (failed : ℕ) (before behind : Situation) → Once before.journal → RecoversTo udf before.capacity volume (held before.journal) S
+    → behind.journal ≡ before.journal → behind.writes ≡ before.writes → MessageSurvivesPowerLoss volume S asked failed before behind
 unwritten volume S asked failed before behind once stands journal writes =
     let J : List Event = before.journal in
     record {
@@ -47,7 +47,7 @@ unwritten volume S asked failed before behind once stands journal writes =
     }
 
 -- what withstands asks for no less
-pub withstands_more : (volume : ℕ) (S : State) (asked more : Request → Type 0) (failed : ℕ) (before behind : Situation) → ((r : Request) → asked r → more r) → Withstands volume S asked failed before behind → Withstands volume S more failed before behind
+pub withstands_more : (volume : ℕ) (S : State) (asked more : Request → Type 0) (failed : ℕ) (before behind : Situation) → ((r : Request) → asked r → more r) → MessageSurvivesPowerLoss volume S asked failed before behind → MessageSurvivesPowerLoss volume S more failed before behind
 withstands_more volume S asked more failed before behind f w = record {
   added = w.added;
   others = w.others;
@@ -58,12 +58,12 @@ withstands_more volume S asked more failed before behind f w = record {
 }
 
 -- what is due by the store that knows the state is due by the state
-pub new_there : (capacity volume : ℕ) (J : List Event) (S : State) (store : Store) (client number : ℕ) → Knows capacity volume J S store → New ≡ due_of store client number → due S client number ≡ New
+pub new_there : (capacity volume : ℕ) (J : List Event) (S : State) (store : Store) (client number : ℕ) → IsOpenOn capacity volume J S store → New ≡ due_of store client number → due S client number ≡ New
 new_there capacity volume J S store client number knows new = sym (new ∙ same_due volume S (situation (Some store) J 0 capacity true []) store client number knows)
 
 -- a store's commit
 pub applied_withstands : (volume : ℕ) (S : State) (r : Request) (asked : Request → Type 0) (failed : ℕ) (before behind : Situation) → asked r → due S r.client r.number ≡ New
-    → store.Withstands before.capacity volume before.journal S r before.writes failed behind.journal behind.writes → Withstands volume S asked failed before behind
+    → store.CommitSurvivesPowerLoss before.capacity volume before.journal S r before.writes failed behind.journal behind.writes → MessageSurvivesPowerLoss volume S asked failed before behind
 applied_withstands volume S r asked failed before behind asks new w = record {
   added = w.added;
   others = w.others;
@@ -75,12 +75,12 @@ applied_withstands volume S r asked failed before behind asks new w = record {
 
 -- from where nothing was written since
 pub withstands_from : (volume : ℕ) (S : State) (asked : Request → Type 0) (failed : ℕ) (before during behind : Situation) → during.journal ≡ before.journal → during.capacity ≡ before.capacity → during.writes ≡ before.writes
-    → Withstands volume S asked failed during behind → Withstands volume S asked failed before behind
+    → MessageSurvivesPowerLoss volume S asked failed during behind → MessageSurvivesPowerLoss volume S asked failed before behind
 withstands_from volume S asked failed before during behind journal size writes w = record {
   added = w.added;
   others = w.others;
   writes_are = w.writes_are ∙ ap (λ (ws : List (List Block)). ws ++ w.added) writes;
-  front = subst (λ (L : List Event). AddsFront L (length L) (joined (w.added ++ w.others)) behind.journal) journal w.front;
+  front = subst (λ (L : List Event). AddsPrefix L (length L) (joined (w.added ++ w.others)) behind.journal) journal w.front;
   whole = λ ok. w.whole ok ∙ ap (λ (L : List Event). L ++ written (length L) (joined w.added)) journal;
   torn = λ left lost cut there.
       let back : (T : State) → Advances udf during.capacity volume during.journal S lost T → Advances udf before.capacity volume before.journal S lost T =
@@ -90,19 +90,19 @@ withstands_from volume S asked failed before during behind journal size writes w
 
 -- where a run ended the state after all its commits stands
 pub held_stands : (volume capacity : ℕ) (deliveries : List medium.Delivery) (S : State) (before behind : List Event) (answers : List medium.Answer)
-    (run : HoldsOnJournal udf (need spelled) capacity volume S before behind deliveries answers) → Stands udf capacity volume (held behind) (after S run.holds.committed)
+    (run : HoldsOnJournal udf (need spelled) capacity volume S before behind deliveries answers) → RecoversTo udf capacity volume (held behind) (after S run.holds.committed)
 held_stands volume capacity deliveries S before behind answers run =
     let committed = run.holds.committed in
     let size : length (held behind) ≡ length behind = ap (λ (bs : List Block). length bs) (held_once behind run.once) ∙ length-blocks_of behind in
     let there = (run.stands (length behind) (front_grows before behind run.front) (omega arith)).1 in
     let all : take (run.holds.c (length behind)) committed ≡ committed =
     ap (λ (n : ℕ). take (run.holds.c n) committed) (sym size) ∙ ap (λ (n : ℕ). take n committed) run.holds.at_end ∙ take-length committed in
-    subst (λ (rs : List Request). Stands udf capacity volume (held behind) (after S rs)) all
-    (subst (λ (L : List Event). Stands udf capacity volume (held L) (after S (take (run.holds.c (length behind)) committed))) (take-length behind) there)
+    subst (λ (rs : List Request). RecoversTo udf capacity volume (held behind) (after S rs)) all
+    (subst (λ (L : List Event). RecoversTo udf capacity volume (held L) (after S (take (run.holds.c (length behind)) committed))) (take-length behind) there)
 
 -- and no other
 pub held_ended : (volume capacity : ℕ) (deliveries : List medium.Delivery) (S : State) (before behind : List Event) (answers : List medium.Answer) (T : State)
-    (run : HoldsOnJournal udf (need spelled) capacity volume S before behind deliveries answers) → Stands udf capacity volume (held behind) T → T ≡ after S run.holds.committed
+    (run : HoldsOnJournal udf (need spelled) capacity volume S before behind deliveries answers) → RecoversTo udf capacity volume (held behind) T → T ≡ after S run.holds.committed
 held_ended volume capacity deliveries S before behind answers T run stands =
     stands_one udf exact capacity volume capacity volume (held behind) T (after S run.holds.committed) stands (held_stands volume capacity deliveries S before behind answers run)
 
@@ -110,7 +110,7 @@ held_ended volume capacity deliveries S before behind answers T run stands =
 
 -- what a delivery's writes leave
 pub delivers_withstand : (volume : ℕ) (d : Delivery) (S : State) (before : Situation) (told : Option Answer) (behind : Situation) → Delivers d before told behind → IsTrue behind.honest → HoldsState volume S before
-    → Withstands volume S (Brings d) (faults_told told) before behind
+    → MessageSurvivesPowerLoss volume S (Brings d) (faults_told told) before behind
 delivers_withstand volume Restart S before None behind is honest at = unwritten volume S (Brings Restart) 0 before behind at.once at.stands (ap (λ (s : Situation). s.journal) is) (ap (λ (s : Situation). s.writes) is)
 delivers_withstand volume Restart S before (Some a) behind is honest at = absurd is
 delivers_withstand volume (Frame payload) S before None behind is honest at = absurd is
@@ -130,14 +130,14 @@ all_withstand volume (d ∷ deliveries) S before answers behind (told, during, r
 -- so they are a run
 pub run_of : (volume : ℕ) (deliveries : List Delivery) (S : State) (before : Situation) (answers : List Answer) (behind : Situation) (all : AllDelivered deliveries before answers behind) (S' : State)
     → AllWithstand volume deliveries S before answers behind all S' → IsRun volume deliveries S before answers behind
-run_of volume [] S before answers behind all S' same = record { said = []; are_said = tt; state = S'; steps = (ap said_answers all.0, same, all.1) }
+run_of volume [] S before answers behind all S' same = record { said = []; are_said = tt; state = S'; steps = (ap model_answers all.0, same, all.1) }
 run_of volume (d ∷ deliveries) S before answers behind (told, during, rest, delivers, order, more) S' (said, is, T, step, withstands, later) =
     let run = run_of volume deliveries T during rest behind more S' later in
-    record { said = said ∷ run.said; are_said = (is, run.are_said); state = run.state; steps = (said_told told, T, during, said_answers rest, step, ap said_answers order ∙ said_rest told rest, run.steps) }
+    record { said = said ∷ run.said; are_said = (is, run.are_said); state = run.state; steps = (said_told told, T, during, model_answers rest, step, ap model_answers order ∙ said_rest told rest, run.steps) }
 
 -- a list's deliveries, until all are made, from where no store is kept
 pub ended_run : (volume : ℕ) (deliveries : List Delivery) (i : ℕ) (S : State) (journal : List Event) (failures capacity : ℕ) (honest : Bool) (writes : List (List Block)) (answers : List Answer) (kept : Option Store) (behind : Situation)
-    → length deliveries ≤ i → Once journal → Stands udf capacity volume (held journal) S → IsTrue behind.honest
+    → length deliveries ≤ i → Once journal → RecoversTo udf capacity volume (held journal) S → IsTrue behind.honest
     → AllDelivered (take i deliveries) (situation None journal failures capacity honest writes) answers (with_store kept behind) → RunWithstands volume deliveries S (situation None journal failures capacity honest writes) answers behind
 ended_run volume deliveries i S journal failures capacity honest writes answers kept behind all once stands so delivered =
     let start : Situation = situation None journal failures capacity honest writes in
@@ -146,7 +146,7 @@ ended_run volume deliveries i S journal failures capacity honest writes answers 
     let each = all_withstand volume deliveries S start answers (with_store kept behind) every so at in
     record { kept = kept; delivered = every; state = each.0; each = each.1 }
 
-pub ended_holds : (volume : ℕ) (deliveries : List Delivery) (S : State) (journal : List Event) (failures capacity : ℕ) (honest : Bool) (writes : List (List Block)) (answers : List Answer) (behind : Situation) → Once journal → Stands udf capacity volume (held journal) S
+pub ended_holds : (volume : ℕ) (deliveries : List Delivery) (S : State) (journal : List Event) (failures capacity : ℕ) (honest : Bool) (writes : List (List Block)) (answers : List Answer) (behind : Situation) → Once journal → RecoversTo udf capacity volume (held journal) S
     → RunWithstands volume deliveries S (situation None journal failures capacity honest writes) answers behind → RunHolds volume capacity deliveries S journal answers behind.journal
 ended_holds volume deliveries S journal failures capacity honest writes answers behind once stands run =
     let start : Situation = situation None journal failures capacity honest writes in

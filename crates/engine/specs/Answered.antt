@@ -2,7 +2,7 @@
 use Rattle.std.specs.Prelude.{◌≡◌, ◌⊎◌, ⊤, ℕ, false, List, length, map, Option, Some, None}
 use Rattle.model.specs.Session.{Due, due_by, record_of}
 use Rattle.model.specs.Session.Due.{Repeat, Stale, Gap, ClientsFull, New}
-use Rattle.drive.specs.Reads.{Counts}
+use Rattle.drive.specs.Reads.{CountsFailures}
 use Rattle.request.specs.declared.answer.Answer.{Answer}
 use Rattle.request.specs.declared.answer.Answer.TheVariants as answer
 use Rattle.request.specs.declared.answer.Reply.{Reply}
@@ -14,7 +14,7 @@ use Rattle.request.specs.declared.message.Query.{Query}
 use Rattle.request.specs.declared.message.Query.TheVariants as query
 use Rattle.store.specs.declared.store.Store.{Store}
 use Rattle.store.specs.Sessions.{reply_said}
-use Rattle.udf.specs.Said.{said_record}
+use Rattle.udf.specs.Said.{model_record}
 use Rattle.engine.specs.Situation.{Situation, IsOpen, IsReady, AddsBlocks}
 
 -- how many failures of the drive an answer stands for
@@ -40,10 +40,10 @@ abbrev pub FailsOrIsDamaged : Answer → Type 0
 FailsOrIsDamaged a = (a ≡ answer.Fault) ⊎ ((a ≡ answer.Memory) ⊎ (a ≡ answer.Damaged))
 
 -- what a query can be told
-abbrev pub CanBeTold : Query → Answer → Type 0
-CanBeTold (query.Get path) a = ((bytes : List ℕ) × (a ≡ answer.Data bytes)) ⊎ ((a ≡ answer.NotFound) ⊎ ((a ≡ answer.IsDirectory) ⊎ FailsOrIsDamaged a))
-CanBeTold (query.List path) a = ((names : List Listed) × (a ≡ answer.Names names)) ⊎ ((a ≡ answer.NotFound) ⊎ ((a ≡ answer.NotDirectory) ⊎ FailsOrIsDamaged a))
-CanBeTold (query.Stat path) a = ((status : NodeStatus) × (a ≡ answer.Node status)) ⊎ ((a ≡ answer.NotFound) ⊎ FailsOrIsDamaged a)
+abbrev pub CanBeAnswered : Query → Answer → Type 0
+CanBeAnswered (query.Get path) a = ((bytes : List ℕ) × (a ≡ answer.Data bytes)) ⊎ ((a ≡ answer.NotFound) ⊎ ((a ≡ answer.IsDirectory) ⊎ FailsOrIsDamaged a))
+CanBeAnswered (query.List path) a = ((names : List Listed) × (a ≡ answer.Names names)) ⊎ ((a ≡ answer.NotFound) ⊎ ((a ≡ answer.NotDirectory) ⊎ FailsOrIsDamaged a))
+CanBeAnswered (query.Stat path) a = ((status : NodeStatus) × (a ≡ answer.Node status)) ⊎ ((a ≡ answer.NotFound) ⊎ FailsOrIsDamaged a)
 
 -- Nothing was written, and the drive was given no write, where no store is kept, or one that did not stop.
 abbrev pub IsUnwritten : Option Store → Situation → Situation → Type 0
@@ -56,15 +56,15 @@ IsCommitted before a after = ((reply : Reply) × (a ≡ answer.Reply reply)) ⊎
 
 -- what is due for a number of a client, by the sessions that a store keeps
 abbrev pub due_of : Store → ℕ → ℕ → Due
-due_of store client number = due_by number (length store.vat.sessions.records.items) (record_of client (map said_record store.vat.sessions.records.items))
+due_of store client number = due_by number (length store.vat.sessions.records.items) (record_of client (map model_record store.vat.sessions.records.items))
 
 -- What a request gets where this is due. Where it is not new, nothing changes, and the drive is not called.
-abbrev pub IsDue : Due → Situation → Answer → Situation → Type 0
-IsDue (Repeat kept) before a after = (reply : Reply) × (a ≡ answer.Reply reply) × (reply_said reply ≡ kept) × (after ≡ before)
-IsDue (Stale latest) before a after = (a ≡ answer.Stale latest) × (after ≡ before)
-IsDue (Gap latest) before a after = (a ≡ answer.Gap latest) × (after ≡ before)
-IsDue ClientsFull before a after = (a ≡ answer.ClientsFull) × (after ≡ before)
-IsDue New before a after = IsCommitted before a after
+abbrev pub IsAnsweredAsDue : Due → Situation → Answer → Situation → Type 0
+IsAnsweredAsDue (Repeat kept) before a after = (reply : Reply) × (a ≡ answer.Reply reply) × (reply_said reply ≡ kept) × (after ≡ before)
+IsAnsweredAsDue (Stale latest) before a after = (a ≡ answer.Stale latest) × (after ≡ before)
+IsAnsweredAsDue (Gap latest) before a after = (a ≡ answer.Gap latest) × (after ≡ before)
+IsAnsweredAsDue ClientsFull before a after = (a ≡ answer.ClientsFull) × (after ≡ before)
+IsAnsweredAsDue New before a after = IsCommitted before a after
 
 -- The store is open, or is opened, by which nothing is written, and the drive is given no write. It agrees with the drive.
 pub record OpensStore (before during : Situation) (store : Store) : Type 0 where
@@ -82,14 +82,14 @@ IsNotOpened before a after = FailsOrIsDamaged a × (after.journal ≡ before.jou
 abbrev pub MessageRow : Message → Situation → Answer → Situation → Type 0
 MessageRow (message.Malformed cause) before a after = (a ≡ answer.Malformed cause) × (after ≡ before)
 MessageRow message.NoMemory before a after = (a ≡ answer.Memory) × (after ≡ before)
-MessageRow (message.Query asked) before a after = CanBeTold asked a × (after.journal ≡ before.journal) × (after.writes ≡ before.writes)
+MessageRow (message.Query asked) before a after = CanBeAnswered asked a × (after.journal ≡ before.journal) × (after.writes ≡ before.writes)
 MessageRow (message.Request request) before a after = IsNotOpened before a after
-    ⊎ ((during : Situation) × (store : Store) × OpensStore before during store × IsDue (due_of store request.client request.number) during a after)
+    ⊎ ((during : Situation) × (store : Store) × OpensStore before during store × IsAnsweredAsDue (due_of store request.client request.number) during a after)
 
 -- A message was answered.
 pub record Answered (asked : Message) (before : Situation) (a : Answer) (after : Situation) : Type 0 where
   pub follows : AddsBlocks before after
-  pub failures : Counts (faults a) before.failures after.failures
+  pub failures : CountsFailures (faults a) before.failures after.failures
   pub row : MessageRow asked before a after
 
 -- Where nothing stands, and no store is open, what needs the volume is refused: the drive failed, memory was short, or

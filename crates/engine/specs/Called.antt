@@ -18,12 +18,12 @@ use Rattle.model.specs.Session.Due.{Repeat, Stale, Gap, ClientsFull, New}
 use Rattle.durability.specs.Runs.{Delivery}
 use Rattle.durability.specs.Runs as medium
 use Rattle.store.specs.declared.store.Store.{Store}
-use Rattle.store.specs.Asked.{said_request}
-use Rattle.store.specs.Calls.{Knows, StillKnows, Applies, Gets, Lists, Stats}
+use Rattle.store.specs.Asked.{model_request}
+use Rattle.store.specs.Calls.{IsOpenOn, IsStillOpenOn, Applies, Gets, Lists, Stats}
 use Rattle.store.specs.Sessions.{reply_said}
 use Rattle.engine.specs.Situation.{Situation, IsOpen, with_store}
 use Rattle.engine.specs.Answered.{due_of}
-use Rattle.engine.specs.Said.{said_message, said_answer}
+use Rattle.engine.specs.Said.{model_message, model_answer}
 use Rattle.engine.specs.Steps.{HoldsState, IsStep}
 
 -- ---- answers, by what the store gave
@@ -46,26 +46,26 @@ get_refused fault.NotFound = answer.NotFound
 get_refused fault.IsDirectory = answer.IsDirectory
 get_refused other = failed other
 
-abbrev pub got : Result (List ℕ) StoreFault → Answer
-got (Ok bytes) = answer.Data bytes
-got (Err refusal) = get_refused refusal
+abbrev pub get_answer : Result (List ℕ) StoreFault → Answer
+get_answer (Ok bytes) = answer.Data bytes
+get_answer (Err refusal) = get_refused refusal
 
 abbrev pub list_refused : StoreFault → Answer
 list_refused fault.NotFound = answer.NotFound
 list_refused fault.NotDirectory = answer.NotDirectory
 list_refused other = failed other
 
-abbrev pub listed : Result (List Listed) StoreFault → Answer
-listed (Ok names) = answer.Names names
-listed (Err refusal) = list_refused refusal
+abbrev pub list_answer : Result (List Listed) StoreFault → Answer
+list_answer (Ok names) = answer.Names names
+list_answer (Err refusal) = list_refused refusal
 
 abbrev pub stat_refused : StoreFault → Answer
 stat_refused fault.NotFound = answer.NotFound
 stat_refused other = failed other
 
-abbrev pub shown : Result NodeStatus StoreFault → Answer
-shown (Ok status) = answer.Node status
-shown (Err refusal) = stat_refused refusal
+abbrev pub stat_answer : Result NodeStatus StoreFault → Answer
+stat_answer (Ok status) = answer.Node status
+stat_answer (Err refusal) = stat_refused refusal
 
 -- ---- what a message gets at the state that stands
 
@@ -83,7 +83,7 @@ pub record IsShort (before : Situation) (a : Answer) (behind : Situation) : Type
 pub record Uses (volume : ℕ) (S : State) (before during : Situation) (store : Store) : Type 0 where
   pub journal : during.journal ≡ before.journal
   pub capacity : during.capacity ≡ before.capacity
-  pub knows : Knows during.capacity volume during.journal S store
+  pub knows : IsOpenOn during.capacity volume during.journal S store
 
 -- A new request was given to the store.
 pub record IsApplied (volume : ℕ) (S : State) (request : asking.Request) (during : Situation) (a : Answer) (behind : Situation) : Type 0 where
@@ -91,7 +91,7 @@ pub record IsApplied (volume : ℕ) (S : State) (request : asking.Request) (duri
   pub told : a ≡ applied result
   pub kept : Store
   pub store : behind.store ≡ Some kept
-  pub applies : Applies during.capacity volume during.journal S (said_request request) result behind.journal kept
+  pub applies : Applies during.capacity volume during.journal S (model_request request) result behind.journal kept
   pub capacity : behind.capacity ≡ during.capacity
 
 -- a request, by what is due for its number
@@ -104,9 +104,9 @@ IsDealt New volume S request during store a behind = IsApplied volume S request 
 
 -- a query's result
 abbrev pub IsQueried : State → asked.Query → Answer → Type 0
-IsQueried S (query.Get path) a = (result : Result (List ℕ) StoreFault) × Gets S path result × (a ≡ got result)
-IsQueried S (query.List path) a = (result : Result (List Listed) StoreFault) × Lists S path result × (a ≡ listed result)
-IsQueried S (query.Stat path) a = (result : Result NodeStatus StoreFault) × Stats S path result × (a ≡ shown result)
+IsQueried S (query.Get path) a = (result : Result (List ℕ) StoreFault) × Gets S path result × (a ≡ get_answer result)
+IsQueried S (query.List path) a = (result : Result (List Listed) StoreFault) × Lists S path result × (a ≡ list_answer result)
+IsQueried S (query.Stat path) a = (result : Result NodeStatus StoreFault) × Stats S path result × (a ≡ stat_answer result)
 
 -- A query was given to the store, and nothing was written.
 pub record IsRead (volume : ℕ) (S : State) (asked : asked.Query) (during : Situation) (a : Answer) (behind : Situation) : Type 0 where
@@ -115,7 +115,7 @@ pub record IsRead (volume : ℕ) (S : State) (asked : asked.Query) (during : Sit
   pub store : behind.store ≡ Some kept
   pub journal : behind.journal ≡ during.journal
   pub capacity : behind.capacity ≡ during.capacity
-  pub knows : StillKnows behind.capacity volume behind.journal S kept
+  pub knows : IsStillOpenOn behind.capacity volume behind.journal S kept
 
 -- each message, by the calls that it makes
 abbrev pub Calls : ℕ → Message → State → Situation → Answer → Situation → Type 0
@@ -129,7 +129,7 @@ Calls volume (message.Request request) S before a behind =
 abbrev pub CallsAreSteps : Type 0
 CallsAreSteps =
     (volume : ℕ) (m : Message) (S : State) (before : Situation) (a : Answer) (behind : Situation) → HoldsState volume S before → Calls volume m S before a behind
-    → (S' : State) × IsStep volume (medium.Delivery.Delivered (said_message m)) S before (Some (said_answer a)) S' behind
+    → (S' : State) × IsStep volume (medium.Delivery.Delivered (model_message m)) S before (Some (model_answer a)) S' behind
 
 -- and so does a restart
 abbrev pub RestartsAreSteps : Type 0

@@ -3,7 +3,7 @@ use Rattle.std.specs.Prelude.{◌≡◌, ℕ, List, [], ◌∷◌, ◌++◌, Opt
 use Rattle.std.specs.Option.{option_to_list}
 use Rattle.request.specs.declared.answer.Answer.{Answer}
 use Rattle.request.specs.declared.message.Message.{Message}
-use Rattle.request.specs.Payload.{TellsPayload}
+use Rattle.request.specs.Payload.{DecodesPayload}
 use Rattle.model.specs.Session.{State}
 use Rattle.store.specs.declared.store.Store.{Store}
 use Rattle.engine.specs.declared.runs.Delivery.{Delivery}
@@ -12,15 +12,15 @@ use Rattle.engine.specs.Situation.{Situation, HoldsNothing, with_store}
 use Rattle.engine.specs.Answered.{Answered, IsNothingThere, faults}
 use Rattle.engine.specs.Called.{Calls}
 use Rattle.engine.specs.Steps.{HoldsState}
-use Rattle.engine.specs.Withstanding.{AsksFor, Withstands}
+use Rattle.engine.specs.Withstanding.{AsksFor, MessageSurvivesPowerLoss}
 
 -- A message got its answer. On an honest drive where a state stands that an open store knows, it got it by that store's calls,
--- and whatever a loss of power leaves of what was written for it, that state stands or the one after the request. On an honest
+-- and whatever a power loss leaves of what was written for it, that state stands or the one after the request. On an honest
 -- drive where nothing stands, the answer says so.
 pub record IsAnswered (asked : Message) (before : Situation) (a : Answer) (behind : Situation) : Type 0 where
   pub answered : Answered asked before a behind
   pub calls : (volume : ℕ) (S : State) → IsTrue behind.honest → HoldsState volume S before → Calls volume asked S before a behind
-  pub withstands : (volume : ℕ) (S : State) → IsTrue behind.honest → HoldsState volume S before → Withstands volume S (AsksFor asked) (faults a) before behind
+  pub withstands : (volume : ℕ) (S : State) → IsTrue behind.honest → HoldsState volume S before → MessageSurvivesPowerLoss volume S (AsksFor asked) (faults a) before behind
   pub nothing : IsTrue behind.honest → HoldsNothing before → IsNothingThere asked before a behind
 
 -- a frame gets the answer to the message of its payload; at a restart all is forgotten that is not on the medium
@@ -28,7 +28,7 @@ abbrev pub Delivers : Delivery → Situation → Option Answer → Situation →
 Delivers Restart before None after = after ≡ with_store None before
 Delivers Restart before (Some a) after = ⊥
 Delivers (Frame payload) before None after = ⊥
-Delivers (Frame payload) before (Some a) after = (m : Message) × TellsPayload m payload.items × IsAnswered m before a after
+Delivers (Frame payload) before (Some a) after = (m : Message) × DecodesPayload m payload.items × IsAnswered m before a after
 
 -- each delivery in turn, with the answers to those that get one
 abbrev pub AllDelivered : List Delivery → Situation → List Answer → Situation → Type 0

@@ -1,4 +1,4 @@
--- Runs of which each is cut off by a loss of power, and the next begins on what the disk kept.
+-- Runs of which each is cut off by a power loss, and the next begins on what the disk kept.
 use Rattle.std.specs.Prelude.{◌≡◌, ◌⊎◌, ℕ, ◌+◌, ◌≤◌, List, [], ◌∷◌, ◌++◌, length, take}
 use Rattle.drive.specs.Journal.{Event, held, written, Once}
 use Rattle.drive.specs.Writes.{IsLeft}
@@ -8,29 +8,29 @@ use Rattle.model.specs.Session.{State, Request, due, after}
 use Rattle.model.specs.Session.Due.{New}
 use Rattle.model.specs.Runs.{AllNew, EachOnce}
 use Rattle.durability.specs.Formats.{Block}
-use Rattle.durability.specs.Volume.{Stands, Past}
+use Rattle.durability.specs.Volume.{RecoversTo, RecoveredTo}
 use Rattle.durability.specs.Commit.{need}
 use Rattle.durability.specs.Journal.{Advances, HoldsOnJournal}
 use Rattle.durability.specs.Runs.{Delivery, Answer}
 use Rattle.udf.specs.Udf.{udf, spelled}
 use Rattle.engine.specs.declared.runs.Delivery as delivered
 use Rattle.engine.specs.Situation.{Situation, with_store}
-use Rattle.engine.specs.Said.{AllSaid, said_answers}
+use Rattle.engine.specs.Said.{AllSaid, model_answers}
 use Rattle.engine.specs.Steps.{HoldsState}
 use Rattle.engine.specs.Delivered.{AllDelivered}
 use Rattle.engine.specs.Headline.{RunWithstands}
 use Rattle.engine.specs.Served.{AllAnswered, EachWithstands, brought}
 use Rattle.engine.specs.Withstanding.{AsksFor, Brings}
 
--- What came to a run and was answered before a loss of power, and the request under way, where the disk kept all of its commit.
+-- What came to a run and was answered before a power loss, and the request under way, where the disk kept all of its commit.
 pub record Life : Type 0 where
   pub said : List Delivery
   pub answers : List Answer
   pub under : List Request
 
--- So much was done when the power was lost: what came had been a run that holds its commits. Behind the loss the state after
+-- So much was done when the power was lost: what came had been a run that holds its commits. After the loss the state after
 -- these stands, or the one after them and the new request that was under way.
-pub record IsCut (capacity volume : ℕ) (S : State) (before : List Event) (life : Life) (behind : List Event) : Type 0 where
+pub record IsRunCutShort (capacity volume : ℕ) (S : State) (before : List Event) (life : Life) (behind : List Event) : Type 0 where
   pub during : List Event
   pub run : HoldsOnJournal udf (need spelled) capacity volume S before during life.said life.answers
   pub few : (life.under ≡ []) ⊎ ((request : Request) × (life.under ≡ request ∷ []) × (due (after S run.holds.committed) request.client request.number ≡ New))
@@ -40,7 +40,7 @@ pub record IsCut (capacity volume : ℕ) (S : State) (before : List Event) (life
 abbrev pub AreCut : ℕ → ℕ → State → List Event → List Life → List Request → List Event → Type 0
 AreCut capacity volume S before [] done behind = (done ≡ []) × (behind ≡ before)
 AreCut capacity volume S before (life ∷ lives) done behind =
-    (between : List Event) × (cut : IsCut capacity volume S before life between) × (rest : List Request)
+    (between : List Event) × (cut : IsRunCutShort capacity volume S before life between) × (rest : List Request)
     × (done ≡ (cut.run.holds.committed ++ life.under) ++ rest) × AreCut capacity volume (after S (cut.run.holds.committed ++ life.under)) between lives rest behind
 
 -- These requests were committed, each new where it stands and none twice. The state after them stands, each address was written
@@ -48,11 +48,11 @@ AreCut capacity volume S before (life ∷ lives) done behind =
 pub record Survives (capacity volume : ℕ) (S : State) (before : List Event) (done : List Request) (behind : List Event) : Type 0 where
   pub front : take (length before) behind ≡ before
   pub once : Once behind
-  pub stands : Stands udf capacity volume (held behind) (after S done)
+  pub stands : RecoversTo udf capacity volume (held behind) (after S done)
   pub new : AllNew S done
   pub each_once : EachOnce done
-  pub past : (commits : ℕ) (T : State) → Past udf capacity volume (held before) commits T → Past udf capacity volume (held behind) commits T
-  pub later : (j : ℕ) → j ≤ length done → Past udf capacity volume (held behind) (S.commits + j) (after S (take j done))
+  pub past : (commits : ℕ) (T : State) → RecoveredTo udf capacity volume (held before) commits T → RecoveredTo udf capacity volume (held behind) commits T
+  pub later : (j : ℕ) → j ≤ length done → RecoveredTo udf capacity volume (held behind) (S.commits + j) (after S (take j done))
 
 -- The power was lost on the way from one situation to the next: the disk kept what is left of the writes that were made.
 pub record IsLost (before next : Situation) (lost : List Event) : Type 0 where
@@ -80,10 +80,10 @@ pub record IsRunCut (capacity volume : ℕ) (S : State) (before : List Event) (d
   pub said : List Delivery
   pub are_said : AllSaid done said
   pub under : List Request
-  pub cut : IsCut capacity volume S before (record { said = said; answers = said_answers given; under = under }) lost
+  pub cut : IsRunCutShort capacity volume S before (record { said = said; answers = model_answers given; under = under }) lost
   pub brought : (under ≡ []) ⊎ ((request : Request) × (under ≡ request ∷ []) × Brings now request)
 
--- By what `run` says of its deliveries, a loss of power in any of them cuts the run off so.
+-- By what `run` says of its deliveries, a power loss in any of them cuts the run off so.
 abbrev pub RunsReach : Type 0
 RunsReach =
     (volume : ℕ) (deliveries : List delivered.Delivery) (S : State) (before : Situation) (answers : List told.Answer) (behind : Situation) → HoldsState volume S before
@@ -106,7 +106,7 @@ pub record IsStreamCut (capacity volume : ℕ) (S : State) (before : List Event)
   pub others : List told.Answer
   pub answers_are : answers ≡ given ++ others
   pub under : List Request
-  pub cut : IsCut capacity volume S before (record { said = brought done; answers = said_answers given; under = under }) lost
+  pub cut : IsRunCutShort capacity volume S before (record { said = brought done; answers = model_answers given; under = under }) lost
   pub asked : (under ≡ []) ⊎ ((request : Request) × (under ≡ request ∷ []) × AsksFor now request)
 
 -- by what `serve` says of the messages that it took
@@ -120,5 +120,5 @@ ServedReach =
 -- The next run finds what it needs: that this state stands, and each address was written once.
 abbrev pub LossesReach : Type 0
 LossesReach =
-    (capacity volume : ℕ) (S : State) (before : List Event) (lives : List Life) (done : List Request) (behind : List Event) → Once before → Stands udf capacity volume (held before) S
+    (capacity volume : ℕ) (S : State) (before : List Event) (lives : List Life) (done : List Request) (behind : List Event) → Once before → RecoversTo udf capacity volume (held before) S
     → AreCut capacity volume S before lives done behind → Survives capacity volume S before done behind

@@ -5,7 +5,7 @@ use Rattle.std.specs.Io.KnownBytes.{Appends, Consumes, IsAtEnd}
 use Rattle.request.specs.declared.answer.Answer.{Answer}
 use Rattle.request.specs.declared.message.Message.{Message}
 use Rattle.request.specs.Answers.{answer_frame}
-use Rattle.request.specs.Frames.{Takes, IsIdle, IsPartial, MessagesAre, fed}
+use Rattle.request.specs.Frames.{TakesMessage, IsIdle, IsPartial, MessagesAre, fed}
 use Rattle.model.specs.Session.{State}
 use Rattle.durability.specs.Commit.{need}
 use Rattle.durability.specs.Journal.{HoldsOnJournal}
@@ -17,10 +17,10 @@ use Rattle.engine.specs.declared.serving.ServeFault.{ServeFault}
 use Rattle.engine.specs.declared.serving.ServeFault.TheVariants as faults
 use Rattle.engine.specs.Answered.{faults}
 use Rattle.engine.specs.Delivered.{IsAnswered}
-use Rattle.engine.specs.Said.{said_answer, said_answers, said_message}
+use Rattle.engine.specs.Said.{model_answer, model_answers, model_message}
 use Rattle.engine.specs.Steps.{HoldsState, IsStep}
-use Rattle.engine.specs.Streams.{PutsFront}
-use Rattle.engine.specs.Withstanding.{AsksFor, Withstands}
+use Rattle.engine.specs.Streams.{PutsPrefix}
+use Rattle.engine.specs.Withstanding.{AsksFor, MessageSurvivesPowerLoss}
 
 -- each message got its answer, in order
 abbrev pub AllAnswered : List Message → Situation → List Answer → Situation → Type 0
@@ -30,14 +30,14 @@ AllAnswered (m ∷ messages) before [] after = ⊥
 AllAnswered (m ∷ messages) before (a ∷ answers) after = (during : Situation) × IsAnswered m before a during × AllAnswered messages during answers after
 
 abbrev pub brought : List Message → List Delivery
-brought messages = map (λ m. Delivered (said_message m)) messages
+brought messages = map (λ m. Delivered (model_message m)) messages
 
--- On an honest drive, where a state stands that an open store knows: what stands at each front of what was written is the
+-- On an honest drive, where a state stands that an open store knows: what stands at each prefix of what was written is the
 -- state after the first of the requests that were committed.
 abbrev pub ServedHolds : List Message → Situation → List Answer → Situation → Type 0
 ServedHolds messages before answers behind =
     (volume : ℕ) (S : State) → IsTrue behind.honest → HoldsState volume S before
-    → HoldsOnJournal udf (need spelled) before.capacity volume S before.journal behind.journal (brought messages) (said_answers answers)
+    → HoldsOnJournal udf (need spelled) before.capacity volume S before.journal behind.journal (brought messages) (model_answers answers)
 
 -- Of messages, one after another, from the state that stands where the first of them comes. Each is a step that the medium's
 -- runs allow, from the state that the one before it left and the journal as it was when the message came. And whatever a loss
@@ -47,8 +47,8 @@ EachWithstands volume [] S before [] behind all S' = S' ≡ S
 EachWithstands volume [] S before (a ∷ answers) behind all S' = ⊥
 EachWithstands volume (m ∷ messages) S before [] behind all S' = ⊥
 EachWithstands volume (m ∷ messages) S before (a ∷ answers) behind all S' =
-    (T : State) × IsStep volume (Delivered (said_message m)) S before (Some (said_answer a)) T all.0
-    × Withstands volume S (AsksFor m) (faults a) before all.0
+    (T : State) × IsStep volume (Delivered (model_message m)) S before (Some (model_answer a)) T all.0
+    × MessageSurvivesPowerLoss volume S (AsksFor m) (faults a) before all.0
     × EachWithstands volume messages T all.0 answers behind all.2 S'
 
 -- so it is of these, as they were answered, on an honest drive where a state stands that an open store knows
@@ -59,7 +59,7 @@ ServedWithstands messages before answers behind all =
 -- a reader of frames gave these messages, in order
 abbrev pub AllTaken : Option (List ℕ) → List Message → Option (List ℕ) → Type 0
 AllTaken reader [] after = after ≡ reader
-AllTaken reader (m ∷ messages) after = (between : Option (List ℕ)) × Takes reader m between × AllTaken between messages after
+AllTaken reader (m ∷ messages) after = (between : Option (List ℕ)) × TakesMessage reader m between × AllTaken between messages after
 
 -- the frames of answers, in order
 abbrev pub frames_of : List Answer → List ℕ
@@ -81,11 +81,11 @@ AllTold answers reader output written = IsIdle reader × Appends output written 
 abbrev pub LastUntold : List Answer → ℕ → Option (List ℕ) → Option (List ℕ) → Type 0
 LastUntold answers count output written = (others : List Answer) × (last : Answer) × (answers ≡ others ++ last ∷ []) × Appends output written (frames_of others ++ take count (answer_frame last))
 
--- bytes were read of which the reader of frames took none, behind answers that were written whole
+-- bytes were read of which the reader of frames took none, after answers that were written whole
 abbrev pub Unlooked : List Answer → Option (List ℕ) → Option (List ℕ) → Option (List ℕ) → Type 0
 Unlooked answers reader output written = (earlier : Option (List ℕ)) × (piece : List ℕ) × IsIdle earlier × (piece ≡ [] → ⊥) × (reader ≡ fed earlier piece) × Appends output written (frames_of answers)
 
--- Why messages that are there were left, by what was written of their answers. A write fails at the last answer, or behind
+-- Why messages that are there were left, by what was written of their answers. A write fails at the last answer, or after
 -- all of them. Memory is short where the last answer has no frame.
 abbrev pub LeftAt : ServeFault → List Answer → Option (List ℕ) → Option (List ℕ) → Option (List ℕ) → Type 0
 LeftAt faults.Read answers reader output written = ⊥
@@ -107,7 +107,7 @@ pub record AnswersSome (fault : ServeFault) (reader after : Option (List ℕ)) (
   pub answers : List Answer
   pub taken : AllTaken reader messages after
   pub answered : AllAnswered messages before answers behind
-  pub front : PutsFront output written (frames_of answers)
+  pub front : PutsPrefix output written (frames_of answers)
   pub left : LeftAt fault answers after output written
 
 -- Bytes were read. The messages that a reader of frames gave of them, and that is left so, were answered, and each answer's frame was written.
@@ -152,7 +152,7 @@ pub record ServesSome (before behind : Situation) (input left output written : O
   pub answered : AllAnswered messages before answers behind
   pub holds : ServedHolds messages before answers behind
   pub withstands : ServedWithstands messages before answers behind answered
-  pub front : PutsFront output written (frames_of answers)
+  pub front : PutsPrefix output written (frames_of answers)
 
 -- The same, up to where this fault came.
 pub record ServesUntil (fault : ServeFault) (before behind : Situation) (input left output written : Option (List ℕ)) : Type 0 where

@@ -3,8 +3,8 @@ use Rattle.std.specs.Prelude.{◌≡◌, ℕ, ◌++◌, Bool, false, List, Optio
 use Rattle.drive.specs.Journal.{Event, Once, held}
 use Rattle.drive.specs.declared.Drive.{Ghosts}
 use Rattle.store.specs.declared.store.Store.{Store}
-use Rattle.store.specs.Agrees.{Agrees}
-use Rattle.store.specs.Opened.{NothingStands}
+use Rattle.store.specs.Agrees.{IsStoreOn}
+use Rattle.store.specs.Opened.{RecoversToNothingHere}
 use Rattle.engine.specs.declared.engine.Engine.{Engine}
 
 pub record Situation : Type 0 where
@@ -17,7 +17,7 @@ pub record Situation : Type 0 where
 
 -- a store that is kept agrees with the drive
 abbrev pub IsReady : Situation → Type 0
-IsReady s = IfSome s.store (Agrees s.journal s.capacity)
+IsReady s = IfSome s.store (IsStoreOn s.journal s.capacity)
 
 -- this store is kept, and did not stop
 abbrev pub IsOpen : Situation → Store → Type 0
@@ -49,5 +49,5 @@ with_store store s = record s { store = store }
 -- No state stands on the drive's journal, and no store is open.
 pub record HoldsNothing (s : Situation) : Type 0 where
   pub once : Once s.journal
-  pub nothing : NothingStands s.capacity (held s.journal)
+  pub nothing : RecoversToNothingHere s.capacity (held s.journal)
   pub closed : (store : Store) → IsOpen s store → ⊥

@@ -3,20 +3,20 @@ use Rattle.std.specs.Prelude.{◌≡◌, ℕ, ◌+◌, List, [], ◌∷◌, ◌+
 use Rattle.std.specs.Option.{option_to_list}
 use Rattle.drive.specs.Journal.{held, Once}
 use Rattle.model.specs.Session.{State, after}
-use Rattle.durability.specs.Volume.{Stands}
+use Rattle.durability.specs.Volume.{RecoversTo}
 use Rattle.durability.specs.Commit.{need}
 use Rattle.durability.specs.Journal.{Advances, HoldsOnJournal}
 use Rattle.durability.specs.Runs.{Delivery, Answer, Effect, Row}
 use Rattle.udf.specs.Udf.{udf, spelled}
 use Rattle.store.specs.declared.store.Store.{Store}
-use Rattle.store.specs.Calls.{Knows}
+use Rattle.store.specs.Calls.{IsOpenOn}
 use Rattle.engine.specs.Situation.{Situation, IsOpen}
 
 -- The state stands on the drive's journal, and a store that is open keeps it.
 pub record HoldsState (volume : ℕ) (S : State) (s : Situation) : Type 0 where
   pub once : Once s.journal
-  pub stands : Stands udf s.capacity volume (held s.journal) S
-  pub knows : (store : Store) → IsOpen s store → Knows s.capacity volume s.journal S store
+  pub stands : RecoversTo udf s.capacity volume (held s.journal) S
+  pub knows : (store : Store) → IsOpen s store → IsOpenOn s.capacity volume s.journal S store
 
 -- A delivery gets an answer, none at a restart, by a row of the medium's, and the journal goes on as the row says.
 pub record IsStep (volume : ℕ) (d : Delivery) (S : State) (before : Situation) (a : Option Answer) (S' : State) (behind : Situation) : Type 0 where
@@ -35,7 +35,7 @@ AllSteps volume (d ∷ ds) S before answers S' behind =
     (a : Option Answer) × (T : State) × (during : Situation) × (rest : List Answer) × IsStep volume d S before a T during
     × (answers ≡ option_to_list a ++ rest) × AllSteps volume ds T during rest S' behind
 
--- so what stands at each front of the journal is the state after the first of the requests that were committed
+-- so what stands at each prefix of the journal is the state after the first of the requests that were committed
 abbrev pub StepsHold : Type 0
 StepsHold =
     (volume : ℕ) (deliveries : List Delivery) (S : State) (before : Situation) (answers : List Answer) (S' : State) (behind : Situation) → HoldsState volume S before

@@ -9,14 +9,14 @@ pub record TakesPiece (before after : Option (List ℕ)) (piece : List ℕ) : Ty
   pub consumed : Consumes before after piece
   pub end : piece ≡ [] → IsAtEnd after
 
--- a front of these bytes was written
-abbrev pub PutsFront : Option (List ℕ) → Option (List ℕ) → List ℕ → Type 0
-PutsFront before after bytes = (count : ℕ) × Appends before after (take count bytes)
+-- a prefix of these bytes was written
+abbrev pub PutsPrefix : Option (List ℕ) → Option (List ℕ) → List ℕ → Type 0
+PutsPrefix before after bytes = (count : ℕ) × Appends before after (take count bytes)
 
--- The bytes were not written whole: a front of them where a write failed, and nothing where there was no memory to make them.
+-- The bytes were not written whole: a prefix of them where a write failed, and nothing where there was no memory to make them.
 abbrev pub PutsUntil : ServeFault → Option (List ℕ) → Option (List ℕ) → List ℕ → Type 0
 PutsUntil faults.Read before after bytes = ⊥
-PutsUntil faults.Write before after bytes = PutsFront before after bytes
+PutsUntil faults.Write before after bytes = PutsPrefix before after bytes
 PutsUntil faults.Memory before after bytes = Keeps before after
 
 -- Why a stream is read no further: a read failed, and took nothing; or there was no memory, for bytes that were read or for

@@ -3,20 +3,20 @@
 ghost use Rattle.std.specs.Prelude.{◌≡◌, ◌⊎◌, ℕ, Some, None, Ok, Err, IsTrue, IfOk, IfErr, OnOk, OnErr, false, option_copied};
 ghost use Rattle.model.specs.Session.{State};
 ghost use Rattle.model.specs.Tree.{Path};
-ghost use Rattle.drive.specs.Reads.{Reads};
+ghost use Rattle.drive.specs.Reads.{ReadsOnly};
 ghost use Rattle.drive.specs.Reads as drives;
 ghost use Rattle.recover.specs.Faults.{IsShortage, devices, failures_of};
 ghost use Rattle.request.specs.declared.answer.Answer.TheVariants as answers;
 ghost use Rattle.request.specs.declared.message.Message.TheVariants as messages;
 ghost use Rattle.request.specs.declared.message.Query.TheVariants as queries;
-ghost use Rattle.store.specs.Agrees.{Agrees};
-ghost use Rattle.store.specs.Calls.{Knows};
+ghost use Rattle.store.specs.Agrees.{IsStoreOn};
+ghost use Rattle.store.specs.Calls.{IsOpenOn};
 ghost use Rattle.store.specs.declared.store.Store.{Store};
 ghost use Rattle.engine.specs.Situation.{IsReady, IsOpen, AddsBlocks, HoldsNothing, seen_on, situation_on};
-ghost use Rattle.engine.specs.Answered.{Answered, due_of, IsDue, IsNothingThere, CanBeTold, FailsOrIsDamaged, faults};
+ghost use Rattle.engine.specs.Answered.{Answered, due_of, IsAnsweredAsDue, IsNothingThere, CanBeAnswered, FailsOrIsDamaged, faults};
 ghost use Rattle.engine.specs.Called.{Calls, IsDealt, IsQueried, failed, refused, get_refused, list_refused, stat_refused};
 ghost use Rattle.engine.specs.Steps.{HoldsState};
-ghost use Rattle.engine.specs.Withstanding.{Withstands, AsksFor};
+ghost use Rattle.engine.specs.Withstanding.{MessageSurvivesPowerLoss, AsksFor};
 
 use drive::Drive;
 use request::{Answer, Message, Query, Request};
@@ -43,12 +43,12 @@ impl Engine {
         ensures answered { Answered message.entry (seen_on D.Drive self.old drive.old) result (seen_on D.Drive self.new drive.new) }
         // On an honest drive, where a state stands that an open store knows.
         ensures calls { (volume : ℕ) (S : State) → IsTrue (D.honest drive.new) → HoldsState volume S (seen_on D.Drive self.old drive.old) → Calls volume message.entry S (seen_on D.Drive self.old drive.old) result (seen_on D.Drive self.new drive.new) }
-        // What its writes leave on the journal; and what a loss of power leaves of them, where a disk keeps any choice of the blocks
+        // What its writes leave on the journal; and what a power loss leaves of them, where a disk keeps any choice of the blocks
         // of the last one that it was given.
-        ensures withstands { (volume : ℕ) (S : State) → IsTrue (D.honest drive.new) → HoldsState volume S (seen_on D.Drive self.old drive.old) → Withstands volume S (AsksFor message.entry) (faults result) (seen_on D.Drive self.old drive.old) (seen_on D.Drive self.new drive.new) }
+        ensures withstands { (volume : ℕ) (S : State) → IsTrue (D.honest drive.new) → HoldsState volume S (seen_on D.Drive self.old drive.old) → MessageSurvivesPowerLoss volume S (AsksFor message.entry) (faults result) (seen_on D.Drive self.old drive.old) (seen_on D.Drive self.new drive.new) }
         // On an honest drive where nothing stands.
         ensures nothing { IsTrue (D.honest drive.new) → HoldsNothing (seen_on D.Drive self.old drive.old) → IsNothingThere message.entry (seen_on D.Drive self.old drive.old) result (seen_on D.Drive self.new drive.new) }
-        ensures lent { drives.Follows D.Drive (faults result) drive.old drive.new }
+        ensures lent { drives.ReadsAndWrites D.Drive (faults result) drive.old drive.new }
     {
         match message {
             Message::Malformed(cause) => Answer::Malformed(cause),
@@ -77,7 +77,7 @@ impl Engine {
         requires { IsReady (seen_on D.Drive self.old drive.old) }
         ensures open { OnOk result ((store : Store) × IsOpen (seen_on D.Drive self.new drive.new) store) }
         ensures closed { OnErr result (self.new.store ≡ None) }
-        // A state that stands is known then, and only a failure or want of memory keeps it from being opened.
+        // A state that stands is known then, and only a failure or lack of memory keeps it from being opened.
         ensures holds { (volume : ℕ) (S : State) → IsTrue (D.honest drive.new) → HoldsState volume S (seen_on D.Drive self.old drive.old) → HoldsState volume S (seen_on D.Drive self.new drive.new) }
         ensures short { (volume : ℕ) (S : State) → IsTrue (D.honest drive.new) → HoldsState volume S (seen_on D.Drive self.old drive.old) → IfErr result IsShortage }
         // Where nothing stands nothing is opened.
@@ -85,7 +85,7 @@ impl Engine {
         // Where it is open nothing is done.
         ensures stays { (kept : Store) → IsOpen (seen_on D.Drive self.old drive.old) kept → (self.new ≡ self.old) × (drive.new ≡ drive.old) }
         ensures ready { IsReady (seen_on D.Drive self.new drive.new) }
-        ensures reads { Reads D.Drive (devices result) drive.old drive.new }
+        ensures reads { ReadsOnly D.Drive (devices result) drive.old drive.new }
     {
         match self.take_open(alloc, drive) {
             Ok(store) => {
@@ -106,14 +106,14 @@ impl Engine {
     /// Takes the store out: the one that is open, or one that is opened now.
     fn take_open<D: Drive>(&mut self, alloc: Global, drive: &mut D) -> Result<Store, StoreFault>
         requires { IsReady (seen_on D.Drive self.old drive.old) }
-        ensures agrees { IfOk result (Agrees (D.journal drive.new) (D.capacity drive.new)) }
+        ensures agrees { IfOk result (IsStoreOn (D.journal drive.new) (D.capacity drive.new)) }
         ensures open { IfOk result (λ store. store.is_stopped ≡ false) }
-        ensures knows { (volume : ℕ) (S : State) → IsTrue (D.honest drive.new) → HoldsState volume S (seen_on D.Drive self.old drive.old) → IfOk result (Knows (D.capacity drive.old) volume (D.journal drive.old) S) }
+        ensures knows { (volume : ℕ) (S : State) → IsTrue (D.honest drive.new) → HoldsState volume S (seen_on D.Drive self.old drive.old) → IfOk result (IsOpenOn (D.capacity drive.old) volume (D.journal drive.old) S) }
         ensures short { (volume : ℕ) (S : State) → IsTrue (D.honest drive.new) → HoldsState volume S (seen_on D.Drive self.old drive.old) → IfErr result IsShortage }
         ensures nothing { IsTrue (D.honest drive.new) → HoldsNothing (seen_on D.Drive self.old drive.old) → IfOk result (λ store. ⊥) }
         ensures taken { self.new.store ≡ None }
         ensures stays { (kept : _) → self.old.store ≡ Some kept → kept.is_stopped ≡ false → (result ≡ Ok kept) × (drive.new ≡ drive.old) }
-        ensures reads { Reads D.Drive (devices result) drive.old drive.new }
+        ensures reads { ReadsOnly D.Drive (devices result) drive.old drive.new }
     {
         match self.store.take() {
             Some(store) if !store.stopped() => Ok(store),
@@ -130,12 +130,12 @@ fn answer_request<D: Drive>(
     drive: &mut D,
     request: &Request<'_>,
 ) -> Answer
-    requires { Agrees (D.journal drive.old) (D.capacity drive.old) store.old }
-    ensures due { IsDue (due_of store.old request.now.client request.now.number) (situation_on D.Drive (Some store.old) drive.old) result (situation_on D.Drive (Some store.new) drive.new) }
+    requires { IsStoreOn (D.journal drive.old) (D.capacity drive.old) store.old }
+    ensures due { IsAnsweredAsDue (due_of store.old request.now.client request.now.number) (situation_on D.Drive (Some store.old) drive.old) result (situation_on D.Drive (Some store.new) drive.new) }
     ensures follows { AddsBlocks (situation_on D.Drive (Some store.old) drive.old) (situation_on D.Drive (Some store.new) drive.new) }
-    ensures dealt { (volume : ℕ) (S : State) → IsTrue (D.honest drive.new) → Knows (D.capacity drive.old) volume (D.journal drive.old) S store.old → store.old.is_stopped ≡ false → IsDealt (due_of store.old request.now.client request.now.number) volume S request.now (situation_on D.Drive (Some store.old) drive.old) store.old result (situation_on D.Drive (Some store.new) drive.new) }
-    ensures withstands { (volume : ℕ) (S : State) → IsTrue (D.honest drive.new) → Knows (D.capacity drive.old) volume (D.journal drive.old) S store.old → Withstands volume S (AsksFor (messages.Request request.now)) (faults result) (situation_on D.Drive (Some store.old) drive.old) (situation_on D.Drive (Some store.new) drive.new) }
-    ensures lent { drives.Follows D.Drive (faults result) drive.old drive.new }
+    ensures dealt { (volume : ℕ) (S : State) → IsTrue (D.honest drive.new) → IsOpenOn (D.capacity drive.old) volume (D.journal drive.old) S store.old → store.old.is_stopped ≡ false → IsDealt (due_of store.old request.now.client request.now.number) volume S request.now (situation_on D.Drive (Some store.old) drive.old) store.old result (situation_on D.Drive (Some store.new) drive.new) }
+    ensures withstands { (volume : ℕ) (S : State) → IsTrue (D.honest drive.new) → IsOpenOn (D.capacity drive.old) volume (D.journal drive.old) S store.old → MessageSurvivesPowerLoss volume S (AsksFor (messages.Request request.now)) (faults result) (situation_on D.Drive (Some store.old) drive.old) (situation_on D.Drive (Some store.new) drive.new) }
+    ensures lent { drives.ReadsAndWrites D.Drive (faults result) drive.old drive.new }
 {
     match store.due(request.client, request.number) {
         Due::Repeat(reply) => Answer::Reply(reply),
@@ -151,11 +151,11 @@ fn answer_request<D: Drive>(
 
 /// The answer to a query.
 fn answer_query<D: Drive>(store: &mut Store, alloc: Global, drive: &mut D, query: &Query) -> Answer
-    requires { Agrees (D.journal drive.old) (D.capacity drive.old) store.old }
-    ensures told { CanBeTold query.now result }
-    ensures queried { (volume : ℕ) (S : State) → IsTrue (D.honest drive.new) → Knows (D.capacity drive.old) volume (D.journal drive.old) S store.old → store.old.is_stopped ≡ false → IsQueried S query.now result × Knows (D.capacity drive.old) volume (D.journal drive.old) S store.new }
-    ensures agrees { Agrees (D.journal drive.new) (D.capacity drive.new) store.new }
-    ensures reads { Reads D.Drive (faults result) drive.old drive.new }
+    requires { IsStoreOn (D.journal drive.old) (D.capacity drive.old) store.old }
+    ensures reported { CanBeAnswered query.now result }
+    ensures queried { (volume : ℕ) (S : State) → IsTrue (D.honest drive.new) → IsOpenOn (D.capacity drive.old) volume (D.journal drive.old) S store.old → store.old.is_stopped ≡ false → IsQueried S query.now result × IsOpenOn (D.capacity drive.old) volume (D.journal drive.old) S store.new }
+    ensures agrees { IsStoreOn (D.journal drive.new) (D.capacity drive.new) store.new }
+    ensures reads { ReadsOnly D.Drive (faults result) drive.old drive.new }
 {
     match query {
         Query::Get(path) => match store.get(alloc, drive, path) {
@@ -188,7 +188,7 @@ fn refusal(fault: StoreFault) -> Answer
 /// The answer where a file's bytes are not given.
 fn get_refusal(fault: StoreFault) -> Answer
     ensures refused { result ≡ get_refused fault }
-    ensures told { (path : Path) → CanBeTold (queries.Get path) result }
+    ensures reported { (path : Path) → CanBeAnswered (queries.Get path) result }
     ensures device { faults result ≡ failures_of fault }
 {
     match fault {
@@ -201,7 +201,7 @@ fn get_refusal(fault: StoreFault) -> Answer
 /// The answer where a directory's names are not given.
 fn list_refusal(fault: StoreFault) -> Answer
     ensures refused { result ≡ list_refused fault }
-    ensures told { (path : Path) → CanBeTold (queries.List path) result }
+    ensures reported { (path : Path) → CanBeAnswered (queries.List path) result }
     ensures device { faults result ≡ failures_of fault }
 {
     match fault {
@@ -214,7 +214,7 @@ fn list_refusal(fault: StoreFault) -> Answer
 /// The answer where it is not told what a path leads to.
 fn stat_refusal(fault: StoreFault) -> Answer
     ensures refused { result ≡ stat_refused fault }
-    ensures told { (path : Path) → CanBeTold (queries.Stat path) result }
+    ensures reported { (path : Path) → CanBeAnswered (queries.Stat path) result }
     ensures device { faults result ≡ failures_of fault }
 {
     match fault {

@@ -1,7 +1,7 @@
 //! Answers that are held in memory until they are asked for.
 
 ghost use Rattle.std.specs.Prelude.{◌≡◌, ◌++◌, Some, OnOk, OnErr};
-ghost use Rattle.drive.specs.Reads.{Follows};
+ghost use Rattle.drive.specs.Reads.{ReadsAndWrites};
 ghost use Rattle.request.specs.Answers.{answer_frame};
 ghost use Rattle.request.specs.Frames.{IsIdle};
 ghost use Rattle.engine.specs.declared.serving.ServeFault.TheVariants.{Memory};
@@ -30,7 +30,7 @@ pub fn answer_held<D: Drive>(
     ensures err { OnErr result (AnswersSome Memory frames.old frames.new (seen_on D.Drive engine.old drive.old) (seen_on D.Drive engine.new drive.new)
         (Some answers.old.items) (Some answers.new.items)) }
     ensures ready { IsReady (seen_on D.Drive engine.new drive.new) }
-    ensures lent { Follows D.Drive 0 drive.old drive.new }
+    ensures lent { ReadsAndWrites D.Drive 0 drive.old drive.new }
 {
     while let Some(message) = frames.first() {
         let answer = engine.answer(alloc, drive, message);

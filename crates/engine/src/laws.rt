@@ -11,7 +11,7 @@ pub fn calls_are_steps()
     ensures restarts { RestartsAreSteps }
 {}
 
-/// Such steps leave at each front of the journal the state after the first of the requests that were committed.
+/// Such steps leave at each prefix of the journal the state after the first of the requests that were committed.
 pub fn steps_hold()
     ensures { StepsHold }
 {}
@@ -23,7 +23,7 @@ pub fn runs_hold()
     ensures held { RunsAreHeld }
 {}
 
-/// Whatever a loss of power leaves of a delivery of a run, or of a message of a stream, what came before it is cut off behind
+/// Whatever a power loss leaves of a delivery of a run, or of a message of a stream, what came before it is cut off after
 /// all its commits, and perhaps the new request under way; and of runs that are so cut off one after another, however many,
 /// the state after all that was committed stands, from which the next one goes on.
 pub fn losses_are_survived()

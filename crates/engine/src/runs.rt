@@ -2,9 +2,9 @@
 
 ghost use Rattle.std.specs.Prelude.{◌≡◌, ◌≤◌, ℕ, None, IsTrue, IfOk, OnErr, sum_by};
 ghost use Rattle.drive.specs.Journal.{held, Once};
-ghost use Rattle.durability.specs.Volume.{Stands};
+ghost use Rattle.durability.specs.Volume.{RecoversTo};
 ghost use Rattle.model.specs.Session.{State};
-ghost use Rattle.drive.specs.Reads.{Counts, Follows};
+ghost use Rattle.drive.specs.Reads.{CountsFailures, ReadsAndWrites};
 ghost use Rattle.udf.specs.Udf.{udf};
 ghost use Rattle.engine.specs.Answered.{faults};
 ghost use Rattle.engine.specs.Situation.{IsReady, seen_on, situation_on};
@@ -33,17 +33,17 @@ pub fn run<D: Drive>(
     deliveries: &[Delivery],
 ) -> Result<Vec<Answer>, AllocError>
     ensures ok { IfOk result (λ answers. RunsDeliveries deliveries.now answers.items (situation_on D.Drive None drive.old) (situation_on D.Drive None drive.new)) }
-    // On an honest drive where a state stands: what stands at each front of what was written.
-    ensures holds { (volume : ℕ) (S : State) → IsTrue (D.honest drive.new) → Once (D.journal drive.old) → Stands udf (D.capacity drive.old) volume (held (D.journal drive.old)) S
+    // On an honest drive where a state stands: what stands at each prefix of what was written.
+    ensures holds { (volume : ℕ) (S : State) → IsTrue (D.honest drive.new) → Once (D.journal drive.old) → RecoversTo udf (D.capacity drive.old) volume (held (D.journal drive.old)) S
         → IfOk result (λ answers. RunHolds volume (D.capacity drive.old) deliveries.now S (D.journal drive.old) answers.items (D.journal drive.new)) }
     // The same of every delivery, from the journal as it was when that delivery began, whatever part of the write that had not
-    // returned a loss of power leaves.
-    ensures withstands { (volume : ℕ) (S : State) → IsTrue (D.honest drive.new) → Once (D.journal drive.old) → Stands udf (D.capacity drive.old) volume (held (D.journal drive.old)) S
+    // returned a power loss leaves.
+    ensures withstands { (volume : ℕ) (S : State) → IsTrue (D.honest drive.new) → Once (D.journal drive.old) → RecoversTo udf (D.capacity drive.old) volume (held (D.journal drive.old)) S
         → IfOk result (λ answers. RunWithstands volume deliveries.now S (situation_on D.Drive None drive.old) answers.items (situation_on D.Drive None drive.new)) }
     // No more answers tell of a failing drive than failures were counted.
-    ensures failures { IfOk result (λ answers. Counts (sum_by faults answers.items) (D.failures drive.old) (D.failures drive.new)) }
+    ensures failures { IfOk result (λ answers. CountsFailures (sum_by faults answers.items) (D.failures drive.old) (D.failures drive.new)) }
     ensures err { OnErr result (situation_on D.Drive None drive.new ≡ situation_on D.Drive None drive.old) }
-    ensures lent { Follows D.Drive 0 drive.old drive.new }
+    ensures lent { ReadsAndWrites D.Drive 0 drive.old drive.new }
 {
     let mut answers = Vec::with_capacity(alloc, deliveries.len())?;
     let mut engine = Engine::new();
@@ -65,7 +65,7 @@ fn deliver<D: Drive>(
     requires { IsReady (seen_on D.Drive engine.old drive.old) }
     ensures delivers { Delivers delivery.now (seen_on D.Drive engine.old drive.old) result (seen_on D.Drive engine.new drive.new) }
     ensures ready { IsReady (seen_on D.Drive engine.new drive.new) }
-    ensures lent { Follows D.Drive 0 drive.old drive.new }
+    ensures lent { ReadsAndWrites D.Drive 0 drive.old drive.new }
 {
     match delivery {
         Delivery::Restart => {

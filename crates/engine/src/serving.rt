@@ -2,7 +2,7 @@
 
 ghost use Rattle.std.specs.Prelude.{◌≡◌, ◌≤◌, [], OnOk, IfOk, IfErr};
 ghost use Rattle.std.specs.Io.KnownBytes.{Appends};
-ghost use Rattle.drive.specs.Reads.{Follows};
+ghost use Rattle.drive.specs.Reads.{ReadsAndWrites};
 ghost use Rattle.request.specs.Answers.{answer_frame};
 ghost use Rattle.request.specs.Frames.{IsIdle};
 ghost use Rattle.request.specs.Streams.{ReadsPiece};
@@ -48,7 +48,7 @@ pub fn serve<R: Read, W: Write, D: Drive>(
     ensures left { IfErr result (λ fault. ServesUntil fault (seen_on D.Drive engine.old drive.old) (seen_on D.Drive engine.new drive.new)
         (R.remaining reader.old) (R.remaining reader.new) (W.contents writer.old) (W.contents writer.new)) }
     ensures ready { IsReady (seen_on D.Drive engine.new drive.new) }
-    ensures lent { Follows D.Drive 0 drive.old drive.new }
+    ensures lent { ReadsAndWrites D.Drive 0 drive.old drive.new }
 {
     let mut frames = Frames::new(alloc);
     let mut answers = Vec::new(alloc);
@@ -109,7 +109,7 @@ fn answer_all<W: Write, D: Drive>(
     ensures err { IfErr result (λ fault. AnswersSome fault frames.old frames.new (seen_on D.Drive engine.old drive.old) (seen_on D.Drive engine.new drive.new)
         (W.contents writer.old) (W.contents writer.new)) }
     ensures ready { IsReady (seen_on D.Drive engine.new drive.new) }
-    ensures lent { Follows D.Drive 0 drive.old drive.new }
+    ensures lent { ReadsAndWrites D.Drive 0 drive.old drive.new }
 {
     while let Some(message) = frames.first() {
         let answer = engine.answer(alloc, drive, message);
@@ -122,7 +122,7 @@ fn answer_all<W: Write, D: Drive>(
     Ok(())
 }
 
-/// Writes an answer's frame, which is made in the buffer. Where a write fails, a front of it was written.
+/// Writes an answer's frame, which is made in the buffer. Where a write fails, a prefix of it was written.
 fn write_answer<W: Write>(
     writer: &mut W,
     answer: Answer,

@@ -2,7 +2,7 @@
 
 ghost use Rattle.std.specs.Prelude.{◌≡◌, ◌≤◌, ◌<◌, ℕ, length, take, IfOk, IfErr, OnOk, OnErr};
 ghost use Rattle.std.specs.Io.KnownBytes.{Appends, Consumes, IsAtEnd, Keeps};
-ghost use Rattle.engine.specs.Streams.{TakesPiece, PutsFront};
+ghost use Rattle.engine.specs.Streams.{TakesPiece, PutsPrefix};
 ghost use Rattle.engine.specs.declared.serving.ServeFault.TheVariants as faults;
 
 use crate::serving::ServeFault;
@@ -26,10 +26,10 @@ pub fn read_piece<R: Read>(reader: &mut R, piece: &mut [u8]) -> Result<usize, Se
     Err(ServeFault::Read)
 }
 
-/// Writes the bytes. Where it fails, a front of them was written.
+/// Writes the bytes. Where it fails, a prefix of them was written.
 pub fn put_all<W: Write>(writer: &mut W, bytes: &[u8]) -> Result<(), ServeFault>
     ensures ok { OnOk result (Appends (W.contents writer.old) (W.contents writer.new) bytes.now) }
-    ensures err { OnErr result (PutsFront (W.contents writer.old) (W.contents writer.new) bytes.now) }
+    ensures err { OnErr result (PutsPrefix (W.contents writer.old) (W.contents writer.new) bytes.now) }
     ensures fault { IfErr result (λ fault. fault ≡ faults.Write) }
 {
     let mut rest = bytes;

@@ -7,7 +7,7 @@ use Rattle.std.proofs.Math.Seq.{take-add, take-length}
 use Rattle.std.proofs.lemmas.Bool.{cases_lt}
 use Rattle.std.proofs.lemmas.List.{same_lists, take-append-drop, get_or_default, get_or-append-add, get_or-take, length-take, length-take-le, take-append-le, drop_at, take_at, take_all}
 use Rattle.std.proofs.lemmas.List.Elements.{All-append, All-push}
-use Rattle.drive.specs.Journal.{Event, written, next_of, last_at, later_or, table, held, AddsFront}
+use Rattle.drive.specs.Journal.{Event, written, next_of, last_at, later_or, table, held, AddsPrefix}
 use Rattle.drive.proofs.Journals.{last-append, next_after_write}
 use Rattle.drive.proofs.Fronts.{front_whole, front_within}
 use Rattle.drive.proofs.Sending.{front_split, last_split}
@@ -18,17 +18,17 @@ use Rattle.volume.proofs.FrontLaws.{each_push}
 use Rattle.recover.proofs.Held.{length-held}
 use Rattle.model.specs.Session.{formatted}
 use Rattle.durability.specs.Formats.{Block}
-use Rattle.durability.specs.Volume.{IsTableEntry, Stands}
+use Rattle.durability.specs.Volume.{IsVatIcbAt, RecoversTo}
 use Rattle.durability.specs.Step.{IsFormat}
 use Rattle.durability.proofs.Formatted.{format_stands}
 use Rattle.durability.proofs.Mediums.{none_take_at}
 use Rattle.udf.specs.Udf.{udf, IsBlock}
 use Rattle.durability.proofs.Torn.{format_torn}
 use Rattle.durability.proofs.Writes.{left_more}
-use Rattle.durability.specs.Torn.{NothingStands}
+use Rattle.durability.specs.Torn.{RecoversToNothing}
 use Rattle.udf.proofs.Formats.{exact, bounded, distinct}
 use Rattle.udf.proofs.NewVolume.{new_volumes_are_formats}
-use Rattle.formatting.specs.NewVolume.{Words, IsBlockAt, IsFormatOf, IsBegun, IsSeen, AreBlocks, HoldsFronts, IsFormatted, IsCut, Withstands}
+use Rattle.formatting.specs.NewVolume.{Words, IsBlockAt, IsFormatOf, IsFormatPrefix, IsFormatRead, AreBlocks, HoldsPrefixes, IsFormatted, IsFormatCutShort, FormatSurvivesPowerLoss}
 use Rattle.formatting.proofs.NewVolumes.{whole_format, format_long, block_at, one_block_at}
 
 -- ---- what a journal holds
@@ -62,7 +62,7 @@ next_more : (J : List Event) (bs : List Block) → next_of (J ++ written (next_o
 next_more J [] = ap next_of (append-nil J) ∙ omega arith
 next_more J (b ∷ bs) = omega (arith, next_after_write J (next_of J) (b ∷ bs) (omega arith))
 
--- what is written from the next address on comes behind what is held
+-- what is written from the next address on comes after what is held
 pub held_more : (J : List Event) (bs : List Block) → held (J ++ written (next_of J) bs) ≡ held J ++ bs
 held_more J bs =
     let K = J ++ written (next_of J) bs in
@@ -100,8 +100,8 @@ blocks_same a b told e same = same_text a b (flipped (pointwise nat_eq a b) (sym
     flipped false h = h
 
 -- one block more was read
-pub seen_more : (words : Words) (J : List Event) (before behind : Bool) (n : ℕ) (block made : Block) → (IsTrue behind → IsTrue before) → IsSeen words J before n
-    → IsBlock made → IsBlockAt words n made → block ≡ made → (IsTrue behind → last_at J n ≡ Some block) → IsSeen words J behind (n + 1)
+pub seen_more : (words : Words) (J : List Event) (before behind : Bool) (n : ℕ) (block made : Block) → (IsTrue behind → IsTrue before) → IsFormatRead words J before n
+    → IsBlock made → IsBlockAt words n made → block ≡ made → (IsTrue behind → last_at J n ≡ Some block) → IsFormatRead words J behind (n + 1)
 seen_more words J before behind n block made honest seen bytes is same read = record {
   blocks = seen.blocks ++ block ∷ [];
   long = length-append seen.blocks (block ∷ []) ∙ omega (arith, seen.long);
@@ -111,12 +111,12 @@ seen_more words J before behind n block made honest seen bytes is same read = re
 }
 
 -- what holds more is no front of a format
-pub too_many : (words : Words) (J : List Event) → 262 < next_of J → IsBegun words (held J) → ⊥
+pub too_many : (words : Words) (J : List Event) → 262 < next_of J → IsFormatPrefix words (held J) → ⊥
 too_many words J many begun =
     omega (arith, many, length-held J, ap length begun.front, length-take begun.count begun.whole, format_long words begun.whole begun.is)
 
 -- nor is what holds another block
-pub other_block : (words : Words) (J : List Event) (n : ℕ) (block made : Block) → n < next_of J → n < 262 → last_at J n ≡ Some block → IsBlock made → IsBlockAt words n made → (block ≡ made → ⊥) → IsBegun words (held J) → ⊥
+pub other_block : (words : Words) (J : List Event) (n : ℕ) (block made : Block) → n < next_of J → n < 262 → last_at J n ≡ Some block → IsBlock made → IsBlockAt words n made → (block ≡ made → ⊥) → IsFormatPrefix words (held J) → ⊥
 other_block words J n block made low within read bytes is other begun =
     let few : n < begun.count = omega (arith, low, length-held J, ap length begun.front, length-take begun.count begun.whole) in
     let there : get_or begun.whole n [] ≡ block =
@@ -137,7 +137,7 @@ blocks_more words from to blocks made are bytes is = record {
 -- ---- what a write leaves
 
 module _ (capacity : ℕ) (words : Words) (blocks : List Block) (before behind : List Event) (is : IsFormatOf words blocks) (fits : words.volume ≤ capacity)
-    (short : next_of before ≤ 262) (adds : AddsFront before (next_of before) (drop (next_of before) blocks) behind) (began : held before ≡ take (next_of before) blocks) where
+    (short : next_of before ≤ 262) (adds : AddsPrefix before (next_of before) (drop (next_of before) blocks) behind) (began : held before ≡ take (next_of before) blocks) where
   abbrev first : List Block
   first = is.front ++ is.set ∷ is.names ∷ is.root ∷ is.table ∷ []
 
@@ -157,7 +157,7 @@ module _ (capacity : ℕ) (words : Words) (blocks : List Block) (before behind :
       ap held front.2 ∙ held_more before (take m (drop (next_of before) blocks)) ∙ ap (λ (bs : List Block). bs ++ take m (drop (next_of before) blocks)) began ∙ sym (take-add (next_of before) m blocks) in
       (j, few, there, sym (length-held (take k behind)) ∙ ap length there ∙ length-take-le j blocks (omega (arith, few, format_long words blocks is)))
 
-  pub holds_fronts : HoldsFronts capacity words blocks before behind
+  pub holds_fronts : HoldsPrefixes capacity words blocks before behind
   holds_fronts = record {
     began = began;
     each = λ k le. let front = each_front k le in front.2 ∙ ap (λ n. take n blocks) (sym front.3);
@@ -167,15 +167,15 @@ module _ (capacity : ℕ) (words : Words) (blocks : List Block) (before behind :
         front.2 ∙ ap (λ (bs : List Block). take front.0 bs) (sym order) ∙ take-append-le front.0 first (is.mark ∷ []) (omega (arith, few, front.3, format_is.long)) in
         let at : stands.at ≡ 0 + stands.at = omega arith in
         none_take_at udf 0 front.0 first format_is.none stands.at stands.block (ap (λ (M : List Block). slice_get M stands.at) (sym there) ∙ stands.last.there)
-        (subst (λ n. IsTableEntry udf stands.block n) at stands.last.is);
+        (subst (λ n. IsVatIcbAt udf stands.block n) at stands.last.is);
     new = λ k le all.
         let front = each_front k le in
         let there : held (take k behind) ≡ first ++ is.mark ∷ [] = front.2 ∙ take_all front.0 blocks (omega (arith, all, front.3, format_long words blocks is)) ∙ sym order in
-        subst (λ (bs : List Block). Stands udf capacity words.volume bs (formatted words.moment)) (sym there) (format_stands udf capacity words.volume words.label words.moment first is.mark format_is exact);
+        subst (λ (bs : List Block). RecoversTo udf capacity words.volume bs (formatted words.moment)) (sym there) (format_stands udf capacity words.volume words.label words.moment first is.mark format_is exact);
   }
 
 -- nothing was written
-pub nothing_written : (capacity : ℕ) (words : Words) (before : List Event) (writes behind : List (List Block)) (honest : Bool) → behind ≡ writes → Withstands capacity words before writes behind honest
+pub nothing_written : (capacity : ℕ) (words : Words) (before : List Event) (writes behind : List (List Block)) (honest : Bool) → behind ≡ writes → FormatSurvivesPowerLoss capacity words before writes behind honest
 nothing_written capacity words before writes behind honest same = record { added = []; writes_are = same ∙ sym (append-nil writes); torn = inl refl }
 
 -- blocks are none, or end in one
@@ -190,7 +190,7 @@ none_or_last (b ∷ bs) = inr (go b bs)
 -- a journal that was read, and goes on with the blocks that were not there
 module _ (capacity : ℕ) (words : Words) (low : 512 ≤ words.volume) (high : words.volume ≤ 450_000) (fits : words.volume ≤ capacity)
     (before between behind : List Event) (then now : Bool) (next : ℕ) (blocks : List Block) (between-is : between ≡ before) (next-is : next ≡ next_of before) (short : next ≤ 262)
-    (seen : IsSeen words before then next) (are : AreBlocks words next 262 blocks) (honest : IsTrue now → IsTrue then) where
+    (seen : IsFormatRead words before then next) (are : AreBlocks words next 262 blocks) (honest : IsTrue now → IsTrue then) where
   abbrev all : List Block
   all = seen.blocks ++ blocks
 
@@ -218,10 +218,10 @@ module _ (capacity : ℕ) (words : Words) (low : 512 ≤ words.volume) (high : w
       held_is before seen.blocks (seen.long ∙ next-is) (λ n lt. seen.there (honest h) n (omega (arith, lt, seen.long)))
       ∙ sym (take_at seen.blocks blocks (next_of before) (seen.long ∙ next-is))
 
-  front_of : AddsFront between next blocks behind → AddsFront before (next_of before) (drop (next_of before) all) behind
+  front_of : AddsPrefix between next blocks behind → AddsPrefix before (next_of before) (drop (next_of before) all) behind
   front_of (m, le, e) = (m, subst (λ (bs : List Block). m ≤ length bs) (sym left) le, e ∙ rw (between-is, next-is, left) refl)
 
-  pub cut_is : AddsFront between next blocks behind → IsCut capacity words before behind now
+  pub cut_is : AddsPrefix between next blocks behind → IsFormatCutShort capacity words before behind now
   cut_is adds = record {
     blocks = all;
     is = all_are;
@@ -232,11 +232,11 @@ module _ (capacity : ℕ) (words : Words) (low : 512 ≤ words.volume) (high : w
 
   pub formatted_is : behind ≡ between ++ written next blocks → IsFormatted capacity words before behind now
   formatted_is e =
-      let adds : AddsFront between next blocks behind = subst (AddsFront between next blocks) (sym e) (front_whole between next blocks) in
+      let adds : AddsPrefix between next blocks behind = subst (AddsPrefix between next blocks) (sym e) (front_whole between next blocks) in
       let journal : behind ≡ before ++ written (next_of before) (drop (next_of before) all) = e ∙ rw (between-is, next-is, left) refl in
       let holds : IsTrue now → held behind ≡ all = λ h.
       ap held journal ∙ held_more before (drop (next_of before) all) ∙ ap (λ (bs : List Block). bs ++ drop (next_of before) all) (there_before h) ∙ take-append-drop (next_of before) all in
-      let fronts : IsTrue now → HoldsFronts capacity words all before behind = λ h.
+      let fronts : IsTrue now → HoldsPrefixes capacity words all before behind = λ h.
       holds_fronts capacity words all before behind all_are fits (omega (arith, short, next-is)) (front_of adds) (there_before h) in
       let whole : take (length behind) behind ≡ behind = take-length behind in
       record {
@@ -246,12 +246,12 @@ module _ (capacity : ℕ) (words : Words) (low : 512 ≤ words.volume) (high : w
         journal = journal;
         fronts = fronts;
         holds = holds;
-        stands = λ h. subst (λ (K : List Event). Stands udf capacity words.volume (held K) (formatted words.moment)) whole
+        stands = λ h. subst (λ (K : List Event). RecoversTo udf capacity words.volume (held K) (formatted words.moment)) whole
             ((fronts h).new (length behind) (omega (arith, ap length journal, length-append before (written (next_of before) (drop (next_of before) all))))
             (ap next_of whole ∙ sym (length-held behind) ∙ ap length (holds h) ∙ all_long));
       }
 
-  -- whatever a loss of power leaves of the blocks that were not there, the last of them in a write of its own
+  -- whatever a power loss leaves of the blocks that were not there, the last of them in a write of its own
   module _ (front : List Block) (last : Block) (ends : blocks ≡ front ++ last ∷ []) (added others : List (List Block)) (alone : LastIsAlone front last (added ++ others)) (honestly : IsTrue now) where
     abbrev first_all : List Block
     first_all = all_are.front ++ all_are.set ∷ all_are.names ∷ all_are.root ∷ all_are.table ∷ []
@@ -275,19 +275,19 @@ module _ (capacity : ℕ) (words : Words) (low : 512 ≤ words.volume) (high : w
     }
 
     torn_is : (left : List Block) → IsLeft added left
-        → NothingStands udf (held (before ++ written (next_of before) left)) ⊎ Stands udf capacity words.volume (held (before ++ written (next_of before) left)) (formatted words.moment)
+        → RecoversToNothing udf (held (before ++ written (next_of before) left)) ⊎ RecoversTo udf capacity words.volume (held (before ++ written (next_of before) left)) (formatted words.moment)
     torn_is left cut =
         let sofar : held before ≡ seen.blocks = held_is before seen.blocks (seen.long ∙ next-is) (λ n lt. seen.there (honest honestly) n (omega (arith, lt, seen.long))) in
         let there : seen.blocks ++ left ≡ held (before ++ written (next_of before) left) = ap (λ (bs : List Block). bs ++ left) (sym sofar) ∙ sym (held_more before left) in
         let are_format = new_volumes_are_formats capacity words.volume words.label words.moment all_are.front all_are.set all_are.names all_are.root all_are.table all_are.mark all_are.is fits in
         elim (format_torn udf distinct exact bounded capacity words.volume words.label words.moment first_all all_are.mark are_format (seen.blocks ∷ (added ++ others)) (seen.blocks ++ left) all_alone
         (inr (left, refl, left_more added others left cut))) [
-          | inl none ↦ inl (subst (λ (M : List Block). NothingStands udf M) there none)
-          | inr whole ↦ inr (subst (λ (M : List Block). Stands udf capacity words.volume M (formatted words.moment)) there whole.1)
+          | inl none ↦ inl (subst (λ (M : List Block). RecoversToNothing udf M) there none)
+          | inr whole ↦ inr (subst (λ (M : List Block). RecoversTo udf capacity words.volume M (formatted words.moment)) there whole.1)
         ]
 
   pub withstands_is : {D : Type 0} {drive : Ghosts D} {failed : Bool} {d e : D} (writes : List (List Block)) → drive.writes d ≡ writes → (blocks ≡ [] → e ≡ d)
-      → ((front : List Block) (last : Block) → blocks ≡ front ++ last ∷ [] → SendsAlone drive front last failed d e) → Withstands capacity words before writes (drive.writes e) now
+      → ((front : List Block) (last : Block) → blocks ≡ front ++ last ∷ [] → SendsAlone drive front last failed d e) → FormatSurvivesPowerLoss capacity words before writes (drive.writes e) now
   withstands_is {drive = drive} {e = e} writes kept none alone = elim (none_or_last blocks) [
     | inl empty ↦ nothing_written capacity words before writes (drive.writes e) now (ap (λ x. drive.writes x) (none empty) ∙ kept)
     | inr some ↦

@@ -12,8 +12,8 @@ use Rattle.osta.specs.Label.{IsLabel}
 use Rattle.icb.specs.Entry.{IsEntry}
 use Rattle.icb.specs.FileSet.{IsFileSet}
 use Rattle.icb.proofs.Spellings.{one_block, one_set}
-use Rattle.dir.specs.Directory.{IsDirectory, IsEntry as IsName, identifiers}
-use Rattle.dir.specs.Layout.{laid, blocks_of, blocked, identifier_blocks}
+use Rattle.dir.specs.Directory.{IsDirectory, IsDirectoryEntry as IsName, identifiers}
+use Rattle.dir.specs.Layout.{laid, block_count, blocked, identifier_blocks}
 use Rattle.dir.proofs.Once.{laid_directory}
 use Rattle.dir.proofs.Sizes.{data_sized}
 use Rattle.vat.specs.Table.{FitsTable, IsTable, table_bytes}
@@ -21,7 +21,7 @@ use Rattle.volume.specs.Front.{IsFrontBlock, IsFront}
 use Rattle.volume.proofs.FrontLaws.{one_front_block}
 use Rattle.durability.specs.Formats.{Block}
 use Rattle.udf.specs.Udf.{IsBlock}
-use Rattle.udf.specs.NewVolume.{root_fields, first_table, table_fields}
+use Rattle.udf.specs.NewVolume.{root_fields, first_table, new_table_fields}
 use Rattle.formatting.specs.NewVolume.{Words, IsFirstTable, IsBlockAt, IsFormatOf, OneFormat}
 
 -- ---- the names of the root
@@ -33,7 +33,7 @@ names_size : length names_laid ≡ 40
 names_size = data_sized 1 1 [] (All-nil IsName)
 
 one_laid : identifier_blocks 1 (identifiers 1 []) ≡ padded (take 2048 names_laid) ∷ []
-one_laid = ap (λ n. blocked (blocks_of n) names_laid) names_size
+one_laid = ap (λ n. blocked (block_count n) names_laid) names_size
 
 -- the blocks that are left are not none
 pub names_some : (next : Option Block) (left after : List Block) → left ≡ identifier_blocks 1 (identifiers 1 []) → MatchOption next (left ≡ []) (λ b. left ≡ b ∷ after) → IsSome next
@@ -134,7 +134,7 @@ module _ (words : Words) (at : ℕ) (block : Block) where
     mark = λ e. absurd (omega (arith, e, there));
   }
 
-  pub mark_at : at ≡ 261 → IsEntry (table_fields words.moment) 4 block → IsBlockAt words at block
+  pub mark_at : at ≡ 261 → IsEntry (new_table_fields words.moment) 4 block → IsBlockAt words at block
   mark_at there is = record {
     front = λ h. absurd (omega (arith, h, there));
     set = λ e. absurd (omega (arith, e, there));
@@ -165,7 +165,7 @@ one_block_at words at a b within a-is b-is x y = elim (cases_lt at 257) [
         | inl low ↦ let e : at ≡ 259 = omega arith in one_block (root_fields words.moment) 1 a b a-is.bytes b-is.bytes (x.root e) (y.root e)
         | inr high ↦ elim (cases_lt at 261) [
           | inl low ↦ let e : at ≡ 260 = omega arith in one_table words.label a b (x.table e) (y.table e)
-          | inr high ↦ let e : at ≡ 261 = omega arith in one_block (table_fields words.moment) 4 a b a-is.bytes b-is.bytes (x.mark e) (y.mark e)
+          | inr high ↦ let e : at ≡ 261 = omega arith in one_block (new_table_fields words.moment) 4 a b a-is.bytes b-is.bytes (x.mark e) (y.mark e)
         ]
       ]
     ]

@@ -2,7 +2,7 @@
 use Rattle.std.specs.Prelude.{◌≡◌, ◌⊎◌, ℕ, ◌<◌, ◌++◌, IsSome, List, [], length, slice_index_or}
 use Rattle.limits.specs.declared.TheConstants.{BLOCK_BYTES, LEAST_CAPACITY}
 use Rattle.drive.specs.Journal.{Event, next_of}
-use Rattle.osta.specs.FirstFault.{first_fault}
+use Rattle.osta.specs.FirstFault.{first_text_fault}
 use Rattle.osta.specs.Label.{label_faults}
 use Rattle.recover.specs.declared.fault.StoreFault.{StoreFault}
 use Rattle.recover.specs.declared.fault.StoreFault.TheVariants as stores
@@ -24,7 +24,7 @@ BeginsNot words at part = (blocks : List (List ℕ)) × IsFormatOf words blocks 
 abbrev pub IsNoPart : ℕ → List ℕ → ℕ → ℕ → List ℕ → StoreFault → Type 0
 IsNoPart capacity label moment at part fault =
     ((fault ≡ stores.NotBlank) × BeginsNot (words_on capacity label moment) at part)
-    ⊎ (((fault ≡ stores.Label) × IsSome (first_fault (label_faults label)))
+    ⊎ (((fault ≡ stores.Label) × IsSome (first_text_fault (label_faults label)))
     ⊎ (((fault ≡ stores.Small) × (capacity < LEAST_CAPACITY))
     ⊎ (fault ≡ stores.Memory)))
 

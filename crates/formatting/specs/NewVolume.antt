@@ -7,14 +7,14 @@ use Rattle.icb.specs.FileSet.{IsFileSet}
 use Rattle.dir.specs.Directory.{IsDirectory}
 use Rattle.vat.specs.Table.{IsTable}
 use Rattle.volume.specs.Front.{IsFrontBlock}
-use Rattle.drive.specs.Journal.{Event, written, next_of, last_at, held, AddsFront}
+use Rattle.drive.specs.Journal.{Event, written, next_of, last_at, held, AddsPrefix}
 use Rattle.drive.specs.Writes.{IsLeft}
 use Rattle.model.specs.Session.{State, formatted}
 use Rattle.durability.specs.Formats.{Block}
-use Rattle.durability.specs.Volume.{Stands}
-use Rattle.durability.specs.Torn.{NothingStands}
+use Rattle.durability.specs.Volume.{RecoversTo}
+use Rattle.durability.specs.Torn.{RecoversToNothing}
 use Rattle.udf.specs.Udf.{udf, IsBlock}
-use Rattle.udf.specs.NewVolume.{root_fields, first_table, table_fields, IsNewVolume}
+use Rattle.udf.specs.NewVolume.{root_fields, first_table, new_table_fields, IsNewVolume}
 use Rattle.recover.specs.declared.fault.StoreFault.{StoreFault}
 use Rattle.recover.specs.declared.fault.StoreFault.TheVariants.{NotBlank, Label, Small, Device, Memory, NotFormatted, Damaged, Full, Stopped, NoCommit, NotFound, IsDirectory as IsDirectoryFault, NotDirectory}
 use Rattle.formatting.specs.declared.parts.Parts.{Parts}
@@ -44,7 +44,7 @@ pub record IsBlockAt (words : Words) (at : ℕ) (block : Block) : Type 0 where
   pub names : at ≡ PARTITION_START + 1 → IsDirectory 1 [] 1 40 (block ∷ [])
   pub root : at ≡ PARTITION_START + 2 → IsEntry (root_fields words.moment) 1 block
   pub table : at ≡ PARTITION_START + 3 → IsFirstTable words.label block
-  pub mark : at ≡ FORMAT_BLOCKS - 1 → IsEntry (table_fields words.moment) 4 block
+  pub mark : at ≡ FORMAT_BLOCKS - 1 → IsEntry (new_table_fields words.moment) 4 block
 
 -- the blocks are those of a format with these words, all of them
 pub record IsFormatOf (words : Words) (blocks : List Block) : Type 0 where
@@ -62,15 +62,15 @@ pub record IsFormatOf (words : Words) (blocks : List Block) : Type 0 where
 abbrev pub OneFormat : Type 0
 OneFormat = (words : Words) (a b : List Block) → IsFormatOf words a → IsFormatOf words b → a ≡ b
 
--- the blocks are a front of a format's, none and all among these
-pub record IsBegun (words : Words) (blocks : List Block) : Type 0 where
+-- the blocks are a prefix of a format's, none and all among these
+pub record IsFormatPrefix (words : Words) (blocks : List Block) : Type 0 where
   pub whole : List Block
   pub is : IsFormatOf words whole
   pub count : ℕ
   pub front : blocks ≡ take count whole
 
 -- So many blocks of a format were read, from its first on. On an honest drive they are what is held there.
-pub record IsSeen (words : Words) (journal : List Event) (honest : Bool) (count : ℕ) : Type 0 where
+pub record IsFormatRead (words : Words) (journal : List Event) (honest : Bool) (count : ℕ) : Type 0 where
   pub blocks : List Block
   pub long : length blocks ≡ count
   pub bytes : All IsBlock blocks
@@ -85,13 +85,13 @@ pub record AreBlocks (words : Words) (from to : ℕ) (blocks : List Block) : Typ
 
 -- ---- what a call leaves
 
--- On the fronts of a journal from the one before on there is what was there, and behind it the blocks that were missing.
+-- On the prefixes of a journal from the one before on there is what was there, and after it the blocks that were missing.
 -- Before the last of them nothing stands, whatever drive and volume it is read in, and with it the new volume does.
-pub record HoldsFronts (capacity : ℕ) (words : Words) (blocks : List Block) (before behind : List Event) : Type 0 where
+pub record HoldsPrefixes (capacity : ℕ) (words : Words) (blocks : List Block) (before behind : List Event) : Type 0 where
   pub began : held before ≡ take (next_of before) blocks
   pub each : (k : ℕ) → length before ≤ k → held (take k behind) ≡ take (next_of (take k behind)) blocks
-  pub nothing : (k other_capacity other_volume : ℕ) (state : State) → length before ≤ k → next_of (take k behind) < FORMAT_BLOCKS → Stands udf other_capacity other_volume (held (take k behind)) state → ⊥
-  pub new : (k : ℕ) → length before ≤ k → next_of (take k behind) ≡ FORMAT_BLOCKS → Stands udf capacity words.volume (held (take k behind)) (formatted words.moment)
+  pub nothing : (k other_capacity other_volume : ℕ) (state : State) → length before ≤ k → next_of (take k behind) < FORMAT_BLOCKS → RecoversTo udf other_capacity other_volume (held (take k behind)) state → ⊥
+  pub new : (k : ℕ) → length before ≤ k → next_of (take k behind) ≡ FORMAT_BLOCKS → RecoversTo udf capacity words.volume (held (take k behind)) (formatted words.moment)
 
 -- The format was finished: the blocks that were missing are written, and on an honest drive the new volume stands.
 pub record IsFormatted (capacity : ℕ) (words : Words) (before behind : List Event) (honest : Bool) : Type 0 where
@@ -99,33 +99,33 @@ pub record IsFormatted (capacity : ℕ) (words : Words) (before behind : List Ev
   pub is : IsFormatOf words blocks
   pub short : next_of before ≤ FORMAT_BLOCKS
   pub journal : behind ≡ before ++ written (next_of before) (drop (next_of before) blocks)
-  pub fronts : IsTrue honest → HoldsFronts capacity words blocks before behind
+  pub fronts : IsTrue honest → HoldsPrefixes capacity words blocks before behind
   pub holds : IsTrue honest → held behind ≡ blocks
-  pub stands : IsTrue honest → Stands udf capacity words.volume (held behind) (formatted words.moment)
+  pub stands : IsTrue honest → RecoversTo udf capacity words.volume (held behind) (formatted words.moment)
 
--- The drive failed in a write: a front of the blocks that were missing is written, from none to all.
-pub record IsCut (capacity : ℕ) (words : Words) (before behind : List Event) (honest : Bool) : Type 0 where
+-- The drive failed in a write: a prefix of the blocks that were missing is written, from none to all.
+pub record IsFormatCutShort (capacity : ℕ) (words : Words) (before behind : List Event) (honest : Bool) : Type 0 where
   pub blocks : List Block
   pub is : IsFormatOf words blocks
   pub short : next_of before ≤ FORMAT_BLOCKS
-  pub journal : AddsFront before (next_of before) (drop (next_of before) blocks) behind
-  pub fronts : IsTrue honest → HoldsFronts capacity words blocks before behind
+  pub journal : AddsPrefix before (next_of before) (drop (next_of before) blocks) behind
+  pub fronts : IsTrue honest → HoldsPrefixes capacity words blocks before behind
 
--- The writes that a call added. It added none, or whatever a loss of power leaves of them behind what was there, nothing
+-- The writes that a call added. It added none, or whatever a power loss leaves of them after what was there, nothing
 -- stands, whatever drive and volume it is read in, or the new volume does.
-pub record Withstands (capacity : ℕ) (words : Words) (before : List Event) (writes behind : List (List Block)) (honest : Bool) : Type 0 where
+pub record FormatSurvivesPowerLoss (capacity : ℕ) (words : Words) (before : List Event) (writes behind : List (List Block)) (honest : Bool) : Type 0 where
   pub added : List (List Block)
   pub writes_are : behind ≡ writes ++ added
   pub torn : (added ≡ []) ⊎ (IsTrue honest → (left : List Block) → IsLeft added left
-      → NothingStands udf (held (before ++ written (next_of before) left)) ⊎ Stands udf capacity words.volume (held (before ++ written (next_of before) left)) (formatted words.moment))
+      → RecoversToNothing udf (held (before ++ written (next_of before) left)) ⊎ RecoversTo udf capacity words.volume (held (before ++ written (next_of before) left)) (formatted words.moment))
 
 -- What each refusal leaves. Where the drive is honest, `NotBlank` says that it has other blocks than these words give.
 abbrev pub IsFormatRefused : ℕ → Words → List Event → List Event → Bool → StoreFault → Type 0
-IsFormatRefused capacity words before behind honest NotBlank = (behind ≡ before) × (IsTrue honest → IsBegun words (held before) → ⊥)
+IsFormatRefused capacity words before behind honest NotBlank = (behind ≡ before) × (IsTrue honest → IsFormatPrefix words (held before) → ⊥)
 IsFormatRefused capacity words before behind honest Label = behind ≡ before
 IsFormatRefused capacity words before behind honest Small = behind ≡ before
 IsFormatRefused capacity words before behind honest Memory = behind ≡ before
-IsFormatRefused capacity words before behind honest Device = (behind ≡ before) ⊎ IsCut capacity words before behind honest
+IsFormatRefused capacity words before behind honest Device = (behind ≡ before) ⊎ IsFormatCutShort capacity words before behind honest
 IsFormatRefused capacity words before behind honest NotFormatted = ⊥
 IsFormatRefused capacity words before behind honest (Damaged block cause) = ⊥
 IsFormatRefused capacity words before behind honest Full = ⊥

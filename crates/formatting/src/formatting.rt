@@ -3,18 +3,18 @@
 ghost use Rattle.limits.specs.declared.TheConstants.{BLOCK_BYTES, FORMAT_BLOCKS, GREATEST_CAPACITY, LEAST_CAPACITY};
 ghost use Rattle.std.specs.Prelude.{◌≡◌, ◌↔◌, ℕ, ◌<◌, ◌≤◌, ◌∷◌, [], Ok, Err, IsTrue, None, IsSome, IsNone, IfOk, IfErr, IfSome, OnOk, is_err, length};
 ghost use Rattle.drive.specs.Journal.{counted, held, next_of};
-ghost use Rattle.drive.specs.Reads.{Follows, Reads};
+ghost use Rattle.drive.specs.Reads.{ReadsAndWrites, ReadsOnly};
 ghost use Rattle.dir.specs.Directory.{identifiers};
 ghost use Rattle.dir.specs.Layout.{identifier_blocks};
 ghost use Rattle.ecma.specs.Descriptor.{padded};
 ghost use Rattle.icb.specs.Entry.{IsEntry};
-ghost use Rattle.osta.specs.FirstFault.{first_fault};
+ghost use Rattle.osta.specs.FirstFault.{first_text_fault};
 ghost use Rattle.osta.specs.Label.{IsLabel, label_faults};
 ghost use Rattle.recover.specs.Faults.{devices};
 ghost use Rattle.recover.specs.declared.fault.StoreFault.TheVariants as fault;
-ghost use Rattle.formatting.specs.NewVolume.{words_of, words_on, IsBlockAt, IsSeen, IsBegun, AreBlocks, IsFormatted, IsFormatRefused, Withstands, OneFormat};
+ghost use Rattle.formatting.specs.NewVolume.{words_of, words_on, IsBlockAt, IsFormatRead, IsFormatPrefix, AreBlocks, IsFormatted, IsFormatRefused, FormatSurvivesPowerLoss, OneFormat};
 ghost use Rattle.udf.specs.NewVolume as udf;
-ghost use Rattle.udf.specs.NewVolume.{root_fields, table_fields};
+ghost use Rattle.udf.specs.NewVolume.{root_fields, new_table_fields};
 ghost use Rattle.vat.specs.Table.{table_bytes};
 
 use crate::parts::Parts;
@@ -43,12 +43,12 @@ const EMPTY_DIRECTORY: u32 = 40;
 /// The bytes of the table of a volume with its root alone.
 const FIRST_TABLE: u32 = 204;
 
-/// The block number of the first table's entry.
+/// The block number of the first VAT ICB.
 const TABLE_ENTRY: u32 = 4;
 
 /// Writes a new volume on a blank drive, or the rest of one that the same words began. The moment is in microseconds from
 /// 1970-01-01 UTC. A drive is refused that has other blocks, or more. The last block, with which the volume stands, goes out
-/// in a write of its own, behind the finished writes of all others.
+/// in a write of its own, after the finished writes of all others.
 #[tactic(auto, using(crate::proofs::FormatJournals::nothing_written))]
 pub fn format<D: Drive>(
     alloc: Global,
@@ -59,11 +59,11 @@ pub fn format<D: Drive>(
     requires moment { moment < 4_102_444_800_000_000 }
     ensures ok { OnOk result (IsFormatted (D.capacity drive.old) (words_on (D.capacity drive.old) label.now moment) (D.journal drive.old) (D.journal drive.new) (D.honest drive.new)) }
     ensures err { IfErr result (IsFormatRefused (D.capacity drive.old) (words_on (D.capacity drive.old) label.now moment) (D.journal drive.old) (D.journal drive.new) (D.honest drive.new)) }
-    // Whatever part of its writes a loss of power leaves, where a disk keeps any choice of the blocks of the last one that it was given.
-    ensures withstands { Withstands (D.capacity drive.old) (words_on (D.capacity drive.old) label.now moment) (D.journal drive.old) (D.writes drive.old) (D.writes drive.new) (D.honest drive.new) }
-    ensures label { (result ≡ Err fault.Label) ↔ IsSome (first_fault (label_faults label.now)) }
-    ensures small { (result ≡ Err fault.Small) ↔ (IsNone (first_fault (label_faults label.now)) × (D.capacity drive.old < LEAST_CAPACITY)) }
-    ensures follows { Follows D.Drive (devices result) drive.old drive.new }
+    // Whatever part of its writes a power loss leaves, where a disk keeps any choice of the blocks of the last one that it was given.
+    ensures withstands { FormatSurvivesPowerLoss (D.capacity drive.old) (words_on (D.capacity drive.old) label.now moment) (D.journal drive.old) (D.writes drive.old) (D.writes drive.new) (D.honest drive.new) }
+    ensures label { (result ≡ Err fault.Label) ↔ IsSome (first_text_fault (label_faults label.now)) }
+    ensures small { (result ≡ Err fault.Small) ↔ (IsNone (first_text_fault (label_faults label.now)) × (D.capacity drive.old < LEAST_CAPACITY)) }
+    ensures follows { ReadsAndWrites D.Drive (devices result) drive.old drive.new }
 {
     let label = match Label::read(label) {
         Ok(label) => label,
@@ -131,9 +131,9 @@ fn root_names(alloc: Global) -> Block
 /// How many blocks of a format a drive has, and nothing else; none where it has another block.
 fn begun<D: Drive>(drive: &mut D, parts: &Parts) -> Result<Option<u32>, DriveFault>
     ensures next { IfOk result (λ found. IfSome found (λ next. (next ≡ next_of (D.journal drive.old)) × (next ≤ FORMAT_BLOCKS))) }
-    ensures seen { IfOk result (λ found. IfSome found (IsSeen (words_of parts.now) (D.journal drive.old) (D.honest drive.new))) }
-    ensures other { result ≡ Ok None → IsTrue (D.honest drive.new) → IsBegun (words_of parts.now) (held (D.journal drive.old)) → ⊥ }
-    ensures reads { Reads D.Drive 0 drive.old drive.new }
+    ensures seen { IfOk result (λ found. IfSome found (IsFormatRead (words_of parts.now) (D.journal drive.old) (D.honest drive.new))) }
+    ensures other { result ≡ Ok None → IsTrue (D.honest drive.new) → IsFormatPrefix (words_of parts.now) (held (D.journal drive.old)) → ⊥ }
+    ensures reads { ReadsOnly D.Drive 0 drive.old drive.new }
     ensures failures { D.failures drive.new ≡ counted (is_err result) (D.failures drive.old) }
 {
     let next = match drive.next() {
@@ -207,9 +207,9 @@ fn root_block(moment: Timestamp) -> Block
     encode_fe(&entry, ROOT_ADDRESS)
 }
 
-/// The block of the first table's entry.
+/// The block of the first VAT ICB.
 fn table_entry_block(moment: Timestamp) -> Block
-    ensures { IsEntry (table_fields moment) 4 result }
+    ensures { IsEntry (new_table_fields moment) 4 result }
 {
     let entry = FileEntry {
         kind: Kind::Vat,

@@ -15,7 +15,7 @@ use Rattle.icb.specs.declared.entry.Kind.TheVariants.{Directory, File, Vat}
 use Rattle.icb.specs.declared.entry.Place as source
 use Rattle.icb.specs.declared.entry.Place.TheVariants as places
 use Rattle.icb.specs.declared.planned.PlannedEntry.TheInside as planned
-use Rattle.icb.specs.Entry.{Fields, FitsEntry, FitsPlace, IsEntry, Place, allocation, blocks_of, blocks_recorded, entry_parts, extent, file_type, flags_of, inside, permissions, place_of}
+use Rattle.icb.specs.Entry.{Fields, FitsEntry, FitsPlace, IsEntry, Place, allocation, block_count, blocks_recorded, entry_parts, extent, file_type, flags_of, inside, permissions, place_of}
 use Rattle.icb.specs.Entry.Place.{Nowhere, Extent, Inside}
 use Rattle.icb.specs.Planned.{entry_body, planned_block}
 
@@ -75,10 +75,10 @@ block_there p place is =
     ap (λ (q : source.Place). descriptor_block 261 p.location (entry_body (record { kind = p.entry.kind; moment = p.entry.moment; links = p.entry.links; unique = p.entry.unique; size = p.entry.size; place = place_of q }) p.stamp)) is
 
 -- the block of an entry with its bytes in an extent, as it is written
-pub block_extended : (p : planned.Inside) (first blocks : ℕ) (behind : List ℕ) → p.entry.place ≡ places.Extent first → blocks ≡ blocks_of p.entry.size → behind ≡ extent p.entry.size first
+pub block_extended : (p : planned.Inside) (first blocks : ℕ) (behind : List ℕ) → p.entry.place ≡ places.Extent first → blocks ≡ block_count p.entry.size → behind ≡ extent p.entry.size first
     → descriptor_block 261 p.location (concat (entry_parts (file_type p.entry.kind) 1 (permissions p.entry.kind) p.entry.links p.entry.size blocks p.stamp p.entry.unique (length behind) behind)) ≡ planned_block p
 block_extended p first blocks behind is blocks-are behind-is =
     let parts : ℕ → List ℕ → List ℕ = λ (n : ℕ) (x : List ℕ). concat (entry_parts (file_type p.entry.kind) 1 (permissions p.entry.kind) p.entry.links p.entry.size n p.stamp p.entry.unique (length x) x) in
     ap (λ (n : ℕ). descriptor_block 261 p.location (parts n behind)) blocks-are
-    ∙ ap (λ (x : List ℕ). descriptor_block 261 p.location (parts (blocks_of p.entry.size) x)) behind-is
+    ∙ ap (λ (x : List ℕ). descriptor_block 261 p.location (parts (block_count p.entry.size) x)) behind-is
     ∙ sym (block_there p (places.Extent first) is)

@@ -17,10 +17,10 @@ use Rattle.osta.specs.Dstring.{dstring}
 use Rattle.osta.specs.Label.{IsLabelDstring}
 use Rattle.icb.specs.declared.fault.IcbFault.{IcbFault}
 use Rattle.icb.specs.declared.set.FileSet.{FileSet}
-use Rattle.icb.specs.FileSet.{HasFields, IsFileSet, set_parts, set_rules}
+use Rattle.icb.specs.FileSet.{HasFileSetFields, IsFileSet, set_parts, set_rules}
 use Rattle.icb.proofs.Labels.{is_label_dstring, length-label, one_label}
 
--- the fields behind the short field of the label, behind the long one, and behind the timestamp
+-- the fields after the short field of the label, after the long one, and after the timestamp
 abbrev pub last_parts : List (List ℕ)
 last_parts =
     replicate 64 0 ∷ to_le_bytes w32 2048 ∷ to_le_bytes w32 1 ∷ to_le_bytes w16 1 ∷ replicate 6 0
@@ -55,7 +55,7 @@ stamp_length : (m : ℕ) (stamp : List ℕ) → IsMoment m stamp → length stam
 stamp_length m stamp moment = ap length moment.spelled
 
 -- the label and the moment that the fields say stand at their places in the block
-pub fields_tell : (set : FileSet) (block : List ℕ) (has : HasFields set (take 496 (drop 16 block)))
+pub fields_tell : (set : FileSet) (block : List ℕ) (has : HasFileSetFields set (take 496 (drop 16 block)))
     → (take 12 (drop 16 block) ≡ has.stamp) × (take 32 (drop 304 block) ≡ dstring 32 set.label)
 fields_tell set block has =
     let wide = dstring 128 set.label in
@@ -67,12 +67,12 @@ fields_tell set block has =
     let places = set_places has.stamp wide narrow rest (drop 16 block) (stamp_length set.moment has.stamp has.moment) (length-label 128 set.label has.label (omega arith)) (length-label 32 set.label has.label (omega arith)) all in
     (places.0, ap (take 32) (sym (drop-drop 288 16 block)) ∙ places.1)
 
-fields_length : (set : FileSet) (fields : List ℕ) → HasFields set fields → length fields ≡ 496
+fields_length : (set : FileSet) (fields : List ℕ) → HasFileSetFields set fields → length fields ≡ 496
 fields_length set fields has =
     ap length has.spelled
     ∙ set_length has.stamp (dstring 128 set.label) (dstring 32 set.label) (stamp_length set.moment has.stamp has.moment) (length-label 128 set.label has.label (omega arith)) (length-label 32 set.label has.label (omega arith))
 
--- the fields of a descriptor stand behind its tag
+-- the fields of a descriptor stand after its tag
 pub fields_stand : (set : FileSet) (block : List ℕ) (is : IsFileSet set block) → take 496 (drop 16 block) ≡ is.fields
 fields_stand set block is =
     let len = fields_length set is.fields is.has in
@@ -82,16 +82,16 @@ fields_stand set block is =
     ap (take 496) body.1 ∙ take_at is.fields body.0 496 len
 
 -- the fields of one file set are the same
-pub same_spelled : (d e : FileSet) (a b : List ℕ) → d.label ≡ e.label → d.moment ≡ e.moment → HasFields d a → HasFields e b → a ≡ b
+pub same_spelled : (d e : FileSet) (a b : List ℕ) → d.label ≡ e.label → d.moment ≡ e.moment → HasFileSetFields d a → HasFileSetFields e b → a ≡ b
 same_spelled d e a b label moment x y =
     let stamp : x.stamp ≡ y.stamp = one_spelling e.moment x.stamp y.stamp (subst (λ (m : ℕ). IsMoment m x.stamp) moment x.moment) y.moment in
     x.spelled ∙ ap (λ (l : List ℕ). concat (set_parts l x.stamp)) label ∙ ap (λ (s : List ℕ). concat (set_parts e.label s)) stamp ∙ sym y.spelled
 
 -- the block keeps the rules
-pub set_keeps : (set : FileSet) (block : List ℕ) → IsFileSet set block → AllHold (set_rules block) × HasFields set (take 496 (drop 16 block))
+pub set_keeps : (set : FileSet) (block : List ℕ) → IsFileSet set block → AllHold (set_rules block) × HasFileSetFields set (take 496 (drop 16 block))
 set_keeps set block is =
     let d = is.whole in
-    let has : HasFields set (take 496 (drop 16 block)) = subst (HasFields set) (sym (fields_stand set block is)) is.has in
+    let has : HasFileSetFields set (take 496 (drop 16 block)) = subst (HasFileSetFields set) (sym (fields_stand set block is)) is.has in
     let size : length d.descriptor ≡ 512 = omega (arith, fields_length set is.fields is.has, ap length d.fields, length-drop 16 d.descriptor, d.sealed.long) in
     let zeros : List ℕ = replicate (2048 - length d.descriptor) 0 in
     let front : take 512 block ≡ d.descriptor = ap (take 512) d.whole ∙ take_at d.descriptor zeros 512 size in
@@ -99,7 +99,7 @@ set_keeps set block is =
     ((subst (λ (x : List ℕ). Sealed 256 0 x) (sym front) d.sealed, ((set, has), (back, tt))), has)
 
 -- a block that keeps the rules is the descriptor of what its fields say
-pub is_set : (set : FileSet) (block : List ℕ) → length block ≡ 2048 → AllHold (set_rules block) → HasFields set (take 496 (drop 16 block)) → IsFileSet set block
+pub is_set : (set : FileSet) (block : List ℕ) → length block ≡ 2048 → AllHold (set_rules block) → HasFileSetFields set (take 496 (drop 16 block)) → IsFileSet set block
 is_set set block room rules has =
     let body : drop 16 block ≡ take 496 (drop 16 block) ++ replicate 1536 0 =
     sym (take-append-drop 496 (drop 16 block)) ∙ ap (λ (x : List ℕ). take 496 (drop 16 block) ++ x) (drop-drop 496 16 block ∙ rules.1.1.0) in
@@ -123,25 +123,25 @@ written_set label stamp wide narrow block w n d =
     (subst (λ (x : List ℕ). IsDescriptor 256 0 (concat (stamp ∷ parts_behind x narrow)) block) w d)
 
 -- what reading the label's field and the timestamp's tells of a file set that the fields say
-pub label_stands : (set : FileSet) (block : List ℕ) → HasFields set (take 496 (drop 16 block)) → IsLabelDstring set.label (take 32 (drop 304 block))
+pub label_stands : (set : FileSet) (block : List ℕ) → HasFileSetFields set (take 496 (drop 16 block)) → IsLabelDstring set.label (take 32 (drop 304 block))
 label_stands set block has = is_label_dstring set.label (take 32 (drop 304 block)) has.label (fields_tell set block has).1
 
-pub moment_stands : (set : FileSet) (block stamp : List ℕ) → stamp ≡ take 12 (drop 16 block) → HasFields set (take 496 (drop 16 block)) → IsMoment set.moment stamp
+pub moment_stands : (set : FileSet) (block stamp : List ℕ) → stamp ≡ take 12 (drop 16 block) → HasFileSetFields set (take 496 (drop 16 block)) → IsMoment set.moment stamp
 moment_stands set block stamp e has = subst (λ (x : List ℕ). IsMoment set.moment x) (sym ((fields_tell set block has).0) ∙ sym e) has.moment
 
-pub one_fields : (d e : FileSet) (block : List ℕ) → HasFields d (take 496 (drop 16 block)) → HasFields e (take 496 (drop 16 block)) → d ≡ e
+pub one_fields : (d e : FileSet) (block : List ℕ) → HasFileSetFields d (take 496 (drop 16 block)) → HasFileSetFields e (take 496 (drop 16 block)) → d ≡ e
 one_fields d e block x y =
     let label = one_label d.label e.label x.label y.label (sym (fields_tell d block x).1 ∙ (fields_tell e block y).1) in
     let moment = one_moment d.moment e.moment (take 12 (drop 16 block)) (moment_stands d block (take 12 (drop 16 block)) refl x) (moment_stands e block (take 12 (drop 16 block)) refl y) in
     same_set d e label moment
 
 -- what the tests of a block answer is exact
-pub only_set : (block : List ℕ) (r : Result FileSet IcbFault) → IfErr r (IsFirst (set_rules block)) → IfOk r (λ set. HasFields set (take 496 (drop 16 block)))
+pub only_set : (block : List ℕ) (r : Result FileSet IcbFault) → IfErr r (IsFirst (set_rules block)) → IfOk r (λ set. HasFileSetFields set (take 496 (drop 16 block)))
     → (set : FileSet) → IsFileSet set block → r ≡ Ok set
 only_set block (Ok d) fault says set is = ap (λ (x : FileSet). Ok x) (one_fields d set block says (set_keeps set block is).1)
 only_set block (Err f) fault says set is = absurd (no_fault (set_rules block) f fault (set_keeps set block is).0)
 
-pub found_set : (block : List ℕ) (r : Result FileSet IcbFault) → length block ≡ 2048 → IfOk r (λ set. AllHold (set_rules block)) → IfOk r (λ set. HasFields set (take 496 (drop 16 block)))
+pub found_set : (block : List ℕ) (r : Result FileSet IcbFault) → length block ≡ 2048 → IfOk r (λ set. AllHold (set_rules block)) → IfOk r (λ set. HasFileSetFields set (take 496 (drop 16 block)))
     → IfOk r (λ set. IsFileSet set block)
 found_set block (Ok set) room rules says = is_set set block room rules says
 found_set block (Err f) room rules says = tt

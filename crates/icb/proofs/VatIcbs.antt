@@ -1,4 +1,4 @@
--- Which blocks are no table's entry.
+-- Which blocks are no VAT ICB.
 use Rattle.std.proofs.Common.{sym, ap, ◌∙◌}
 pub use Rattle.ecma.proofs.Seals.{begins, located}
 use Rattle.icb.specs.Entry.{Fields}

@@ -13,7 +13,7 @@ use Rattle.icb.specs.declared.set.FileSet.{FileSet}
 use Rattle.icb.specs.declared.fault.IcbFault.{IcbFault}
 use Rattle.icb.specs.declared.fault.IcbFault.TheVariants as faults
 
--- the fields behind the tag in order, beside their places in the block; the descriptor has 512 bytes
+-- the fields after the tag in order, beside their places in the block; the descriptor has 512 bytes
 abbrev pub set_parts : List ℕ → List ℕ → List (List ℕ)
 set_parts label stamp =
     stamp  -- 16 recording date and time
@@ -33,8 +33,8 @@ set_parts label stamp =
     ∷ replicate 64 0  -- 448 next extent, 464 system stream directory ICB, 480 reserved
     ∷ []
 
--- the bytes behind the tag are the fields of a file set with this label and moment
-pub record HasFields (set : FileSet) (fields : List ℕ) : Type 0 where
+-- the bytes after the tag are the fields of a file set with this label and moment
+pub record HasFileSetFields (set : FileSet) (fields : List ℕ) : Type 0 where
   pub label : IsLabel set.label
   pub stamp : List ℕ
   pub moment : IsMoment set.moment stamp
@@ -43,13 +43,13 @@ pub record HasFields (set : FileSet) (fields : List ℕ) : Type 0 where
 -- the block is the descriptor of this file set, which stands at the virtual address 0
 pub record IsFileSet (set : FileSet) (block : List ℕ) : Type 0 where
   pub fields : List ℕ
-  pub has : HasFields set fields
+  pub has : HasFileSetFields set fields
   pub whole : IsDescriptor 256 0 fields block
 
--- what makes a block a file set descriptor, in the order in which the faults are told
+-- what makes a block a file set descriptor, in the order in which the faults are reported
 abbrev pub set_rules : List ℕ → List (IcbFault × Type 0)
 set_rules block =
     (faults.Tag, Sealed 256 0 (take 512 block))
-    ∷ (faults.Fixed, (set : FileSet) × HasFields set (take 496 (drop 16 block)))
+    ∷ (faults.Fixed, (set : FileSet) × HasFileSetFields set (take 496 (drop 16 block)))
     ∷ (faults.Tail, drop 512 block ≡ replicate (BLOCK_BYTES - 512) 0)
     ∷ []

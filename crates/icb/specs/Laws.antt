@@ -12,7 +12,7 @@ use Rattle.icb.specs.VatIcb.{IsVatIcb}
 abbrev pub OneEntry : Type 0
 OneEntry = (d e : Fields) (here there : ℕ) (block : List ℕ) → IsEntry d here block → IsEntry e there block → (d ≡ e) × (here ≡ there)
 
--- an entry of another kind is no table's entry, at any location
+-- an entry of another kind is no VAT ICB, at any location
 abbrev pub OthersAreNone : Type 0
 OthersAreNone = (e : Fields) (here there : ℕ) (block : List ℕ) → IsEntry e here block → e.kind ≢ Vat → IsVatIcb block there → ⊥
 

@@ -6,7 +6,7 @@ use Rattle.ecma.specs.Timestamp.{IsMoment}
 use Rattle.icb.specs.Entry.{Fields, FitsEntry, allocation, blocks_recorded, entry_parts, fields_of, file_type, flags_of, permissions}
 use Rattle.icb.specs.declared.planned.PlannedEntry.TheInside.{Inside}
 
--- what stands behind the tag of an entry that says so, with this timestamp
+-- what stands after the tag of an entry that says so, with this timestamp
 abbrev pub entry_body : Fields → List ℕ → List ℕ
 entry_body e stamp =
     let behind = allocation e.size e.place in
@@ -16,5 +16,5 @@ abbrev pub planned_block : Inside → List ℕ
 planned_block p = descriptor_block 261 p.location (entry_body (fields_of p.entry) p.stamp)
 
 -- an entry may say so, and the timestamp is that of its moment
-abbrev pub IsPlanned : Inside → Type 0
-IsPlanned p = FitsEntry (fields_of p.entry) × IsMoment p.entry.moment p.stamp
+abbrev pub IsEncodable : Inside → Type 0
+IsEncodable p = FitsEntry (fields_of p.entry) × IsMoment p.entry.moment p.stamp

@@ -14,7 +14,7 @@ pub struct PlannedEntry<'a> {
     entry: FileEntry<'a>,
     /// The timestamp of the entry's moment.
     stamp: [u8; 12],
-    /// The virtual address of a node, or the block number of a table's entry.
+    /// The virtual address of a node, or the block number of a VAT ICB.
     location: u32,
 }
 
@@ -23,17 +23,17 @@ impl<'a> Model for PlannedEntry<'a> {
 
     ghost Value = { List ℕ };
 
-    ghost use Rattle.icb.specs.Planned.{planned_block, IsPlanned};
+    ghost use Rattle.icb.specs.Planned.{planned_block, IsEncodable};
 
     ghost view = { planned_block };
 
-    ghost invariant = { IsPlanned };
+    ghost invariant = { IsEncodable };
 }
 
 impl<'a> PlannedEntry<'a> {
     ghost use Rattle.icb.specs.Entry.{FitsEntry, IsEntry, fields_of};
 
-    /// The entry at a location: the virtual address of a node, or the block number of a table's entry.
+    /// The entry at a location: the virtual address of a node, or the block number of a VAT ICB.
     pub fn new(entry: &FileEntry<'a>, location: u32) -> PlannedEntry<'a>
         requires { FitsEntry (fields_of entry.now) }
         ensures { IsEntry (fields_of entry.now) location result }
@@ -41,7 +41,7 @@ impl<'a> PlannedEntry<'a> {
         let stamp = entry.moment.to_bytes();
         // Read so that the proof has that they are bytes.
         let _inside = bytes_inside(&entry.place);
-        // Field by field, since no proof covers the copy of the whole from behind a reference.
+        // Field by field, since no proof covers the copy of the whole through a reference.
         let entry = FileEntry {
             kind: entry.kind,
             moment: entry.moment,
@@ -91,7 +91,7 @@ fn bytes_inside<'a>(place: &Place<'a>) -> &'a [u8]
     }
 }
 
-/// The same bytes. To a proof an item of a slice that is lent by itself is a byte, and one behind a field is a number.
+/// The same bytes. To a proof an item of a slice that is lent by itself is a byte, and one after a field is a number.
 fn each_below_256(bytes: &[u8]) -> &[u8]
     ensures value { result.now ≡ bytes.now }
     ensures bytes { (i : ℕ) → slice_index result.now i < 256 }

@@ -1,7 +1,7 @@
 ghost use Rattle.std.specs.Prelude.{◌≡◌, ◌↔◌, IsTrue, IfOk, IfErr, IfSome, IfNone, take, drop, replicate};
 ghost use Rattle.ecma.specs.FirstFault.{IsFirst, AllHold};
 ghost use Rattle.ecma.specs.Tag.{Sealed};
-ghost use Rattle.icb.specs.FileSet.{HasFields, IsFileSet, set_rules};
+ghost use Rattle.icb.specs.FileSet.{HasFileSetFields, IsFileSet, set_rules};
 
 use crate::fault::IcbFault;
 use ecma::{Block, CS0, EntityId, Field, LongAd, Timestamp, descriptor_block, open_tag};
@@ -79,7 +79,7 @@ pub fn decode_fsd(block: &Block) -> Result<FileSet, IcbFault>
 fn examine_set(block: &Block) -> Result<FileSet, IcbFault>
     ensures fault { IfErr result (IsFirst (set_rules block.now)) }
     ensures rules { IfOk result (λ set. AllHold (set_rules block.now)) }
-    ensures says { IfOk result (λ set. HasFields set (take 496 (drop 16 block.now))) }
+    ensures describes { IfOk result (λ set. HasFileSetFields set (take 496 (drop 16 block.now))) }
 {
     if !has_set_tag(block) {
         return Err(IcbFault::Tag);
@@ -100,11 +100,11 @@ fn has_set_tag(block: &Block) -> bool
     open_tag(descriptor, FILE_SET, ADDRESS).is_ok()
 }
 
-/// The file set whose fields stand behind the tag: its label and moment are read, and then all fields compared with
+/// The file set whose fields stand after the tag: its label and moment are read, and then all fields compared with
 /// those of that file set.
 fn set_at(block: &Block) -> Option<FileSet>
-    ensures some { IfSome result (λ set. HasFields set (take 496 (drop 16 block.now))) }
-    ensures none { IfNone result ((set : FileSet) → HasFields set (take 496 (drop 16 block.now)) → ⊥) }
+    ensures some { IfSome result (λ set. HasFileSetFields set (take 496 (drop 16 block.now))) }
+    ensures none { IfNone result ((set : FileSet) → HasFileSetFields set (take 496 (drop 16 block.now)) → ⊥) }
 {
     let Some(label) = Label::of(&block[304..336]) else {
         return None;

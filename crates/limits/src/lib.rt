@@ -1,4 +1,4 @@
-//! The limits of this profile of UDF 2.01 and of the messages, and the sizes by which the room for a commit is reckoned,
+//! The limits of this profile of UDF 2.01 and of the messages, and the sizes by which the room for a commit is computed,
 //! each stated once. The crates above cite them; what each one means for a volume or a message is said, and proved, where
 //! it is kept.
 #![tactic(auto)]
@@ -60,7 +60,7 @@ pub const RECORD_BYTES: u32 = 48;
 /// In bytes, of a virtual address in a table.
 pub const ADDRESS_BYTES: u32 = 4;
 
-/// The unique ID that the first file or directory behind the root gets (UDF 2.01 3.2.1.1).
+/// The unique ID that the first file or directory after the root gets (UDF 2.01 3.2.1.1).
 pub const FIRST_UNIQUE: u32 = 16;
 
 /// The first moment that no timestamp tells, in microseconds from 1970: the year 2100's beginning.

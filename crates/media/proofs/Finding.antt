@@ -6,7 +6,7 @@ use Rattle.std.proofs.lemmas.Slice.Eq.{bytes_eq-Decides}
 use Rattle.std.specs.Prelude.{bytes_eq, replicate}
 use Rattle.std.proofs.Math.Seq.{take-append_seam}
 use Rattle.std.specs.Cmp.{second_so}
-use Rattle.drive.specs.Journal.{AreWhole, Event, Once, OnceFrom, blocks_of, next_of, written}
+use Rattle.drive.specs.Journal.{AreWhole, Event, Once, OnceFrom, event_blocks, next_of, written}
 use Rattle.drive.specs.Note.{fitted}
 use Rattle.drive.specs.FileDrive.{BeginsWith, capacity_of}
 use Rattle.drive.specs.declared.file.FileDrive.{FileDrive}
@@ -78,15 +78,15 @@ fresh_file capacity d (image, begins) size =
 whole_block : (b zeros : List ℕ) → length b ≡ 2048 → take 2048 (b ++ zeros) ≡ b
 whole_block b zeros whole = ap (λ n. take n (b ++ zeros)) (sym whole) ∙ take-append_seam b zeros
 
-refitted : (n : ℕ) (J : List Event) → OnceFrom n J → AreWhole J → written n (fitted (length (blocks_of J)) (blocks_of J)) ≡ J
+refitted : (n : ℕ) (J : List Event) → OnceFrom n J → AreWhole J → written n (fitted (length (event_blocks J)) (event_blocks J)) ≡ J
 refitted n [] once whole = refl
 refitted n (e ∷ J) once whole =
     let block : take 2048 (e.1 ++ replicate 2048 0) ≡ e.1 = whole_block e.1 (replicate 2048 0) (whole 0 e (omega arith)) in
-    let others : written (suc n) (fitted (length (blocks_of J)) (blocks_of J)) ≡ J = refitted (suc n) J once.1 (λ k d h. whole (suc k) d (omega (arith, h))) in
+    let others : written (suc n) (fitted (length (event_blocks J)) (event_blocks J)) ≡ J = refitted (suc n) J once.1 (λ k d h. whole (suc k) d (omega (arith, h))) in
     λ i. (sym once.0 i, block i) ∷ others i
 
 -- as many blocks as are held are those that are held
-pub found_as_held : (J K : List Event) (n : ℕ) → K ≡ written 0 (fitted n (blocks_of J)) → FoundAsHeld J K
+pub found_as_held : (J K : List Event) (n : ℕ) → K ≡ written 0 (fitted n (event_blocks J)) → FoundAsHeld J K
 found_as_held J K n is once whole count =
-    let same : n ≡ length (blocks_of J) = sym (next-fitted n (blocks_of J)) ∙ ap (λ (L : List Event). next_of L) (sym is) ∙ count ∙ next_once J once ∙ sym (length-blocks_of J) in
-    is ∙ ap (λ m. written 0 (fitted m (blocks_of J))) same ∙ refitted 0 J once whole
+    let same : n ≡ length (event_blocks J) = sym (next-fitted n (event_blocks J)) ∙ ap (λ (L : List Event). next_of L) (sym is) ∙ count ∙ next_once J once ∙ sym (length-blocks_of J) in
+    is ∙ ap (λ m. written 0 (fitted m (event_blocks J))) same ∙ refitted 0 J once whole

@@ -1,6 +1,6 @@
 -- What image files are taken to hold: a list of journals by their paths, the last one that was put back first.
 use Rattle.std.specs.Prelude.{ℕ, ◌==◌, ◌&&◌, Bool, true, false, if◌then◌else◌, List, [], ◌∷◌, Option, Some, None, bytes_eq}
-use Rattle.drive.specs.Journal.{Event, blocks_of}
+use Rattle.drive.specs.Journal.{Event, event_blocks}
 
 abbrev pub Images : Type 0
 Images = List (List ℕ × List Event)
@@ -13,7 +13,7 @@ lookup (image ∷ images) path = if bytes_eq path image.0 then Some image.1 else
 -- the blocks that an image is taken to hold
 abbrev pub held_blocks : Option (List Event) → List (List ℕ)
 held_blocks None = []
-held_blocks (Some journal) = blocks_of journal
+held_blocks (Some journal) = event_blocks journal
 
 -- the same events, in the same order
 abbrev pub same_events : List Event → List Event → Bool

@@ -11,8 +11,8 @@ use Rattle.std.specs.Ordering.{eq_by_cmp}
 use Rattle.model.specs.Tree.{Path, Node, Tree, IsTree, Has, path_cmp}
 use Rattle.model.specs.Graph.{Graph, Stored, MakesTree, IsFunctional}
 use Rattle.model.specs.Change.{IsReached, stored_in}
-use Rattle.model.specs.Addresses.{Table, HoldsNodes, used_entry, is_used, used_in, used_first, free_address, with_entry, without_entry}
-use Rattle.model.specs.LawsAddresses.{IsFree, IsWith, IsWithout}
+use Rattle.model.specs.Addresses.{Table, HoldsNodes, used_entry, is_used, used_in, used_first, free_address, with_address, without_entry}
+use Rattle.model.specs.LawsAddresses.{IsLeastFree, IsWith, IsWithout}
 use Rattle.model.proofs.Lists.{contains_here, contains_there, contains_cons, not_in_nil, contains_map, map_contains, all_contains}
 use Rattle.model.proofs.Paths.{path_cases}
 use Rattle.model.proofs.Maps.{some_at}
@@ -231,7 +231,7 @@ least_free table l = let t = behind_two table l in subst (λ (z : Table). Least 
     later x y rest (suc zero) two below = absurd (omega arith)
     later x y rest (suc (suc k)) two below = first_least rest k (omega arith)
 
-pub free_is_free : (graph : ℕ → Option Stored) (table : Table) → HoldsNodes (stored_in graph) table → 2 ≤ length table → IsFree graph table (free_address table)
+pub free_is_free : (graph : ℕ → Option Stored) (table : Table) → HoldsNodes (stored_in graph) table → 2 ≤ length table → IsLeastFree graph table (free_address table)
 free_is_free graph table holds l =
     let f = least_free table l in
     let two = f.from_two in
@@ -259,7 +259,7 @@ new_entries table nodes start two set root many = go (nat_lt (free_address table
         let c = count in
         let more = set_more table (free_address table) start below f.unused in
         let long = length-set table (free_address table) (Some start) in
-        let is : with_entry (free_address table) start table ≡ slice_set table (free_address table) (Some start) = ap (λ b. if b then slice_set table (free_address table) (Some start) else table ++ Some start ∷ []) e in
+        let is : with_address (free_address table) start table ≡ slice_set table (free_address table) (Some start) = ap (λ b. if b then slice_set table (free_address table) (Some start) else table ++ Some start ∷ []) e in
         record {
           used = ap used_in is ∙ used-in (slice_set table (free_address table) (Some start)) ∙ more ∙ ap (λ n. n + 1) (sym (used-in table));
           each = λ other. with_used table (free_address table) start other (inl below);
@@ -271,7 +271,7 @@ new_entries table nodes start two set root many = go (nat_lt (free_address table
         let full = all_used table (λ k l. every k l) in
         let c = count in
         let long = length_push table (Some start) in
-        let is : with_entry (free_address table) start table ≡ table ++ Some start ∷ [] = ap (λ b. if b then slice_set table (free_address table) (Some start) else table ++ Some start ∷ []) e in
+        let is : with_address (free_address table) start table ≡ table ++ Some start ∷ [] = ap (λ b. if b then slice_set table (free_address table) (Some start) else table ++ Some start ∷ []) e in
         record {
           used = ap used_in is ∙ used-in (table ++ Some start ∷ []) ∙ push_used table start ∙ ap (λ n. n + 1) (sym (used-in table));
           each = λ other. with_used table (free_address table) start other (inr (omega arith));

@@ -7,8 +7,8 @@ use Rattle.model.specs.Tree.Content.{File, Directory}
 use Rattle.model.specs.Operation.{Operation, code_of}
 use Rattle.model.specs.Operation.Operation.{Create, Replace, MakeDir, Rename, Remove}
 use Rattle.model.specs.Graph.{Graph, Stored, MakesTree}
-use Rattle.model.specs.Change.{Added, Removed, Changes, IsReached, ReachedAfter, stored_in}
-use Rattle.model.specs.Addresses.{Table, HoldsNodes, UsedAfter, is_used, with_entry, without_entry}
+use Rattle.model.specs.Change.{Added, Removed, ChangesNodes, IsReached, ReachedAfter, stored_in}
+use Rattle.model.specs.Addresses.{Table, HoldsNodes, UsedAfter, is_used, with_address, without_entry}
 use Rattle.model.proofs.Made.{one_in}
 use Rattle.model.proofs.Operations.{reached_after}
 
@@ -48,7 +48,7 @@ by_test a other got new old here beside = go (other == a) refl
     go false e = beside (eqb-false other a e)
 
 -- the address is used then, and any other as before
-pub with_used : (table : Table) (address start other : ℕ) → (address < length table) ⊎ (address ≡ length table) → is_used (with_entry address start table) other ≡ (if other == address then true else is_used table other)
+pub with_used : (table : Table) (address start other : ℕ) → (address < length table) ⊎ (address ≡ length table) → is_used (with_address address start table) other ≡ (if other == address then true else is_used table other)
 with_used table address start other at = go (nat_lt address (length table)) refl at
   where
     go : (b : Bool) → nat_lt address (length table) ≡ b → (address < length table) ⊎ (address ≡ length table)
@@ -112,7 +112,7 @@ module _ (graph graph' : Graph) (table table' : Table) (holds : HoldsNodes graph
       back a above false t r = (holds.nodes a above).1 r.0
 
 pub entries_follow : (op : Operation) (moment identity : ℕ) (tree : Tree) (before after : ℕ → Option Stored) (table table' : Table) → IsTree tree → code_of op tree ≡ 0
-    → MakesTree (stored_in before) tree → HoldsNodes (stored_in before) table → (change : Changes (stored_in before) (stored_in after) op moment identity)
+    → MakesTree (stored_in before) tree → HoldsNodes (stored_in before) table → (change : ChangesNodes (stored_in before) (stored_in after) op moment identity)
     → UsedAfter (stored_in before) (stored_in after) op moment identity change table table' → HoldsNodes (stored_in after) table'
 entries_follow (Create path bytes) moment identity tree before after table table' is e makes holds change used =
     more_follow (stored_in before) (stored_in after) table table' holds change.address used.0

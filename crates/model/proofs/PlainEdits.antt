@@ -10,7 +10,7 @@ use Rattle.std.proofs.lemmas.List.{map_push, length-map, get_or-map, get_or_defa
 use Rattle.std.proofs.lemmas.List.Edits.{map_over_more}
 use Rattle.model.specs.Tree.{Path, Node, Tree, IsTree, Has, path_cmp, paths_eq, parent_of, last_of}
 use Rattle.model.specs.Operation.{changed_at, changed_in, name_added, all_moved, moved, code_of_move}
-use Rattle.model.specs.Plain.{path_in, node_in, entry_in, tree_in, AreApart, HasTree, paths_moved}
+use Rattle.model.specs.Plain.{path_in, node_in, entry_in, tree_in, AreApart, ListsTree, paths_moved}
 use Rattle.model.specs.declared.plain.nodes.Entry.{Entry}
 use Rattle.model.proofs.Paths.{path_cases, path_cmp_total, path_cmp-IsAntisymmetric}
 use Rattle.model.proofs.Codes.{paths_same, may_rename}
@@ -94,7 +94,7 @@ module _ (p : Path) where
 
   pub changed_list : (es : List Entry) (i : ℕ) (e : Entry) (change : Node → Node) → AreApart es → i < length es
       → (get (tree_in es) p ≡ Some (node_in (get_or es i e).node)) × (path_in (get_or es i e) ≡ p) → path_in e ≡ p → node_in e.node ≡ change (node_in (get_or es i e).node)
-      → HasTree (slice_set es i e) (changed_at p change (tree_in es))
+      → ListsTree (slice_set es i e) (changed_at p change (tree_in es))
   changed_list es i e change d l at b same = record {
     apart = subst (λ ps. IsDistinct paths_eq ps) (sym (set_paths es i e l at.1 b)) d;
     is = same_tree (slice_set es i e) (changed_at p change (tree_in es)) (λ q. found-set es i e q l at.1 b d ∙ elim (path_cases q p) [
@@ -103,7 +103,7 @@ module _ (p : Path) where
     ]);
   }
 
-  pub unchanged_list : (es : List Entry) (change : Node → Node) → AreApart es → get (tree_in es) p ≡ None → HasTree es (changed_at p change (tree_in es))
+  pub unchanged_list : (es : List Entry) (change : Node → Node) → AreApart es → get (tree_in es) p ≡ None → ListsTree es (changed_at p change (tree_in es))
   unchanged_list es change d none = record { apart = d; is = sym (ap (λ o. changed_in o p change (tree_in es)) none) }
 
   -- One entry is taken out.
@@ -148,7 +148,7 @@ apart-out [] (suc i) d = tt
 apart-out (x ∷ es) zero d = d.1
 apart-out (x ∷ es) (suc i) d = (new-out (path_in x) es i d.0, apart-out es i d.1)
 
-pub removed_list : (p : Path) (es : List Entry) (i : ℕ) (e : Entry) → AreApart es → i < length es → path_in (get_or es i e) ≡ p → HasTree (take i es ++ drop (suc i) es) (remove (tree_in es) p)
+pub removed_list : (p : Path) (es : List Entry) (i : ℕ) (e : Entry) → AreApart es → i < length es → path_in (get_or es i e) ≡ p → ListsTree (take i es ++ drop (suc i) es) (remove (tree_in es) p)
 removed_list p es i e d l at = record {
   apart = apart-out es i d;
   is = same_tree (take i es ++ drop (suc i) es) (remove (tree_in es) p) (λ q. found-out p es i e q l at d ∙ elim (path_cases q p) [
@@ -157,7 +157,7 @@ removed_list p es i e d l at = record {
   ]);
 }
 
-pub not_there : (p : Path) (es : List Entry) → AreApart es → get (tree_in es) p ≡ None → HasTree es (remove (tree_in es) p)
+pub not_there : (p : Path) (es : List Entry) → AreApart es → get (tree_in es) p ≡ None → ListsTree es (remove (tree_in es) p)
 not_there p es d none = record {
   apart = d;
   is = same_tree es (remove (tree_in es) p) (λ q. sym (get-list es q) ∙ elim (path_cases q p) [
@@ -182,7 +182,7 @@ unfolding IsDistinct
 apart-push [] e d a = (tt, tt)
 apart-push (x ∷ es) e d a = (new-push (path_in x) es e d.0 (turned_false (path_in e) (path_in x) a.0), apart-push es e d.1 a.1)
 
-pub pushed_list : (es : List Entry) (tree : Tree) (e : Entry) → HasTree es tree → get tree (path_in e) ≡ None → HasTree (es ++ e ∷ []) (insert tree (path_in e) (node_in e.node))
+pub pushed_list : (es : List Entry) (tree : Tree) (e : Entry) → ListsTree es tree → get tree (path_in e) ≡ None → ListsTree (es ++ e ∷ []) (insert tree (path_in e) (node_in e.node))
 pushed_list es tree e has none =
     let absent : found (path_in e) es ≡ None = sym (get-list es (path_in e)) ∙ ap (λ t. get t (path_in e)) has.is ∙ none in
     record {
@@ -221,7 +221,7 @@ module _ (from to : Path) (es : List Entry) (d : AreApart es) (is : IsTree (tree
   distinct_moved [] all a = tt
   distinct_moved (p ∷ ps) all a = (new_moved p ps all.0 all.1 a.0, distinct_moved ps all.1 a.1)
 
-  pub moved_entries : (after : List Entry) → map entry_in after ≡ paths_moved from to (map entry_in es) → HasTree after (all_moved from to (tree_in es))
+  pub moved_entries : (after : List Entry) → map entry_in after ≡ paths_moved from to (map entry_in es) → ListsTree after (all_moved from to (tree_in es))
   moved_entries after same = record {
     apart = subst (λ ps. IsDistinct paths_eq ps) (sym paths) (distinct_moved (map path_in es) (each_has es (λ q h. ap is_some (get-list es q) ∙ h)) d);
     is = same_tree after (all_moved from to (tree_in es)) (λ q. ap (finmap.find path_cmp q) same ∙ moved_list from to (tree_in es) is here new not_into (map entry_in es) (λ x. sym (get-list es x)) q);
@@ -241,27 +241,27 @@ module _ (from to : Path) (es : List Entry) (d : AreApart es) (is : IsTree (tree
 -- A change at a place that was found by its path.
 module _ (p q : Path) (es xs : List Entry) (same : xs ≡ es) (path : q ≡ p) where
   pub changed_place : (i : ℕ) (e old : Entry) (change : Node → Node) → AreApart es → position (test q) xs ≡ Some i → old ≡ get_or es i old → path_in e ≡ path_in old
-      → node_in e.node ≡ change (node_in old.node) → HasTree (slice_set es i e) (changed_at p change (tree_in es))
+      → node_in e.node ≡ change (node_in old.node) → ListsTree (slice_set es i e) (changed_at p change (tree_in es))
   changed_place i e old change d at is names node =
       let place = at_place p es i (subst (λ x. position (test x) es ≡ Some i) path (subst (λ ys. position (test q) ys ≡ Some i) same at)) in
       let here = place.1 e in
       let one : get_or es i e ≡ old = get_or_default es i e old place.0 ∙ sym is in
       changed_list p es i e change d place.0 here (names ∙ ap path_in (sym one) ∙ here.1) (node ∙ ap (λ (x : Entry). change (node_in x.node)) (sym one))
 
-  pub changed_none : (change : Node → Node) → AreApart es → position (test q) xs ≡ None → HasTree es (changed_at p change (tree_in es))
+  pub changed_none : (change : Node → Node) → AreApart es → position (test q) xs ≡ None → ListsTree es (changed_at p change (tree_in es))
   changed_none change d at = unchanged_list p es change d (at_none p es (subst (λ x. position (test x) es ≡ None) path (subst (λ ys. position (test q) ys ≡ None) same at)))
 
-  pub removed_place : (i : ℕ) → AreApart es → position (test q) xs ≡ Some i → (e : Entry) → HasTree (take i es ++ drop (suc i) es) (remove (tree_in es) p)
+  pub removed_place : (i : ℕ) → AreApart es → position (test q) xs ≡ Some i → (e : Entry) → ListsTree (take i es ++ drop (suc i) es) (remove (tree_in es) p)
   removed_place i d at e =
       let place = at_place p es i (subst (λ x. position (test x) es ≡ Some i) path (subst (λ ys. position (test q) ys ≡ Some i) same at)) in
       removed_list p es i e d place.0 (place.1 e).1
 
-  pub removed_none : AreApart es → position (test q) xs ≡ None → HasTree es (remove (tree_in es) p)
+  pub removed_none : AreApart es → position (test q) xs ≡ None → ListsTree es (remove (tree_in es) p)
   removed_none d at = not_there p es d (at_none p es (subst (λ x. position (test x) es ≡ None) path (subst (λ ys. position (test q) ys ≡ None) same at)))
 
 -- the tree of a list that stands for another
-pub has_along : (es : List Entry) (s t : Tree) → s ≡ t → HasTree es s → HasTree es t
-has_along es s t e h = subst (HasTree es) e h
+pub has_along : (es : List Entry) (s t : Tree) → s ≡ t → ListsTree es s → ListsTree es t
+has_along es s t e h = subst (ListsTree es) e h
 
 -- names change at no new path
 pub still_none : (p : Path) (moment : ℕ) (tree : Tree) → get tree p ≡ None → get (name_added p moment tree) p ≡ None
@@ -279,7 +279,7 @@ moved_more from to es start i old e l size before at path node =
 
 -- the list is that of a tree in which the move may be made
 pub moved_has : (from to : Path) (es after : List Entry) → AreApart es → IsTree (tree_in es) → code_of_move from to (tree_in es) ≡ 0
-    → map entry_in after ≡ paths_moved from to (map entry_in es) → HasTree after (all_moved from to (tree_in es))
+    → map entry_in after ≡ paths_moved from to (map entry_in es) → ListsTree after (all_moved from to (tree_in es))
 moved_has from to es after d is code same =
     let may = may_rename from to (tree_in es) code in
     moved_entries from to es d is may.here may.new (not_into 0 0 (tree_in es) is from to may) after same

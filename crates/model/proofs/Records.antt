@@ -12,7 +12,7 @@ use Rattle.model.specs.Operation.Operation.{Create, Replace, MakeDir, Rename, Re
 use Rattle.model.specs.Tree.{Tree, is_directory_at, names_at, parent_of, begins_with, paths_eq}
 use Rattle.model.specs.Runs.{AllNew, AllFromClients}
 use Rattle.model.specs.Records.{FallFrom, IsRecord, HasSessions, latest_of, replies_of}
-use Rattle.model.specs.LawsSessions.{IsDue}
+use Rattle.model.specs.LawsSessions.{IsDueByNumber}
 use Rattle.model.proofs.Sessions.{turn}
 use Rattle.model.proofs.Kept.{new_number}
 
@@ -295,7 +295,7 @@ module _ (number size : ℕ) where
       let f : nat_lt 1 number ≡ false = le-ltb 1 number (omega arith) in
       simp (e, f)
 
-pub due_is : (S : State) (client number : ℕ) → HasSessions S → IsDue S client number (latest_of (record_of client S.records)) (length (replies_of (record_of client S.records))) (replies_of (record_of client S.records))
+pub due_is : (S : State) (client number : ℕ) → HasSessions S → IsDueByNumber S client number (latest_of (record_of client S.records)) (length (replies_of (record_of client S.records))) (replies_of (record_of client S.records))
 due_is S client number has = go (record_of client S.records) refl
   where
     size : ℕ
@@ -304,7 +304,7 @@ due_is S client number has = go (record_of client S.records) refl
     along : (o : Option ClientRecord) (d : Due) → record_of client S.records ≡ o → due_by number (length S.records) o ≡ d → due S client number ≡ d
     along o d e f = ap (λ (x : Option ClientRecord). due_by number (length S.records) x) e ∙ f
 
-    go : (o : Option ClientRecord) → record_of client S.records ≡ o → IsDue S client number (latest_of o) (length (replies_of o)) (replies_of o)
+    go : (o : Option ClientRecord) → record_of client S.records ≡ o → IsDueByNumber S client number (latest_of o) (length (replies_of o)) (replies_of o)
     go None e = record {
       repeat = λ low high. absurd (omega arith);
       stale = λ l. along None (Stale 0) e (none_stale number (length S.records) l);

@@ -10,7 +10,7 @@ use Rattle.std.specs.Str.{bytes_eq}
 use Rattle.model.specs.Tree.{bytes_at, found_bytes, Passes, Name, Path, Node, Content, Tree, has_names, names_in, IsTree, Has, names_at, is_directory_at, identity_at, found_directory, found_identity, found_names, names_of, parent_of, last_of}
 use Rattle.model.specs.Tree.Content.{File, Directory}
 use Rattle.model.specs.Operation.{LastPasses, changed_at, with_names, name_added, name_taken_out, all_moved, moved, is_other, content_with}
-use Rattle.model.specs.Graph.{Graph, Entry, MakesTree, IsFunctional, Reach, whole, entries_of}
+use Rattle.model.specs.Graph.{Graph, Entry, MakesTree, IsFunctional, Reach, as_stored, entries_of}
 use Rattle.model.specs.Graph.Body.{Entries}
 use Rattle.model.specs.Change.{Found, IsReached, Renamed, Moved, renamed, without, with_entries, with_parent}
 use Rattle.model.proofs.Lists.{filter_shorter, filter_less, keeps_not, map_agree, map-filter, same_head, distinct_push, distinct_filter, not_in_nil, contains_filter, filter_contains, other_apart, other_not}
@@ -280,7 +280,7 @@ module _ (front : Path) (name : Name) (beyond : Path) (new_name : Name) (moment 
           let address = at_above change.above ∙ sym (place_other front (out_to front has_above_it)) in
           let body = ap (λ s. with_entries (λ entries. without from entries ++ renamed change.name change.moved ∷ []) s.body) same ∙ body_front above_node.0.content above_kind (listed front above_node.0 above_node.1) in
           subst (λ a. graph' a (stored_at after place' front (with_names push moment (with_names (filter keep) moment above_node.0)))) address
-          (subst (graph' change.above.address) (λ i. whole (ap (λ s. s.identity) same i) moment (body i)) change.written)
+          (subst (graph' change.above.address) (λ i. as_stored (ap (λ s. s.identity) same i) moment (body i)) change.written)
 
       stored_top : IsThere to
       unfolding IsThere
@@ -375,7 +375,7 @@ module _ (front : Path) (name : Name) (beyond : Path) (new_name : Name) (moment 
           let address = at_above change.above ∙ sym (place_other front (out_to front has_above_it)) in
           let body = ap (λ s. with_entries (without from) s.body) same ∙ body_old_parent above_node.0.content above_kind (listed front above_node.0 above_node.1) in
           subst (λ a. graph' a (stored_at after place' front (with_names (filter keep) moment above_node.0))) address
-          (subst (graph' change.above.address) (λ i. whole (ap (λ s. s.identity) same i) moment (body i)) change.unlisted)
+          (subst (graph' change.above.address) (λ i. as_stored (ap (λ s. s.identity) same i) moment (body i)) change.unlisted)
 
       body_beyond : (c : Content) → has_names c ≡ true → ((child : Name) → Contains (names_in c) child → Has tree (beyond ++ child ∷ []))
           → with_entries (λ entries. entries ++ renamed change.name change.moved ∷ []) (body_at tree place beyond c) ≡ body_at after place' beyond (content_with push c)
@@ -393,7 +393,7 @@ module _ (front : Path) (name : Name) (beyond : Path) (new_name : Name) (moment 
           let address = at_beyond ∙ sym (place_other beyond (out_to beyond has_beyond)) in
           let body = ap (λ s. with_entries (λ entries. entries ++ renamed change.name change.moved ∷ []) s.body) beyond_stored ∙ body_beyond beyond_node.0.content beyond_kind (listed beyond beyond_node.0 beyond_node.1) in
           subst (λ a. graph' a (stored_at after place' beyond (with_names push moment beyond_node.0))) address
-          (subst (graph' change.beyond.address) (λ i. whole (ap (λ s. s.identity) beyond_stored i) moment (body i)) change.listed)
+          (subst (graph' change.beyond.address) (λ i. as_stored (ap (λ s. s.identity) beyond_stored i) moment (body i)) change.listed)
 
       stored_moved : IsThere to
       unfolding IsThere
@@ -402,7 +402,7 @@ module _ (front : Path) (name : Name) (beyond : Path) (new_name : Name) (moment 
           let given = change.turned (stored_at tree place from node) (subst (λ a. graph a (stored_at tree place from node)) (sym moved_address) (placed.each from node before)) in
           let parent : change.beyond.address ≡ place' (parent_of to) = at_beyond ∙ sym parent_to in
           let body = ap (λ a. with_parent a (body_at tree place from node.content)) parent ∙ body_turned node.content (λ child c. alike_child child) in
-          subst (λ a. graph' a (stored_at after place' to node)) (moved_address ∙ sym alike_top.address) (subst (λ b. graph' change.moved.address (whole node.identity node.moment b)) body given)
+          subst (λ a. graph' a (stored_at after place' to node)) (moved_address ∙ sym alike_top.address) (subst (λ b. graph' change.moved.address (as_stored node.identity node.moment b)) body given)
 
       stored_under_moved : (rest : Path) → (rest ≡ []) ⊎ ((start : Path) × (last : Name) × (rest ≡ start ++ last ∷ [])) → IsThere (to ++ rest)
       unfolding IsThere

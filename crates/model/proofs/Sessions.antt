@@ -133,7 +133,7 @@ once_all (r ∷ C) S new = once_more S r new.0 C (once_all C (after_one S r) new
 pub each_once : (S : State) (C : List Request) → AllNew S C → EachOnce C
 each_once S C new = (once_all C S new).once
 
--- what is behind a request does not take its number back
+-- what is after a request does not take its number back
 next_grows : (client : ℕ) (C : List Request) (S : State) → AllNew S C → next_in (record_of client S.records) ≤ next_in (record_of client (after S C).records)
 next_grows client [] S new = omega arith
 next_grows client (r ∷ C) S new = go (r.client == client) refl (next_grows client C (after_one S r) new.1)

@@ -3,7 +3,7 @@ use Rattle.std.specs.Prelude.{suc, ◌≡◌, ◌↔◌, ◌⊎◌, ℕ, ◌+◌
 use Rattle.model.specs.Operation.{Operation}
 use Rattle.model.specs.Operation.Operation.{Create, Replace, MakeDir, Rename, Remove}
 use Rattle.model.specs.Graph.{Graph}
-use Rattle.model.specs.Change.{Changes, IsReached}
+use Rattle.model.specs.Change.{ChangesNodes, IsReached}
 
 -- under each address where something begins, or nothing
 abbrev pub Table : Type 0
@@ -37,15 +37,15 @@ abbrev pub free_address : Table → ℕ
 free_address table = suc (suc (used_first (drop 2 table)))
 
 -- the table with an entry at an address that is not past its end
-abbrev pub with_entry : ℕ → ℕ → Table → Table
-with_entry address start table = if nat_lt address (length table) then slice_set table address (Some start) else table ++ Some start ∷ []
+abbrev pub with_address : ℕ → ℕ → Table → Table
+with_address address start table = if nat_lt address (length table) then slice_set table address (Some start) else table ++ Some start ∷ []
 
 -- the table without an entry that was used: its address becomes unused, and the table does not get shorter
 abbrev pub without_entry : ℕ → Table → Table
 without_entry address table = slice_set table address None
 
 -- Which addresses are used after an operation that is answered 0: a new node's too, and that of a node that is gone no more.
-abbrev pub UsedAfter : (graph graph' : Graph) (op : Operation) (moment identity : ℕ) → Changes graph graph' op moment identity → Table → Table → Type 0
+abbrev pub UsedAfter : (graph graph' : Graph) (op : Operation) (moment identity : ℕ) → ChangesNodes graph graph' op moment identity → Table → Table → Type 0
 UsedAfter graph graph' (Create path bytes) moment identity change table table' = (0 < change.address) × ((address : ℕ) → is_used table' address ≡ (if address == change.address then true else is_used table address))
 UsedAfter graph graph' (MakeDir path) moment identity change table table' = (0 < change.address) × ((address : ℕ) → is_used table' address ≡ (if address == change.address then true else is_used table address))
 UsedAfter graph graph' (Replace path bytes) moment identity change table table' = (address : ℕ) → is_used table' address ≡ is_used table address

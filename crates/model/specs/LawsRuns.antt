@@ -6,7 +6,7 @@ use Rattle.model.specs.Session.{State, Request, after, after_one, reply_to, with
 use Rattle.model.specs.Runs.{AllPass}
 use Rattle.model.specs.Laws.{IsSound}
 
--- one list behind the other
+-- one list after the other
 abbrev pub AfterTwice : Type 0
 AfterTwice = (state : State) (first second : List Request) → after state (first ++ second) ≡ after (after state first) second
 
@@ -22,7 +22,7 @@ pub record RefusalStays (state : State) (request : Request) : Type 0 where
 abbrev pub RefusalsStay : Type 0
 RefusalsStay = (state : State) (request : Request) → IsSound state → (code_of request.operation state.tree ≡ 0 → ⊥) → RefusalStays state request
 
--- what is asked of names and of files' bytes holds behind each list of requests that meet it
+-- what is asked of names and of files' bytes holds after each list of requests that meet it
 abbrev pub RunsPass : Type 0
 RunsPass = (name_ok : Name → Bool) (bytes_ok : List ℕ → Bool) (state : State) (requests : List Request) → IsSound state
     → AllPass name_ok bytes_ok requests → Passes name_ok bytes_ok state.tree → Passes name_ok bytes_ok (after state requests).tree

@@ -26,7 +26,7 @@ RepliesAreKept = (state : State) (request : Request) (requests : List Request) �
     → due (after state (request ∷ requests)) request.client request.number ≡ Repeat (reply_to state request)
 
 -- What is due, by the client's latest number n, 0 for a client with no record, and by how many replies k are kept for it.
-pub record IsDue (state : State) (client number n k : ℕ) (replies : List Reply) : Type 0 where
+pub record IsDueByNumber (state : State) (client number n k : ℕ) (replies : List Reply) : Type 0 where
   pub repeat : n < number + k → number ≤ n → (reply : Reply) × (slice_get replies (n - number) ≡ Some reply) × (due state client number ≡ Repeat reply)
   pub stale : number + k ≤ n → due state client number ≡ Stale n
   pub gap : n + 1 < number → due state client number ≡ Gap n
@@ -35,4 +35,4 @@ pub record IsDue (state : State) (client number n k : ℕ) (replies : List Reply
 
 abbrev pub DueIsThis : Type 0
 DueIsThis = (state : State) (client number : ℕ) → HasSessions state
-    → (let o = record_of client state.records in IsDue state client number (latest_of o) (length (replies_of o)) (replies_of o))
+    → (let o = record_of client state.records in IsDueByNumber state client number (latest_of o) (length (replies_of o)) (replies_of o))

@@ -22,18 +22,18 @@ use Rattle.model.specs.declared.plain.nodes.Content.TheVariants as content
 use Rattle.model.specs.declared.plain.nodes.Node.{Node as PlainNode}
 use Rattle.model.specs.declared.plain.nodes.Entry.{Entry}
 
-abbrev pub names_in : List (String Global) → List Name
-names_in names = map string_bytes names
+abbrev pub texts_in : List (String Global) → List Name
+texts_in names = map string_bytes names
 
-abbrev pub content_in : PlainContent → Content
-content_in (content.File bytes) = File bytes.items
-content_in (content.Directory names) = Directory (names_in names.items)
+abbrev pub plain_content : PlainContent → Content
+plain_content (content.File bytes) = File bytes.items
+plain_content (content.Directory names) = Directory (texts_in names.items)
 
 abbrev pub node_in : PlainNode → Node
-node_in node = record { identity = node.identity; moment = node.moment; content = content_in node.content }
+node_in node = record { identity = node.identity; moment = node.moment; content = plain_content node.content }
 
 abbrev pub path_in : Entry → Path
-path_in entry = names_in entry.path.items
+path_in entry = texts_in entry.path.items
 
 abbrev pub entry_in : Entry → Path × Node
 entry_in entry = (path_in entry, node_in entry.node)
@@ -47,11 +47,11 @@ abbrev pub AreApart : List Entry → Type 0
 AreApart nodes = IsDistinct paths_eq (map path_in nodes)
 
 abbrev pub operation_in : PlainOperation → Operation
-operation_in (operation.Create path bytes) = Create (names_in path.items) bytes.items
-operation_in (operation.Replace path bytes) = Replace (names_in path.items) bytes.items
-operation_in (operation.MakeDir path) = MakeDir (names_in path.items)
-operation_in (operation.Rename from to) = Rename (names_in from.items) (names_in to.items)
-operation_in (operation.Remove path) = Remove (names_in path.items)
+operation_in (operation.Create path bytes) = Create (texts_in path.items) bytes.items
+operation_in (operation.Replace path bytes) = Replace (texts_in path.items) bytes.items
+operation_in (operation.MakeDir path) = MakeDir (texts_in path.items)
+operation_in (operation.Rename from to) = Rename (texts_in from.items) (texts_in to.items)
+operation_in (operation.Remove path) = Remove (texts_in path.items)
 
 abbrev pub code_in : Code → ℕ
 code_in code.Done = 0
@@ -67,7 +67,7 @@ code_in code.DirectoryFull = 9
 code_in code.TooMany = 10
 
 -- the list stands for the tree, and has no path twice
-pub record HasTree (nodes : List Entry) (tree : Tree) : Type 0 where
+pub record ListsTree (nodes : List Entry) (tree : Tree) : Type 0 where
   pub apart : AreApart nodes
   pub is : tree_in nodes ≡ tree
 

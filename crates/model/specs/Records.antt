@@ -8,7 +8,7 @@ abbrev pub FallFrom : ℕ → List Reply → Type 0
 FallFrom most [] = Unit {0}
 FallFrom most (reply ∷ replies) = (1 ≤ reply.commit) × (reply.commit ≤ most) × FallFrom (reply.commit - 1) replies
 
--- what holds of a client's record behind so many commits
+-- what holds of a client's record after so many commits
 pub record IsRecord (commits : ℕ) (kept : ClientRecord) : Type 0 where
   pub client : 0 < kept.client
   pub some : 1 ≤ length kept.replies

@@ -6,7 +6,7 @@ use Rattle.std.specs.Str.{chars, IsAscii}
 use Rattle.std.proofs.lemmas.Bool.{and_from, eqb-false, lt-ltb, ne_eqb, not-true}
 use Rattle.std.proofs.lemmas.Str.{chars-IsAscii, encodes-IsAscii}
 use Rattle.osta.specs.Compressed.{has_spelling, is_narrow, is_spellable, compressed, expanded}
-use Rattle.osta.specs.FirstFault.{first_fault}
+use Rattle.osta.specs.FirstFault.{first_text_fault}
 use Rattle.osta.specs.Name.{is_dots, has_character, dots_faults, name_faults}
 use Rattle.osta.specs.declared.fault.NameFault.{NameFault}
 use Rattle.osta.specs.declared.fault.NameFault.TheVariants.{Empty, Dot, Long, Nul, Slash, Wide}
@@ -46,12 +46,12 @@ ascii_expanded text bytes ascii is = ap expanded is ∙ sym (ascii_encoded text 
 
 abbrev pub told : Bool → Bool → Bool → Bool → Bool → Bool → Option NameFault
 told some apart clean whole spellable short =
-    first_fault ((Empty, some) ∷ (Dot, apart) ∷ (Slash, clean) ∷ (Nul, whole) ∷ (Wide, spellable) ∷ (Long, short) ∷ [])
+    first_text_fault ((Empty, some) ∷ (Dot, apart) ∷ (Slash, clean) ∷ (Nul, whole) ∷ (Wide, spellable) ∷ (Long, short) ∷ [])
 
 -- the faults of ASCII that is no text of dots: its characters are its bytes, and each has a spelling of one byte
-pub ascii_faults : (text : List ℕ) (slash zero short : Bool) → IsAscii text → first_fault (dots_faults text) ≡ None
+pub ascii_faults : (text : List ℕ) (slash zero short : Bool) → IsAscii text → first_text_fault (dots_faults text) ≡ None
     → list_any (λ c. c == 47) text ≡ slash → list_any (λ c. c == 0) text ≡ zero → nat_le (length text + 1) 255 ≡ short
-    → first_fault (name_faults text) ≡ told true true (not slash) (not zero) true short
+    → first_text_fault (name_faults text) ≡ told true true (not slash) (not zero) true short
 ascii_faults text slash zero short ascii none any nil few =
     let hold = all_hold (dots_faults text) none in
     let apart : length text ≡ 0 → ⊥ = eqb-false (length text) 0 (not-true _ hold.0) in

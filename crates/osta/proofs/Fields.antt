@@ -4,7 +4,7 @@ use Rattle.std.specs.List.{list_all}
 use Rattle.std.proofs.lemmas.Bool.{and_parts, cases_lt, eqb-true, leb-true, le-leb}
 use Rattle.std.proofs.lemmas.List.{length-append, length-replicate, length-take-le, length-drop, take-append-drop, take_at, drop_at, drop-drop, drop_more, drop_all, get_or_at, get_or-take, get_or_past, length-take, set-append_right, set_at, replicate_more, drop-replicate}
 use borrow.Rule.Slice.PartMut.{put_mid}
-use Rattle.osta.specs.FirstFault.{first_fault}
+use Rattle.osta.specs.FirstFault.{first_text_fault}
 use Rattle.osta.specs.Compressed.{compressed, expanded, spelling_faults, Named}
 use Rattle.osta.specs.Dstring.{field_of, Dstring, dstring_count, dstring_spelling, dstring_faults}
 use Rattle.osta.specs.Label.{dstring_text}
@@ -104,7 +104,7 @@ fits_front xs n fits i =
     (cases_lt i n)
 
 -- a field without a fault holds its spelling
-pub field_from_faultless : (field : List ℕ) → 0 < length field → first_fault (dstring_faults field) ≡ None → (dstring_count field < length field) × (field ≡ field_of (length field) (dstring_spelling field)) × (first_fault (spelling_faults (dstring_spelling field)) ≡ None)
+pub field_from_faultless : (field : List ℕ) → 0 < length field → first_text_fault (dstring_faults field) ≡ None → (dstring_count field < length field) × (field ≡ field_of (length field) (dstring_spelling field)) × (first_text_fault (spelling_faults (dstring_spelling field)) ≡ None)
 field_from_faultless field some none =
     let n = length field in
     let count = dstring_count field in
@@ -129,7 +129,7 @@ field_from_faultless field some none =
       faultless (spelling_faults s) hold.1.1,
     )
 
-pub faultless_from_field : (n : ℕ) (s : List ℕ) → length s < n → first_fault (spelling_faults s) ≡ None → first_fault (dstring_faults (field_of n s)) ≡ None
+pub faultless_from_field : (n : ℕ) (s : List ℕ) → length s < n → first_text_fault (spelling_faults s) ≡ None → first_text_fault (dstring_faults (field_of n s)) ≡ None
 faultless_from_field n s room none =
     let field = field_of n s in
     let zeros : List ℕ = replicate (n - 1 - length s) 0 in
@@ -143,7 +143,7 @@ faultless_from_field n s room none =
       le-leb _ _ inside,
       (
         ap (list_all (λ b. b == 0)) between ∙ all_zeros (n - 1 - length s),
-        all_hold (spelling_faults (dstring_spelling field)) (ap (λ (xs : List ℕ). first_fault (spelling_faults xs)) (dstring_spelling-field_of n s room) ∙ none),
+        all_hold (spelling_faults (dstring_spelling field)) (ap (λ (xs : List ℕ). first_text_fault (spelling_faults xs)) (dstring_spelling-field_of n s room) ∙ none),
       ),
     )
 
@@ -152,7 +152,7 @@ pub Dstring-named : (text field : List ℕ) (n : ℕ) → Dstring text n field �
 Dstring-named text field n told = record { utf8 = told.utf8; spellable = told.spellable; spelled = refl }
 
 -- what is read is a dstring
-pub Dstring-from_faultless : (field : List ℕ) → ((i : ℕ) → get_or field i 0 < 256) → 0 < length field → first_fault (dstring_faults field) ≡ None → Dstring (dstring_text field) (length field) field
+pub Dstring-from_faultless : (field : List ℕ) → ((i : ℕ) → get_or field i 0 < 256) → 0 < length field → first_text_fault (dstring_faults field) ≡ None → Dstring (dstring_text field) (length field) field
 Dstring-from_faultless field fits some none =
     let told = field_from_faultless field some none in
     let s = dstring_spelling field in
@@ -166,9 +166,9 @@ Dstring-from_faultless field fits some none =
     }
 
 -- a dstring has no fault, and gives its text
-pub faultless_from_Dstring : (text field : List ℕ) (n : ℕ) → Dstring text n field → first_fault (dstring_faults field) ≡ None
+pub faultless_from_Dstring : (text field : List ℕ) (n : ℕ) → Dstring text n field → first_text_fault (dstring_faults field) ≡ None
 faultless_from_Dstring text field n told =
-    ap (λ (xs : List ℕ). first_fault (dstring_faults xs)) told.spelled
+    ap (λ (xs : List ℕ). first_text_fault (dstring_faults xs)) told.spelled
     ∙ faultless_from_field n (compressed text) told.room (faultless_from_Named text (compressed text) (Dstring-named text field n told))
 
 pub spelling_from_Dstring : (text field : List ℕ) (n : ℕ) → Dstring text n field → dstring_spelling field ≡ compressed text

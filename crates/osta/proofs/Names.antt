@@ -7,10 +7,10 @@ use Rattle.std.proofs.lemmas.List.{length-append, length-drop}
 use Rattle.std.proofs.lemmas.List.Concat.{flat_map-append}
 use Rattle.std.proofs.lemmas.List.Folds.{list_all-append}
 use Rattle.std.proofs.lemmas.Str.{chars-encodes, chars-append, chars-IsAscii, IsUtf8-from_ascii}
-use Rattle.osta.specs.FirstFault.{first_fault}
+use Rattle.osta.specs.FirstFault.{first_text_fault}
 use Rattle.osta.specs.Compressed.{is_narrow, two_bytes, spelling, compressed, characters, spelling_faults, writing_faults, Named}
 use Rattle.osta.specs.Dstring.{field_of, dstring, Dstring, dstring_count, dstring_spelling, dstring_faults}
-use Rattle.osta.specs.Name.{has_character, name_faults, IsName, IsKept, kept_spelling}
+use Rattle.osta.specs.Name.{has_character, name_faults, IsName, IsStoredName, kept_spelling}
 use Rattle.osta.specs.Label.{label_faults, IsLabel, dstring_text, IsLabelDstring, IsLabelField}
 use Rattle.osta.proofs.Ascii.{ascii_compressed, ascii_spellable}
 use Rattle.osta.proofs.Rows.{all_hold, faultless}
@@ -43,7 +43,7 @@ ascii_named text bytes ascii name is =
     record { utf8 = name.utf8; spellable = ascii_spellable text ascii; spelled = is ∙ sym (ascii_compressed text ascii (text_some text name)) }
 
 -- a name of ASCII is kept by its text alone
-pub kept_ascii : (text spelled other : List ℕ) → IsAscii text → IsName text → spelled ≡ 8 ∷ text → other ≡ [] → IsKept spelled other
+pub kept_ascii : (text spelled other : List ℕ) → IsAscii text → IsName text → spelled ≡ 8 ∷ text → other ≡ [] → IsStoredName spelled other
 kept_ascii text spelled other ascii name is none =
     let same : drop 1 spelled ≡ text = ap (drop 1) is in
     record {
@@ -58,7 +58,7 @@ kept_some spelled [] some = absurd (omega arith)
 kept_some spelled (byte ∷ bytes) some = refl
 
 -- and any name with its spelling beside it
-pub kept_other : (text spelled other : List ℕ) → IsName text → spelled ≡ 8 ∷ text → other ≡ compressed text → IsKept spelled other
+pub kept_other : (text spelled other : List ℕ) → IsName text → spelled ≡ 8 ∷ text → other ≡ compressed text → IsStoredName spelled other
 kept_other text spelled other name is told =
     let same : drop 1 spelled ≡ text = ap (drop 1) is in
     record {
@@ -68,14 +68,14 @@ kept_other text spelled other name is told =
     }
 
 -- the spelling of a kept name
-pub kept_alone : (spelled other : List ℕ) → IsKept spelled other → other ≡ [] → spelled ≡ compressed (drop 1 spelled)
+pub kept_alone : (spelled other : List ℕ) → IsStoredName spelled other → other ≡ [] → spelled ≡ compressed (drop 1 spelled)
 kept_alone spelled other kept none = sym (ap (kept_spelling spelled) none) ∙ kept.spelling
 
-pub kept_beside : (spelled other : List ℕ) → IsKept spelled other → 0 < length other → other ≡ compressed (drop 1 spelled)
+pub kept_beside : (spelled other : List ℕ) → IsStoredName spelled other → 0 < length other → other ≡ compressed (drop 1 spelled)
 kept_beside spelled other kept some = sym (kept_some spelled other some) ∙ kept.spelling
 
 -- ---- labels
-pub label_from : (text : List ℕ) → IsUtf8 text → (length text == 0) ≡ false → has_character 0 text ≡ false → first_fault (writing_faults 31 text) ≡ None → IsLabel text
+pub label_from : (text : List ℕ) → IsUtf8 text → (length text == 0) ≡ false → has_character 0 text ≡ false → first_text_fault (writing_faults 31 text) ≡ None → IsLabel text
 label_from text utf8 some clean writable =
     record { utf8 = utf8; faultless = faultless (label_faults text) (not_from_false _ some, (not_from_false _ clean, all_hold (writing_faults 31 text) writable)) }
 
@@ -116,9 +116,9 @@ field_Dstring field kept =
 pub field_spelling : (field : List ℕ) → IsLabelField field → dstring_spelling field ≡ compressed (dstring_text field)
 field_spelling field kept = spelling_from_Dstring (dstring_text field) field 32 (field_Dstring field kept)
 
-pub field_faultless : (field : List ℕ) → IsLabelField field → first_fault (spelling_faults (dstring_spelling field)) ≡ None
+pub field_faultless : (field : List ℕ) → IsLabelField field → first_text_fault (spelling_faults (dstring_spelling field)) ≡ None
 field_faultless field kept =
-    ap (λ (xs : List ℕ). first_fault (spelling_faults xs)) (field_spelling field kept)
+    ap (λ (xs : List ℕ). first_text_fault (spelling_faults xs)) (field_spelling field kept)
     ∙ faultless_from_Named (dstring_text field) (compressed (dstring_text field)) (Dstring-named (dstring_text field) field 32 (field_Dstring field kept))
 
 -- what the dstring of a label must be
@@ -128,7 +128,7 @@ pub record IsLabelSpelling (bytes : List ℕ) : Type 0 where
   pub clean : list_any (λ c. c == 0) (characters bytes) ≡ false
 
 -- the label of a dstring of any length
-pub label_read : (field : List ℕ) → ((i : ℕ) → get_or field i 0 < 256) → 0 < length field → first_fault (dstring_faults field) ≡ None
+pub label_read : (field : List ℕ) → ((i : ℕ) → get_or field i 0 < 256) → 0 < length field → first_text_fault (dstring_faults field) ≡ None
     → IsLabelSpelling (dstring_spelling field) → IsLabel (dstring_text field)
 label_read field fits some none told_by =
     let s = dstring_spelling field in
@@ -144,7 +144,7 @@ label_read field fits some none told_by =
     (faultless (writing_faults 31 text) (named.spellable, (le-leb _ _ (omega (arith, told_by.few, ap length named.spelled)), tt)))
 
 -- what was put into the field that keeps a label
-pub label_kept : (field : List ℕ) → ((i : ℕ) → get_or field i 0 < 256) → 0 < length field → first_fault (dstring_faults field) ≡ None → field_of 32 (dstring_spelling field) ≡ dstring 32 (dstring_text field)
+pub label_kept : (field : List ℕ) → ((i : ℕ) → get_or field i 0 < 256) → 0 < length field → first_text_fault (dstring_faults field) ≡ None → field_of 32 (dstring_spelling field) ≡ dstring 32 (dstring_text field)
 label_kept field fits some none =
     let told = field_from_faultless field some none in
     ap (field_of 32) (Named-expanded (dstring_spelling field) (fits_front field (dstring_count field) fits) told.2).spelled
@@ -205,7 +205,7 @@ first_and_rest : (xs : List ℕ) → 0 < length xs → xs ≡ get_or (take 1 xs)
 first_and_rest [] some = absurd (omega arith)
 first_and_rest (x ∷ xs) some = refl
 
--- behind 16 characters, a label of which the kept field tells the identifier and the rest
+-- after 16 characters, a label of which the kept field tells the identifier and the rest
 pub field_narrow : (field front : List ℕ) → IsLabelField field → 0 < length front → IsAscii front → get_or (take 1 (dstring_spelling field)) 0 0 ≡ 8
     → compressed (front ++ dstring_text field) ≡ 8 ∷ (front ++ drop 1 (dstring_spelling field))
 field_narrow field front kept some ascii id =
@@ -221,11 +221,11 @@ field_wide field front kept some ascii apart =
     let same = field_spelling field kept in
     let there : 0 < length s = omega (arith, ap length same, label_some (dstring_text field) kept.label) in
     let split = first_and_rest s there in
-    let none : first_fault (spelling_faults (get_or (take 1 s) 0 0 ∷ drop 1 s)) ≡ None = ap (λ (xs : List ℕ). first_fault (spelling_faults xs)) (sym split) ∙ field_faultless field kept in
+    let none : first_text_fault (spelling_faults (get_or (take 1 s) 0 0 ∷ drop 1 s)) ≡ None = ap (λ (xs : List ℕ). first_text_fault (spelling_faults xs)) (sym split) ∙ field_faultless field kept in
     let id : get_or (take 1 s) 0 0 ≡ 16 = ⊎_elim (λ narrow. absurd (apart narrow)) (λ wide. wide) (id_of _ _ none) in
     wide_behind front (dstring_text field) (drop 1 s) some ascii (sym same ∙ (split ∙ ap (λ (x : ℕ). x ∷ drop 1 s) id))
 
--- how much of the label stands behind the identifier
+-- how much of the label stands after the identifier
 pub field_rest : (field : List ℕ) → IsLabelField field → length (drop 1 (dstring_spelling field)) ≤ 30
 field_rest field kept =
     omega (arith, length-drop 1 (dstring_spelling field), ap length (field_spelling field kept), label_few (dstring_text field) kept.label)

@@ -1,7 +1,7 @@
 -- Faults in their order.
 use Rattle.std.proofs.Common.{◌≡◌, Bool, true, false, cond, List, [], ◌∷◌, Option, Some, None, Result, Ok, Err, refl}
 use Rattle.std.specs.Result.{result_err, is_err}
-use Rattle.osta.specs.FirstFault.{first_fault}
+use Rattle.osta.specs.FirstFault.{first_text_fault}
 use Rattle.osta.specs.Fault.{text_fault, bytes_fault}
 use Rattle.osta.specs.declared.fault.NameFault.{NameFault}
 use Rattle.osta.specs.declared.fault.NameFault.TheVariants as name
@@ -21,15 +21,15 @@ none_there : {F : Type 0} (fault : F) (b : Bool) (rest : Option F) → b ≡ tru
 none_there fault true rest holds none = none
 none_there fault false rest holds none = cc
 
-pub all_hold : {F : Type 0} (rows : List (F × Bool)) → first_fault rows ≡ None → AllHold rows
+pub all_hold : {F : Type 0} (rows : List (F × Bool)) → first_text_fault rows ≡ None → AllHold rows
 all_hold [] none = tt
 all_hold (row ∷ rows) none =
-    let told = row_holds row.0 row.1 (first_fault rows) none in
+    let told = row_holds row.0 row.1 (first_text_fault rows) none in
     (told.0, all_hold rows told.1)
 
-pub faultless : {F : Type 0} (rows : List (F × Bool)) → AllHold rows → first_fault rows ≡ None
+pub faultless : {F : Type 0} (rows : List (F × Bool)) → AllHold rows → first_text_fault rows ≡ None
 faultless [] hold = refl
-faultless (row ∷ rows) hold = none_there row.0 row.1 (first_fault rows) hold.0 (faultless rows hold.1)
+faultless (row ∷ rows) hold = none_there row.0 row.1 (first_text_fault rows) hold.0 (faultless rows hold.1)
 
 pub some_none : {F : Type 0} (fault : F) → Some fault ≡ None → ⊥
 some_none fault e = cc
@@ -43,7 +43,7 @@ pub accepted : {T E : Type 0} (r : Result T E) → is_err r ≡ false → result
 accepted (Ok x) told = refl
 accepted (Err e) told = cc
 
--- an answer that tells no fault of the text or of the bytes tells want of memory
+-- an answer that tells no fault of the text or of the bytes tells lack of memory
 pub memory_of_text : (fault : NameFault) → text_fault fault ≡ None → fault ≡ name.Memory
 memory_of_text name.Memory e = refl
 memory_of_text name.Empty e = cc

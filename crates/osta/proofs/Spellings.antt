@@ -3,7 +3,7 @@ use Rattle.std.proofs.Common.{◌≡◌, ℕ, ◌+◌, ◌*◌, ◌/◌, ◌%◌
 use Rattle.std.specs.List.{list_all, flat_map}
 use Rattle.std.proofs.lemmas.Bool.{cases_Bool, and_parts, and_from, or_cases, not_from_false, not-true, ne_eqb, eq-eqb, eqb-true, eqb-false, cond-true, lt-ltb, ltb-true}
 use lib.Utf8.{scalar, scalars, low_scalar}
-use Rattle.osta.specs.FirstFault.{first_fault}
+use Rattle.osta.specs.FirstFault.{first_text_fault}
 use Rattle.osta.specs.Compressed.{is_narrow, has_spelling, two_bytes, spelling, units, is_unit, unit_character, characters, spelling_faults}
 use Rattle.osta.proofs.Rows.{all_hold, faultless}
 
@@ -99,11 +99,11 @@ characters-spelling (c ∷ cs) =
     (λ wide. ap characters (spelling_wide (c ∷ cs) (omega arith) wide) ∙ units-two_bytes (c ∷ cs))
     (cases_Bool (list_all is_narrow (c ∷ cs)))
 
-narrow_faultless : (cs : List ℕ) → 0 < length cs → first_fault (spelling_faults (8 ∷ cs)) ≡ None
+narrow_faultless : (cs : List ℕ) → 0 < length cs → first_text_fault (spelling_faults (8 ∷ cs)) ≡ None
 narrow_faultless cs some =
     faultless (spelling_faults (8 ∷ cs)) (refl, (not_from_false _ (ne_eqb (length cs) 0 (λ e. omega arith)), tt))
 
-wide_faultless : (cs : List ℕ) → list_all is_narrow cs ≡ false → list_all is_unit cs ≡ true → first_fault (spelling_faults (16 ∷ flat_map two_bytes cs)) ≡ None
+wide_faultless : (cs : List ℕ) → list_all is_narrow cs ≡ false → list_all is_unit cs ≡ true → first_text_fault (spelling_faults (16 ∷ flat_map two_bytes cs)) ≡ None
 wide_faultless cs wide units_all =
     faultless (spelling_faults (16 ∷ flat_map two_bytes cs)) (
       refl,
@@ -116,12 +116,12 @@ wide_faultless cs wide units_all =
       ),
     )
 
-pub spelling-faultless : (cs : List ℕ) → scalars cs ≡ true → list_all has_spelling cs ≡ true → first_fault (spelling_faults (spelling cs)) ≡ None
+pub spelling-faultless : (cs : List ℕ) → scalars cs ≡ true → list_all has_spelling cs ≡ true → first_text_fault (spelling_faults (spelling cs)) ≡ None
 spelling-faultless [] scalar spelled = refl
 spelling-faultless (c ∷ cs) scalar spelled =
     ⊎_elim
-    (λ narrow. ap (λ bytes. first_fault (spelling_faults bytes)) (spelling_narrow (c ∷ cs) (omega arith) narrow) ∙ narrow_faultless (c ∷ cs) (omega arith))
-    (λ wide. ap (λ bytes. first_fault (spelling_faults bytes)) (spelling_wide (c ∷ cs) (omega arith) wide) ∙ wide_faultless (c ∷ cs) wide (units_from (c ∷ cs) scalar spelled))
+    (λ narrow. ap (λ bytes. first_text_fault (spelling_faults bytes)) (spelling_narrow (c ∷ cs) (omega arith) narrow) ∙ narrow_faultless (c ∷ cs) (omega arith))
+    (λ wide. ap (λ bytes. first_text_fault (spelling_faults bytes)) (spelling_wide (c ∷ cs) (omega arith) wide) ∙ wide_faultless (c ∷ cs) wide (units_from (c ∷ cs) scalar spelled))
     (cases_Bool (list_all is_narrow (c ∷ cs)))
 
 -- ---- what is read is written so
@@ -130,7 +130,7 @@ pub record IsRead (bytes : List ℕ) : Type 0 where
   pub scalar : scalars (characters bytes) ≡ true
   pub spelled : list_all has_spelling (characters bytes) ≡ true
 
-narrow_read : (bytes : List ℕ) → ((i : ℕ) → get_or bytes i 0 < 256) → first_fault (spelling_faults (8 ∷ bytes)) ≡ None → IsRead (8 ∷ bytes)
+narrow_read : (bytes : List ℕ) → ((i : ℕ) → get_or bytes i 0 < 256) → first_text_fault (spelling_faults (8 ∷ bytes)) ≡ None → IsRead (8 ∷ bytes)
 narrow_read bytes fits none =
     let hold = all_hold (spelling_faults (8 ∷ bytes)) none in
     let apart : length bytes ≡ 0 → ⊥ = eqb-false (length bytes) 0 (not-true _ hold.1.0) in
@@ -146,7 +146,7 @@ some_wide : (cs : List ℕ) → list_all is_narrow cs ≡ false → 0 < length c
 some_wide [] e = cc
 some_wide (c ∷ cs) e = omega arith
 
-wide_read : (bytes : List ℕ) → ((i : ℕ) → get_or bytes i 0 < 256) → first_fault (spelling_faults (16 ∷ bytes)) ≡ None → IsRead (16 ∷ bytes)
+wide_read : (bytes : List ℕ) → ((i : ℕ) → get_or bytes i 0 < 256) → first_text_fault (spelling_faults (16 ∷ bytes)) ≡ None → IsRead (16 ∷ bytes)
 wide_read bytes fits none =
     let hold = all_hold (spelling_faults (16 ∷ bytes)) none in
     let even : length bytes % 2 ≡ 0 = eqb-true _ _ hold.1.0 in
@@ -158,25 +158,25 @@ wide_read bytes fits none =
       spelled = units_spell (units bytes) units_all;
     }
 
-pub id_of : (id : ℕ) (rest : List ℕ) → first_fault (spelling_faults (id ∷ rest)) ≡ None → (id ≡ 8) ⊎ (id ≡ 16)
+pub id_of : (id : ℕ) (rest : List ℕ) → first_text_fault (spelling_faults (id ∷ rest)) ≡ None → (id ≡ 8) ⊎ (id ≡ 16)
 id_of id rest none =
     ⊎_elim (λ e. inl (eqb-true id 8 e)) (λ e. inr (eqb-true id 16 e)) (or_cases (id == 8) (id == 16) (all_hold (spelling_faults (id ∷ rest)) none).0)
 
-pub read_back : (bytes : List ℕ) → ((i : ℕ) → get_or bytes i 0 < 256) → first_fault (spelling_faults bytes) ≡ None → IsRead bytes
+pub read_back : (bytes : List ℕ) → ((i : ℕ) → get_or bytes i 0 < 256) → first_text_fault (spelling_faults bytes) ≡ None → IsRead bytes
 read_back [] fits none = record { again = refl; scalar = refl; spelled = refl }
 read_back (id ∷ rest) fits none =
-    let P : ℕ → Type 0 = λ k. first_fault (spelling_faults (k ∷ rest)) ≡ None → IsRead (k ∷ rest) in
+    let P : ℕ → Type 0 = λ k. first_text_fault (spelling_faults (k ∷ rest)) ≡ None → IsRead (k ∷ rest) in
     let tail : (i : ℕ) → get_or rest i 0 < 256 = λ i. fits (suc i) in
     ⊎_elim
     (λ narrow. subst P (sym narrow) (narrow_read rest tail) none)
     (λ wide. subst P (sym wide) (wide_read rest tail) none)
     (id_of id rest none)
 
--- two bytes each are characters with a spelling, behind an identifier that is not 8
-pub units_from_faultless : (id : ℕ) (rest bytes : List ℕ) → (id ≡ 8 → ⊥) → bytes ≡ id ∷ rest → first_fault (spelling_faults bytes) ≡ None → list_all is_unit (units rest) ≡ true
+-- two bytes each are characters with a spelling, after an identifier that is not 8
+pub units_from_faultless : (id : ℕ) (rest bytes : List ℕ) → (id ≡ 8 → ⊥) → bytes ≡ id ∷ rest → first_text_fault (spelling_faults bytes) ≡ None → list_all is_unit (units rest) ≡ true
 units_from_faultless id rest bytes wide told none =
-    let here : first_fault (spelling_faults (id ∷ rest)) ≡ None = ap (λ xs. first_fault (spelling_faults xs)) (sym told) ∙ none in
-    let P : ℕ → Type 0 = λ k. first_fault (spelling_faults (k ∷ rest)) ≡ None → list_all is_unit (units rest) ≡ true in
+    let here : first_text_fault (spelling_faults (id ∷ rest)) ≡ None = ap (λ xs. first_text_fault (spelling_faults xs)) (sym told) ∙ none in
+    let P : ℕ → Type 0 = λ k. first_text_fault (spelling_faults (k ∷ rest)) ≡ None → list_all is_unit (units rest) ≡ true in
     ⊎_elim
     (λ narrow. absurd (wide narrow))
     (λ e. subst P (sym e) (λ h. (all_hold (spelling_faults (16 ∷ rest)) h).1.1.1.0) here)

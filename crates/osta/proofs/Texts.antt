@@ -6,7 +6,7 @@ use Rattle.std.proofs.lemmas.List.{nil_from_length}
 use Rattle.std.proofs.lemmas.Bool.{cases_lt, cases_Bool}
 use Rattle.std.proofs.lemmas.Str.{chars-nil, chars-encodes, encodes-chars, scalars-chars}
 use lib.Utf8.{encodes}
-use Rattle.osta.specs.FirstFault.{first_fault}
+use Rattle.osta.specs.FirstFault.{first_text_fault}
 use Rattle.osta.specs.Compressed.{is_narrow, has_spelling, spelling, compressed, characters, expanded, spelling_faults, Named}
 use Rattle.osta.proofs.Spellings.{read_back, spelling-faultless, characters-spelling, length-spelling_narrow, length-spelling_wide}
 
@@ -27,7 +27,7 @@ some_compressed text utf8 some =
     (cases_Bool (list_all is_narrow (chars text)))
 
 -- bytes without a fault are the spelling of the text that they give
-pub Named-expanded : (bytes : List ℕ) → ((i : ℕ) → get_or bytes i 0 < 256) → first_fault (spelling_faults bytes) ≡ None → Named (expanded bytes) bytes
+pub Named-expanded : (bytes : List ℕ) → ((i : ℕ) → get_or bytes i 0 < 256) → first_text_fault (spelling_faults bytes) ≡ None → Named (expanded bytes) bytes
 Named-expanded bytes fits none =
     let told = read_back bytes fits none in
     let same = chars-encodes (characters bytes) told.scalar in
@@ -38,9 +38,9 @@ Named-expanded bytes fits none =
     }
 
 -- a spelling has no fault, and gives its text
-pub faultless_from_Named : (text bytes : List ℕ) → Named text bytes → first_fault (spelling_faults bytes) ≡ None
+pub faultless_from_Named : (text bytes : List ℕ) → Named text bytes → first_text_fault (spelling_faults bytes) ≡ None
 faultless_from_Named text bytes named =
-    ap (λ xs. first_fault (spelling_faults xs)) named.spelled ∙ spelling-faultless (chars text) (scalars-chars text named.utf8) named.spellable
+    ap (λ xs. first_text_fault (spelling_faults xs)) named.spelled ∙ spelling-faultless (chars text) (scalars-chars text named.utf8) named.spellable
 
 pub expanded_from_Named : (text bytes : List ℕ) → Named text bytes → expanded bytes ≡ text
 expanded_from_Named text bytes named =

@@ -69,7 +69,7 @@ characters (id ∷ rest) = if id == 8 then rest else units rest
 abbrev pub expanded : List ℕ → List ℕ
 expanded bytes = encode_utf8_all (characters bytes)
 
--- the faults of the bytes behind a compression identifier in their order, each beside what must hold
+-- the faults of the bytes after a compression identifier in their order, each beside what must hold
 abbrev pub narrow_faults : List ℕ → List (OstaFault × Bool)
 narrow_faults rest = (NotShortest, not (length rest == 0)) ∷ []
 

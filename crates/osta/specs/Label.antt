@@ -1,7 +1,7 @@
 -- The label of a volume.
 use Rattle.std.specs.Prelude.{◌≡◌, ◌⊎◌, ℕ, Bool, not, ◌==◌, List, ◌∷◌, length, None}
 use Rattle.std.specs.Str.{IsUtf8}
-use Rattle.osta.specs.FirstFault.{first_fault}
+use Rattle.osta.specs.FirstFault.{first_text_fault}
 use Rattle.osta.specs.Compressed.{writing_faults, expanded}
 use Rattle.osta.specs.Dstring.{dstring, dstring_spelling, Dstring}
 use Rattle.osta.specs.Name.{has_character}
@@ -17,7 +17,7 @@ label_faults text =
 
 pub record IsLabel (text : List ℕ) : Type 0 where
   pub utf8 : IsUtf8 text
-  pub faultless : first_fault (label_faults text) ≡ None
+  pub faultless : first_text_fault (label_faults text) ≡ None
 
 -- the bytes are the dstring of 32 or of 128 bytes of a label
 pub record IsLabelDstring (text bytes : List ℕ) : Type 0 where

@@ -2,7 +2,7 @@
 use Rattle.std.specs.Prelude.{◌≡◌, ℕ, Bool, not, ◌||◌, ◌==◌, List, [], ◌∷◌, drop, length, None, codes}
 use Rattle.std.specs.List.{list_any}
 use Rattle.std.specs.Str.{chars, IsUtf8, bytes_eq}
-use Rattle.osta.specs.FirstFault.{first_fault}
+use Rattle.osta.specs.FirstFault.{first_text_fault}
 use Rattle.osta.specs.Compressed.{compressed, writing_faults}
 use Rattle.osta.specs.declared.fault.NameFault.{NameFault}
 use Rattle.osta.specs.declared.fault.NameFault.TheVariants.{Empty, Dot, Slash, Nul}
@@ -30,15 +30,15 @@ name_faults text =
 
 pub record IsName (text : List ℕ) : Type 0 where
   pub utf8 : IsUtf8 text
-  pub faultless : first_fault (name_faults text) ≡ None
+  pub faultless : first_text_fault (name_faults text) ≡ None
 
--- the spelling of a kept name: where no other one is kept, the text behind the compression identifier
+-- the spelling of a kept name: where no other one is kept, the text after the compression identifier
 abbrev pub kept_spelling : List ℕ → List ℕ → List ℕ
 kept_spelling spelled [] = spelled
 kept_spelling spelled (byte ∷ bytes) = byte ∷ bytes
 
--- how a name is kept: its text behind the compression identifier 8, and its spelling where this is another one
-pub record IsKept (spelled other : List ℕ) : Type 0 where
+-- how a name is kept: its text after the compression identifier 8, and its spelling where this is another one
+pub record IsStoredName (spelled other : List ℕ) : Type 0 where
   pub front : spelled ≡ 8 ∷ drop 1 spelled
   pub name : IsName (drop 1 spelled)
   pub spelling : kept_spelling spelled other ≡ compressed (drop 1 spelled)

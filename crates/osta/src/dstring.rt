@@ -1,14 +1,14 @@
 ghost use Rattle.std.specs.Prelude.{◌≡◌, ◌≤◌, ◌<◌, ◌-◌, ◌==◌, Some, ℕ, List, length, OnOk, OnErr, IfOk, IfErr, MatchResult, string_bytes};
 ghost use Rattle.std.specs.Result.{result_err};
 ghost use Rattle.std.specs.List.{list_all};
-ghost use Rattle.osta.specs.FirstFault.{first_fault};
+ghost use Rattle.osta.specs.FirstFault.{first_text_fault};
 ghost use Rattle.osta.specs.Fault.{bytes_fault};
 ghost use Rattle.osta.specs.Compressed.{writing_faults, compressed};
 ghost use Rattle.osta.specs.Dstring as spec;
 
 use crate::fault::{NameFault, OstaFault};
-use crate::reading::{check_spelling, expand_checked};
-use crate::writing::{compressed_len, is_spellable, write_spelling};
+use crate::reading::{check_encoding, expand_checked};
+use crate::writing::{compressed_len, is_spellable, write_encoding};
 use std::alloc::Global;
 
 /// Writes a text into a field of 1 to 256 bytes (ECMA-167 1/7.2.12): its spelling, zeros, and how
@@ -17,7 +17,7 @@ use std::alloc::Global;
 pub fn dstring_write(text: &str, field: &mut [u8]) -> Result<(), NameFault>
     requires some { 1 ≤ length field.old }
     requires few { length field.old ≤ 256 }
-    ensures fault { let n = length field.old in result_err result ≡ first_fault (writing_faults (n - 1) text.now) }
+    ensures fault { let n = length field.old in result_err result ≡ first_text_fault (writing_faults (n - 1) text.now) }
     ensures ok { OnOk result (field.new ≡ spec.dstring (length field.old) text.now) }
     ensures dstring { OnOk result (spec.Dstring text.now (length field.old) field.new) }
     ensures err { OnErr result (field.new ≡ field.old) }
@@ -25,7 +25,7 @@ pub fn dstring_write(text: &str, field: &mut [u8]) -> Result<(), NameFault>
     let last = field.len() - 1;
     let count = check_room(text, last)?;
     field.fill(0);
-    write_spelling(text, &mut field[..count]);
+    write_encoding(text, &mut field[..count]);
     field[last] = count as u8;
     Ok(())
 }
@@ -38,7 +38,7 @@ pub fn dstring_read(alloc: Global, field: &[u8]) -> Result<String, OstaFault>
     ensures found { IfOk result (λ text. spec.Dstring (string_bytes text) (length field.now) field.now) }
     // Each dstring is read, unless memory is short.
     ensures only { (text : List ℕ) → spec.Dstring text (length field.now) field.now → MatchResult result (λ found. string_bytes found ≡ text) (λ fault. fault ≡ OstaFault.Memory) }
-    ensures fault { IfErr result (λ fault. bytes_fault fault ≡ first_fault (spec.dstring_faults field.now)) }
+    ensures fault { IfErr result (λ fault. bytes_fault fault ≡ first_text_fault (spec.dstring_faults field.now)) }
 {
     check_dstring(field)?;
     Ok(expand_checked(alloc, spelling_of(field))?)
@@ -46,7 +46,7 @@ pub fn dstring_read(alloc: Global, field: &[u8]) -> Result<String, OstaFault>
 
 /// The count of bytes of a text's spelling, which may be at most `room`, or the first fault.
 pub(crate) fn check_room(text: &str, room: usize) -> Result<usize, NameFault>
-    ensures fault { result_err result ≡ first_fault (writing_faults room text.now) }
+    ensures fault { result_err result ≡ first_text_fault (writing_faults room text.now) }
     ensures count { IfOk result (λ count. count ≡ length (compressed text.now)) }
 {
     if !is_spellable(text) {
@@ -74,8 +74,8 @@ pub(crate) fn put_spelling(spelling: &[u8], field: &mut [u8])
 /// Whether a field is a dstring, or the first fault of it.
 pub(crate) fn check_dstring(field: &[u8]) -> Result<(), OstaFault>
     requires { 1 ≤ length field.now }
-    ensures fault { result_err result ≡ first_fault (spec.dstring_faults field.now) }
-    ensures told { IfErr result (λ fault. bytes_fault fault ≡ Some fault) }
+    ensures fault { result_err result ≡ first_text_fault (spec.dstring_faults field.now) }
+    ensures reported { IfErr result (λ fault. bytes_fault fault ≡ Some fault) }
 {
     let last = field.len() - 1;
     let count = field[last] as usize;
@@ -85,7 +85,7 @@ pub(crate) fn check_dstring(field: &[u8]) -> Result<(), OstaFault>
     if !are_zeros(&field[count..last]) {
         return Err(OstaFault::Tail);
     }
-    check_spelling(spelling_of(field))
+    check_encoding(spelling_of(field))
 }
 
 /// The bytes of a field that spell its text.

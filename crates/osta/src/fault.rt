@@ -39,11 +39,11 @@ impl From<AllocError> for NameFault {
     }
 }
 
-/// Why bytes are the spelling of no text, in the order in which the faults are told. Each has a
+/// Why bytes are the spelling of no text, in the order in which the faults are reported. Each has a
 /// number, which causes of refusals show.
 #[derive(Clone, Copy, Debug, PartialEq, Eq)]
 pub enum OstaFault {
-    /// There is no memory for the text. It is told last.
+    /// There is no memory for the text. it is reported last.
     Memory = 7,
     /// The first byte is neither 8 nor 16.
     CompId = 11,
@@ -55,7 +55,7 @@ pub enum OstaFault {
     Surrogate = 14,
     /// The last byte of a dstring counts more bytes than lie before it.
     Count = 15,
-    /// A byte of a dstring behind its text is not zero.
+    /// A byte of a dstring after its text is not zero.
     Tail = 16,
 }
 

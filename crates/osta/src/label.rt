@@ -2,7 +2,7 @@ ghost use Rattle.std.specs.Prelude.{◌≡◌, ◌+◌, ◌<◌, ◌≤◌, ◌�
 ghost use Rattle.std.specs.Result.{result_err};
 ghost use Rattle.std.specs.Cmp.Lexicographic.{pointwise, nat_list_eq_equiv};
 ghost use Rattle.std.specs.Cmp.{partial_equiv_from_equiv};
-ghost use Rattle.osta.specs.FirstFault.{first_fault};
+ghost use Rattle.osta.specs.FirstFault.{first_text_fault};
 ghost use Rattle.osta.specs.Dstring.{dstring, field_of};
 ghost use Rattle.osta.specs.Label.{label_faults, IsLabel, IsLabelDstring};
 
@@ -45,7 +45,7 @@ impl Label {
     /// The label of this text, or the first fault of it: `Empty`, `Nul`, `Wide` or `Long`. It takes no
     /// memory.
     pub fn read(text: &str) -> Result<Label, NameFault>
-        ensures fault { result_err result ≡ first_fault (label_faults text.now) }
+        ensures fault { result_err result ≡ first_text_fault (label_faults text.now) }
         ensures label { IfOk result (λ label. (label ≡ text.now) × IsLabel text.now) }
     {
         if text.is_empty() {
@@ -97,8 +97,8 @@ impl Label {
         wide
     }
 
-    /// The dstring of 128 bytes whose text is 16 ASCII characters and the label behind them.
-    pub fn dstring_128_behind(self, front: &[u8; 16]) -> [u8; 128]
+    /// The dstring of 128 bytes whose text is 16 ASCII characters and the label after them.
+    pub fn dstring_128_after(self, front: &[u8; 16]) -> [u8; 128]
         requires { IsAscii front.now }
         ensures value { result ≡ dstring 128 (front.now ++ self) }
         ensures label { IsLabel self }

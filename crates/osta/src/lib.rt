@@ -18,5 +18,5 @@ pub use dstring::{dstring_read, dstring_write};
 pub use fault::{NameFault, OstaFault};
 pub use label::Label;
 pub use name::Name;
-pub use reading::{check_spelling, expand};
+pub use reading::{check_encoding, expand};
 pub use writing::{compress, one_spelling};

@@ -6,14 +6,14 @@ ghost use Rattle.std.specs.Cmp.Lexicographic.{pointwise, nat_list_eq_equiv};
 ghost use Rattle.std.specs.Cmp.{partial_equiv_from_equiv};
 ghost use Rattle.std.specs.Cmp.Rules.{hashing};
 ghost use Rattle.std.proofs.Common.{rules};
-ghost use Rattle.osta.specs.FirstFault.{first_fault};
+ghost use Rattle.osta.specs.FirstFault.{first_text_fault};
 ghost use Rattle.osta.specs.Fault.{text_fault};
 ghost use Rattle.osta.specs.Compressed.{compressed, Named};
 ghost use Rattle.osta.specs.Name.{dots_faults, name_faults, IsName, has_character};
 
 use crate::dstring::check_room;
 use crate::fault::NameFault;
-use crate::reading::{check_spelling, expand_checked};
+use crate::reading::{check_encoding, expand_checked};
 use crate::writing::{NARROW, compress};
 use std::alloc::{AllocError, Global};
 use std::hash::{Hash, Hasher};
@@ -26,7 +26,7 @@ const NAME_ROOM: usize = 255;
 /// `..` and has no slash and no NUL. A contract sees it as its text.
 #[derive(Debug, Drop)]
 pub struct Name {
-    /// The text behind the compression identifier of characters of one byte, which is the spelling of ASCII.
+    /// The text after the compression identifier of characters of one byte, which is the spelling of ASCII.
     spelled: String,
     /// The spelling of a text that is no ASCII, and else nothing.
     other: Vec<u8>,
@@ -34,19 +34,19 @@ pub struct Name {
 
 impl Model for Name {
     ghost use Rattle.std.specs.Prelude.{ℕ, List, drop, string_bytes};
-    ghost use Rattle.osta.specs.Name.{IsKept};
+    ghost use Rattle.osta.specs.Name.{IsStoredName};
 
     ghost Value = { List ℕ };
 
     ghost view = { λ n. drop 1 (string_bytes n.spelled) };
 
-    ghost invariant = { λ n. IsKept (string_bytes n.spelled) n.other.items };
+    ghost invariant = { λ n. IsStoredName (string_bytes n.spelled) n.other.items };
 }
 
 impl Name {
     /// Whether a text is a name, or its first fault. It takes no memory, and never tells `Memory`.
     pub fn check(text: &str) -> Result<(), NameFault>
-        ensures { result_err result ≡ first_fault (name_faults text.now) }
+        ensures { result_err result ≡ first_text_fault (name_faults text.now) }
     {
         if text.is_ascii() {
             return check_ascii(text);
@@ -65,7 +65,7 @@ impl Name {
     /// A copy of a text that is a name, or the first fault of it.
     pub fn read(alloc: Global, text: &str) -> Result<Name, NameFault>
         ensures name { IfOk result (λ name. (name ≡ text.now) × IsName text.now) }
-        ensures fault { IfErr result (λ fault. text_fault fault ≡ first_fault (name_faults text.now)) }
+        ensures fault { IfErr result (λ fault. text_fault fault ≡ first_text_fault (name_faults text.now)) }
     {
         Name::check(text)?;
         if text.is_ascii() {
@@ -87,7 +87,7 @@ impl Name {
             }
             return Ok(Some(Name::of_ascii(alloc, text)?));
         }
-        if check_spelling(bytes).is_err() {
+        if check_encoding(bytes).is_err() {
             return Ok(None);
         }
         let text = expand_checked(alloc, bytes)?;
@@ -140,7 +140,7 @@ impl Name {
 /// Whether a text of ASCII is a name, or its first fault. Its characters are bytes, and its spelling has one byte more.
 fn check_ascii(text: &str) -> Result<(), NameFault>
     requires { IsAscii text.now }
-    ensures { result_err result ≡ first_fault (name_faults text.now) }
+    ensures { result_err result ≡ first_text_fault (name_faults text.now) }
 {
     check_dots(text)?;
     let bytes = text.as_bytes();
@@ -158,7 +158,7 @@ fn check_ascii(text: &str) -> Result<(), NameFault>
 
 /// Refuses no text at all, and those of a directory itself and of the one above.
 fn check_dots(text: &str) -> Result<(), NameFault>
-    ensures { result_err result ≡ first_fault (dots_faults text.now) }
+    ensures { result_err result ≡ first_text_fault (dots_faults text.now) }
 {
     if text.is_empty() {
         return Err(NameFault::Empty);
@@ -181,7 +181,7 @@ fn ascii_of(bytes: &[u8]) -> Option<&str>
     str::from_utf8(rest).ok()
 }
 
-/// A text behind the compression identifier of characters of one byte.
+/// A text after the compression identifier of characters of one byte.
 fn behind_identifier(alloc: Global, text: &str) -> Result<String, AllocError>
     ensures { IfOk result (λ spelled. string_bytes spelled ≡ 8 ∷ text.now) }
 {

@@ -2,7 +2,7 @@ ghost use Rattle.std.specs.Prelude.{◌≡◌, ◌==◌, List, ℕ, Some, IsTrue
 ghost use Rattle.std.specs.Result.{result_err};
 ghost use Rattle.std.specs.List.{list_all, list_any};
 ghost use Rattle.std.specs.Iterator.{YieldsFirst, item_count};
-ghost use Rattle.osta.specs.FirstFault.{first_fault};
+ghost use Rattle.osta.specs.FirstFault.{first_text_fault};
 ghost use Rattle.osta.specs.Fault.{bytes_fault};
 ghost use Rattle.osta.specs.Compressed as spec;
 
@@ -12,9 +12,9 @@ use byteorder::{BigEndian, ByteOrder};
 use std::alloc::{AllocError, Global};
 
 /// Whether bytes are the spelling of a text, or the first fault of them. It takes no memory.
-pub fn check_spelling(bytes: &[u8]) -> Result<(), OstaFault>
-    ensures fault { result_err result ≡ first_fault (spec.spelling_faults bytes.now) }
-    ensures told { IfErr result (λ fault. bytes_fault fault ≡ Some fault) }
+pub fn check_encoding(bytes: &[u8]) -> Result<(), OstaFault>
+    ensures fault { result_err result ≡ first_text_fault (spec.spelling_faults bytes.now) }
+    ensures reported { IfErr result (λ fault. bytes_fault fault ≡ Some fault) }
 {
     let Some((id, rest)) = bytes.split_first() else {
         return Ok(());
@@ -32,15 +32,15 @@ pub fn expand(alloc: Global, bytes: &[u8]) -> Result<String, OstaFault>
     ensures found { IfOk result (λ text. spec.Named (string_bytes text) bytes.now) }
     // Each spelling is read, unless memory is short.
     ensures only { (text : List ℕ) → spec.Named text bytes.now → MatchResult result (λ found. string_bytes found ≡ text) (λ fault. fault ≡ OstaFault.Memory) }
-    ensures fault { IfErr result (λ fault. bytes_fault fault ≡ first_fault (spec.spelling_faults bytes.now)) }
+    ensures fault { IfErr result (λ fault. bytes_fault fault ≡ first_text_fault (spec.spelling_faults bytes.now)) }
 {
-    check_spelling(bytes)?;
+    check_encoding(bytes)?;
     Ok(expand_checked(alloc, bytes)?)
 }
 
 /// The text whose spelling the bytes are.
 pub(crate) fn expand_checked(alloc: Global, bytes: &[u8]) -> Result<String, AllocError>
-    requires { first_fault (spec.spelling_faults bytes.now) ≡ None }
+    requires { first_text_fault (spec.spelling_faults bytes.now) ≡ None }
     ensures { IfOk result (λ text. string_bytes text ≡ spec.expanded bytes.now) }
 {
     let Some((id, rest)) = bytes.split_first() else {
@@ -77,7 +77,7 @@ fn text_of_units(alloc: Global, bytes: &[u8]) -> Result<String, AllocError>
 
 /// Whether a character that the bytes spell is NUL.
 pub(crate) fn has_zero(bytes: &[u8]) -> bool
-    requires { first_fault (spec.spelling_faults bytes.now) ≡ None }
+    requires { first_text_fault (spec.spelling_faults bytes.now) ≡ None }
     ensures { result ≡ list_any (λ c. c == 0) (spec.characters bytes.now) }
 {
     let Some((id, rest)) = bytes.split_first() else {
@@ -90,10 +90,10 @@ pub(crate) fn has_zero(bytes: &[u8]) -> bool
     }
 }
 
-/// The faults of the bytes behind a compression identifier 8.
+/// The faults of the bytes after a compression identifier 8.
 fn check_narrow(rest: &[u8]) -> Result<(), OstaFault>
-    ensures fault { result_err result ≡ first_fault (spec.narrow_faults rest.now) }
-    ensures told { IfErr result (λ fault. bytes_fault fault ≡ Some fault) }
+    ensures fault { result_err result ≡ first_text_fault (spec.narrow_faults rest.now) }
+    ensures reported { IfErr result (λ fault. bytes_fault fault ≡ Some fault) }
 {
     if rest.is_empty() {
         Err(OstaFault::NotShortest)
@@ -102,10 +102,10 @@ fn check_narrow(rest: &[u8]) -> Result<(), OstaFault>
     }
 }
 
-/// The faults of the bytes behind a compression identifier 16.
+/// The faults of the bytes after a compression identifier 16.
 fn check_wide(rest: &[u8]) -> Result<(), OstaFault>
-    ensures fault { result_err result ≡ first_fault (spec.wide_faults rest.now) }
-    ensures told { IfErr result (λ fault. bytes_fault fault ≡ Some fault) }
+    ensures fault { result_err result ≡ first_text_fault (spec.wide_faults rest.now) }
+    ensures reported { IfErr result (λ fault. bytes_fault fault ≡ Some fault) }
 {
     if rest.len() % 2 != 0 {
         return Err(OstaFault::Odd);

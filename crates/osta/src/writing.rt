@@ -29,7 +29,7 @@ pub fn compress(text: &str, out: &mut Vec<u8>) -> Result<(), NameFault>
     out.reserve(len)?;
     let before = out.len();
     out.resize(before + len, 0)?;
-    write_spelling(text, &mut out[before..]);
+    write_encoding(text, &mut out[before..]);
     Ok(())
 }
 
@@ -90,7 +90,7 @@ pub(crate) fn compressed_len(text: &str) -> usize
 }
 
 /// Fills a slice with the spelling of a text.
-pub(crate) fn write_spelling(text: &str, into: &mut [u8])
+pub(crate) fn write_encoding(text: &str, into: &mut [u8])
     requires spellable { IsTrue (spec.is_spellable text.now) }
     requires room { length into.old ≡ length (spec.compressed text.now) }
     ensures { into.new ≡ spec.compressed text.now }

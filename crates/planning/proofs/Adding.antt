@@ -7,7 +7,7 @@ use Rattle.std.specs.Cmp.Lexicographic.{pointwise}
 use Rattle.std.proofs.lemmas.Bool.{ne_eqb}
 use Rattle.std.proofs.lemmas.List.{length-map, length_push, map-append}
 use Rattle.model.specs.Tree.{Name, Path, Tree, IsTree, is_directory_at, names_at, names_in, has_names, parent_of, last_of}
-use Rattle.model.specs.Graph.{Graph, Body, Entry, MakesTree, IsFunctional, Reach, whole, content_in, is_directory}
+use Rattle.model.specs.Graph.{Graph, Body, Entry, MakesTree, IsFunctional, Reach, as_stored, content_in, is_directory}
 use Rattle.model.specs.Graph.Body.{Entries}
 use Rattle.model.specs.Change.{with_entries, new_body}
 use Rattle.model.specs.Operation.{code_of}
@@ -19,16 +19,16 @@ use Rattle.dir.specs.declared.entry.Entry.{Entry as DirEntry}
 use Rattle.udf.specs.Said.{said_entry, said_entries, names_directory}
 use Rattle.planning.specs.declared.change.Change.{Change}
 use Rattle.planning.specs.declared.change.NewDirectory.{NewDirectory}
-use Rattle.planning.specs.declared.change.Thing.{Thing}
-use Rattle.planning.specs.declared.change.Thing.TheVariants as thing
-use Rattle.directories.specs.declared.content.Content.{Content}
-use Rattle.next_vat.specs.declared.node.Node.{Node}
-use Rattle.directories.specs.declared.nodes.Placed.{Placed}
-use Rattle.directories.specs.Shows.{IsNodeAt, IsOpened}
+use Rattle.planning.specs.declared.change.NewContent.{NewContent}
+use Rattle.planning.specs.declared.change.NewContent.TheVariants as thing
+use Rattle.lookup.specs.declared.content.Content.{Content}
+use Rattle.table_update.specs.declared.node.Node.{Node}
+use Rattle.lookup.specs.declared.nodes.Placed.{Placed}
+use Rattle.lookup.specs.Shows.{IsNodeAt, IsOpened}
 use Rattle.planning.specs.Writings.{directory_writing, new_file, change_writings}
-use Rattle.next_vat.specs.NextTable.{made_by, Takes}
-use Rattle.planning.specs.Changes.{addition, content_of_thing, code_by_names, addresses_in, gone_of, Does}
-use Rattle.directories.proofs.Walks.{node_at, names_stored, directory_stored, said_names, step_some, step_none}
+use Rattle.table_update.specs.NextTable.{made_by, RemovesNode}
+use Rattle.planning.specs.Changes.{addition, content_of_thing, code_by_names, addresses_in, gone_of, IsChangeOf}
+use Rattle.lookup.proofs.Walks.{node_at, names_stored, directory_stored, said_names, step_some, step_none}
 
 -- a directory is stored where a walk ends at one
 pub stored_directory : (graph : Graph) (path : Path) (node : Node) (here : IsNodeAt graph path node) → names_directory node.kind ≡ true → is_directory here.found.stored ≡ true
@@ -42,12 +42,12 @@ add_code empty long above rest = if empty then 7 else (if long then 8 else (if n
 rest_code : Path → Tree → ℕ
 rest_code path tree = code_by_names (contains_key tree path) (length (names_at tree (parent_of path))) (len tree)
 
-addition_code : (path : Path) (what : Thing) (tree : Tree) → code_of (addition path what) tree ≡ add_code (length path == 0) (nat_lt 16 (length path)) (is_directory_at tree (parent_of path)) (rest_code path tree)
+addition_code : (path : Path) (what : NewContent) (tree : Tree) → code_of (addition path what) tree ≡ add_code (length path == 0) (nat_lt 16 (length path)) (is_directory_at tree (parent_of path)) (rest_code path tree)
 unfolding rest_code
 addition_code path (thing.File bytes) tree = refl
 addition_code path thing.Directory tree = refl
 
-pub add_root : (path : Path) (what : Thing) (tree : Tree) → length path ≡ 0 → code_of (addition path what) tree ≡ 7
+pub add_root : (path : Path) (what : NewContent) (tree : Tree) → length path ≡ 0 → code_of (addition path what) tree ≡ 7
 add_root path what tree none =
     addition_code path what tree ∙ ap (λ (n : ℕ). add_code (n == 0) (nat_lt 16 (length path)) (is_directory_at tree (parent_of path)) (rest_code path tree)) none
 
@@ -56,7 +56,7 @@ not_empty path above name e =
     let long : length path ≡ length (above ++ name ∷ []) = ap length e in
     ne_eqb (length path) 0 (λ none. absurd (omega (arith, none, long, length_push above name)))
 
-module _ (path above : Path) (name : Name) (split : path ≡ above ++ name ∷ []) (what : Thing) (tree : Tree) where
+module _ (path above : Path) (name : Name) (split : path ≡ above ++ name ∷ []) (what : NewContent) (tree : Tree) where
   pub above_is : parent_of path ≡ above
   above_is = ap parent_of split ∙ parent-push above name
 
@@ -84,7 +84,7 @@ module _ (path above : Path) (name : Name) (split : path ≡ above ++ name ∷ [
     there None e = ap is_some (step_none graph tree one is makes above parent here placed content shown name e)
     there (Some entry) e =
         let next = step_some graph tree one is makes above parent here placed content shown name entry e in
-        ap is_some (node_at graph tree one is makes (above ++ name ∷ []) (record { kind = entry.kind; address = entry.icb; unique = entry.unique }) next)
+        ap is_some (node_at graph tree one is makes (above ++ name ∷ []) (record { kind = entry.kind; address = entry.virtual_address; unique = entry.unique }) next)
 
     pub count_above : length (names_at tree above) ≡ length content.dir.entries.entries
     count_above =
@@ -118,43 +118,43 @@ written_more moment before after d file items =
     ∙ (ap (λ (ws : List Writing). new_file moment before.file ++ ws) (map-append directory_writing before.directories.items (d ∷ []))
     ∙ sym (append_assoc (new_file moment before.file) (map directory_writing before.directories.items) (directory_writing d ∷ [])))
 
-plans : (graph : Graph) (free : ℕ) (path : Path) (what : Thing) (moment identity : ℕ) (nodes : List Writing) (gone : List ℕ) → PlansAddition graph free path (content_of_thing what) moment identity nodes → gone ≡ [] → Plans graph free (addition path what) moment identity nodes gone
+plans : (graph : Graph) (free : ℕ) (path : Path) (what : NewContent) (moment identity : ℕ) (nodes : List Writing) (gone : List ℕ) → PlansAddition graph free path (content_of_thing what) moment identity nodes → gone ≡ [] → Plans graph free (addition path what) moment identity nodes gone
 plans graph free path (thing.File bytes) moment identity nodes gone p none = (p, none)
 plans graph free path thing.Directory moment identity nodes gone p none = (p, none)
 
-takes_none : (path : Path) (what : Thing) (tree : Tree) (gone : List ℕ) (taken : Option Node) → taken ≡ None → Takes (addition path what) tree gone taken
+takes_none : (path : Path) (what : NewContent) (tree : Tree) (gone : List ℕ) (taken : Option Node) → taken ≡ None → RemovesNode (addition path what) tree gone taken
 takes_none path (thing.File bytes) tree gone taken none = none
 takes_none path thing.Directory tree gone taken none = none
 
 -- the directory above with one entry more
 pub listed : (above : Path) (name : Name) (graph : Graph) (parent : Node) (here : IsNodeAt graph above parent) (placed : Placed) (content : Content) → IsOpened here.found.stored placed content → (moment : ℕ) (entry : DirEntry) (d : NewDirectory)
     → d.address ≡ parent.address → d.unique ≡ parent.unique → d.moment ≡ moment → d.content.dir.parent ≡ content.dir.parent → d.content.dir.entries.entries ≡ content.dir.entries.entries ++ (name, entry) ∷ []
-    → directory_writing d ≡ record { address = here.found.address; stored = whole here.found.stored.identity moment (with_entries (λ entries. entries ++ said_entry (name, entry) ∷ []) here.found.stored.body) }
+    → directory_writing d ≡ record { address = here.found.address; stored = as_stored here.found.stored.identity moment (with_entries (λ entries. entries ++ said_entry (name, entry) ∷ []) here.found.stored.body) }
 listed above name graph parent here placed content shown moment entry d address unique when parent_is entries_are =
     let more : said_entries d.content.dir.entries.entries ≡ said_entries content.dir.entries.entries ++ said_entry (name, entry) ∷ [] =
     ap said_entries entries_are ∙ map-append said_entry content.dir.entries.entries ((name, entry) ∷ []) in
     let body : Entries d.content.dir.parent (said_entries d.content.dir.entries.entries) ≡ with_entries (λ entries. entries ++ said_entry (name, entry) ∷ []) here.found.stored.body =
     (λ i. Entries (parent_is i) (more i)) ∙ sym (ap (with_entries (λ entries. entries ++ said_entry (name, entry) ∷ [])) shown.body) in
-    λ i. record { address = (address ∙ here.address) i; stored = whole ((unique ∙ here.identity) i) (when i) (body i) }
+    λ i. record { address = (address ∙ here.address) i; stored = as_stored ((unique ∙ here.identity) i) (when i) (body i) }
 
 -- the node is put there
-pub adds : (graph : Graph) (free moment identity : ℕ) (path above : Path) (name : Name) (split : path ≡ above ++ name ∷ []) (what : Thing) (tree : Tree) (parent : Node) (here : IsNodeAt graph above parent) (placed : Placed) (content : Content)
+pub adds : (graph : Graph) (free moment identity : ℕ) (path above : Path) (name : Name) (split : path ≡ above ++ name ∷ []) (what : NewContent) (tree : Tree) (parent : Node) (here : IsNodeAt graph above parent) (placed : Placed) (content : Content)
     → IsOpened here.found.stored placed content → (before change : Change) (entry : DirEntry) (d : NewDirectory) → code_of (addition path what) tree ≡ 0 → change.code ≡ code.Done → change.made ≡ made_by (addition path what) free → change.removed ≡ None
-    → change_writings moment before ≡ record { address = free; stored = whole identity moment (new_body parent.address (content_of_thing what)) } ∷ [] → change.file ≡ before.file → change.directories.items ≡ before.directories.items ++ d ∷ []
+    → change_writings moment before ≡ record { address = free; stored = as_stored identity moment (new_body parent.address (content_of_thing what)) } ∷ [] → change.file ≡ before.file → change.directories.items ≡ before.directories.items ++ d ∷ []
     → d.address ≡ parent.address → d.unique ≡ parent.unique → d.moment ≡ moment → d.content.dir.parent ≡ content.dir.parent → d.content.dir.entries.entries ≡ content.dir.entries.entries ++ (name, entry) ∷ []
-    → names_directory entry.kind ≡ has_names (content_of_thing what) → entry.icb ≡ free → entry.unique ≡ identity → Does graph free tree (addition path what) moment identity change
+    → names_directory entry.kind ≡ has_names (content_of_thing what) → entry.virtual_address ≡ free → entry.unique ≡ identity → IsChangeOf graph free tree (addition path what) moment identity change
 adds graph free moment identity path above name split what tree parent here placed content shown before change entry d zero_code code_is made removed first file items address unique when parent_is entries_are kind icb id =
     let front = sym (above_is path above name split what tree) in
     let said : said_entry (name, entry) ≡ record { name = name; is_directory = has_names (content_of_thing what); address = free; identity = identity } =
     λ i. record { name = name; is_directory = kind i; address = icb i; identity = id i } in
     let gone : gone_of change ≡ [] = ap addresses_in removed in
     let dir = listed above name graph parent here placed content shown moment entry d address unique when parent_is entries_are in
-    let nodes : change_writings moment change ≡ record { address = free; stored = whole identity moment (new_body here.found.address (content_of_thing what)) }
-    ∷ record { address = here.found.address; stored = whole here.found.stored.identity moment (with_entries (λ entries. entries ++ record { name = name; is_directory = has_names (content_of_thing what); address = free; identity = identity } ∷ []) here.found.stored.body) } ∷ [] =
+    let nodes : change_writings moment change ≡ record { address = free; stored = as_stored identity moment (new_body here.found.address (content_of_thing what)) }
+    ∷ record { address = here.found.address; stored = as_stored here.found.stored.identity moment (with_entries (λ entries. entries ++ record { name = name; is_directory = has_names (content_of_thing what); address = free; identity = identity } ∷ []) here.found.stored.body) } ∷ [] =
     written_more moment before change d file items
     ∙ (ap (λ (ws : List Writing). ws ++ directory_writing d ∷ []) first
-    ∙ (λ i. record { address = free; stored = whole identity moment (new_body (here.address i) (content_of_thing what)) }
-    ∷ (dir ∙ ap (λ (e : Entry). record { address = here.found.address; stored = whole here.found.stored.identity moment (with_entries (λ entries. entries ++ e ∷ []) here.found.stored.body) }) said) i ∷ [])) in
+    ∙ (λ i. record { address = free; stored = as_stored identity moment (new_body (here.address i) (content_of_thing what)) }
+    ∷ (dir ∙ ap (λ (e : Entry). record { address = here.found.address; stored = as_stored here.found.stored.identity moment (with_entries (λ entries. entries ++ e ∷ []) here.found.stored.body) }) said) i ∷ [])) in
     record {
       code_is = ap code_number code_is ∙ sym zero_code;
       done = λ none. (

@@ -9,7 +9,7 @@ use Rattle.model.specs.Tree.{Path, Tree, IsTree, Has, path_cmp, begins_with}
 use Rattle.model.specs.Operation.{is_too_deep, moves_too_deep}
 use Rattle.model.proofs.Paths.{path_cases}
 use Rattle.model.proofs.Moving.{Begins, begins, begins-append}
-use Rattle.directories.specs.Heights.{IsHeight}
+use Rattle.lookup.specs.Heights.{IsHeight}
 
 -- a test that one path of a tree passes, or none
 any_of : (test : Path → Bool) (x : Path) (ps : List Path) → list_any (eq_by_cmp path_cmp x) ps ≡ true → test x ≡ true → list_any test ps ≡ true

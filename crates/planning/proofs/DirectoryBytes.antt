@@ -16,9 +16,9 @@ use Rattle.osta.proofs.Names.{name_few, name_spelled}
 use Rattle.dir.specs.declared.entry.Entry.{Entry}
 use Rattle.dir.specs.declared.entry.Kind.{Kind}
 use Rattle.dir.specs.declared.entry.Kind.TheVariants.{File, Directory}
-use Rattle.dir.specs.Directory.{of_parent, of_name, characteristics_of, identifiers, IsEntry}
+use Rattle.dir.specs.Directory.{of_parent, of_name, characteristics_of, identifiers, IsDirectoryEntry}
 use Rattle.dir.specs.Identifier.{Identifier, plain_size, use_of, head_of, body_of, identifier}
-use Rattle.dir.specs.Layout.{stays, laid, blocks_of, blocked, identifier_blocks}
+use Rattle.dir.specs.Layout.{stays, laid, block_count, blocked, identifier_blocks}
 use Rattle.dir.specs.Split.{AreBytes}
 use Rattle.dir.proofs.Placing.{laid-stays, laid-leaves, laid-nil}
 use Rattle.udf.specs.Udf.{IsBlock}
@@ -182,15 +182,15 @@ kind_small : (k : Kind) → characteristics_of k < 256
 kind_small File = omega arith
 kind_small Directory = omega arith
 
-names_have : (es : List (List ℕ × Entry)) → All IsEntry es → EachHas (map (λ (e : List ℕ × Entry). of_name e.0 e.1) es)
+names_have : (es : List (List ℕ × Entry)) → All IsDirectoryEntry es → EachHas (map (λ (e : List ℕ × Entry). of_name e.0 e.1) es)
 names_have [] all = tt
 names_have (e ∷ es) all =
     let first = all 0 e (omega arith) in
     (record { name = name_bytes e.0 first.name; few = name_few e.0 first.name; kind = kind_small e.1.kind }, names_have es (λ k d lt. all (suc k) d (omega (arith, lt))))
 
 -- the blocks of a directory
-pub directory_bytes : (parent first : ℕ) (entries : List (List ℕ × Entry)) → All IsEntry entries → All IsBlock (identifier_blocks first (identifiers parent entries))
+pub directory_bytes : (parent first : ℕ) (entries : List (List ℕ × Entry)) → All IsDirectoryEntry entries → All IsBlock (identifier_blocks first (identifiers parent entries))
 directory_bytes parent first entries named =
     let bytes = laid first 0 (identifiers parent entries) in
     let above : HasBytes (of_parent parent) = record { name = none; few = omega arith; kind = omega arith } in
-    blocked_bytes (blocks_of (length bytes)) bytes (laid_bytes (identifiers parent entries) first 0 (above, names_have entries named))
+    blocked_bytes (block_count (length bytes)) bytes (laid_bytes (identifiers parent entries) first 0 (above, names_have entries named))

@@ -12,7 +12,7 @@ use Rattle.std.proofs.lemmas.Map.{lookup-remove_entry}
 use Rattle.std.proofs.lemmas.Map.Views.{Contains-from_lookup}
 use Rattle.dir.specs.declared.entry.Entry.{Entry as DirEntry}
 use Rattle.model.specs.Tree.{Name, Path, Tree, IsTree, Has, is_directory_at, names_at, paths_eq, begins_with, parent_of, last_of}
-use Rattle.model.specs.Graph.{Graph, Stored, Body, Entry, MakesTree, IsFunctional, Reach, whole, entries_in, entries_of, is_directory}
+use Rattle.model.specs.Graph.{Graph, Stored, Body, Entry, MakesTree, IsFunctional, Reach, as_stored, entries_in, entries_of, is_directory}
 use Rattle.model.specs.Graph.Body.{Entries}
 use Rattle.model.specs.Change.{Found, with_entries, with_parent, without, renamed}
 use Rattle.model.specs.Operation.{code_of, is_other, moves_too_deep}
@@ -28,17 +28,17 @@ use Rattle.request.specs.declared.answer.Code.TheVariants as code
 use Rattle.udf.specs.Said.{said_entry, said_entries}
 use Rattle.planning.specs.declared.change.Change.{Change}
 use Rattle.planning.specs.declared.change.NewDirectory.{NewDirectory}
-use Rattle.directories.specs.declared.content.Content.{Content}
-use Rattle.next_vat.specs.declared.node.Node.{Node}
-use Rattle.directories.specs.declared.nodes.Placed.{Placed}
-use Rattle.directories.specs.Shows.{IsNodeAt, IsOpened}
-use Rattle.planning.specs.Moves.{IsWithin, IsBetween, Turns}
+use Rattle.lookup.specs.declared.content.Content.{Content}
+use Rattle.table_update.specs.declared.node.Node.{Node}
+use Rattle.lookup.specs.declared.nodes.Placed.{Placed}
+use Rattle.lookup.specs.Shows.{IsNodeAt, IsOpened}
+use Rattle.planning.specs.Moves.{IsMoveWithin, IsBetween, Turns}
 use Rattle.planning.specs.Writings.{directory_writing, new_file, new_directories, change_writings}
-use Rattle.planning.specs.Changes.{addresses_in, gone_of, Does}
+use Rattle.planning.specs.Changes.{addresses_in, gone_of, IsChangeOf}
 use Rattle.planning.proofs.Removing.{left}
-use Rattle.directories.proofs.Walks.{step_some, step_none, texts_exact}
+use Rattle.lookup.proofs.Walks.{step_some, step_none, texts_exact}
 use Rattle.planning.proofs.Adding.{not_empty}
-use Rattle.directories.proofs.Heights.{has_at, names_opened, distinct_opened}
+use Rattle.lookup.proofs.Heights.{has_at, names_opened, distinct_opened}
 
 -- ---- the code
 
@@ -175,7 +175,7 @@ module _ (graph : Graph) (tree : Tree) (one : IsFunctional graph) (is : IsTree t
       go None e = refl
       go (Some entry) e =
           let next = step_some graph tree one is makes above node at placed content shown name entry e in
-          absurd (not_none tree (above ++ name ∷ []) none (has_at graph tree one is makes (above ++ name ∷ []) (record { kind = entry.kind; address = entry.icb; unique = entry.unique }) next))
+          absurd (not_none tree (above ++ name ∷ []) none (has_at graph tree one is makes (above ++ name ∷ []) (record { kind = entry.kind; address = entry.virtual_address; unique = entry.unique }) next))
 
   -- one that leads somewhere is
   pub is_listed : (above : Path) (node : Node) (at : IsNodeAt graph above node) (placed : Placed) (content : Content) → IsOpened at.found.stored placed content → (name : Name) → Has tree (above ++ name ∷ [])
@@ -196,10 +196,10 @@ module _ (graph : Graph) (tree : Tree) (one : IsFunctional graph) (is : IsTree t
 -- a directory with other entries
 rewritten : (graph : Graph) (path : Path) (node : Node) (at : IsNodeAt graph path node) (placed : Placed) (content : Content) → IsOpened at.found.stored placed content → (change : List Entry → List Entry) (moment : ℕ) (d : NewDirectory)
     → d.address ≡ node.address → d.unique ≡ node.unique → d.moment ≡ moment → d.content.dir.parent ≡ content.dir.parent → said_entries d.content.dir.entries.entries ≡ change (said_entries content.dir.entries.entries)
-    → directory_writing d ≡ record { address = at.found.address; stored = whole at.found.stored.identity moment (with_entries change at.found.stored.body) }
+    → directory_writing d ≡ record { address = at.found.address; stored = as_stored at.found.stored.identity moment (with_entries change at.found.stored.body) }
 rewritten graph path node at placed content shown change moment d address unique when parent_is entries_are =
     let body : Entries d.content.dir.parent (said_entries d.content.dir.entries.entries) ≡ with_entries change at.found.stored.body = (λ i. Entries (parent_is i) (entries_are i)) ∙ sym (ap (with_entries change) shown.body) in
-    λ i. record { address = (address ∙ at.address) i; stored = whole ((unique ∙ at.identity) i) (when i) (body i) }
+    λ i. record { address = (address ∙ at.address) i; stored = as_stored ((unique ∙ at.identity) i) (when i) (body i) }
 
 said_more : (es fs : List (Name × DirEntry)) (name : Name) (entry : DirEntry) → fs ≡ es ++ (name, entry) ∷ [] → said_entries fs ≡ said_entries es ++ said_entry (name, entry) ∷ []
 said_more es fs name entry e = ap said_entries e ∙ map-append said_entry es ((name, entry) ∷ [])
@@ -214,21 +214,21 @@ pub turned_is : (s : Stored) (moved : Entry) (above : ℕ) (placed : Placed) (co
     → d.content.dir.parent ≡ above → d.content.dir.entries.entries ≡ content.dir.entries.entries → directory_writing d ∷ [] ≡ turned moved s above
 turned_is s moved above placed content d shown directory address unique when parent_is entries_are =
     let body : Entries d.content.dir.parent (said_entries d.content.dir.entries.entries) ≡ with_parent above s.body = (λ i. Entries (parent_is i) (said_entries (entries_are i))) ∙ sym (ap (with_parent above) shown.body) in
-    let writing : directory_writing d ≡ record { address = moved.address; stored = whole s.identity s.moment (with_parent above s.body) } = λ i. record { address = address i; stored = whole (unique i) ((when ∙ shown.moment) i) (body i) } in
+    let writing : directory_writing d ≡ record { address = moved.address; stored = as_stored s.identity s.moment (with_parent above s.body) } = λ i. record { address = address i; stored = as_stored (unique i) ((when ∙ shown.moment) i) (body i) } in
     ap (λ (w : Writing). w ∷ []) writing
-    ∙ sym (ap (λ (b : Bool). if b then record { address = moved.address; stored = whole s.identity s.moment (with_parent above s.body) } ∷ [] else []) directory)
+    ∙ sym (ap (λ (b : Bool). if b then record { address = moved.address; stored = as_stored s.identity s.moment (with_parent above s.body) } ∷ [] else []) directory)
 
 pub turned_none : (s : Stored) (moved : Entry) (above : ℕ) → is_directory s ≡ false → [] ≡ turned moved s above
-turned_none s moved above file = sym (ap (λ (b : Bool). if b then record { address = moved.address; stored = whole s.identity s.moment (with_parent above s.body) } ∷ [] else []) file)
+turned_none s moved above file = sym (ap (λ (b : Bool). if b then record { address = moved.address; stored = as_stored s.identity s.moment (with_parent above s.body) } ∷ [] else []) file)
 
 module _ (graph : Graph) (tree : Tree) (one : IsFunctional graph) (is : IsTree tree) (makes : MakesTree graph tree) (free moment identity : ℕ) (from to : Path) where
   -- another name in one directory
-  pub renames_within : (parent : Node) (old new : Name) (w : IsWithin graph tree from to parent old new) (placed : Placed) (content : Content) → IsOpened w.parent_at.found.stored placed content
+  pub renames_within : (parent : Node) (old new : Name) (w : IsMoveWithin graph tree from to parent old new) (placed : Placed) (content : Content) → IsOpened w.parent_at.found.stored placed content
       → (entry : DirEntry) → lookup (pointwise nat_eq old) content.dir.entries.entries ≡ Some entry → (change : Change) (d : NewDirectory)
       → change.code ≡ code.Done → change.file ≡ None → change.made ≡ None → change.removed ≡ None → change.directories.items ≡ d ∷ []
       → d.address ≡ parent.address → d.unique ≡ parent.unique → d.moment ≡ moment → d.content.dir.parent ≡ content.dir.parent
       → d.content.dir.entries.entries ≡ remove_entry (pointwise nat_eq old) content.dir.entries.entries ++ (new, entry) ∷ []
-      → Does graph free tree (Rename from to) moment identity change
+      → IsChangeOf graph free tree (Rename from to) moment identity change
   renames_within parent old new w placed content shown entry listed change d code_is file made removed items address unique when parent_is entries_are =
       let es = content.dir.entries.entries in
       let distinct = distinct_opened graph tree one is makes w.above parent w.parent_at placed content shown in
@@ -261,21 +261,21 @@ module _ (graph : Graph) (tree : Tree) (one : IsFunctional graph) (is : IsTree t
       }
 
   -- to another directory
-  pub moves_between : (node loses gains : Node) (old new : Name) (b : IsBetween graph tree from to node loses gains old new) → code_of (Rename from to) tree ≡ 0
+  pub moves_between : (node source_dir target_dir : Node) (old new : Name) (b : IsBetween graph tree from to node source_dir target_dir old new) → code_of (Rename from to) tree ≡ 0
       → (lost gained : Placed) (losing gaining : Content) → IsOpened b.loses_at.found.stored lost losing → IsOpened b.gains_at.found.stored gained gaining
       → (entry : DirEntry) → lookup (pointwise nat_eq old) losing.dir.entries.entries ≡ Some entry → (change : Change) (before : List NewDirectory) (l g : NewDirectory)
-      → Turns node.address b.node_at.found.stored gains.address (new_directories before)
+      → Turns node.address b.node_at.found.stored target_dir.address (new_directories before)
       → change.code ≡ code.Done → change.file ≡ None → change.made ≡ None → change.removed ≡ None → change.directories.items ≡ (before ++ l ∷ []) ++ g ∷ []
-      → l.address ≡ loses.address → l.unique ≡ loses.unique → l.moment ≡ moment → l.content.dir.parent ≡ losing.dir.parent → l.content.dir.entries.entries ≡ remove_entry (pointwise nat_eq old) losing.dir.entries.entries
-      → g.address ≡ gains.address → g.unique ≡ gains.unique → g.moment ≡ moment → g.content.dir.parent ≡ gaining.dir.parent → g.content.dir.entries.entries ≡ gaining.dir.entries.entries ++ (new, entry) ∷ []
-      → Does graph free tree (Rename from to) moment identity change
-  moves_between node loses gains old new b zero_code lost gained losing gaining shown_lost shown_gained entry listed change before l g before_is code_is file made removed items l_address l_unique l_when l_parent l_entries g_address g_unique g_when g_parent g_entries =
+      → l.address ≡ source_dir.address → l.unique ≡ source_dir.unique → l.moment ≡ moment → l.content.dir.parent ≡ losing.dir.parent → l.content.dir.entries.entries ≡ remove_entry (pointwise nat_eq old) losing.dir.entries.entries
+      → g.address ≡ target_dir.address → g.unique ≡ target_dir.unique → g.moment ≡ moment → g.content.dir.parent ≡ gaining.dir.parent → g.content.dir.entries.entries ≡ gaining.dir.entries.entries ++ (new, entry) ∷ []
+      → IsChangeOf graph free tree (Rename from to) moment identity change
+  moves_between node source_dir target_dir old new b zero_code lost gained losing gaining shown_lost shown_gained entry listed change before l g before_is code_is file made removed items l_address l_unique l_when l_parent l_entries g_address g_unique g_when g_parent g_entries =
       let moved : Entry = said_entry (old, entry) in
-      let entry_at = step_some graph tree one is makes b.above loses b.loses_at lost losing shown_lost old entry listed in
-      let same : entry.icb ≡ node.address = same_address graph tree one is makes (b.above ++ old ∷ []) from (record { kind = entry.kind; address = entry.icb; unique = entry.unique }) node entry_at b.node_at (sym b.from_is) in
-      let distinct = distinct_opened graph tree one is makes b.above loses b.loses_at lost losing shown_lost in
-      let l_writing = rewritten graph b.above loses b.loses_at lost losing shown_lost (without from) moment l l_address l_unique l_when l_parent (ap said_entries l_entries ∙ without_last from b.above old b.from_is losing.dir.entries.entries distinct) in
-      let g_writing = rewritten graph b.beyond gains b.gains_at gained gaining shown_gained (λ entries. entries ++ renamed new moved ∷ []) moment g g_address g_unique g_when g_parent
+      let entry_at = step_some graph tree one is makes b.above source_dir b.loses_at lost losing shown_lost old entry listed in
+      let same : entry.virtual_address ≡ node.address = same_address graph tree one is makes (b.above ++ old ∷ []) from (record { kind = entry.kind; address = entry.virtual_address; unique = entry.unique }) node entry_at b.node_at (sym b.from_is) in
+      let distinct = distinct_opened graph tree one is makes b.above source_dir b.loses_at lost losing shown_lost in
+      let l_writing = rewritten graph b.above source_dir b.loses_at lost losing shown_lost (without from) moment l l_address l_unique l_when l_parent (ap said_entries l_entries ∙ without_last from b.above old b.from_is losing.dir.entries.entries distinct) in
+      let g_writing = rewritten graph b.beyond target_dir b.gains_at gained gaining shown_gained (λ entries. entries ++ renamed new moved ∷ []) moment g g_address g_unique g_when g_parent
       (said_more gaining.dir.entries.entries g.content.dir.entries.entries new entry g_entries) in
       let gone : gone_of change ≡ [] = ap addresses_in removed in
       let nodes : change_writings moment change ≡ map directory_writing ((before ++ l ∷ []) ++ g ∷ []) = λ i. new_file moment (file i) ++ map directory_writing (items i) in
@@ -288,13 +288,13 @@ module _ (graph : Graph) (tree : Tree) (one : IsFunctional graph) (is : IsTree t
           (
             inr (record {
               elsewhere = λ beside. b.elsewhere (sym (ap parent_of b.from_is ∙ parent-push b.above old) ∙ (beside ∙ (ap parent_of b.to_is ∙ parent-push b.beyond new)));
-              above = found_above graph from b.above old loses b.from_is b.loses_at;
+              above = found_above graph from b.above old source_dir b.from_is b.loses_at;
               moved = moved;
               from_last = ap last_of b.from_is ∙ last-push b.above old;
               contains = contains_said b.loses_at.found.stored losing lost shown_lost old entry listed;
               stored = b.node_at.found.stored;
               there = subst (λ (a : ℕ). graph a b.node_at.found.stored) (sym (same ∙ b.node_at.address)) b.node_at.found.is;
-              beyond = found_above graph to b.beyond new gains b.to_is b.gains_at;
+              beyond = found_above graph to b.beyond new target_dir b.to_is b.gains_at;
               name = new;
               to_last = ap last_of b.to_is ∙ last-push b.beyond new;
               nodes_are = nodes ∙ (joined ∙ (λ i. first i ++ l_writing i ∷ g_writing i ∷ []));
@@ -309,17 +309,17 @@ module _ (graph : Graph) (tree : Tree) (one : IsFunctional graph) (is : IsTree t
 
 module _ (graph : Graph) (tree : Tree) (one : IsFunctional graph) (is : IsTree tree) (makes : MakesTree graph tree) (from to : Path) where
   -- whether the directory that gains is full
-  gained_count : (node loses gains : Node) (old new : Name) (b : IsBetween graph tree from to node loses gains old new) (gained : Placed) (gaining : Content) → IsOpened b.gains_at.found.stored gained gaining → (full : Bool) → nat_le 512 (length gaining.dir.entries.entries) ≡ full
+  gained_count : (node source_dir target_dir : Node) (old new : Name) (b : IsBetween graph tree from to node source_dir target_dir old new) (gained : Placed) (gaining : Content) → IsOpened b.gains_at.found.stored gained gaining → (full : Bool) → nat_le 512 (length gaining.dir.entries.entries) ≡ full
       → code_of (Rename from to) tree ≡ (if full then 9 else 0)
-  gained_count node loses gains old new b gained gaining shown full e =
+  gained_count node source_dir target_dir old new b gained gaining shown full e =
       let count : length (names_at tree b.beyond) ≡ length gaining.dir.entries.entries =
-      ap length (names_opened graph tree one is makes b.beyond gains b.gains_at gained gaining shown) ∙ length-map gaining.dir.entries.entries (λ (x : Name × DirEntry). x.0) in
+      ap length (names_opened graph tree one is makes b.beyond target_dir b.gains_at gained gaining shown) ∙ length-map gaining.dir.entries.entries (λ (x : Name × DirEntry). x.0) in
       b.code_is ∙ (ap (λ (n : ℕ). if nat_le 512 n then 9 else 0) count ∙ ap (λ (t : Bool). if t then 9 else 0) e)
 
-  pub gained_full : (node loses gains : Node) (old new : Name) (b : IsBetween graph tree from to node loses gains old new) (gained : Placed) (gaining : Content) → IsOpened b.gains_at.found.stored gained gaining → 512 ≤ length gaining.dir.entries.entries
+  pub gained_full : (node source_dir target_dir : Node) (old new : Name) (b : IsBetween graph tree from to node source_dir target_dir old new) (gained : Placed) (gaining : Content) → IsOpened b.gains_at.found.stored gained gaining → 512 ≤ length gaining.dir.entries.entries
       → code_of (Rename from to) tree ≡ 9
-  gained_full node loses gains old new b gained gaining shown le = gained_count node loses gains old new b gained gaining shown true (le-leb 512 (length gaining.dir.entries.entries) le)
+  gained_full node source_dir target_dir old new b gained gaining shown le = gained_count node source_dir target_dir old new b gained gaining shown true (le-leb 512 (length gaining.dir.entries.entries) le)
 
-  pub gained_room : (node loses gains : Node) (old new : Name) (b : IsBetween graph tree from to node loses gains old new) (gained : Placed) (gaining : Content) → IsOpened b.gains_at.found.stored gained gaining → length gaining.dir.entries.entries < 512
+  pub gained_room : (node source_dir target_dir : Node) (old new : Name) (b : IsBetween graph tree from to node source_dir target_dir old new) (gained : Placed) (gaining : Content) → IsOpened b.gains_at.found.stored gained gaining → length gaining.dir.entries.entries < 512
       → code_of (Rename from to) tree ≡ 0
-  gained_room node loses gains old new b gained gaining shown lt = gained_count node loses gains old new b gained gaining shown false (lt-leb 512 (length gaining.dir.entries.entries) lt)
+  gained_room node source_dir target_dir old new b gained gaining shown lt = gained_count node source_dir target_dir old new b gained gaining shown false (lt-leb 512 (length gaining.dir.entries.entries) lt)

@@ -11,14 +11,14 @@ use Rattle.planning.specs.declared.layout.PlacedDirectory.{PlacedDirectory}
 use Rattle.planning.specs.declared.change.NewDirectory.{NewDirectory}
 use Rattle.planning.specs.declared.plan.Plan.{Plan}
 use Rattle.vat.specs.Table.{Table}
-use Rattle.next_vat.specs.NextTable.{all_placed}
-use Rattle.next_vat.specs.TableChange.{placed}
+use Rattle.table_update.specs.NextTable.{all_placed}
+use Rattle.table_update.specs.TableChange.{placed}
 use Rattle.planning.specs.Needs.{directory_need, directories_need}
 use Rattle.planning.specs.Plan.{directory_list, directories_list, directories_writings, directories_written, node_list, table_data, plan_blocks, IsLaid, AreLaid, IsPlan}
 use Rattle.planning.specs.Writings.{directory_writing}
 use Rattle.planning.proofs.Writings.{writes_one, writes-append}
 
--- blocks of zeros, and bytes behind them
+-- blocks of zeros, and bytes after them
 pub length-padded : (gap : ℕ) (bytes : List ℕ) → length (replicate gap zeros ++ packed bytes) ≡ gap + div_ceil (length bytes) 2048
 length-padded gap bytes = omega (arith, length-append (replicate gap zeros) (packed bytes), length-replicate {A = List ℕ} gap zeros, length-packed bytes)
 

@@ -10,7 +10,7 @@ use Rattle.std.proofs.lemmas.List.{length-map}
 use Rattle.dir.specs.declared.entry.Entry.{Entry as DirEntry}
 use Rattle.model.specs.Tree.{Name, Path, Node as TreeNode, Content as Content_, Tree, IsTree, Has, is_directory_at, names_at, names_in, has_names, found_names, found_directory, parent_of, last_of}
 use Rattle.model.specs.Tree.Content.{File as FileContent, Directory as DirectoryContent}
-use Rattle.model.specs.Graph.{Graph, Body, Entry, MakesTree, IsFunctional, Reach, whole, content_in, entries_in, entries_of}
+use Rattle.model.specs.Graph.{Graph, Body, Entry, MakesTree, IsFunctional, Reach, as_stored, content_in, entries_in, entries_of}
 use Rattle.model.specs.Graph.Body.{Bytes, Entries}
 use Rattle.model.specs.Change.{with_entries, without}
 use Rattle.model.specs.Operation.{code_of, is_other}
@@ -26,15 +26,15 @@ use Rattle.udf.specs.Said.{said_entry, said_entries, names_directory}
 use Rattle.udf.specs.Words.{name_kind}
 use Rattle.planning.specs.declared.change.Change.{Change}
 use Rattle.planning.specs.declared.change.NewDirectory.{NewDirectory}
-use Rattle.directories.specs.declared.content.Content.{Content}
-use Rattle.next_vat.specs.declared.node.Node.{Node}
-use Rattle.directories.specs.declared.nodes.Placed.{Placed}
-use Rattle.directories.specs.Shows.{IsNodeAt, IsOpened}
+use Rattle.lookup.specs.declared.content.Content.{Content}
+use Rattle.table_update.specs.declared.node.Node.{Node}
+use Rattle.lookup.specs.declared.nodes.Placed.{Placed}
+use Rattle.lookup.specs.Shows.{IsNodeAt, IsOpened}
 use Rattle.planning.specs.Writings.{directory_writing, new_file, change_writings}
-use Rattle.next_vat.specs.NextTable.{Takes}
-use Rattle.planning.specs.Changes.{addresses_in, gone_of, Does}
+use Rattle.table_update.specs.NextTable.{RemovesNode}
+use Rattle.planning.specs.Changes.{addresses_in, gone_of, IsChangeOf}
 use Rattle.planning.proofs.Adding.{not_empty}
-use Rattle.directories.proofs.Walks.{node_at, names_stored, directory_stored, texts_exact}
+use Rattle.lookup.proofs.Walks.{node_at, names_stored, directory_stored, texts_exact}
 
 -- ---- whether there are names
 
@@ -118,14 +118,14 @@ left name (e ∷ es) d = go (left name es d.1) (pointwise nat_eq name e.0) refl
 -- the directory above without the entry
 unlisted : (path above : Path) (name : Name) (split : path ≡ above ++ name ∷ []) (graph : Graph) (parent : Node) (up : IsNodeAt graph above parent) (placed : Placed) (content : Content) → IsOpened up.found.stored placed content → IsDistinct (pointwise nat_eq) (keys_of content.dir.entries.entries)
     → (moment : ℕ) (d : NewDirectory) → d.address ≡ parent.address → d.unique ≡ parent.unique → d.moment ≡ moment → d.content.dir.parent ≡ content.dir.parent → d.content.dir.entries.entries ≡ remove_entry (pointwise nat_eq name) content.dir.entries.entries
-    → directory_writing d ≡ record { address = up.found.address; stored = whole up.found.stored.identity moment (with_entries (without path) up.found.stored.body) }
+    → directory_writing d ≡ record { address = up.found.address; stored = as_stored up.found.stored.identity moment (with_entries (without path) up.found.stored.body) }
 unlisted path above name split graph parent up placed content shown distinct moment d address unique when parent_is entries_are =
     let last : last_of path ≡ name ∷ [] = ap last_of split ∙ last-push above name in
     let less : said_entries d.content.dir.entries.entries ≡ without path (said_entries content.dir.entries.entries) =
     ap said_entries entries_are ∙ (left name content.dir.entries.entries distinct ∙ ap (λ (ns : List Name). filter (λ (e : Entry). is_other ns e.name) (said_entries content.dir.entries.entries)) (sym last)) in
     let body : Entries d.content.dir.parent (said_entries d.content.dir.entries.entries) ≡ with_entries (without path) up.found.stored.body =
     (λ i. Entries (parent_is i) (less i)) ∙ sym (ap (with_entries (without path)) shown.body) in
-    λ i. record { address = (address ∙ up.address) i; stored = whole ((unique ∙ up.identity) i) (when i) (body i) }
+    λ i. record { address = (address ∙ up.address) i; stored = as_stored ((unique ∙ up.identity) i) (when i) (body i) }
 
 kind_back : (k : Kind) → k ≡ name_kind (names_directory k)
 kind_back kinds.Directory = refl
@@ -137,12 +137,12 @@ pub removes : (graph : Graph) (one : IsFunctional graph) (free moment identity :
     → IsOpened up.found.stored placed content → IsDistinct (pointwise nat_eq) (keys_of content.dir.entries.entries) → (node : Node) (here : IsNodeAt graph path node) (change : Change) (d : NewDirectory) → code_of (Remove path) tree ≡ 0
     → change.code ≡ code.Done → change.made ≡ None → change.removed ≡ Some node → change.file ≡ None → change.directories.items ≡ d ∷ []
     → d.address ≡ parent.address → d.unique ≡ parent.unique → d.moment ≡ moment → d.content.dir.parent ≡ content.dir.parent → d.content.dir.entries.entries ≡ remove_entry (pointwise nat_eq name) content.dir.entries.entries
-    → Does graph free tree (Remove path) moment identity change
+    → IsChangeOf graph free tree (Remove path) moment identity change
 removes graph one free moment identity path above name split tree is makes parent up placed content shown distinct node here change d zero_code code_is made removed file items address unique when parent_is entries_are =
     let front : above ≡ parent_of path = sym (ap parent_of split ∙ parent-push above name) in
     let nodes : change_writings moment change ≡ directory_writing d ∷ [] = λ i. new_file moment (file i) ++ map directory_writing (items i) in
     let kind : node.kind ≡ name_kind (is_directory_at tree path) = kind_back node.kind ∙ ap name_kind (sym (directory_stored graph tree one is makes path node here)) in
-    let takes : Takes (Remove path) tree (gone_of change) change.removed = (node, removed, ap addresses_in removed, kind) in
+    let takes : RemovesNode (Remove path) tree (gone_of change) change.removed = (node, removed, ap addresses_in removed, kind) in
     record {
       code_is = ap code_number code_is ∙ sym zero_code;
       done = λ none. (

@@ -2,7 +2,7 @@
 use Rattle.std.proofs.Common.{◌≡◌, ℕ, suc, ◌==◌, if◌then◌else◌, not, Bool, true, false, List, [], ◌∷◌, ◌++◌, length, map, take, Option, Some, None, is_some, refl, sym, ap, ◌∙◌, arith}
 use Rattle.std.specs.FinMap.{get, contains_key}
 use Rattle.model.specs.Tree.{Path, Tree, IsTree, is_directory_at}
-use Rattle.model.specs.Graph.{Graph, MakesTree, whole}
+use Rattle.model.specs.Graph.{Graph, MakesTree, as_stored}
 use Rattle.model.specs.Graph.Body.{Bytes}
 use Rattle.model.specs.Operation.{Operation, code_of}
 use Rattle.model.specs.Operation.Operation.{Replace}
@@ -17,19 +17,19 @@ use Rattle.udf.specs.Said.{names_directory}
 use Rattle.udf.proofs.Formats.{exact}
 use Rattle.planning.specs.declared.change.Change.{Change}
 use Rattle.planning.specs.declared.change.NewFile.{NewFile}
-use Rattle.next_vat.specs.declared.node.Node.{Node}
-use Rattle.directories.specs.Shows.{graph_below, IsNodeAt}
+use Rattle.table_update.specs.declared.node.Node.{Node}
+use Rattle.lookup.specs.Shows.{graph_below, IsNodeAt}
 use Rattle.planning.specs.Writings.{file_writing, directory_writing, new_file, change_writings}
-use Rattle.planning.specs.Changes.{addresses_in, gone_of, IsRefusal, Does}
-use Rattle.directories.proofs.Walks.{node_at, directory_stored}
+use Rattle.planning.specs.Changes.{addresses_in, gone_of, IsChangeRefused, IsChangeOf}
+use Rattle.lookup.proofs.Walks.{node_at, directory_stored}
 
 -- nothing is written where nothing is done
-pub nothing : (moment : ℕ) (code : Code) (change : Change) → IsRefusal code change → (change_writings moment change ≡ []) × (gone_of change ≡ []) × (change.made ≡ None) × (change.removed ≡ None)
+pub nothing : (moment : ℕ) (code : Code) (change : Change) → IsChangeRefused code change → (change_writings moment change ≡ []) × (gone_of change ≡ []) × (change.made ≡ None) × (change.removed ≡ None)
 nothing moment code change r =
     ((λ i. new_file moment (r.file i) ++ map directory_writing (r.directories i)), ap addresses_in r.removed, r.made, r.removed)
 
 -- with the operation's code, which is not 0
-pub refuses : (graph : Graph) (free : ℕ) (tree : Tree) (operation : Operation) (moment identity n : ℕ) (code : Code) (change : Change) → IsRefusal code change → code_number code ≡ suc n → code_of operation tree ≡ suc n → Does graph free tree operation moment identity change
+pub refuses : (graph : Graph) (free : ℕ) (tree : Tree) (operation : Operation) (moment identity n : ℕ) (code : Code) (change : Change) → IsChangeRefused code change → code_number code ≡ suc n → code_of operation tree ≡ suc n → IsChangeOf graph free tree operation moment identity change
 refuses graph free tree operation moment identity n code change r number is = record {
   code_is = ap code_number r.code_is ∙ (number ∙ sym is);
   done = λ none. let e : suc n ≡ 0 = sym is ∙ none in absurd (omega (arith, e));
@@ -50,7 +50,7 @@ not_done code.DirectoryFull apart e = absurd (omega (arith, e))
 not_done code.TooMany apart e = absurd (omega (arith, e))
 
 -- with a code that is another than the first
-pub refuses_other : (graph : Graph) (free : ℕ) (tree : Tree) (operation : Operation) (moment identity : ℕ) (why : Code) (change : Change) → IsRefusal why change → (why ≡ code.Done → ⊥) → code_number why ≡ code_of operation tree → Does graph free tree operation moment identity change
+pub refuses_other : (graph : Graph) (free : ℕ) (tree : Tree) (operation : Operation) (moment identity : ℕ) (why : Code) (change : Change) → IsChangeRefused why change → (why ≡ code.Done → ⊥) → code_number why ≡ code_of operation tree → IsChangeOf graph free tree operation moment identity change
 refuses_other graph free tree operation moment identity why change r apart same = record {
   code_is = ap code_number r.code_is ∙ same;
   done = λ none. absurd (not_done why apart (same ∙ none));
@@ -86,14 +86,14 @@ module _ (at : ℕ) (entries : List (Option ℕ)) (J : List Event) (tree : Tree)
 
   -- the file is written anew
   pub replaces : (free moment identity : ℕ) (path : Path) (node : Node) (file : NewFile) (done change : Change) → (length path == 0) ≡ false → IsNodeAt (graph_below at entries J) path node → names_directory node.kind ≡ false
-      → IsRefusal code.Done done → change.code ≡ done.code → change.file ≡ Some file → change.directories ≡ done.directories → change.made ≡ done.made → change.removed ≡ done.removed → file.address ≡ node.address → file.unique ≡ node.unique
-      → Does (graph_below at entries J) free tree (Replace path file.bytes.now) moment identity change
+      → IsChangeRefused code.Done done → change.code ≡ done.code → change.file ≡ Some file → change.directories ≡ done.directories → change.made ≡ done.made → change.removed ≡ done.removed → file.address ≡ node.address → file.unique ≡ node.unique
+      → IsChangeOf (graph_below at entries J) free tree (Replace path file.bytes.now) moment identity change
   replaces free moment identity path node file done change some here kind r code_is file_is dirs made removed address unique =
       let zero_code : code_of (Replace path file.bytes.now) tree ≡ 0 = replace_there path node false some here kind file.bytes.now in
       let items : change.directories.items ≡ [] = ap (λ ds. ds.items) dirs ∙ r.directories in
       let gone : gone_of change ≡ [] = ap addresses_in (removed ∙ r.removed) in
-      let writing : file_writing moment file ≡ record { address = here.found.address; stored = whole here.found.stored.identity moment (Bytes file.bytes.now) } =
-      λ i. record { address = (address ∙ here.address) i; stored = whole ((unique ∙ here.identity) i) moment (Bytes file.bytes.now) } in
+      let writing : file_writing moment file ≡ record { address = here.found.address; stored = as_stored here.found.stored.identity moment (Bytes file.bytes.now) } =
+      λ i. record { address = (address ∙ here.address) i; stored = as_stored ((unique ∙ here.identity) i) moment (Bytes file.bytes.now) } in
       let nodes : change_writings moment change ≡ file_writing moment file ∷ [] = λ i. new_file moment (file_is i) ++ map directory_writing (items i) in
       record {
         code_is = ap code_number (code_is ∙ r.code_is) ∙ sym zero_code;

@@ -1,4 +1,4 @@
--- What is reckoned from the sizes of a change, in the model's words.
+-- What is computed from the sizes of a change, in the model's words.
 use Rattle.std.proofs.Common.{◌≡◌, ℕ, ◌+◌, ◌*◌, ◌/◌, List, [], ◌∷◌, ◌++◌, length, map, refl, sym, ap, ◌∙◌, arith}
 use Rattle.std.specs.Prelude.{Option, Some, None, sum}
 use Rattle.std.proofs.lemmas.List.Sums.{sum_by-cons}
@@ -17,10 +17,10 @@ use Rattle.vat.specs.Table.{Table}
 use Rattle.planning.specs.declared.change.Change.{Change}
 use Rattle.planning.specs.declared.change.NewDirectory.{NewDirectory}
 use Rattle.planning.specs.declared.change.NewFile.{NewFile}
-use Rattle.next_vat.specs.Need.{AreDirectories, AreOf, most_for_bytes, most_for_directories, reckoned}
+use Rattle.table_update.specs.Need.{AreDirectories, AreOf, most_for_bytes, most_for_directories, reckoned}
 use Rattle.planning.specs.Needs.{change_need, directories_need, file_need}
 use Rattle.planning.specs.Writings.{change_writings, new_directories, new_file}
-use Rattle.next_vat.proofs.Counting.{files_are_counted}
+use Rattle.table_update.proofs.Counting.{files_are_counted}
 
 -- the bytes of the file that is written, and the names of each directory that is
 abbrev pub bytes_of : Option NewFile → Option (List ℕ)
@@ -48,7 +48,7 @@ file_most : (o : Option NewFile) → file_need o ≡ most_for_bytes (bytes_of o)
 file_most None = refl
 file_most (Some f) = files_are_counted f.bytes.now
 
--- what a change may need is what is reckoned of its file, its directories and the table
+-- what a change may need is what is computed of its file, its directories and the table
 pub change_reckoned : (change : Change) (t : Table) → change_need change t ≡ reckoned (bytes_of change.file) (all_names change.directories.items) t
 change_reckoned change t =
     (λ i. (2 * blocks_for (table_size (length t.records) (length t.entries)) + 1) + file_most change.file i + directories_most change.directories.items i)

@@ -12,23 +12,23 @@ use Rattle.planning.specs.declared.change.NewDirectory.{NewDirectory}
 use Rattle.planning.specs.declared.change.NewFile.{NewFile}
 use Rattle.planning.specs.declared.layout.PlacedDirectory.{PlacedDirectory}
 use Rattle.planning.specs.declared.layout.PlacedFile.{PlacedFile}
-use Rattle.next_vat.specs.Below.{IsUsed}
-use Rattle.next_vat.specs.NextTable.{AreTaken, AreUsed, all_placed, with_made}
+use Rattle.table_update.specs.Below.{IsUsed}
+use Rattle.table_update.specs.NextTable.{AreTaken, AreUsed, all_placed, with_made}
 use Rattle.planning.specs.Plan.{file_writings, file_written, directories_writings, directories_written}
-use Rattle.next_vat.specs.TableChange.{IsFree, IsRemovable, placed, with_entry}
+use Rattle.table_update.specs.TableChange.{IsFree, IsRemovable, placed, with_number}
 use Rattle.planning.specs.Writings.{change_writings, new_directories, new_file}
-use Rattle.next_vat.proofs.EntryChanges.{entry_other}
-use Rattle.next_vat.proofs.NodeChanges.{still_used}
+use Rattle.table_update.proofs.EntryChanges.{entry_other}
+use Rattle.table_update.proofs.NodeChanges.{still_used}
 use Rattle.planning.proofs.Plans.{placed_append}
 
 used_within : (xs : List (Option ℕ)) (i : ℕ) → IsUsed i xs → i ≤ length xs
 used_within xs i used = omega (arith, slice_get_within xs i (Some used.0) used.1)
 
 -- an address that leads somewhere does so where another is placed, and did before
-pub still_all : (ds : List NewDirectory) (xs : List (Option ℕ)) (i number : ℕ) → IsUsed i xs → All (λ (d : NewDirectory). IsUsed d.address xs) ds → All (λ (d : NewDirectory). IsUsed d.address (with_entry i (Some number) xs)) ds
+pub still_all : (ds : List NewDirectory) (xs : List (Option ℕ)) (i number : ℕ) → IsUsed i xs → All (λ (d : NewDirectory). IsUsed d.address xs) ds → All (λ (d : NewDirectory). IsUsed d.address (with_number i (Some number) xs)) ds
 still_all ds xs i number used all k d lt = still_used xs i (get_or ds k d).address number (used_within xs i used) (all k d lt)
 
-used_before : (xs : List (Option ℕ)) (i k number : ℕ) → IsUsed i xs → IsUsed k (with_entry i (Some number) xs) → IsUsed k xs
+used_before : (xs : List (Option ℕ)) (i k number : ℕ) → IsUsed i xs → IsUsed k (with_number i (Some number) xs) → IsUsed k xs
 used_before xs i k number used is = go (k == i) refl
   where
     go : (b : Bool) → (k == i) ≡ b → IsUsed k xs
@@ -48,7 +48,7 @@ bare_addresses (n ∷ nodes) = ap (λ (rest : List ℕ). n.address ∷ rest) (ba
 all_used : (ds : List NewDirectory) (xs : List (Option ℕ)) → AreUsed (bare (new_directories ds)) xs → All (λ (d : NewDirectory). IsUsed d.address xs) ds
 all_used [] xs h = λ k d lt. absurd (omega (arith, lt))
 all_used (d ∷ ds) xs h =
-    let rest : All (λ (e : NewDirectory). IsUsed e.address (with_entry d.address (Some 0) xs)) ds = all_used ds (with_entry d.address (Some 0) xs) h.1 in
+    let rest : All (λ (e : NewDirectory). IsUsed e.address (with_number d.address (Some 0) xs)) ds = all_used ds (with_number d.address (Some 0) xs) h.1 in
     All-cons (λ (e : NewDirectory). IsUsed e.address xs) d ds h.0 (λ k e lt. used_before xs d.address (get_or ds k e).address 0 h.0 (rest k e lt))
 
 used_behind : (xs ys : List Written) (t : Table) → AreUsed (xs ++ ys) t.entries → AreUsed ys (all_placed xs t).entries

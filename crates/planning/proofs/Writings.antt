@@ -76,7 +76,7 @@ directory_short d first low few proper =
     let es = d.entries.entries in
     directories_short d.parent first (directory_size d) es (directory_blocks d first) (λ k b lt. (directory_bytes d.parent first es proper.named k b lt).size) (laid_there d first (directory_size d) low few proper refl)
 
--- ---- nodes one behind another
+-- ---- nodes one after another
 
 -- the entry of a node is its last block
 pub node_ends : (node : Writing) (from : ℕ) (blocks : List Block) (number : ℕ) → WritesNode udf node from blocks number → number + 1 ≡ from + length blocks

@@ -10,18 +10,18 @@ use Rattle.durability.specs.Plan.{Plans}
 use Rattle.request.specs.Numbers.{code_number}
 use Rattle.request.specs.declared.answer.Code.{Code}
 use Rattle.planning.specs.declared.change.Change.{Change}
-use Rattle.planning.specs.declared.change.Thing.{Thing}
-use Rattle.planning.specs.declared.change.Thing.TheVariants as thing
-use Rattle.next_vat.specs.declared.node.Node.{Node}
-use Rattle.next_vat.specs.NextTable.{made_by, Takes}
+use Rattle.planning.specs.declared.change.NewContent.{NewContent}
+use Rattle.planning.specs.declared.change.NewContent.TheVariants as thing
+use Rattle.table_update.specs.declared.node.Node.{Node}
+use Rattle.table_update.specs.NextTable.{made_by, RemovesNode}
 use Rattle.planning.specs.Writings.{change_writings}
 
 -- a new path with this at it
-abbrev pub addition : Path → Thing → Operation
+abbrev pub addition : Path → NewContent → Operation
 addition path (thing.File bytes) = Create path bytes.now
 addition path thing.Directory = MakeDir path
 
-abbrev pub content_of_thing : Thing → Content
+abbrev pub content_of_thing : NewContent → Content
 content_of_thing (thing.File bytes) = FileContent bytes.now
 content_of_thing thing.Directory = DirectoryContent []
 
@@ -38,7 +38,7 @@ abbrev pub gone_of : Change → List ℕ
 gone_of change = addresses_in change.removed
 
 -- nothing is done, with this code
-pub record IsRefusal (code : Code) (change : Change) : Type 0 where
+pub record IsChangeRefused (code : Code) (change : Change) : Type 0 where
   pub code_is : change.code ≡ code
   pub file : change.file ≡ None
   pub directories : change.directories.items ≡ []
@@ -47,9 +47,9 @@ pub record IsRefusal (code : Code) (change : Change) : Type 0 where
 
 -- The change has the operation's code. With code 0 it is the one that the operation plans, with the node that it makes and
 -- the one that goes, and else nothing is done.
-pub record Does (graph : Graph) (free : ℕ) (tree : Tree) (operation : Operation) (moment identity : ℕ) (change : Change) : Type 0 where
+pub record IsChangeOf (graph : Graph) (free : ℕ) (tree : Tree) (operation : Operation) (moment identity : ℕ) (change : Change) : Type 0 where
   pub code_is : code_number change.code ≡ code_of operation tree
   pub done : code_of operation tree ≡ 0
       → Plans graph free operation moment identity (change_writings moment change) (gone_of change)
-      × (change.made ≡ made_by operation free) × Takes operation tree (gone_of change) change.removed
+      × (change.made ≡ made_by operation free) × RemovesNode operation tree (gone_of change) change.removed
   pub refused : (code_of operation tree ≡ 0 → ⊥) → (change_writings moment change ≡ []) × (gone_of change ≡ []) × (change.made ≡ None) × (change.removed ≡ None)

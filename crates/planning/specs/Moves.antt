@@ -8,11 +8,11 @@ use Rattle.model.specs.Operation.{code_of}
 use Rattle.model.specs.Operation.Operation.{Rename}
 use Rattle.durability.specs.Plan.{Writing, turned}
 use Rattle.udf.specs.Said.{names_directory}
-use Rattle.next_vat.specs.declared.node.Node.{Node}
-use Rattle.directories.specs.Shows.{IsNodeAt}
+use Rattle.table_update.specs.declared.node.Node.{Node}
+use Rattle.lookup.specs.Shows.{IsNodeAt}
 
 -- another name in one directory, which does not have it
-pub record IsWithin (graph : Graph) (tree : Tree) (from to : Path) (parent : Node) (old new : Name) : Type 0 where
+pub record IsMoveWithin (graph : Graph) (tree : Tree) (from to : Path) (parent : Node) (old new : Name) : Type 0 where
   pub above : Path
   pub from_is : from ≡ above ++ old ∷ []
   pub to_is : to ≡ above ++ new ∷ []
@@ -23,7 +23,7 @@ pub record IsWithin (graph : Graph) (tree : Tree) (from to : Path) (parent : Nod
   pub code_is : code_of (Rename from to) tree ≡ 0
 
 -- to another directory, which does not have the name, and may be full
-pub record IsBetween (graph : Graph) (tree : Tree) (from to : Path) (node loses gains : Node) (old new : Name) : Type 0 where
+pub record IsBetween (graph : Graph) (tree : Tree) (from to : Path) (node source_dir target_dir : Node) (old new : Name) : Type 0 where
   pub above : Path
   pub beyond : Path
   pub from_is : from ≡ above ++ old ∷ []
@@ -31,10 +31,10 @@ pub record IsBetween (graph : Graph) (tree : Tree) (from to : Path) (node loses 
   pub elsewhere : above ≡ beyond → ⊥
   pub node_at : IsNodeAt graph from node
   pub new_there : get tree to ≡ None
-  pub loses_at : IsNodeAt graph above loses
-  pub loses_directory : names_directory loses.kind ≡ true
-  pub gains_at : IsNodeAt graph beyond gains
-  pub gains_directory : names_directory gains.kind ≡ true
+  pub loses_at : IsNodeAt graph above source_dir
+  pub loses_directory : names_directory source_dir.kind ≡ true
+  pub gains_at : IsNodeAt graph beyond target_dir
+  pub gains_directory : names_directory target_dir.kind ≡ true
   pub code_is : code_of (Rename from to) tree ≡ (if nat_le DIRECTORY_NAMES (length (names_at tree beyond)) then 9 else 0)
 
 -- what is written of the node at this address, which gets another parent

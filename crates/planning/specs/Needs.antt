@@ -4,8 +4,8 @@ use Rattle.std.specs.Int.{div_ceil}
 use Rattle.limits.specs.declared.TheConstants.{BLOCK_BYTES}
 use Rattle.dir.specs.Size.{name_sizes, plain_sizes}
 use Rattle.vat.specs.Table.{Table}
-pub use Rattle.next_vat.specs.Needs.{table_need}
-use Rattle.next_vat.specs.Outside.{outside}
+pub use Rattle.table_update.specs.Needs.{table_need}
+use Rattle.table_update.specs.Outside.{outside}
 use Rattle.planning.specs.declared.change.Change.{Change}
 use Rattle.planning.specs.declared.change.NewFile.{NewFile}
 use Rattle.planning.specs.declared.change.NewDirectory.{NewDirectory}

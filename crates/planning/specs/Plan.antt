@@ -3,21 +3,21 @@ use Rattle.std.specs.Prelude.{◌≡◌, ℕ, ◌+◌, ◌-◌, ◌<◌, ◌≤�
 use Rattle.std.specs.Int.{div_ceil}
 use Rattle.limits.specs.declared.TheConstants.{BLOCK_BYTES, PARTITION_START}
 use Rattle.dir.specs.Directory.{directory_blocks, IsDirectory}
-use Rattle.directories.specs.Cache.{SaysPlace}
-use Rattle.directories.specs.declared.nodes.Placed.{Placed}
+use Rattle.lookup.specs.Cache.{SaysPlace}
+use Rattle.lookup.specs.declared.nodes.Placed.{Placed}
 use Rattle.durability.specs.Formats.{NodeFields}
 use Rattle.durability.specs.Formats.Kind.{Table}
 use Rattle.durability.specs.Formats.NodePlace.{Extent}
 use Rattle.durability.specs.Plan.{zeros, packed, Writing, Written, IsPlaced, WritesNodes}
 use Rattle.udf.specs.Udf.{udf}
 use Rattle.vat.specs.Table.{view, IsTableAt}
-use Rattle.next_vat.specs.Outside.{outside}
+use Rattle.table_update.specs.Outside.{outside}
 use Rattle.planning.specs.Writings.{file_writing, directory_writing}
 use Rattle.planning.specs.declared.layout.PlacedFile.{PlacedFile}
 use Rattle.planning.specs.declared.layout.PlacedDirectory.{PlacedDirectory}
 use Rattle.planning.specs.declared.layout.PlacedTable.{PlacedTable}
 use Rattle.planning.specs.declared.plan.Plan.{Plan}
-use Rattle.planning.specs.Last.{Keeps}
+use Rattle.planning.specs.Last.{HasTableBelow}
 
 -- the blocks of a file's bytes, where they are outside the entry
 abbrev pub file_data : PlacedFile → List (List ℕ)
@@ -42,7 +42,7 @@ directories_list (p ∷ ps) = directory_list p ++ directories_list ps
 abbrev pub placed_of : PlacedDirectory → Placed
 placed_of p = record { at = record { number = p.number; address = p.directory.address }; extent = p.extent; moment = p.directory.moment }
 
--- the directory's data lie in its extent, which begins at a block number, and its entry stands behind them and says so
+-- the directory's data lie in its extent, which begins at a block number, and its entry stands after them and says so
 pub record IsLaid (from : ℕ) (p : PlacedDirectory) : Type 0 where
   pub first : p.extent.first ≡ from
   pub blocks : length (directory_data p) ≡ div_ceil p.extent.size BLOCK_BYTES
@@ -50,7 +50,7 @@ pub record IsLaid (from : ℕ) (p : PlacedDirectory) : Type 0 where
   pub number : p.number ≡ from + length (directory_data p)
   pub says : SaysPlace p.directory.address p.extent p.directory.moment p.entry
 
--- the directories lie one behind the other
+-- the directories lie one after the other
 abbrev pub AreLaid : ℕ → List PlacedDirectory → Type 0
 AreLaid from [] = ⊤
 AreLaid from (p ∷ ps) = IsLaid from p × AreLaid (from + length (directory_list p)) ps
@@ -62,7 +62,7 @@ table_data t = replicate t.gap zeros ++ packed t.bytes.items
 abbrev pub node_list : Plan → List (List ℕ)
 node_list p = file_list p.file ++ directories_list p.directories.items
 
--- all, the table's entry last
+-- all, the VAT ICB last
 abbrev pub plan_blocks : Plan → List (List ℕ)
 plan_blocks p = node_list p ++ (table_data p.table ++ p.table.entry ∷ [])
 
@@ -89,18 +89,18 @@ plan_writings p = file_writings p.moment p.file ++ directories_writings p.direct
 abbrev pub plan_written : Plan → List Written
 plan_written p = file_written p.file ++ directories_written p.directories.items
 
--- what the entry of a table says
-abbrev pub table_fields : ℕ → PlacedTable → NodeFields
-table_fields moment t = record { kind = Table; moment = moment; links = 0; identity = 0; size = length t.bytes.items; place = Extent t.first }
+-- what a VAT ICB says
+abbrev pub placed_table_fields : ℕ → PlacedTable → NodeFields
+placed_table_fields moment t = record { kind = Table; moment = moment; links = 0; identity = 0; size = length t.bytes.items; place = Extent t.first }
 
--- The table, its bytes behind block numbers from one on, and its entry.
+-- The table, its bytes from a block number on, and its entry.
 pub record IsTablePlaced (from moment : ℕ) (t : PlacedTable) : Type 0 where
   pub placed : IsPlaced udf t.bytes.items from t.first (table_data t)
   pub number : t.at ≡ from + PARTITION_START + length (table_data t)
   pub spelled : IsTableAt (t.at - PARTITION_START) (view t.vat) t.bytes.items
-  pub mark : udf.IsEntry (table_fields moment t) t.entry (t.at - PARTITION_START)
+  pub mark : udf.IsEntry (placed_table_fields moment t) t.entry (t.at - PARTITION_START)
 
--- the blocks lie behind each other from an address on, on a drive with room for so many
+-- the blocks lie one after another from an address on, on a drive with room for so many
 pub record IsPlan (next capacity : ℕ) (p : Plan) : Type 0 where
   pub begins : p.writer.packets ≡ record { at = next; blocks = [] }
   pub low : PARTITION_START ≤ next
@@ -108,4 +108,4 @@ pub record IsPlan (next capacity : ℕ) (p : Plan) : Type 0 where
   pub laid : AreLaid (next - PARTITION_START + length (file_list p.file)) p.directories.items
   pub table : IsTablePlaced (next - PARTITION_START + length (node_list p)) p.moment p.table
   pub fits : p.table.at < capacity
-  pub keeps : Keeps p.table.at p.table.vat
+  pub keeps : HasTableBelow p.table.at p.table.vat

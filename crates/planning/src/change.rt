@@ -6,37 +6,37 @@ ghost use Rattle.std.specs.Cmp.Lexicographic.{pointwise};
 ghost use Rattle.std.specs.FinMap.{len};
 ghost use Rattle.std.specs.Map.{lookup};
 ghost use Rattle.drive.specs.Journal.{next_of};
-ghost use Rattle.drive.specs.Reads.{Reads};
+ghost use Rattle.drive.specs.Reads.{ReadsOnly};
 ghost use Rattle.model.specs.Addresses as addresses;
 ghost use Rattle.model.specs.Change.{new_body};
-ghost use Rattle.model.specs.Graph.{Stored, entries_of, is_directory, whole};
+ghost use Rattle.model.specs.Graph.{Stored, entries_of, is_directory, as_stored};
 ghost use Rattle.model.specs.Operation.{moves_too_deep};
 ghost use Rattle.model.specs.Operation.Operation.{Remove, Rename, Replace};
 ghost use Rattle.model.specs.Tree.{Path, Tree, begins_with, has_names};
 ghost use Rattle.recover.specs.Faults.{IsShortage, devices};
 ghost use Rattle.recover.specs.declared.fault.StoreFault.TheVariants.{Memory};
-ghost use Rattle.next_vat.specs.Below.{AreBelow};
-ghost use Rattle.directories.specs.Cache.{AreKept};
-ghost use Rattle.directories.specs.Asked.{said_operation};
-ghost use Rattle.next_vat.specs.NextTable.{made_by};
-ghost use Rattle.planning.specs.Changes.{Does, IsRefusal, addition, code_by_names, content_of_thing};
-ghost use Rattle.planning.specs.Moves.{IsBetween, IsWithin, Turns};
-ghost use Rattle.directories.specs.Shows.{IsNodeAt, Shows, graph_below};
+ghost use Rattle.table_update.specs.Below.{AreBelow};
+ghost use Rattle.lookup.specs.Cache.{AreKept};
+ghost use Rattle.lookup.specs.Asked.{model_operation};
+ghost use Rattle.table_update.specs.NextTable.{made_by};
+ghost use Rattle.planning.specs.Changes.{IsChangeOf, IsChangeRefused, addition, code_by_names, content_of_thing};
+ghost use Rattle.planning.specs.Moves.{IsBetween, IsMoveWithin, Turns};
+ghost use Rattle.lookup.specs.Shows.{IsNodeAt, HasNodesOf, graph_below};
 ghost use Rattle.planning.specs.Writings.{change_writings, new_directories};
 ghost use Rattle.request.specs.Numbers.{code_number};
 ghost use Rattle.udf.specs.Said.{names_directory};
 ghost use Rattle.request.specs.declared.answer.Code.TheVariants.{Done};
 
 use dir::{Dir, Entry, Kind};
-use directories::{Content, Directories, Nodes};
 use drive::Drive;
 use ecma::Timestamp;
 use indexmap::IndexMap;
-use next_vat::{NewNode, Node};
+use lookup::{Content, DirectoryCache, Nodes};
 use osta::Name;
 use recover::StoreFault;
 use request::{Code, DIRECTORY_NAMES, FileSlice, Op, Request};
 use std::alloc::Global;
+use table_update::{NewNode, Node};
 
 /// The greatest number of names in a path of the tree.
 const PATH_NAMES: usize = limits::PATH_NAMES as usize;
@@ -46,7 +46,7 @@ const MAX_NODES: u32 = limits::NODES;
 
 /// The state before a request: its nodes, how many they are, and the unique ID of the next one.
 #[derive(Clone, Copy, Debug)]
-pub struct Before<'s> {
+pub struct StateBefore<'s> {
     pub nodes: Nodes<'s>,
     pub node_count: u32,
     pub next_unique: u32,
@@ -83,7 +83,7 @@ pub struct Change<'r> {
 
 /// What is put at a new path.
 #[derive(Clone, Copy, Debug)]
-enum Thing<'r> {
+enum NewContent<'r> {
     File(&'r FileSlice<'r>),
     Directory,
 }
@@ -108,7 +108,7 @@ impl<'r> Change<'r> {
 
     /// Nothing is done.
     fn refused(alloc: Global, code: Code) -> Change<'r>
-        ensures { IsRefusal code result }
+        ensures { IsChangeRefused code result }
     {
         Change {
             code,
@@ -120,22 +120,22 @@ impl<'r> Change<'r> {
     }
 }
 
-impl Before<'_> {
+impl StateBefore<'_> {
     /// What a request does.
     pub fn change<'r, D: Drive>(
         &self,
         alloc: Global,
         drive: &mut D,
-        directories: &mut Directories,
+        directories: &mut DirectoryCache,
         request: &'r Request<'r>,
         moment: Timestamp,
     ) -> Result<Change<'r>, StoreFault>
-        requires below { AreBelow self.now.nodes.at self.now.nodes.entries.now }
-        requires within { self.now.nodes.at ≤ next_of (D.journal drive.old) }
-        ensures does { (tree : Tree) → Shows (D.honest drive.new) (D.journal drive.old) directories.old self.now.nodes.at self.now.nodes.entries.now tree → self.now.node_count ≡ len tree → IfOk result (Does (graph_below self.now.nodes.at self.now.nodes.entries.now (D.journal drive.old)) (addresses.free_address self.now.nodes.entries.now) tree (said_operation request.now.op) moment self.now.next_unique) }
-        ensures short { (tree : Tree) → Shows (D.honest drive.new) (D.journal drive.old) directories.old self.now.nodes.at self.now.nodes.entries.now tree → IfErr result IsShortage }
+        requires below { AreBelow self.now.nodes.vat_icb_address self.now.nodes.numbers.now }
+        requires within { self.now.nodes.vat_icb_address ≤ next_of (D.journal drive.old) }
+        ensures does { (tree : Tree) → HasNodesOf (D.honest drive.new) (D.journal drive.old) directories.old self.now.nodes.vat_icb_address self.now.nodes.numbers.now tree → self.now.node_count ≡ len tree → IfOk result (IsChangeOf (graph_below self.now.nodes.vat_icb_address self.now.nodes.numbers.now (D.journal drive.old)) (addresses.free_address self.now.nodes.numbers.now) tree (model_operation request.now.op) moment self.now.next_unique) }
+        ensures short { (tree : Tree) → HasNodesOf (D.honest drive.new) (D.journal drive.old) directories.old self.now.nodes.vat_icb_address self.now.nodes.numbers.now tree → IfErr result IsShortage }
         ensures kept { IsTrue (D.honest drive.new) → AreKept (D.journal drive.old) directories.old → AreKept (D.journal drive.old) directories.new }
-        ensures reads { Reads D.Drive (devices result) drive.old drive.new }
+        ensures reads { ReadsOnly D.Drive (devices result) drive.old drive.new }
     {
         match &request.op {
             Op::Create { path, bytes } => {
@@ -144,7 +144,7 @@ impl Before<'_> {
                     drive,
                     directories,
                     path.names(),
-                    Thing::File(bytes),
+                    NewContent::File(bytes),
                     moment,
                 )
             }
@@ -154,7 +154,7 @@ impl Before<'_> {
                     drive,
                     directories,
                     path.names(),
-                    Thing::Directory,
+                    NewContent::Directory,
                     moment,
                 )
             }
@@ -173,17 +173,17 @@ impl Before<'_> {
         &self,
         alloc: Global,
         drive: &mut D,
-        directories: &mut Directories,
+        directories: &mut DirectoryCache,
         names: &[Name],
-        thing: Thing<'r>,
+        thing: NewContent<'r>,
         moment: Timestamp,
     ) -> Result<Change<'r>, StoreFault>
-        requires below { AreBelow self.now.nodes.at self.now.nodes.entries.now }
-        requires within { self.now.nodes.at ≤ next_of (D.journal drive.old) }
-        ensures does { (tree : Tree) → Shows (D.honest drive.new) (D.journal drive.old) directories.old self.now.nodes.at self.now.nodes.entries.now tree → self.now.node_count ≡ len tree → IfOk result (Does (graph_below self.now.nodes.at self.now.nodes.entries.now (D.journal drive.old)) (addresses.free_address self.now.nodes.entries.now) tree (addition names.now thing.entry) moment self.now.next_unique) }
-        ensures short { (tree : Tree) → Shows (D.honest drive.new) (D.journal drive.old) directories.old self.now.nodes.at self.now.nodes.entries.now tree → IfErr result IsShortage }
+        requires below { AreBelow self.now.nodes.vat_icb_address self.now.nodes.numbers.now }
+        requires within { self.now.nodes.vat_icb_address ≤ next_of (D.journal drive.old) }
+        ensures does { (tree : Tree) → HasNodesOf (D.honest drive.new) (D.journal drive.old) directories.old self.now.nodes.vat_icb_address self.now.nodes.numbers.now tree → self.now.node_count ≡ len tree → IfOk result (IsChangeOf (graph_below self.now.nodes.vat_icb_address self.now.nodes.numbers.now (D.journal drive.old)) (addresses.free_address self.now.nodes.numbers.now) tree (addition names.now thing.entry) moment self.now.next_unique) }
+        ensures short { (tree : Tree) → HasNodesOf (D.honest drive.new) (D.journal drive.old) directories.old self.now.nodes.vat_icb_address self.now.nodes.numbers.now tree → IfErr result IsShortage }
         ensures kept { IsTrue (D.honest drive.new) → AreKept (D.journal drive.old) directories.old → AreKept (D.journal drive.old) directories.new }
-        ensures reads { Reads D.Drive (devices result) drive.old drive.new }
+        ensures reads { ReadsOnly D.Drive (devices result) drive.old drive.new }
     {
         let Some((name, above)) = names.split_last() else {
             return Ok(Change::refused(alloc, Code::Root));
@@ -207,7 +207,7 @@ impl Before<'_> {
             name.clone()?,
             Entry {
                 kind,
-                icb: address,
+                virtual_address: address,
                 unique: self.next_unique,
             },
         )?;
@@ -220,16 +220,16 @@ impl Before<'_> {
         &self,
         alloc: Global,
         drive: &mut D,
-        directories: &mut Directories,
+        directories: &mut DirectoryCache,
         names: &[Name],
         bytes: &'r FileSlice<'r>,
     ) -> Result<Change<'r>, StoreFault>
-        requires below { AreBelow self.now.nodes.at self.now.nodes.entries.now }
-        requires within { self.now.nodes.at ≤ next_of (D.journal drive.old) }
-        ensures does { (tree : Tree) (moment identity : ℕ) → Shows (D.honest drive.new) (D.journal drive.old) directories.old self.now.nodes.at self.now.nodes.entries.now tree → IfOk result (Does (graph_below self.now.nodes.at self.now.nodes.entries.now (D.journal drive.old)) (addresses.free_address self.now.nodes.entries.now) tree (Replace names.now bytes.now) moment identity) }
-        ensures short { (tree : Tree) → Shows (D.honest drive.new) (D.journal drive.old) directories.old self.now.nodes.at self.now.nodes.entries.now tree → IfErr result IsShortage }
+        requires below { AreBelow self.now.nodes.vat_icb_address self.now.nodes.numbers.now }
+        requires within { self.now.nodes.vat_icb_address ≤ next_of (D.journal drive.old) }
+        ensures does { (tree : Tree) (moment identity : ℕ) → HasNodesOf (D.honest drive.new) (D.journal drive.old) directories.old self.now.nodes.vat_icb_address self.now.nodes.numbers.now tree → IfOk result (IsChangeOf (graph_below self.now.nodes.vat_icb_address self.now.nodes.numbers.now (D.journal drive.old)) (addresses.free_address self.now.nodes.numbers.now) tree (Replace names.now bytes.now) moment identity) }
+        ensures short { (tree : Tree) → HasNodesOf (D.honest drive.new) (D.journal drive.old) directories.old self.now.nodes.vat_icb_address self.now.nodes.numbers.now tree → IfErr result IsShortage }
         ensures kept { IsTrue (D.honest drive.new) → AreKept (D.journal drive.old) directories.old → AreKept (D.journal drive.old) directories.new }
-        ensures reads { Reads D.Drive (devices result) drive.old drive.new }
+        ensures reads { ReadsOnly D.Drive (devices result) drive.old drive.new }
     {
         if names.is_empty() {
             return Ok(Change::refused(alloc, Code::Root));
@@ -254,16 +254,16 @@ impl Before<'_> {
         &self,
         alloc: Global,
         drive: &mut D,
-        directories: &mut Directories,
+        directories: &mut DirectoryCache,
         names: &[Name],
         moment: Timestamp,
     ) -> Result<Change<'r>, StoreFault>
-        requires below { AreBelow self.now.nodes.at self.now.nodes.entries.now }
-        requires within { self.now.nodes.at ≤ next_of (D.journal drive.old) }
-        ensures does { (tree : Tree) (identity : ℕ) → Shows (D.honest drive.new) (D.journal drive.old) directories.old self.now.nodes.at self.now.nodes.entries.now tree → IfOk result (Does (graph_below self.now.nodes.at self.now.nodes.entries.now (D.journal drive.old)) (addresses.free_address self.now.nodes.entries.now) tree (Remove names.now) moment identity) }
-        ensures short { (tree : Tree) → Shows (D.honest drive.new) (D.journal drive.old) directories.old self.now.nodes.at self.now.nodes.entries.now tree → IfErr result IsShortage }
+        requires below { AreBelow self.now.nodes.vat_icb_address self.now.nodes.numbers.now }
+        requires within { self.now.nodes.vat_icb_address ≤ next_of (D.journal drive.old) }
+        ensures does { (tree : Tree) (identity : ℕ) → HasNodesOf (D.honest drive.new) (D.journal drive.old) directories.old self.now.nodes.vat_icb_address self.now.nodes.numbers.now tree → IfOk result (IsChangeOf (graph_below self.now.nodes.vat_icb_address self.now.nodes.numbers.now (D.journal drive.old)) (addresses.free_address self.now.nodes.numbers.now) tree (Remove names.now) moment identity) }
+        ensures short { (tree : Tree) → HasNodesOf (D.honest drive.new) (D.journal drive.old) directories.old self.now.nodes.vat_icb_address self.now.nodes.numbers.now tree → IfErr result IsShortage }
         ensures kept { IsTrue (D.honest drive.new) → AreKept (D.journal drive.old) directories.old → AreKept (D.journal drive.old) directories.new }
-        ensures reads { Reads D.Drive (devices result) drive.old drive.new }
+        ensures reads { ReadsOnly D.Drive (devices result) drive.old drive.new }
     {
         let Some((name, above)) = names.split_last() else {
             return Ok(Change::refused(alloc, Code::Root));
@@ -290,17 +290,17 @@ impl Before<'_> {
         &self,
         alloc: Global,
         drive: &mut D,
-        directories: &mut Directories,
+        directories: &mut DirectoryCache,
         from: &[Name],
         to: &[Name],
         moment: Timestamp,
     ) -> Result<Change<'r>, StoreFault>
-        requires below { AreBelow self.now.nodes.at self.now.nodes.entries.now }
-        requires within { self.now.nodes.at ≤ next_of (D.journal drive.old) }
-        ensures does { (tree : Tree) (identity : ℕ) → Shows (D.honest drive.new) (D.journal drive.old) directories.old self.now.nodes.at self.now.nodes.entries.now tree → IfOk result (Does (graph_below self.now.nodes.at self.now.nodes.entries.now (D.journal drive.old)) (addresses.free_address self.now.nodes.entries.now) tree (Rename from.now to.now) moment identity) }
-        ensures short { (tree : Tree) → Shows (D.honest drive.new) (D.journal drive.old) directories.old self.now.nodes.at self.now.nodes.entries.now tree → IfErr result IsShortage }
+        requires below { AreBelow self.now.nodes.vat_icb_address self.now.nodes.numbers.now }
+        requires within { self.now.nodes.vat_icb_address ≤ next_of (D.journal drive.old) }
+        ensures does { (tree : Tree) (identity : ℕ) → HasNodesOf (D.honest drive.new) (D.journal drive.old) directories.old self.now.nodes.vat_icb_address self.now.nodes.numbers.now tree → IfOk result (IsChangeOf (graph_below self.now.nodes.vat_icb_address self.now.nodes.numbers.now (D.journal drive.old)) (addresses.free_address self.now.nodes.numbers.now) tree (Rename from.now to.now) moment identity) }
+        ensures short { (tree : Tree) → HasNodesOf (D.honest drive.new) (D.journal drive.old) directories.old self.now.nodes.vat_icb_address self.now.nodes.numbers.now tree → IfErr result IsShortage }
         ensures kept { IsTrue (D.honest drive.new) → AreKept (D.journal drive.old) directories.old → AreKept (D.journal drive.old) directories.new }
-        ensures reads { Reads D.Drive (devices result) drive.old drive.new }
+        ensures reads { ReadsOnly D.Drive (devices result) drive.old drive.new }
     {
         let Some((old_name, above)) = from.split_last() else {
             return Ok(Change::refused(alloc, Code::Root));
@@ -314,7 +314,7 @@ impl Before<'_> {
         if is_below(to, from) {
             return Ok(Change::refused(alloc, Code::IntoItself));
         }
-        let Some(gains) = self
+        let Some(target_dir) = self
             .nodes
             .find_directory(alloc, drive, directories, beyond)?
         else {
@@ -328,19 +328,27 @@ impl Before<'_> {
         if deep {
             return Ok(Change::refused(alloc, Code::TooDeep));
         }
-        let Some(loses) = self.nodes.find_directory(alloc, drive, directories, above)? else {
+        let Some(source_dir) = self.nodes.find_directory(alloc, drive, directories, above)? else {
             return Ok(Change::refused(alloc, Code::NotFound));
         };
-        if loses.address == gains.address {
-            return self.rename_within(alloc, drive, directories, loses, old_name, new_name, moment);
+        if source_dir.address == target_dir.address {
+            return self.rename_within(
+                alloc,
+                drive,
+                directories,
+                source_dir,
+                old_name,
+                new_name,
+                moment,
+            );
         }
         self.move_to(
             alloc,
             drive,
             directories,
             node,
-            (loses, old_name),
-            (gains, new_name),
+            (source_dir, old_name),
+            (target_dir, new_name),
             moment,
         )
     }
@@ -350,17 +358,17 @@ impl Before<'_> {
         &self,
         alloc: Global,
         drive: &mut D,
-        directories: &mut Directories,
+        directories: &mut DirectoryCache,
         node: Node,
         names_before: usize,
         names_behind: usize,
     ) -> Result<bool, StoreFault>
-        requires below { AreBelow self.now.nodes.at self.now.nodes.entries.now }
-        requires within { self.now.nodes.at ≤ next_of (D.journal drive.old) }
-        ensures deep { (tree : Tree) (from to : Path) → Shows (D.honest drive.new) (D.journal drive.old) directories.old self.now.nodes.at self.now.nodes.entries.now tree → IsNodeAt (graph_below self.now.nodes.at self.now.nodes.entries.now (D.journal drive.old)) from node → length from ≡ names_before → length to ≡ names_behind → IfOk result (λ deep. deep ≡ moves_too_deep from to tree) }
-        ensures short { (tree : Tree) (from : Path) → Shows (D.honest drive.new) (D.journal drive.old) directories.old self.now.nodes.at self.now.nodes.entries.now tree → IsNodeAt (graph_below self.now.nodes.at self.now.nodes.entries.now (D.journal drive.old)) from node → IfErr result IsShortage }
+        requires below { AreBelow self.now.nodes.vat_icb_address self.now.nodes.numbers.now }
+        requires within { self.now.nodes.vat_icb_address ≤ next_of (D.journal drive.old) }
+        ensures deep { (tree : Tree) (from to : Path) → HasNodesOf (D.honest drive.new) (D.journal drive.old) directories.old self.now.nodes.vat_icb_address self.now.nodes.numbers.now tree → IsNodeAt (graph_below self.now.nodes.vat_icb_address self.now.nodes.numbers.now (D.journal drive.old)) from node → length from ≡ names_before → length to ≡ names_behind → IfOk result (λ deep. deep ≡ moves_too_deep from to tree) }
+        ensures short { (tree : Tree) (from : Path) → HasNodesOf (D.honest drive.new) (D.journal drive.old) directories.old self.now.nodes.vat_icb_address self.now.nodes.numbers.now tree → IsNodeAt (graph_below self.now.nodes.vat_icb_address self.now.nodes.numbers.now (D.journal drive.old)) from node → IfErr result IsShortage }
         ensures kept { IsTrue (D.honest drive.new) → AreKept (D.journal drive.old) directories.old → AreKept (D.journal drive.old) directories.new }
-        ensures reads { Reads D.Drive (devices result) drive.old drive.new }
+        ensures reads { ReadsOnly D.Drive (devices result) drive.old drive.new }
     {
         if names_behind <= names_before {
             return Ok(false);
@@ -378,23 +386,23 @@ impl Before<'_> {
         Ok(names_behind + height as usize > PATH_NAMES)
     }
 
-    /// Another name in the same directory, behind all others.
+    /// Another name in the same directory, after all others.
     fn rename_within<'r, D: Drive>(
         &self,
         alloc: Global,
         drive: &mut D,
-        directories: &mut Directories,
+        directories: &mut DirectoryCache,
         parent: Node,
         old_name: &Name,
         new_name: &Name,
         moment: Timestamp,
     ) -> Result<Change<'r>, StoreFault>
-        requires below { AreBelow self.now.nodes.at self.now.nodes.entries.now }
-        requires within { self.now.nodes.at ≤ next_of (D.journal drive.old) }
-        ensures does { (tree : Tree) (from to : Path) (identity : ℕ) → Shows (D.honest drive.new) (D.journal drive.old) directories.old self.now.nodes.at self.now.nodes.entries.now tree → IsWithin (graph_below self.now.nodes.at self.now.nodes.entries.now (D.journal drive.old)) tree from to parent old_name.now new_name.now → IfOk result (Does (graph_below self.now.nodes.at self.now.nodes.entries.now (D.journal drive.old)) (addresses.free_address self.now.nodes.entries.now) tree (Rename from to) moment identity) }
-        ensures short { (tree : Tree) (from to : Path) → Shows (D.honest drive.new) (D.journal drive.old) directories.old self.now.nodes.at self.now.nodes.entries.now tree → IsWithin (graph_below self.now.nodes.at self.now.nodes.entries.now (D.journal drive.old)) tree from to parent old_name.now new_name.now → IfErr result IsShortage }
+        requires below { AreBelow self.now.nodes.vat_icb_address self.now.nodes.numbers.now }
+        requires within { self.now.nodes.vat_icb_address ≤ next_of (D.journal drive.old) }
+        ensures does { (tree : Tree) (from to : Path) (identity : ℕ) → HasNodesOf (D.honest drive.new) (D.journal drive.old) directories.old self.now.nodes.vat_icb_address self.now.nodes.numbers.now tree → IsMoveWithin (graph_below self.now.nodes.vat_icb_address self.now.nodes.numbers.now (D.journal drive.old)) tree from to parent old_name.now new_name.now → IfOk result (IsChangeOf (graph_below self.now.nodes.vat_icb_address self.now.nodes.numbers.now (D.journal drive.old)) (addresses.free_address self.now.nodes.numbers.now) tree (Rename from to) moment identity) }
+        ensures short { (tree : Tree) (from to : Path) → HasNodesOf (D.honest drive.new) (D.journal drive.old) directories.old self.now.nodes.vat_icb_address self.now.nodes.numbers.now tree → IsMoveWithin (graph_below self.now.nodes.vat_icb_address self.now.nodes.numbers.now (D.journal drive.old)) tree from to parent old_name.now new_name.now → IfErr result IsShortage }
         ensures kept { IsTrue (D.honest drive.new) → AreKept (D.journal drive.old) directories.old → AreKept (D.journal drive.old) directories.new }
-        ensures reads { Reads D.Drive (devices result) drive.old drive.new }
+        ensures reads { ReadsOnly D.Drive (devices result) drive.old drive.new }
     {
         let (_, mut content) = self.nodes.open(alloc, drive, directories, parent.address)?;
         let mut change = Change::new(alloc);
@@ -412,20 +420,22 @@ impl Before<'_> {
         &self,
         alloc: Global,
         drive: &mut D,
-        directories: &mut Directories,
+        directories: &mut DirectoryCache,
         node: Node,
-        loses: (Node, &Name),
-        gains: (Node, &Name),
+        source_dir: (Node, &Name),
+        target_dir: (Node, &Name),
         moment: Timestamp,
     ) -> Result<Change<'r>, StoreFault>
-        requires below { AreBelow self.now.nodes.at self.now.nodes.entries.now }
-        requires within { self.now.nodes.at ≤ next_of (D.journal drive.old) }
-        ensures does { (tree : Tree) (from to : Path) (identity : ℕ) → Shows (D.honest drive.new) (D.journal drive.old) directories.old self.now.nodes.at self.now.nodes.entries.now tree → IsBetween (graph_below self.now.nodes.at self.now.nodes.entries.now (D.journal drive.old)) tree from to node loses.entry.0 gains.entry.0 loses.entry.1.now gains.entry.1.now → IfOk result (Does (graph_below self.now.nodes.at self.now.nodes.entries.now (D.journal drive.old)) (addresses.free_address self.now.nodes.entries.now) tree (Rename from to) moment identity) }
-        ensures short { (tree : Tree) (from to : Path) → Shows (D.honest drive.new) (D.journal drive.old) directories.old self.now.nodes.at self.now.nodes.entries.now tree → IsBetween (graph_below self.now.nodes.at self.now.nodes.entries.now (D.journal drive.old)) tree from to node loses.entry.0 gains.entry.0 loses.entry.1.now gains.entry.1.now → IfErr result IsShortage }
+        requires below { AreBelow self.now.nodes.vat_icb_address self.now.nodes.numbers.now }
+        requires within { self.now.nodes.vat_icb_address ≤ next_of (D.journal drive.old) }
+        ensures does { (tree : Tree) (from to : Path) (identity : ℕ) → HasNodesOf (D.honest drive.new) (D.journal drive.old) directories.old self.now.nodes.vat_icb_address self.now.nodes.numbers.now tree → IsBetween (graph_below self.now.nodes.vat_icb_address self.now.nodes.numbers.now (D.journal drive.old)) tree from to node source_dir.entry.0 target_dir.entry.0 source_dir.entry.1.now target_dir.entry.1.now → IfOk result (IsChangeOf (graph_below self.now.nodes.vat_icb_address self.now.nodes.numbers.now (D.journal drive.old)) (addresses.free_address self.now.nodes.numbers.now) tree (Rename from to) moment identity) }
+        ensures short { (tree : Tree) (from to : Path) → HasNodesOf (D.honest drive.new) (D.journal drive.old) directories.old self.now.nodes.vat_icb_address self.now.nodes.numbers.now tree → IsBetween (graph_below self.now.nodes.vat_icb_address self.now.nodes.numbers.now (D.journal drive.old)) tree from to node source_dir.entry.0 target_dir.entry.0 source_dir.entry.1.now target_dir.entry.1.now → IfErr result IsShortage }
         ensures kept { IsTrue (D.honest drive.new) → AreKept (D.journal drive.old) directories.old → AreKept (D.journal drive.old) directories.new }
-        ensures reads { Reads D.Drive (devices result) drive.old drive.new }
+        ensures reads { ReadsOnly D.Drive (devices result) drive.old drive.new }
     {
-        let (target, mut gaining) = self.nodes.open(alloc, drive, directories, gains.0.address)?;
+        let (target, mut gaining) = self
+            .nodes
+            .open(alloc, drive, directories, target_dir.0.address)?;
         if gaining.dir.entries.len() >= DIRECTORY_NAMES {
             directories.keep(target, gaining);
             return Ok(Change::refused(alloc, Code::DirectoryFull));
@@ -436,16 +446,22 @@ impl Before<'_> {
             drive,
             directories,
             node,
-            gains.0.address,
+            target_dir.0.address,
             &mut change,
         )?;
-        let (_, mut losing) = self.nodes.open(alloc, drive, directories, loses.0.address)?;
-        let Some(entry) = losing.remove(loses.1) else {
+        let (_, mut losing) = self
+            .nodes
+            .open(alloc, drive, directories, source_dir.0.address)?;
+        let Some(entry) = losing.remove(source_dir.1) else {
             return Err(self.nodes.damaged());
         };
-        gaining.add(gains.1.clone()?, entry)?;
-        change.directories.push(written(loses.0, moment, losing))?;
-        change.directories.push(written(gains.0, moment, gaining))?;
+        gaining.add(target_dir.1.clone()?, entry)?;
+        change
+            .directories
+            .push(written(source_dir.0, moment, losing))?;
+        change
+            .directories
+            .push(written(target_dir.0, moment, gaining))?;
         Ok(change)
     }
 
@@ -454,22 +470,22 @@ impl Before<'_> {
         &self,
         alloc: Global,
         drive: &mut D,
-        directories: &mut Directories,
+        directories: &mut DirectoryCache,
         node: Node,
         parent: u32,
         change: &mut Change<'r>,
     ) -> Result<(), StoreFault>
-        requires below { AreBelow self.now.nodes.at self.now.nodes.entries.now }
-        requires within { self.now.nodes.at ≤ next_of (D.journal drive.old) }
+        requires below { AreBelow self.now.nodes.vat_icb_address self.now.nodes.numbers.now }
+        requires within { self.now.nodes.vat_icb_address ≤ next_of (D.journal drive.old) }
         // Nothing is written yet.
-        ensures set { OnOk result (change.old.directories.items ≡ [] → IsTrue (D.honest drive.new) → AreKept (D.journal drive.old) directories.old → (s : Stored) → graph_below self.now.nodes.at self.now.nodes.entries.now (D.journal drive.old) node.address s → names_directory node.kind ≡ is_directory s → node.unique ≡ s.identity → Turns node.address s parent (new_directories change.new.directories.items)) }
-        ensures short { IfErr result (λ fault. IsTrue (D.honest drive.new) → (s : Stored) → graph_below self.now.nodes.at self.now.nodes.entries.now (D.journal drive.old) node.address s → names_directory node.kind ≡ is_directory s → IsShortage fault) }
+        ensures set { OnOk result (change.old.directories.items ≡ [] → IsTrue (D.honest drive.new) → AreKept (D.journal drive.old) directories.old → (s : Stored) → graph_below self.now.nodes.vat_icb_address self.now.nodes.numbers.now (D.journal drive.old) node.address s → names_directory node.kind ≡ is_directory s → node.unique ≡ s.identity → Turns node.address s parent (new_directories change.new.directories.items)) }
+        ensures short { IfErr result (λ fault. IsTrue (D.honest drive.new) → (s : Stored) → graph_below self.now.nodes.vat_icb_address self.now.nodes.numbers.now (D.journal drive.old) node.address s → names_directory node.kind ≡ is_directory s → IsShortage fault) }
         ensures code { change.new.code ≡ change.old.code }
         ensures file { change.new.file ≡ change.old.file }
         ensures made { change.new.made ≡ change.old.made }
         ensures removed { change.new.removed ≡ change.old.removed }
         ensures kept { IsTrue (D.honest drive.new) → AreKept (D.journal drive.old) directories.old → AreKept (D.journal drive.old) directories.new }
-        ensures reads { Reads D.Drive (devices result) drive.old drive.new }
+        ensures reads { ReadsOnly D.Drive (devices result) drive.old drive.new }
     {
         if !node.is_directory() {
             return Ok(());
@@ -487,15 +503,15 @@ impl Before<'_> {
         &self,
         alloc: Global,
         drive: &mut D,
-        directories: &mut Directories,
+        directories: &mut DirectoryCache,
         node: Node,
     ) -> Result<bool, StoreFault>
-        requires below { AreBelow self.now.nodes.at self.now.nodes.entries.now }
-        requires within { self.now.nodes.at ≤ next_of (D.journal drive.old) }
-        ensures has { IfOk result (λ has. IsTrue (D.honest drive.new) → AreKept (D.journal drive.old) directories.old → (s : Stored) → graph_below self.now.nodes.at self.now.nodes.entries.now (D.journal drive.old) node.address s → names_directory node.kind ≡ is_directory s → has ≡ nat_lt 0 (length (entries_of s))) }
-        ensures short { IfErr result (λ fault. IsTrue (D.honest drive.new) → (s : Stored) → graph_below self.now.nodes.at self.now.nodes.entries.now (D.journal drive.old) node.address s → names_directory node.kind ≡ is_directory s → IsShortage fault) }
+        requires below { AreBelow self.now.nodes.vat_icb_address self.now.nodes.numbers.now }
+        requires within { self.now.nodes.vat_icb_address ≤ next_of (D.journal drive.old) }
+        ensures has { IfOk result (λ has. IsTrue (D.honest drive.new) → AreKept (D.journal drive.old) directories.old → (s : Stored) → graph_below self.now.nodes.vat_icb_address self.now.nodes.numbers.now (D.journal drive.old) node.address s → names_directory node.kind ≡ is_directory s → has ≡ nat_lt 0 (length (entries_of s))) }
+        ensures short { IfErr result (λ fault. IsTrue (D.honest drive.new) → (s : Stored) → graph_below self.now.nodes.vat_icb_address self.now.nodes.numbers.now (D.journal drive.old) node.address s → names_directory node.kind ≡ is_directory s → IsShortage fault) }
         ensures kept { IsTrue (D.honest drive.new) → AreKept (D.journal drive.old) directories.old → AreKept (D.journal drive.old) directories.new }
-        ensures reads { Reads D.Drive (devices result) drive.old drive.new }
+        ensures reads { ReadsOnly D.Drive (devices result) drive.old drive.new }
     {
         if !node.is_directory() {
             return Ok(false);
@@ -512,14 +528,14 @@ impl<'r> Change<'r> {
     fn put_new(
         &mut self,
         alloc: Global,
-        before: &Before<'_>,
+        before: &StateBefore<'_>,
         parent: Node,
         address: u32,
-        thing: Thing<'r>,
+        thing: NewContent<'r>,
         moment: Timestamp,
     ) -> Result<Kind, StoreFault>
         // The node comes first, where nothing is written yet.
-        ensures put { IfOk result (λ kind. self.old.file ≡ None → self.old.directories.items ≡ [] → change_writings moment self.new ≡ record { address = address; stored = whole before.now.next_unique moment (new_body parent.address (content_of_thing thing.entry)) } ∷ []) }
+        ensures put { IfOk result (λ kind. self.old.file ≡ None → self.old.directories.items ≡ [] → change_writings moment self.new ≡ record { address = address; stored = as_stored before.now.next_unique moment (new_body parent.address (content_of_thing thing.entry)) } ∷ []) }
         ensures kind { IfOk result (λ kind. names_directory kind ≡ has_names (content_of_thing thing.entry)) }
         ensures made { IfOk result (λ kind. (path : Path) → self.new.made ≡ made_by (addition path thing.entry) address) }
         ensures code { self.new.code ≡ self.old.code }
@@ -529,7 +545,7 @@ impl<'r> Change<'r> {
     {
         let unique = before.next_unique;
         let kind = match thing {
-            Thing::File(bytes) => {
+            NewContent::File(bytes) => {
                 self.file = Some(NewFile {
                     address,
                     unique,
@@ -537,7 +553,7 @@ impl<'r> Change<'r> {
                 });
                 Kind::File
             }
-            Thing::Directory => {
+            NewContent::Directory => {
                 let dir = Dir {
                     parent: parent.address,
                     entries: IndexMap::new(alloc),
@@ -557,7 +573,7 @@ impl<'r> Change<'r> {
 }
 
 /// Whether a name can be added to a directory.
-fn code_of_addition(before: &Before<'_>, content: &Content, name: &Name) -> Code
+fn code_of_addition(before: &StateBefore<'_>, content: &Content, name: &Name) -> Code
     ensures code { code_number result ≡ code_by_names (is_some (lookup (pointwise nat_eq name.now) content.now.dir.entries.entries)) (length content.now.dir.entries.entries) before.now.node_count }
     ensures room { result ≡ Done → length content.now.dir.entries.entries < DIRECTORY_NAMES }
 {
@@ -573,7 +589,7 @@ fn code_of_addition(before: &Before<'_>, content: &Content, name: &Name) -> Code
     Code::Done
 }
 
-/// Whether a path goes on behind another.
+/// Whether a path goes on after another.
 fn is_below(path: &[Name], front: &[Name]) -> bool
     ensures { result ≡ (nat_lt (length front.now) (length path.now) && begins_with path.now front.now) }
 {

@@ -4,8 +4,8 @@ ghost use Rattle.limits.specs.declared.TheConstants.{PARTITION_BLOCKS};
 ghost use Rattle.std.specs.Prelude.{◌≡◌, ◌≤◌};
 
 use crate::change::{NewDirectory, NewFile};
-use directories::{EntryAt, Placed};
 use icb::PlannedEntry;
+use lookup::{EntryAt, Placed};
 use recover::Extent;
 use vat::Vat;
 

@@ -1,11 +1,11 @@
 //! A commit before it takes effect: what a request does to the nodes, the plan of all blocks, and their way to the drive.
 //!
 //! Promised: a change is the one that the request's operation makes of the state's tree, or does nothing and has its code. A
-//! plan has the blocks of the change and the next table one behind another, the table's entry last, and takes all memory that
+//! plan has the blocks of the change and the next table one after another, the VAT ICB last, and takes all memory that
 //! its writes need; it is refused as full only where its blocks may have no room. What is written of it is all, or a front
 //! where the drive failed.
 //!
-//! Left to others: which volume it is, whether a request is due, and what is kept of the volume behind a commit.
+//! Left to others: which volume it is, whether a request is due, and what is kept of the volume after a commit.
 #![tactic(auto)]
 
 mod change;
@@ -14,6 +14,6 @@ mod places;
 mod plan;
 mod write;
 
-pub use change::{Before, Change, NewDirectory, NewFile};
+pub use change::{Change, NewDirectory, NewFile, StateBefore};
 pub use layout::{PlacedDirectory, PlacedFile, PlacedTable};
 pub use plan::{LastTable, Plan};

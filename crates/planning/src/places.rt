@@ -6,10 +6,10 @@ ghost use Rattle.std.specs.Int.{div_ceil};
 ghost use Rattle.icb.specs.Entry.{FitsPlace, place_of};
 ghost use Rattle.icb.specs.declared.entry.Kind.TheVariants.{File};
 ghost use Rattle.dir.specs.Directory.{directory_blocks, directory_size};
-ghost use Rattle.directories.specs.Cache.{SaysPlace};
+ghost use Rattle.lookup.specs.Cache.{SaysPlace};
 ghost use Rattle.durability.specs.Plan.{packed, IsClearStart, IsPlaced, PlacesFile, WritesNode};
 ghost use Rattle.planning.specs.Needs as needs;
-ghost use Rattle.next_vat.specs.Outside.{outside};
+ghost use Rattle.table_update.specs.Outside.{outside};
 ghost use Rattle.planning.specs.Plan.{file_data, directory_data, IsLaid};
 ghost use Rattle.planning.specs.Writings.{IsProper, file_writing, directory_writing};
 ghost use Rattle.udf.specs.Said.{said_place};
@@ -25,7 +25,7 @@ use vat::clear_start;
 /// The most bytes of a file that stand inside its entry.
 pub(crate) const INSIDE_BYTES: usize = limits::INSIDE_BYTES as usize;
 
-/// The block numbers that a commit gives out, one behind another.
+/// The block numbers that a commit gives out, one after another.
 #[derive(Clone, Copy, Debug)]
 pub(crate) struct Numbers {
     /// The next number.
@@ -158,7 +158,7 @@ fn directory_entry(directory: &NewDirectory, extent: Extent) -> PlannedEntry<'st
     requires few { extent.size ≤ 1_048_576 }
     requires room { extent.first + div_ceil extent.size BLOCK_BYTES ≤ PARTITION_BLOCKS }
     requires blocks { length (directory_blocks directory.now.content.dir extent.first) ≡ div_ceil extent.size BLOCK_BYTES }
-    ensures says { SaysPlace directory.now.address extent directory.now.moment result }
+    ensures describes { SaysPlace directory.now.address extent directory.now.moment result }
     ensures written { WritesNode udf (directory_writing directory.now) extent.first (directory_blocks directory.now.content.dir extent.first ++ result ∷ []) (extent.first + div_ceil extent.size BLOCK_BYTES) }
 {
     let content = &directory.content;

@@ -3,10 +3,10 @@
 ghost use Rattle.limits.specs.declared.TheConstants.{BLOCK_BYTES, PARTITION_BLOCKS, PARTITION_START};
 ghost use Rattle.std.specs.Prelude.{min, ◌≡◌, ℕ, ◌+◌, ◌-◌, ◌*◌, ◌<◌, ◌≤◌, ◌^◌, ◌++◌, [], ◌∷◌, Some, IfOk, IfErr, OnOk, OnErr, IfSome, All, Err, false, is_err, length, map, List, ◌⊎◌};
 ghost use Rattle.std.specs.Int.{div_ceil};
-ghost use Rattle.drive.specs.Journal.{next_of, written, AddsFront};
-ghost use Rattle.drive.specs.Reads.{Reads, Writes};
+ghost use Rattle.drive.specs.Journal.{next_of, written, AddsPrefix};
+ghost use Rattle.drive.specs.Reads.{ReadsOnly, WritesOnly};
 ghost use Rattle.drive.specs.Sending.{SendsAlone};
-ghost use Rattle.drive.specs.Waiting.{end_of, Takes, Stops};
+ghost use Rattle.drive.specs.Waiting.{next_address, TakesBlocks, Stops};
 ghost use Rattle.dir.specs.Size.{name_sizes, plain_sizes};
 ghost use Rattle.durability.specs.Formats.Kind.{Table};
 ghost use Rattle.durability.specs.Formats.NodePlace.{Extent};
@@ -16,27 +16,27 @@ ghost use Rattle.udf.specs.Udf.{udf};
 ghost use Rattle.vat.specs.Table.{FitsTable, view};
 ghost use Rattle.recover.specs.Faults.{IsShortage, devices};
 ghost use Rattle.request.specs.Numbers.{code_number};
-ghost use Rattle.planning.specs.Last.{IsLast, Keeps};
-ghost use Rattle.next_vat.specs.Below.{AreBelow, IsUsed};
-ghost use Rattle.next_vat.specs.Full.{is_full};
+ghost use Rattle.planning.specs.Last.{IsLastTableOn, HasTableBelow};
+ghost use Rattle.table_update.specs.Below.{AreBelow, IsUsed};
+ghost use Rattle.table_update.specs.Full.{is_full};
 ghost use Rattle.planning.specs.Needs as needs;
 ghost use Rattle.planning.specs.Plan.{IsPlan, IsTablePlaced, AreLaid, file_list, node_list, file_writings, file_written, directory_list, directories_list, directories_writings, directories_written, plan_blocks, plan_writings, plan_written, table_data};
-ghost use Rattle.next_vat.specs.NextTable.{AreTaken, all_placed, begun, next_table, without_gone};
-ghost use Rattle.next_vat.specs.TableChange.{IsFree, IsNext, IsRemovable, committed};
+ghost use Rattle.table_update.specs.NextTable.{AreTaken, all_placed, begun, next_table, without_gone};
+ghost use Rattle.table_update.specs.TableChange.{IsFree, IsNext, IsRemovable, committed};
 ghost use Rattle.planning.specs.Writings.{IsProper, new_file, new_directories, change_writings};
 
 use crate::change::{Change, NewDirectory, NewFile};
 use crate::layout::{PlacedDirectory, PlacedFile, PlacedTable};
 use crate::places::{Numbers, outside_of};
 use crate::write::Writer;
-use directories::Content;
 use drive::{Drive, DriveFault};
 use ecma::Timestamp;
 use icb::{FileEntry, Kind, Place, PlannedEntry};
-use next_vat::{Node, add_node, copied, keep_reply, place_node, remove_node};
+use lookup::Content;
 use recover::{PARTITION_START, StoreFault, block_count, cause, damaged};
 use request::{Reply, Request};
 use std::alloc::Global;
+use table_update::{Node, add_node, copied, keep_reply, place_node, remove_node};
 use vat::{Vat, encode_vat};
 
 const BLOCK_BYTES: u64 = limits::BLOCK_BYTES as u64;
@@ -66,14 +66,14 @@ impl Plan<'_> {
     pub fn write<D: Drive>(&mut self, drive: &mut D) -> Result<(), DriveFault>
         requires plan { IsPlan (next_of (D.journal drive.old)) (D.capacity drive.old) self.old }
         ensures ok { OnOk result (D.journal drive.new ≡ D.journal drive.old ++ written (next_of (D.journal drive.old)) (plan_blocks self.old)) }
-        ensures err { OnErr result (AddsFront (D.journal drive.old) (next_of (D.journal drive.old)) (plan_blocks self.old) (D.journal drive.new)) }
+        ensures err { OnErr result (AddsPrefix (D.journal drive.old) (next_of (D.journal drive.old)) (plan_blocks self.old) (D.journal drive.new)) }
         ensures alone { SendsAlone D.Drive (node_list self.old ++ table_data self.old.table) self.old.table.entry (is_err result) drive.old drive.new }
         ensures directories { self.new.directories.items ≡ self.old.directories.items }
         ensures table { self.new.table ≡ self.old.table }
         ensures reply { self.new.reply ≡ self.old.reply }
         ensures file { self.new.file ≡ self.old.file }
         ensures moment { self.new.moment ≡ self.old.moment }
-        ensures writes { Writes D.Drive (is_err result) drive.old drive.new }
+        ensures writes { WritesOnly D.Drive (is_err result) drive.old drive.new }
     {
         let held = self.held();
         self.writer.hold(held);
@@ -105,10 +105,10 @@ fn write_file<'r, D: Drive>(
     file: &Option<PlacedFile<'r>>,
 ) -> Result<(), DriveFault>
     requires begins { writer.old.packets.at ≤ next_of (D.journal drive.old) }
-    requires fits { end_of writer.old.packets + length (file_list file.now) ≤ D.capacity drive.old }
-    ensures ok { OnOk result (Takes D.Drive drive.old writer.old.packets (file_list file.now) drive.new writer.new.packets) }
+    requires fits { next_address writer.old.packets + length (file_list file.now) ≤ D.capacity drive.old }
+    ensures ok { OnOk result (TakesBlocks D.Drive drive.old writer.old.packets (file_list file.now) drive.new writer.new.packets) }
     ensures err { OnErr result (Stops D.Drive drive.old writer.old.packets (file_list file.now) drive.new) }
-    ensures writes { Writes D.Drive (is_err result) drive.old drive.new }
+    ensures writes { WritesOnly D.Drive (is_err result) drive.old drive.new }
 {
     let Some(placed) = file else {
         return Ok(());
@@ -126,10 +126,10 @@ fn write_directory<D: Drive>(
     placed: &PlacedDirectory,
 ) -> Result<(), DriveFault>
     requires begins { writer.old.packets.at ≤ next_of (D.journal drive.old) }
-    requires fits { end_of writer.old.packets + length (directory_list placed.now) ≤ D.capacity drive.old }
-    ensures ok { OnOk result (Takes D.Drive drive.old writer.old.packets (directory_list placed.now) drive.new writer.new.packets) }
+    requires fits { next_address writer.old.packets + length (directory_list placed.now) ≤ D.capacity drive.old }
+    ensures ok { OnOk result (TakesBlocks D.Drive drive.old writer.old.packets (directory_list placed.now) drive.new writer.new.packets) }
     ensures err { OnErr result (Stops D.Drive drive.old writer.old.packets (directory_list placed.now) drive.new) }
-    ensures writes { Writes D.Drive (is_err result) drive.old drive.new }
+    ensures writes { WritesOnly D.Drive (is_err result) drive.old drive.new }
 {
     let content = &placed.directory.content;
     writer.put_directory(drive, content, placed.extent.first)?;
@@ -144,10 +144,10 @@ fn write_directories<D: Drive>(
     directories: &[PlacedDirectory],
 ) -> Result<(), DriveFault>
     requires begins { writer.old.packets.at ≤ next_of (D.journal drive.old) }
-    requires fits { end_of writer.old.packets + length (directories_list directories.now) ≤ D.capacity drive.old }
-    ensures ok { OnOk result (Takes D.Drive drive.old writer.old.packets (directories_list directories.now) drive.new writer.new.packets) }
+    requires fits { next_address writer.old.packets + length (directories_list directories.now) ≤ D.capacity drive.old }
+    ensures ok { OnOk result (TakesBlocks D.Drive drive.old writer.old.packets (directories_list directories.now) drive.new writer.new.packets) }
     ensures err { OnErr result (Stops D.Drive drive.old writer.old.packets (directories_list directories.now) drive.new) }
-    ensures writes { Writes D.Drive (is_err result) drive.old drive.new }
+    ensures writes { WritesOnly D.Drive (is_err result) drive.old drive.new }
 {
     for placed in directories {
         write_directory(writer, drive, placed)?;
@@ -155,8 +155,8 @@ fn write_directories<D: Drive>(
     Ok(())
 }
 
-/// The table's bytes, and its entry, with which the commit takes effect. The entry waits for a write of its own, behind the
-/// finished writes of all else: whatever part of a write a loss of power leaves, it stands only where all that it leads to does.
+/// The table's bytes, and its entry, with which the commit takes effect. The entry waits for a write of its own, after the
+/// finished writes of all else: whatever part of a write a power loss leaves, it stands only where all that it leads to does.
 fn write_table<D: Drive>(
     writer: &mut Writer<'_>,
     drive: &mut D,
@@ -164,11 +164,11 @@ fn write_table<D: Drive>(
 ) -> Result<(), DriveFault>
     requires few { length table.now.bytes.items < 2 ^ 32 }
     requires begins { writer.old.packets.at ≤ next_of (D.journal drive.old) }
-    requires fits { end_of writer.old.packets + length (table_data table.now ++ table.now.entry ∷ []) ≤ D.capacity drive.old }
-    ensures ok { OnOk result (Takes D.Drive drive.old writer.old.packets (table_data table.now ++ table.now.entry ∷ []) drive.new writer.new.packets) }
+    requires fits { next_address writer.old.packets + length (table_data table.now ++ table.now.entry ∷ []) ≤ D.capacity drive.old }
+    ensures ok { OnOk result (TakesBlocks D.Drive drive.old writer.old.packets (table_data table.now ++ table.now.entry ∷ []) drive.new writer.new.packets) }
     ensures waits { OnOk result (writer.new.packets.blocks ≡ table.now.entry ∷ []) }
     ensures err { OnErr result (Stops D.Drive drive.old writer.old.packets (table_data table.now) drive.new) }
-    ensures writes { Writes D.Drive (is_err result) drive.old drive.new }
+    ensures writes { WritesOnly D.Drive (is_err result) drive.old drive.new }
 {
     writer.put_bytes(drive, table.gap, &table.bytes)?;
     writer.finish(drive)?;
@@ -176,11 +176,11 @@ fn write_table<D: Drive>(
     Ok(())
 }
 
-/// The last table of a volume, behind which a commit is planned.
+/// The last table of a volume, after which a commit is planned.
 #[derive(Clone, Copy, Debug)]
 pub struct LastTable<'s> {
     /// The address of its entry.
-    pub at: u32,
+    pub vat_icb_address: u32,
     /// Of the volume, in blocks.
     pub capacity: u32,
     pub vat: &'s Vat,
@@ -196,19 +196,19 @@ impl LastTable<'_> {
         change: Change<'r>,
         moment: Timestamp,
     ) -> Result<Plan<'r>, StoreFault>
-        requires agrees { IsLast (D.journal drive.old) (D.capacity drive.old) self.now }
+        requires agrees { IsLastTableOn (D.journal drive.old) (D.capacity drive.old) self.now }
         requires next { IsNext request.now.client request.now.number self.now.vat.now.sessions.records.items }
         ensures plan { IfOk result (IsPlan (next_of (D.journal drive.old)) (D.capacity drive.old)) }
         ensures code { IfOk result (λ p. p.reply.code ≡ change.entry.code) }
         ensures commit { IfOk result (λ p. p.reply.commit ≡ self.now.vat.now.sessions.commits + 1) }
         ensures moment { IfOk result (λ p. p.moment ≡ moment) }
         ensures writings { IfOk result (λ p. plan_writings p ≡ change_writings moment change.entry) }
-        ensures table { IfOk result (λ p. view p.table.vat ≡ next_table self.now.at request.now.client request.now.number (code_number change.entry.code) change.entry.made (plan_written p) change.entry.removed (view self.now.vat.now)) }
-        ensures room { OnOk result (next_of (D.journal drive.old) + needs.change_need change.entry (begun self.now.at request.now.client request.now.number (code_number change.entry.code) change.entry.made (view self.now.vat.now)) ≤ self.now.capacity) }
-        ensures full { result ≡ Err Full → self.now.capacity < next_of (D.journal drive.old) + needs.change_need change.entry (begun self.now.at request.now.client request.now.number (code_number change.entry.code) change.entry.made (view self.now.vat.now)) }
+        ensures table { IfOk result (λ p. view p.table.vat ≡ next_table self.now.vat_icb_address request.now.client request.now.number (code_number change.entry.code) change.entry.made (plan_written p) change.entry.removed (view self.now.vat.now)) }
+        ensures room { OnOk result (next_of (D.journal drive.old) + needs.change_need change.entry (begun self.now.vat_icb_address request.now.client request.now.number (code_number change.entry.code) change.entry.made (view self.now.vat.now)) ≤ self.now.capacity) }
+        ensures full { result ≡ Err Full → self.now.capacity < next_of (D.journal drive.old) + needs.change_need change.entry (begun self.now.vat_icb_address request.now.client request.now.number (code_number change.entry.code) change.entry.made (view self.now.vat.now)) }
         // Where the table takes each change, nothing else is refused.
-        ensures refused { ((written : List Written) → map (λ w. w.address) written ≡ map (λ n. n.address) (change_writings moment change.entry) → AreTaken change.entry.made written change.entry.removed (committed self.now.at request.now.client request.now.number (code_number change.entry.code) (view self.now.vat.now))) → IfErr result (λ fault. IsShortage fault ⊎ (fault ≡ Full)) }
-        ensures reads { Reads D.Drive (devices result) drive.old drive.new }
+        ensures refused { ((written : List Written) → map (λ w. w.address) written ≡ map (λ n. n.address) (change_writings moment change.entry) → AreTaken change.entry.made written change.entry.removed (committed self.now.vat_icb_address request.now.client request.now.number (code_number change.entry.code) (view self.now.vat.now))) → IfErr result (λ fault. IsShortage fault ⊎ (fault ≡ Full)) }
+        ensures reads { ReadsOnly D.Drive (devices result) drive.old drive.new }
     {
         let next = match drive.next() {
             Ok(next) => next,
@@ -223,15 +223,21 @@ impl LastTable<'_> {
             code: change.code,
             commit: vat.sessions.commits,
         };
-        let file = enter_file(&mut vat, &mut numbers, change.file, moment, self.at)?;
+        let file = enter_file(
+            &mut vat,
+            &mut numbers,
+            change.file,
+            moment,
+            self.vat_icb_address,
+        )?;
         let directories = enter_directories(
             alloc,
             &mut vat,
             &mut numbers,
             change.directories,
-            self.at,
+            self.vat_icb_address,
         )?;
-        take_away(&mut vat, change.removed, self.at)?;
+        take_away(&mut vat, change.removed, self.vat_icb_address)?;
         let table = place_table(alloc, vat, &mut numbers, moment)?;
         Ok(Plan {
             reply,
@@ -250,19 +256,19 @@ impl LastTable<'_> {
         request: &Request<'_>,
         change: &Change<'_>,
     ) -> Result<Vat, StoreFault>
-        requires keeps { Keeps self.now.at self.now.vat.now }
+        requires keeps { HasTableBelow self.now.vat_icb_address self.now.vat.now }
         requires next { IsNext request.now.client request.now.number self.now.vat.now.sessions.records.items }
-        ensures table { IfOk result (λ vat. view vat ≡ begun self.now.at request.now.client request.now.number (code_number change.now.code) change.now.made (view self.now.vat.now)) }
+        ensures table { IfOk result (λ vat. view vat ≡ begun self.now.vat_icb_address request.now.client request.now.number (code_number change.now.code) change.now.made (view self.now.vat.now)) }
         ensures fits { IfOk result (λ vat. FitsTable (view vat)) }
-        ensures below { IfOk result (λ vat. AreBelow self.now.at vat.entries.items) }
-        ensures previous { IfOk result (λ vat. vat.previous ≡ Some (self.now.at - PARTITION_START)) }
+        ensures below { IfOk result (λ vat. AreBelow self.now.vat_icb_address vat.entries.items) }
+        ensures previous { IfOk result (λ vat. vat.previous ≡ Some (self.now.vat_icb_address - PARTITION_START)) }
         ensures commits { IfOk result (λ vat. vat.sessions.commits ≡ self.now.vat.now.sessions.commits + 1) }
         ensures unique { IfOk result (λ vat. vat.sessions.next_unique ≤ 16 + vat.sessions.commits) }
         ensures free { IfSome change.now.made (λ node. IsFree node.address self.now.vat.now.entries.items) → IfErr result (λ fault. fault ≡ Memory) }
         ensures full { is_full result ≡ false }
         ensures device { devices result ≡ 0 }
     {
-        let at = self.at;
+        let at = self.vat_icb_address;
         let mut vat = copied(alloc, self.vat)?;
         keep_reply(
             &mut vat,
@@ -331,7 +337,7 @@ fn identifiers_size(content: &Content) -> u64
     ensures size { result ≡ 40 + plain_sizes (name_sizes content.now.dir.entries.entries) }
     ensures proper { IsProper content.now.dir }
 {
-    // Asked so that the proof has that no name is there twice.
+    // Unused: brings into the proof that no name is there twice.
     let _many = content.dir.entries.len();
     40 + content.identifiers.plain_size(&content.dir) as u64
 }
@@ -438,7 +444,7 @@ fn take_away(vat: &mut Vat, removed: Option<Node>, at: u32) -> Result<(), StoreF
     Ok(())
 }
 
-/// Places the table, behind all that it leads to. Its entry has this moment.
+/// Places the table, after all that it leads to. Its entry has this moment.
 fn place_table(
     alloc: Global,
     vat: Vat,
@@ -473,7 +479,7 @@ fn place_table(
     })
 }
 
-/// The entry of a table of so many bytes, which begin at the block of a number, for the block of another.
+/// The VAT ICB of so many bytes, which begin at the block of a number, for the block of another.
 fn table_entry(size: u32, first: u32, number: u32, moment: Timestamp) -> PlannedEntry<'static>
     requires some { 0 < size }
     requires few { size ≤ 1_048_576 }

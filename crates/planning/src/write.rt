@@ -3,19 +3,19 @@
 ghost use Rattle.limits.specs.declared.TheConstants.{BLOCK_BYTES};
 ghost use Rattle.std.specs.Prelude.{◌≡◌, ◌+◌, ◌<◌, ◌≤◌, ◌^◌, [], ◌∷◌, ◌++◌, length, replicate, is_err, IfOk, OnOk, OnErr};
 ghost use Rattle.std.specs.Int.{div_ceil};
-ghost use Rattle.drive.specs.Journal.{next_of, written, AddsFront};
-ghost use Rattle.drive.specs.Reads.{Writes};
+ghost use Rattle.drive.specs.Journal.{next_of, written, AddsPrefix};
+ghost use Rattle.drive.specs.Reads.{WritesOnly};
 ghost use Rattle.drive.specs.Sending.{Sends};
-ghost use Rattle.drive.specs.Waiting.{end_of, Takes, Stops};
+ghost use Rattle.drive.specs.Waiting.{next_address, TakesBlocks, Stops};
 ghost use Rattle.dir.specs.Directory.{directory_blocks};
 ghost use Rattle.ecma.specs.Descriptor.{padded};
 ghost use Rattle.durability.specs.Plan.{zeros, packed};
 
 use dir::{Lay, MAX_BLOCKS};
-use directories::Content;
 use drive::{Drive, DriveFault, PACKET, PacketWriter};
 use ecma::Block;
 use icb::PlannedEntry;
+use lookup::Content;
 use std::alloc::{AllocError, Global};
 
 const BLOCK_SIZE: usize = limits::BLOCK_BYTES as usize;
@@ -59,11 +59,11 @@ impl<'b> Writer<'b> {
 
     pub(crate) fn put<D: Drive>(&mut self, drive: &mut D, block: &Block) -> Result<(), DriveFault>
         requires begins { self.old.packets.at ≤ next_of (D.journal drive.old) }
-        requires fits { end_of self.old.packets < D.capacity drive.old }
-        ensures ok { OnOk result (Takes D.Drive drive.old self.old.packets (block.now ∷ []) drive.new self.new.packets) }
+        requires fits { next_address self.old.packets < D.capacity drive.old }
+        ensures ok { OnOk result (TakesBlocks D.Drive drive.old self.old.packets (block.now ∷ []) drive.new self.new.packets) }
         ensures waits { OnOk result (0 < length self.new.packets.blocks) }
         ensures err { OnErr result (Stops D.Drive drive.old self.old.packets [] drive.new) }
-        ensures writes { Writes D.Drive (is_err result) drive.old drive.new }
+        ensures writes { WritesOnly D.Drive (is_err result) drive.old drive.new }
     {
         let held = self.held.saturating_add(self.packets.waiting() + 1);
         self.most_held = self.most_held.max(held);
@@ -77,11 +77,11 @@ impl<'b> Writer<'b> {
         entry: &PlannedEntry<'_>,
     ) -> Result<(), DriveFault>
         requires begins { self.old.packets.at ≤ next_of (D.journal drive.old) }
-        requires fits { end_of self.old.packets < D.capacity drive.old }
-        ensures ok { OnOk result (Takes D.Drive drive.old self.old.packets (entry.now ∷ []) drive.new self.new.packets) }
+        requires fits { next_address self.old.packets < D.capacity drive.old }
+        ensures ok { OnOk result (TakesBlocks D.Drive drive.old self.old.packets (entry.now ∷ []) drive.new self.new.packets) }
         ensures waits { OnOk result (0 < length self.new.packets.blocks) }
         ensures err { OnErr result (Stops D.Drive drive.old self.old.packets [] drive.new) }
-        ensures writes { Writes D.Drive (is_err result) drive.old drive.new }
+        ensures writes { WritesOnly D.Drive (is_err result) drive.old drive.new }
     {
         let mut made = ZEROS;
         entry.write(&mut made);
@@ -91,10 +91,10 @@ impl<'b> Writer<'b> {
     /// So many blocks of zeros.
     fn put_zeros<D: Drive>(&mut self, drive: &mut D, count: u32) -> Result<(), DriveFault>
         requires begins { self.old.packets.at ≤ next_of (D.journal drive.old) }
-        requires fits { end_of self.old.packets + count ≤ D.capacity drive.old }
-        ensures ok { OnOk result (Takes D.Drive drive.old self.old.packets (replicate count zeros) drive.new self.new.packets) }
+        requires fits { next_address self.old.packets + count ≤ D.capacity drive.old }
+        ensures ok { OnOk result (TakesBlocks D.Drive drive.old self.old.packets (replicate count zeros) drive.new self.new.packets) }
         ensures err { OnErr result (Stops D.Drive drive.old self.old.packets (replicate count zeros) drive.new) }
-        ensures writes { Writes D.Drive (is_err result) drive.old drive.new }
+        ensures writes { WritesOnly D.Drive (is_err result) drive.old drive.new }
     {
         for i in 0..count {
             self.put(drive, &ZEROS)?;
@@ -105,10 +105,10 @@ impl<'b> Writer<'b> {
     /// The blocks in order.
     fn put_all<D: Drive>(&mut self, drive: &mut D, blocks: &[Block]) -> Result<(), DriveFault>
         requires begins { self.old.packets.at ≤ next_of (D.journal drive.old) }
-        requires fits { end_of self.old.packets + length blocks.now ≤ D.capacity drive.old }
-        ensures ok { OnOk result (Takes D.Drive drive.old self.old.packets blocks.now drive.new self.new.packets) }
+        requires fits { next_address self.old.packets + length blocks.now ≤ D.capacity drive.old }
+        ensures ok { OnOk result (TakesBlocks D.Drive drive.old self.old.packets blocks.now drive.new self.new.packets) }
         ensures err { OnErr result (Stops D.Drive drive.old self.old.packets blocks.now drive.new) }
-        ensures writes { Writes D.Drive (is_err result) drive.old drive.new }
+        ensures writes { WritesOnly D.Drive (is_err result) drive.old drive.new }
     {
         let waiting = self.packets.waiting().saturating_add(blocks.len());
         let held = self.held.saturating_add(PACKET.min(waiting));
@@ -119,22 +119,22 @@ impl<'b> Writer<'b> {
     /// The blocks in order, which go out as they lie: they are not copied, and not held.
     fn lend<D: Drive>(&mut self, drive: &mut D, blocks: &'b [Block]) -> Result<(), DriveFault>
         requires begins { self.old.packets.at ≤ next_of (D.journal drive.old) }
-        requires fits { end_of self.old.packets + length blocks.now ≤ D.capacity drive.old }
-        ensures ok { OnOk result (Takes D.Drive drive.old self.old.packets blocks.now drive.new self.new.packets) }
+        requires fits { next_address self.old.packets + length blocks.now ≤ D.capacity drive.old }
+        ensures ok { OnOk result (TakesBlocks D.Drive drive.old self.old.packets blocks.now drive.new self.new.packets) }
         ensures err { OnErr result (Stops D.Drive drive.old self.old.packets blocks.now drive.new) }
-        ensures writes { Writes D.Drive (is_err result) drive.old drive.new }
+        ensures writes { WritesOnly D.Drive (is_err result) drive.old drive.new }
     {
         self.packets.lend(drive, blocks)
     }
 
-    /// Bytes, with zeros behind them in the last block.
+    /// Bytes, with zeros after them in the last block.
     fn put_data<D: Drive>(&mut self, drive: &mut D, bytes: &[u8]) -> Result<(), DriveFault>
         requires begins { self.old.packets.at ≤ next_of (D.journal drive.old) }
         requires size { length bytes.now < 2 ^ 32 }
-        requires fits { end_of self.old.packets + div_ceil (length bytes.now) BLOCK_BYTES ≤ D.capacity drive.old }
-        ensures ok { OnOk result (Takes D.Drive drive.old self.old.packets (packed bytes.now) drive.new self.new.packets) }
+        requires fits { next_address self.old.packets + div_ceil (length bytes.now) BLOCK_BYTES ≤ D.capacity drive.old }
+        ensures ok { OnOk result (TakesBlocks D.Drive drive.old self.old.packets (packed bytes.now) drive.new self.new.packets) }
         ensures err { OnErr result (Stops D.Drive drive.old self.old.packets (packed bytes.now) drive.new) }
-        ensures writes { Writes D.Drive (is_err result) drive.old drive.new }
+        ensures writes { WritesOnly D.Drive (is_err result) drive.old drive.new }
     {
         let (blocks, text) = bytes.as_chunks::<BLOCK_SIZE>();
         self.put_all(drive, blocks)?;
@@ -142,14 +142,14 @@ impl<'b> Writer<'b> {
         Ok(())
     }
 
-    /// Bytes, with zeros behind them in the last block. Their whole blocks are lent.
+    /// Bytes, with zeros after them in the last block. Their whole blocks are lent.
     fn lend_data<D: Drive>(&mut self, drive: &mut D, bytes: &'b [u8]) -> Result<(), DriveFault>
         requires begins { self.old.packets.at ≤ next_of (D.journal drive.old) }
         requires size { length bytes.now < 2 ^ 32 }
-        requires fits { end_of self.old.packets + div_ceil (length bytes.now) BLOCK_BYTES ≤ D.capacity drive.old }
-        ensures ok { OnOk result (Takes D.Drive drive.old self.old.packets (packed bytes.now) drive.new self.new.packets) }
+        requires fits { next_address self.old.packets + div_ceil (length bytes.now) BLOCK_BYTES ≤ D.capacity drive.old }
+        ensures ok { OnOk result (TakesBlocks D.Drive drive.old self.old.packets (packed bytes.now) drive.new self.new.packets) }
         ensures err { OnErr result (Stops D.Drive drive.old self.old.packets (packed bytes.now) drive.new) }
-        ensures writes { Writes D.Drive (is_err result) drive.old drive.new }
+        ensures writes { WritesOnly D.Drive (is_err result) drive.old drive.new }
     {
         let (blocks, text) = bytes.as_chunks::<BLOCK_SIZE>();
         self.lend(drive, blocks)?;
@@ -157,14 +157,14 @@ impl<'b> Writer<'b> {
         Ok(())
     }
 
-    /// Less than a block of bytes, with zeros behind them. No bytes take no block.
+    /// Less than a block of bytes, with zeros after them. No bytes take no block.
     fn put_text<D: Drive>(&mut self, drive: &mut D, text: &[u8]) -> Result<(), DriveFault>
         requires begins { self.old.packets.at ≤ next_of (D.journal drive.old) }
         requires size { length text.now < BLOCK_BYTES }
-        requires fits { end_of self.old.packets + div_ceil (length text.now) BLOCK_BYTES ≤ D.capacity drive.old }
-        ensures ok { OnOk result (Takes D.Drive drive.old self.old.packets (packed text.now) drive.new self.new.packets) }
+        requires fits { next_address self.old.packets + div_ceil (length text.now) BLOCK_BYTES ≤ D.capacity drive.old }
+        ensures ok { OnOk result (TakesBlocks D.Drive drive.old self.old.packets (packed text.now) drive.new self.new.packets) }
         ensures err { OnErr result (Stops D.Drive drive.old self.old.packets (packed text.now) drive.new) }
-        ensures writes { Writes D.Drive (is_err result) drive.old drive.new }
+        ensures writes { WritesOnly D.Drive (is_err result) drive.old drive.new }
     {
         if text.is_empty() {
             return Ok(());
@@ -181,10 +181,10 @@ impl<'b> Writer<'b> {
     ) -> Result<(), DriveFault>
         requires begins { self.old.packets.at ≤ next_of (D.journal drive.old) }
         requires size { length bytes.now < 2 ^ 32 }
-        requires fits { end_of self.old.packets + (gap + div_ceil (length bytes.now) BLOCK_BYTES) ≤ D.capacity drive.old }
-        ensures ok { OnOk result (Takes D.Drive drive.old self.old.packets (replicate gap zeros ++ packed bytes.now) drive.new self.new.packets) }
+        requires fits { next_address self.old.packets + (gap + div_ceil (length bytes.now) BLOCK_BYTES) ≤ D.capacity drive.old }
+        ensures ok { OnOk result (TakesBlocks D.Drive drive.old self.old.packets (replicate gap zeros ++ packed bytes.now) drive.new self.new.packets) }
         ensures err { OnErr result (Stops D.Drive drive.old self.old.packets (replicate gap zeros ++ packed bytes.now) drive.new) }
-        ensures writes { Writes D.Drive (is_err result) drive.old drive.new }
+        ensures writes { WritesOnly D.Drive (is_err result) drive.old drive.new }
     {
         self.put_zeros(drive, gap)?;
         self.put_data(drive, bytes)?;
@@ -200,10 +200,10 @@ impl<'b> Writer<'b> {
     ) -> Result<(), DriveFault>
         requires begins { self.old.packets.at ≤ next_of (D.journal drive.old) }
         requires size { length bytes.now < 2 ^ 32 }
-        requires fits { end_of self.old.packets + (gap + div_ceil (length bytes.now) BLOCK_BYTES) ≤ D.capacity drive.old }
-        ensures ok { OnOk result (Takes D.Drive drive.old self.old.packets (replicate gap zeros ++ packed bytes.now) drive.new self.new.packets) }
+        requires fits { next_address self.old.packets + (gap + div_ceil (length bytes.now) BLOCK_BYTES) ≤ D.capacity drive.old }
+        ensures ok { OnOk result (TakesBlocks D.Drive drive.old self.old.packets (replicate gap zeros ++ packed bytes.now) drive.new self.new.packets) }
         ensures err { OnErr result (Stops D.Drive drive.old self.old.packets (replicate gap zeros ++ packed bytes.now) drive.new) }
-        ensures writes { Writes D.Drive (is_err result) drive.old drive.new }
+        ensures writes { WritesOnly D.Drive (is_err result) drive.old drive.new }
     {
         self.put_zeros(drive, gap)?;
         self.lend_data(drive, bytes)?;
@@ -219,10 +219,10 @@ impl<'b> Writer<'b> {
     ) -> Result<(), DriveFault>
         requires first { first ≤ MAX_BLOCKS }
         requires begins { self.old.packets.at ≤ next_of (D.journal drive.old) }
-        requires fits { end_of self.old.packets + length (directory_blocks content.now.dir first) ≤ D.capacity drive.old }
-        ensures ok { OnOk result (Takes D.Drive drive.old self.old.packets (directory_blocks content.now.dir first) drive.new self.new.packets) }
+        requires fits { next_address self.old.packets + length (directory_blocks content.now.dir first) ≤ D.capacity drive.old }
+        ensures ok { OnOk result (TakesBlocks D.Drive drive.old self.old.packets (directory_blocks content.now.dir first) drive.new self.new.packets) }
         ensures err { OnErr result (Stops D.Drive drive.old self.old.packets (directory_blocks content.now.dir first) drive.new) }
-        ensures writes { Writes D.Drive (is_err result) drive.old drive.new }
+        ensures writes { WritesOnly D.Drive (is_err result) drive.old drive.new }
     {
         let mut lay = Lay::over(&content.dir, &content.identifiers, first);
         let mut block = [0; BLOCK_SIZE];
@@ -235,12 +235,12 @@ impl<'b> Writer<'b> {
     /// Writes the blocks that wait, as one run. None waits then, and the next block begins a write of its own.
     pub(crate) fn finish<D: Drive>(&mut self, drive: &mut D) -> Result<(), DriveFault>
         requires begins { self.old.packets.at ≤ next_of (D.journal drive.old) }
-        requires fits { end_of self.old.packets ≤ D.capacity drive.old }
+        requires fits { next_address self.old.packets ≤ D.capacity drive.old }
         ensures ok { OnOk result (D.journal drive.new ≡ D.journal drive.old ++ written self.old.packets.at self.old.packets.blocks) }
-        ensures empty { OnOk result (self.new.packets ≡ record { at = end_of self.old.packets; blocks = [] }) }
-        ensures err { OnErr result (AddsFront (D.journal drive.old) self.old.packets.at self.old.packets.blocks (D.journal drive.new)) }
+        ensures empty { OnOk result (self.new.packets ≡ record { at = next_address self.old.packets; blocks = [] }) }
+        ensures err { OnErr result (AddsPrefix (D.journal drive.old) self.old.packets.at self.old.packets.blocks (D.journal drive.new)) }
         ensures sends { Sends D.Drive self.old.packets.blocks (is_err result) drive.old drive.new }
-        ensures writes { Writes D.Drive (is_err result) drive.old drive.new }
+        ensures writes { WritesOnly D.Drive (is_err result) drive.old drive.new }
     {
         self.packets.finish(drive)
     }
@@ -249,17 +249,17 @@ impl<'b> Writer<'b> {
     pub(crate) fn finish_alone<D: Drive>(&mut self, drive: &mut D) -> Result<(), DriveFault>
         requires one { length self.old.packets.blocks ≡ 1 }
         requires begins { self.old.packets.at ≤ next_of (D.journal drive.old) }
-        requires fits { end_of self.old.packets ≤ D.capacity drive.old }
+        requires fits { next_address self.old.packets ≤ D.capacity drive.old }
         ensures ok { OnOk result (D.journal drive.new ≡ D.journal drive.old ++ written self.old.packets.at self.old.packets.blocks) }
-        ensures err { OnErr result (AddsFront (D.journal drive.old) self.old.packets.at self.old.packets.blocks (D.journal drive.new)) }
+        ensures err { OnErr result (AddsPrefix (D.journal drive.old) self.old.packets.at self.old.packets.blocks (D.journal drive.new)) }
         ensures sent { D.writes drive.new ≡ D.writes drive.old ++ self.old.packets.blocks ∷ [] }
-        ensures writes { Writes D.Drive (is_err result) drive.old drive.new }
+        ensures writes { WritesOnly D.Drive (is_err result) drive.old drive.new }
     {
         self.packets.finish_alone(drive)
     }
 }
 
-/// A block that begins with a text, and has zeros behind it.
+/// A block that begins with a text, and has zeros after it.
 fn block_of(text: &[u8]) -> Block
     requires { length text.now ≤ BLOCK_BYTES }
     ensures { result ≡ padded text.now }

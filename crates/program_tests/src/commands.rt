@@ -160,7 +160,7 @@ fn a_file_that_begins_no_format(rt: HostRuntime) -> Result<(), Fail> {
     // A part of one of this format is gone over.
     assert!(rt; run(&rt, &words, b"").is(0, b"formatted\n", b""));
     assert_eq!(rt; fs::read(&rt, image)?.as_slice(), whole.as_slice());
-    // A volume with something behind it is no beginning of a format.
+    // A volume with something after it is no beginning of a format.
     let mut longer = whole.clone()?;
     longer.push(0)?;
     fs::write(&rt, image, &longer)?;

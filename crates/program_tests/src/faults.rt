@@ -5,7 +5,7 @@ use programs::{Fault, report};
 use std::test::Fail;
 use store::StoreFault;
 
-/// Whether a fault is told in this line.
+/// Whether a fault is reported in this line.
 fn is_told(rt: &HostRuntime, fault: Fault, line: &[u8]) -> bool {
     let mut errors = Vec::new(rt.alloc());
     let status = report("name", Err(fault), &mut errors);

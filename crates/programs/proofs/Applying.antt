@@ -10,7 +10,7 @@ use Rattle.model.specs.Session.{formatted}
 use Rattle.durability.specs.Commit.{need}
 use Rattle.durability.specs.Runs.{Fits}
 use Rattle.udf.specs.Udf.{spelled}
-use Rattle.osta.specs.FirstFault.{first_fault}
+use Rattle.osta.specs.FirstFault.{first_text_fault}
 use Rattle.osta.specs.Label.{label_faults}
 use Rattle.recover.specs.declared.fault.StoreFault.{StoreFault}
 use Rattle.recover.specs.declared.fault.StoreFault.TheVariants as stores
@@ -19,14 +19,14 @@ use Rattle.formatting.proofs.NewVolumes.{format_long}
 use Rattle.store.specs.declared.store.Store.{Store}
 use Rattle.engine.specs.Situation.{Situation, situation, situation_on, with_store}
 use Rattle.engine.specs.Steps.{HoldsState}
-use Rattle.engine.specs.Said.{said_answers}
+use Rattle.engine.specs.Said.{model_answers}
 use Rattle.engine.specs.Served.{AllAnswered, ServedHolds, ServesAll, ServesUntil, brought}
 use Rattle.engine.specs.declared.serving.ServeFault.{ServeFault}
 use Rattle.engine.proofs.Running.{runs_begin}
 use Rattle.engine.proofs.Served.{answered_counted}
 use Rattle.programs.specs.declared.fault.Fault.{Fault}
 use Rattle.programs.specs.declared.fault.Fault.TheVariants.{Usage, Path, Socket, Store as Stored, Stream}
-use Rattle.programs.specs.Applied.{Applies, AppliesAll, AppliesUntil, AppliesToImage, IsRunOfNew, IsUnmade, AnswersAll, AnswersUntil, AnswersInMemory}
+use Rattle.programs.specs.Applied.{AppliesStream, AppliesAll, AppliesUntil, AppliesToImage, IsRunOfNew, IsUnmade, AnswersAll, AnswersUntil, AnswersInMemory}
 use Rattle.programs.specs.Images.{Images, IsOpened, IsPutBack, IsThere}
 use Rattle.programs.proofs.Opening.{keeps_self, on_media}
 
@@ -38,17 +38,17 @@ applied_all store kept J failures capacity honest writes behind i l o w e h =
     (kept, subst (λ (s : Option Store). ServesAll (situation s J failures capacity honest writes) (with_store kept behind) i l o w) e h)
 
 pub applied_until : {T : Type 0} (outcome : Result T Fault) (fault : ServeFault) (store kept : Option Store) (J : List Event) (failures capacity : ℕ) (honest : Bool) (writes : List (List (List ℕ))) (behind : Situation) (i l o w : Option (List ℕ)) → IsErrAnd outcome (λ f. f ≡ Stream fault) → store ≡ None
-    → ServesUntil fault (situation store J failures capacity honest writes) (with_store kept behind) i l o w → Applies outcome (situation None J failures capacity honest writes) behind i l o w
+    → ServesUntil fault (situation store J failures capacity honest writes) (with_store kept behind) i l o w → AppliesStream outcome (situation None J failures capacity honest writes) behind i l o w
 applied_until {T} (Ok x) fault store kept J failures capacity honest writes behind i l o w is e h = absurd is
 applied_until {T} (Err f) fault store kept J failures capacity honest writes behind i l o w is e h =
-    subst (λ (g : Fault). Applies {T = T} (Err g) (situation None J failures capacity honest writes) behind i l o w) (sym is)
+    subst (λ (g : Fault). AppliesStream {T = T} (Err g) (situation None J failures capacity honest writes) behind i l o w) (sym is)
     (kept, subst (λ (s : Option Store). ServesUntil fault (situation s J failures capacity honest writes) (with_store kept behind) i l o w) e h)
 
 -- the same on an image that was opened
 pub applied_to_image : {T D : Type 0} (drive : Ghosts D) (image : List ℕ) (outcome : Result T Fault) (d e : D) (before between behind : Images) (i l o w : Option (List ℕ))
-    → IsOpened drive IsThere 450000 image d before between → IsPutBack drive image e between behind → Applies outcome (situation_on drive None d) (situation_on drive None e) i l o w
+    → IsOpened drive IsThere 450000 image d before between → IsPutBack drive image e between behind → AppliesStream outcome (situation_on drive None d) (situation_on drive None e) i l o w
     → AppliesToImage image outcome before behind i l o w
-applied_to_image drive image outcome d e before between behind i l o w opened back h = inr (on_media drive IsThere 450000 image (λ first last. Applies outcome first last i l o w) d e before between behind opened back h)
+applied_to_image drive image outcome d e before between behind i l o w opened back h = inr (on_media drive IsThere 450000 image (λ first last. AppliesStream outcome first last i l o w) d e before between behind opened back h)
 
 -- ---- a new volume on a drive that was blank and is honest
 
@@ -80,8 +80,8 @@ module _ (capacity : ℕ) (label : List ℕ) (J : List Event) (made : IsFormatte
         marks = all.holds.marks;
         counts = all.holds.counts;
         committed = all.holds.committed;
-        fits = subst (λ (n : ℕ). Fits (need spelled) n (length (held behind.journal)) (formatted 0) 262 0 (brought messages) (said_answers answers) all.holds.marks all.holds.counts all.holds.committed) volume
-            (subst (λ (n : ℕ). Fits (need spelled) (min capacity 450000) (length (held behind.journal)) (formatted 0) n 0 (brought messages) (said_answers answers) all.holds.marks all.holds.counts all.holds.committed) new_long all.holds.fits);
+        fits = subst (λ (n : ℕ). Fits (need spelled) n (length (held behind.journal)) (formatted 0) 262 0 (brought messages) (model_answers answers) all.holds.marks all.holds.counts all.holds.committed) volume
+            (subst (λ (n : ℕ). Fits (need spelled) (min capacity 450000) (length (held behind.journal)) (formatted 0) n 0 (brought messages) (model_answers answers) all.holds.marks all.holds.counts all.holds.committed) new_long all.holds.fits);
         all_new = all.holds.new;
         each_once = all.holds.once;
       }
@@ -118,7 +118,7 @@ module _ (capacity : ℕ) (label : List ℕ) (J : List Event) (made : IsFormatte
   }
 
   answers_in_memory : {T : Type 0} (outcome : Result T Fault) → capacity ≤ 450000 → (failures : ℕ) (writes : List (List (List ℕ))) (behind : Situation) (i l o w : Option (List ℕ)) → behind.honest ≡ true
-      → Applies outcome (situation None J failures capacity true writes) behind i l o w → AnswersInMemory outcome capacity i l o w
+      → AppliesStream outcome (situation None J failures capacity true writes) behind i l o w → AnswersInMemory outcome capacity i l o w
   answers_in_memory (Ok x) fits failures writes behind i l o w honest h = answers_all fits failures writes behind i l o w honest h
   answers_in_memory (Err Usage) fits failures writes behind i l o w honest h = absurd h
   answers_in_memory (Err Path) fits failures writes behind i l o w honest h = absurd h
@@ -129,17 +129,17 @@ module _ (capacity : ℕ) (label : List ℕ) (J : List Event) (made : IsFormatte
 -- the drive's capacity and journal by the contracts of the calls that lead to it
 pub memory_answers : {T : Type 0} (outcome : Result T Fault) (capacity size later : ℕ) (label : List ℕ) (before J : List Event) (failures : ℕ) (writes : List (List (List ℕ))) (behind : Situation) (i l o w : Option (List ℕ))
     → capacity ≤ 450000 → size ≡ capacity → later ≡ size → before ≡ [] → IsFormatted size (words_on size label 0) before J true → behind.honest ≡ true
-    → Applies outcome (situation None J failures later true writes) behind i l o w → AnswersInMemory outcome capacity i l o w
+    → AppliesStream outcome (situation None J failures later true writes) behind i l o w → AnswersInMemory outcome capacity i l o w
 memory_answers outcome capacity size later label before J failures writes behind i l o w fits same still blank made honest h =
     let here : IsFormatted capacity (words_on capacity label 0) [] J true = subst (λ (n : ℕ). IsFormatted n (words_on n label 0) [] J true) same
     (subst (λ (B : List Event). IsFormatted size (words_on size label 0) B J true) blank made) in
     answers_in_memory capacity label J here outcome fits failures writes behind i l o w honest
-    (subst (λ (n : ℕ). Applies outcome (situation None J failures n true writes) behind i l o w) (still ∙ same) h)
+    (subst (λ (n : ℕ). AppliesStream outcome (situation None J failures n true writes) behind i l o w) (still ∙ same) h)
 
 -- ---- where there is no new volume
 
 -- a format that is refused on a blank drive in memory, by the calls that lead to it
-unmade : (capacity : ℕ) (fault : StoreFault) (behind : List Event) → (fault ≡ stores.Label → IsSome (first_fault (label_faults (codes "MEM")))) → (fault ≡ stores.Small → capacity < 512)
+unmade : (capacity : ℕ) (fault : StoreFault) (behind : List Event) → (fault ≡ stores.Label → IsSome (first_text_fault (label_faults (codes "MEM")))) → (fault ≡ stores.Small → capacity < 512)
     → IsFormatRefused capacity (words_on capacity (codes "MEM") 0) [] behind true fault → IsUnmade capacity fault
 unmade capacity stores.NotBlank behind label small h = λ blocks is. h.1 refl (record { whole = blocks; is = is; count = 0; front = refl })
 unmade capacity stores.Label behind label small h = label refl
@@ -157,12 +157,12 @@ unmade capacity stores.NotDirectory behind label small h = absurd h
 
 pub unmade_answers : {T U : Type 0} (outcome : Result T Fault) (made : Result U StoreFault) (fault : StoreFault) (capacity size : ℕ) (before behind : List Event) (i o : Option (List ℕ)) → IsErrAnd outcome (λ f. f ≡ Stored fault)
     → made ≡ Err fault → size ≡ capacity → before ≡ [] → IsFormatRefused size (words_on size (codes "MEM") 0) before behind true fault
-    → ((made ≡ Err stores.Label) ↔ IsSome (first_fault (label_faults (codes "MEM")))) → ((made ≡ Err stores.Small) ↔ (IsNone (first_fault (label_faults (codes "MEM"))) × (size < 512)))
+    → ((made ≡ Err stores.Label) ↔ IsSome (first_text_fault (label_faults (codes "MEM")))) → ((made ≡ Err stores.Small) ↔ (IsNone (first_text_fault (label_faults (codes "MEM"))) × (size < 512)))
     → AnswersInMemory outcome capacity i i o o
 unmade_answers {T} {U} (Ok x) made fault capacity size before behind i o is told same blank refused label small = absurd is
 unmade_answers {T} {U} (Err f) made fault capacity size before behind i o is told same blank refused label small =
     let here : IsFormatRefused capacity (words_on capacity (codes "MEM") 0) [] behind true fault =
     subst (λ (n : ℕ). IsFormatRefused n (words_on n (codes "MEM") 0) [] behind true fault) same (subst (λ (J : List Event). IsFormatRefused size (words_on size (codes "MEM") 0) J behind true fault) blank refused) in
-    let right : (fault ≡ stores.Label → IsSome (first_fault (label_faults (codes "MEM")))) = λ e. label.0 (told ∙ ap (λ (x : StoreFault). Err x) e) in
+    let right : (fault ≡ stores.Label → IsSome (first_text_fault (label_faults (codes "MEM")))) = λ e. label.0 (told ∙ ap (λ (x : StoreFault). Err x) e) in
     let less : (fault ≡ stores.Small → capacity < 512) = λ e. subst (λ (n : ℕ). n < 512) same (small.0 (told ∙ ap (λ (x : StoreFault). Err x) e)).1 in
     subst (λ (g : Fault). AnswersInMemory {T = T} (Err g) capacity i i o o) (sym is) (unmade capacity fault behind right less here, refl, keeps_self o)

@@ -9,7 +9,7 @@ use Rattle.drive.specs.Journal.{Event, written, next_of}
 use Rattle.drive.proofs.Journals.{length-written}
 use Rattle.formatting.specs.NewVolume.{words_on, IsFormatOf, IsFormatted}
 use Rattle.programs.specs.declared.fault.Fault.{Fault}
-use Rattle.programs.specs.NewVolumes.{Begins, BeginsNot, IsBegun, IsNoPart, IsUnbegun}
+use Rattle.programs.specs.NewVolumes.{BeginsBlock, BeginsNot, HasFormatPrefix, IsNoPart, IsUnbegun}
 
 -- what stands at a place of a journal that was written in order
 event_at : (from at : ℕ) (blocks : List (List ℕ)) (event : Event) → at < length (written from blocks) → event ≡ slice_index_or (written from blocks) at event
@@ -32,7 +32,7 @@ module _ (size capacity moment : ℕ) (label : List ℕ) (before J journal : Lis
     here : (at < length made.blocks) × (slice_index_or made.blocks at [] ≡ event.1)
     here = event_at 0 at made.blocks event (subst (λ (j : List Event). at < length j) all_written fits) (there ∙ ap (λ (j : List Event). slice_index_or j at event) all_written)
 
-    pub begins_there : r ≡ true → Begins (words_on capacity label moment) at part
+    pub begins_there : r ≡ true → BeginsBlock (words_on capacity label moment) at part
     begins_there all = (made.blocks, is_format, (here.0, (drop (length part) event.1, here.1 ∙ (starts_is Decides-eqb event.1 part r is).0 all)))
 
     pub begins_not : r ≡ false → BeginsNot (words_on capacity label moment) at part
@@ -43,7 +43,7 @@ module _ (size capacity moment : ℕ) (label : List ℕ) (before J journal : Lis
       let long : length journal ≡ length made.blocks = ap length all_written ∙ length-written 0 made.blocks in
       (made.blocks, is_format, λ begun. absurd (omega (arith, h, long, begun.0)))
 
--- ---- what is left behind the last whole block of an image
+-- ---- what is left after the last whole block of an image
 
 pub unbegun_part : {T : Type 0} (outcome : Result T Fault) (room capacity moment at : ℕ) (label part : List ℕ) (journal : List Event) → room ≡ capacity → at ≡ next_of journal → 0 < length part → length part < 2048
     → IfErr outcome (IsNoPart room label moment at part) → IfErr outcome (IsUnbegun capacity label moment journal)
@@ -53,7 +53,7 @@ unbegun_part (Err fault) room capacity moment at label part journal size next so
 
 -- or it is accepted
 pub begun_part : {T : Type 0} (outcome : Result T Fault) (room capacity moment at : ℕ) (label part : List ℕ) (journal : List Event) → room ≡ capacity → at ≡ next_of journal → length part < 2048
-    → OnOk outcome (Begins (words_on room label moment) at part) → OnOk outcome (IsBegun capacity label moment journal)
+    → OnOk outcome (BeginsBlock (words_on room label moment) at part) → OnOk outcome (HasFormatPrefix capacity label moment journal)
 begun_part (Ok x) room capacity moment at label part journal size next short h =
-    (part, short, inr (subst (λ (n : ℕ). Begins (words_on capacity label moment) n part) next (subst (λ (n : ℕ). Begins (words_on n label moment) at part) size h)))
+    (part, short, inr (subst (λ (n : ℕ). BeginsBlock (words_on capacity label moment) n part) next (subst (λ (n : ℕ). BeginsBlock (words_on n label moment) at part) size h)))
 begun_part (Err fault) room capacity moment at label part journal size next short h = tt

@@ -4,14 +4,14 @@ use Rattle.std.specs.Prelude.{IfErr, IfOk, IsErrAnd, OnOk}
 use Rattle.std.specs.Io.KnownBytes.{Appends, Consumes, Keeps}
 use Rattle.std.proofs.lemmas.List.{append-nil, length-take-le}
 use Rattle.std.proofs.Math.Seq.{take-append-add, take-length}
-use Rattle.engine.specs.Streams.{TakesPiece, PutsFront}
+use Rattle.engine.specs.Streams.{TakesPiece, PutsPrefix}
 use Rattle.engine.specs.declared.serving.ServeFault.{ServeFault}
 use Rattle.engine.specs.declared.serving.ServeFault.TheVariants as streams
 use Rattle.engine.proofs.Messages.{appends_more, consumes_more, nothing_more, nothing_read}
 use Rattle.engine.proofs.Pieces.{keeps_on}
 use Rattle.programs.specs.Counted.{Counted}
 use Rattle.programs.specs.Counting.{IsAnsweredBy, IsCountOf}
-use Rattle.programs.specs.Copies.{CopiesAll, CopiesFrames, CopiesPart, CopiesRead, CopiesUntil, Sends, SendsSome, SendsUntil}
+use Rattle.programs.specs.Copies.{CopiesAll, CopiesFrames, CopiesPart, CopiesRead, CopiesUntil, SendsFrames, SendsSome, SendsUntil}
 use Rattle.programs.specs.declared.counting.FrameCount.{FrameCount}
 use Rattle.programs.specs.declared.fault.Fault.{Fault}
 use Rattle.programs.specs.declared.fault.Fault.TheVariants.{Usage, Path, Socket, Store, Stream}
@@ -51,7 +51,7 @@ tallied_all count c i l n o v piece h takes none counts = record {
 
 -- ---- where it fails
 
-pub whole_front : (a b : Option (List ℕ)) (bytes : List ℕ) → Appends a b bytes → PutsFront a b bytes
+pub whole_front : (a b : Option (List ℕ)) (bytes : List ℕ) → Appends a b bytes → PutsPrefix a b bytes
 whole_front a b bytes h = (length bytes, subst (λ (x : List ℕ). Appends a b x) (sym (take-length bytes)) h)
 
 consumes_kept : (a b c : Option (List ℕ)) (x : List ℕ) → Consumes a b x → Keeps b c → Consumes a c x
@@ -64,8 +64,8 @@ consumes_kept (Some xs) (Some ys) (Some zs) x h k = h ∙ ap (λ (y : List ℕ).
 pub copied_read : (i l n o v : Option (List ℕ)) → CopiesRead i l o v → Keeps l n → CopiesRead i n o v
 copied_read i l n o v h kept = record { bytes = h.bytes; consumed = consumes_kept i l n h.bytes h.consumed kept; copied = h.copied }
 
--- a front of a piece was written
-pub copied_put : (i l n o v w : Option (List ℕ)) (piece bytes : List ℕ) → CopiesRead i l o v → TakesPiece l n piece → (piece ≡ [] → ⊥) → length piece ≤ 65536 → bytes ≡ piece → PutsFront v w bytes → CopiesPart i n o w
+-- a prefix of a piece was written
+pub copied_put : (i l n o v w : Option (List ℕ)) (piece bytes : List ℕ) → CopiesRead i l o v → TakesPiece l n piece → (piece ≡ [] → ⊥) → length piece ≤ 65536 → bytes ≡ piece → PutsPrefix v w bytes → CopiesPart i n o w
 copied_put i l n o v w piece bytes h takes some short e (count, put) = record {
   copied = h.bytes;
   piece = piece;
@@ -93,12 +93,12 @@ pub until_read : {T : Type 0} (outcome : Result T Fault) (fault : ServeFault) (i
 until_read (Ok x) fault i l o w is read h = tt
 until_read (Err f) fault i l o w is read h = subst (λ (g : Fault). CopiesUntil g i l o w) (sym (is ∙ ap (λ (x : ServeFault). Stream x) read)) h
 
--- ---- what was read, and a front of it was written
+-- ---- what was read, and a prefix of it was written
 
 pub record CopiesFront (input left output written : Option (List ℕ)) : Type 0 where
   pub bytes : List ℕ
   pub consumed : Consumes input left bytes
-  pub front : PutsFront output written bytes
+  pub front : PutsPrefix output written bytes
 
 read_part : (i l o w : Option (List ℕ)) → CopiesRead i l o w → CopiesFront i l o w
 read_part i l o w h = record { bytes = h.bytes; consumed = h.consumed; front = whole_front o w h.bytes h.copied }
@@ -145,7 +145,7 @@ sends_fewer : (i l o w a b s t : Option (List ℕ)) → CopiesFront i l a b → 
 sends_fewer i l o w a b s t sent came = cut i l o w a b s t sent (all_part s t o w came)
 
 -- the answers were not copied whole
-answers_cut : (T : Type 0) (fault : Fault) (i l o w a b s t : Option (List ℕ)) → CopiesFront i l a b → CopiesUntil fault s t o w → Sends {T = T} (Err fault) i l o w
+answers_cut : (T : Type 0) (fault : Fault) (i l o w a b s t : Option (List ℕ)) → CopiesFront i l a b → CopiesUntil fault s t o w → SendsFrames {T = T} (Err fault) i l o w
 answers_cut T Usage i l o w a b s t sent came = absurd came
 answers_cut T Path i l o w a b s t sent came = absurd came
 answers_cut T Socket i l o w a b s t sent came = absurd came
@@ -155,7 +155,7 @@ answers_cut T (Stream streams.Write) i l o w a b s t sent came = cut i l o w a b
 answers_cut T (Stream streams.Memory) i l o w a b s t sent came = absurd came
 
 -- the frames were not sent whole
-frames_cut : (T : Type 0) (fault : Fault) (i l o w a b s t : Option (List ℕ)) → SendsUntil fault i l a b → CopiesAll s t o w → Sends {T = T} (Err fault) i l o w
+frames_cut : (T : Type 0) (fault : Fault) (i l o w a b s t : Option (List ℕ)) → SendsUntil fault i l a b → CopiesAll s t o w → SendsFrames {T = T} (Err fault) i l o w
 frames_cut T Usage i l o w a b s t (inl sent) came = absurd sent
 frames_cut T Path i l o w a b s t (inl sent) came = absurd sent
 frames_cut T Socket i l o w a b s t (inl sent) came = absurd sent
@@ -164,22 +164,22 @@ frames_cut T (Stream streams.Read) i l o w a b s t (inl sent) came = sends_fewer
 frames_cut T (Stream streams.Write) i l o w a b s t (inl sent) came = sends_fewer i l o w a b s t (until_part (Stream streams.Write) i l a b sent) came
 frames_cut T (Stream streams.Memory) i l o w a b s t (inl sent) came = absurd sent
 frames_cut T fault i l o w a b s t (inr sent) came =
-    subst (λ (f : Fault). Sends {T = T} (Err f) i l o w) (sym sent.0) (sends_fewer i l o w a b s t (all_part i l a b sent.1) came)
+    subst (λ (f : Fault). SendsFrames {T = T} (Err f) i l o w) (sym sent.0) (sends_fewer i l o w a b s t (all_part i l a b sent.1) came)
 
-pub sends_unanswered : {T : Type 0} (outcome : Result T Fault) (fault : Fault) (i l o w a b s t : Option (List ℕ)) → IsErrAnd outcome (λ f. f ≡ fault) → CopiesFront i l a b → CopiesUntil fault s t o w → Sends outcome i l o w
+pub sends_unanswered : {T : Type 0} (outcome : Result T Fault) (fault : Fault) (i l o w a b s t : Option (List ℕ)) → IsErrAnd outcome (λ f. f ≡ fault) → CopiesFront i l a b → CopiesUntil fault s t o w → SendsFrames outcome i l o w
 sends_unanswered {T} (Ok x) fault i l o w a b s t is sent came = absurd is
-sends_unanswered {T} (Err f) fault i l o w a b s t is sent came = subst (λ (g : Fault). Sends {T = T} (Err g) i l o w) (sym is) (answers_cut T fault i l o w a b s t sent came)
+sends_unanswered {T} (Err f) fault i l o w a b s t is sent came = subst (λ (g : Fault). SendsFrames {T = T} (Err g) i l o w) (sym is) (answers_cut T fault i l o w a b s t sent came)
 
-pub sends_part : {T : Type 0} (outcome : Result T Fault) (fault : Fault) (i l o w a b s t : Option (List ℕ)) → IsErrAnd outcome (λ f. f ≡ fault) → SendsUntil fault i l a b → CopiesAll s t o w → Sends outcome i l o w
+pub sends_part : {T : Type 0} (outcome : Result T Fault) (fault : Fault) (i l o w a b s t : Option (List ℕ)) → IsErrAnd outcome (λ f. f ≡ fault) → SendsUntil fault i l a b → CopiesAll s t o w → SendsFrames outcome i l o w
 sends_part {T} (Ok x) fault i l o w a b s t is sent came = absurd is
-sends_part {T} (Err f) fault i l o w a b s t is sent came = subst (λ (g : Fault). Sends {T = T} (Err g) i l o w) (sym is) (frames_cut T fault i l o w a b s t sent came)
+sends_part {T} (Err f) fault i l o w a b s t is sent came = subst (λ (g : Fault). SendsFrames {T = T} (Err g) i l o w) (sym is) (frames_cut T fault i l o w a b s t sent came)
 
 is_answered : (frames answers : ℕ) (sent came : List ℕ) → IsCountOf sent frames → IsCountOf came answers → frames ≤ answers → IsAnsweredBy sent came
 is_answered frames answers sent came f a enough = (f.0, a.0, f.1, a.1, omega (arith, f.2, a.2, enough))
 
 -- all was copied both ways, and the answers were counted
 pub sends_wanted : {T : Type 0} (outcome : Result T Fault) (frames answers : ℕ) (i l o w a b s t : Option (List ℕ)) → OnOk outcome (frames ≤ answers) → IfErr outcome (λ f. (f ≡ Stream streams.Read) × (answers < frames))
-    → CopiesFrames frames i l a b → CopiesFrames answers s t o w → Sends outcome i l o w
+    → CopiesFrames frames i l a b → CopiesFrames answers s t o w → SendsFrames outcome i l o w
 sends_wanted {T} (Ok x) frames answers i l o w a b s t enough fewer sent came = record {
   sent = sent.all.bytes;
   consumed = sent.all.consumed;
@@ -189,4 +189,4 @@ sends_wanted {T} (Ok x) frames answers i l o w a b s t enough fewer sent came = 
   answered = is_answered frames answers sent.all.bytes came.all.bytes sent.counted came.counted enough;
 }
 sends_wanted {T} (Err f) frames answers i l o w a b s t enough fewer sent came =
-    subst (λ (g : Fault). Sends {T = T} (Err g) i l o w) (sym fewer.0) (sends_fewer i l o w a b s t (all_part i l a b sent.all) came.all)
+    subst (λ (g : Fault). SendsFrames {T = T} (Err g) i l o w) (sym fewer.0) (sends_fewer i l o w a b s t (all_part i l a b sent.all) came.all)

@@ -13,7 +13,7 @@ use Rattle.programs.specs.declared.fault.Fault.{Fault}
 use Rattle.programs.specs.FaultLines.{Reports}
 use Rattle.programs.specs.Images.{Images}
 use Rattle.programs.specs.Status.{status_of}
-use Rattle.programs.specs.Tasks.{Task, task_of, Does, Ends, IsReading}
+use Rattle.programs.specs.Tasks.{Task, task_of, IsTaskDone, Ends, IsReading}
 use Rattle.programs.specs.Tasks.Task.{Format, Apply_to_image, Apply_in_memory, List_names, Get_bytes, Log, Check, Send}
 use Rattle.programs.proofs.Reading.{reading_same}
 
@@ -61,16 +61,16 @@ asked_task words (commands.Send socket) h = ap task_for h
 -- ---- by the outcome of what was read
 
 pub ends : (outcome : Result (Unit {0}) Fault) (words : List (List ℕ)) (asked other : Command) (status : ℕ) (old new : Images) (i l o w e f : Option (List ℕ)) → status ≡ status_of outcome → Reports (codes "udfburn") outcome e f → Asks words asked
-    → Does (task_of asked) outcome old new i l o w → Asks words other → Ends (task_of other) status old new i l o w e f
+    → IsTaskDone (task_of asked) outcome old new i l o w → Asks words other → Ends (task_of other) status old new i l o w e f
 ends outcome words asked other status old new i l o w e f is reports reads does asks = record {
   outcome = outcome;
-  does = subst (λ (t : Task). Does t outcome old new i l o w) (sym (asked_task words asked reads) ∙ asked_task words other asks) does;
+  does = subst (λ (t : Task). IsTaskDone t outcome old new i l o w) (sym (asked_task words asked reads) ∙ asked_task words other asks) does;
   status_is = is;
   reports = reports;
 }
 
 -- a command that writes to no image leaves what is held
 pub unchanged : (outcome : Result (Unit {0}) Fault) (words : List (List ℕ)) (asked other : Command) (old new : Images) (i l o w : Option (List ℕ)) → Asks words asked
-    → Does (task_of asked) outcome old new i l o w → Asks words other → IsReading (task_of other) → IsTrue new.honest → Same old.held new.held
+    → IsTaskDone (task_of asked) outcome old new i l o w → Asks words other → IsReading (task_of other) → IsTrue new.honest → Same old.held new.held
 unchanged outcome words asked other old new i l o w reads does asks reading honest =
     reading_same outcome old new i l o w honest (task_of asked) (subst IsReading (sym (asked_task words other asks) ∙ asked_task words asked reads) reading) does

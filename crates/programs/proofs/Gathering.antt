@@ -11,23 +11,23 @@ use Rattle.engine.specs.Served.{LastUntold, LeftAt, LeftBy, ServesAll, ServesUnt
 use Rattle.engine.specs.declared.serving.ServeFault.{ServeFault}
 use Rattle.engine.specs.declared.serving.ServeFault.TheVariants as streams
 use Rattle.engine.specs.Situation.{Situation, with_store}
-use Rattle.engine.specs.Streams.{PutsFront}
+use Rattle.engine.specs.Streams.{PutsPrefix}
 use Rattle.engine.proofs.Messages.{nothing_more}
 use Rattle.engine.proofs.Pieces.{keeps_on}
 use Rattle.programs.specs.declared.fault.Fault.{Fault}
 use Rattle.programs.specs.declared.fault.Fault.TheVariants.{Usage, Path, Socket, Store, Stream}
-use Rattle.programs.specs.Applied.{Applies, AppliesToImage, AnswersInMemory}
-use Rattle.programs.specs.Connections.{ServesFront}
-use Rattle.programs.specs.Copies.{Sends, SendsSome}
+use Rattle.programs.specs.Applied.{AppliesStream, AppliesToImage, AnswersInMemory}
+use Rattle.programs.specs.Connections.{ServesPrefix}
+use Rattle.programs.specs.Copies.{SendsFrames, SendsSome}
 use Rattle.programs.specs.FaultLines.{Reports}
 use Rattle.programs.specs.Status.{status_of}
 use Rattle.programs.specs.Images.{Images, IsThere, IsThereOrMade, OnMedia, Unmade, Unopened}
-use Rattle.programs.specs.NewVolumes.{Makes, MakesOn, MakesOnImage}
+use Rattle.programs.specs.NewVolumes.{MakesVolume, MakesOn, MakesOnImage}
 use Rattle.programs.specs.Lines.{formatted_text}
-use Rattle.programs.specs.Questions.{Question, Shows, ShowsImage, ShowsPath}
+use Rattle.programs.specs.Questions.{Question, PrintsAnswer, ShowsImage, ShowsPath}
 use Rattle.programs.specs.Questions.Question.{Names_at, Bytes_at, Commits, Soundness}
 use Rattle.model.specs.Tree as tree
-use Rattle.programs.specs.Tasks.{Task, Does, Ends, HasFront, IsFrontOf}
+use Rattle.programs.specs.Tasks.{Task, IsTaskDone, Ends, HasPrefix, IsPrefixOf}
 use Rattle.programs.specs.Tasks.Task.{Format, Apply_to_image, Apply_in_memory, List_names, Get_bytes, Log, Check, Send}
 use Rattle.programs.proofs.Copying.{whole_front}
 use Rattle.programs.proofs.Saying.{front_kept}
@@ -55,7 +55,7 @@ on_image Finds capacity path P Q old new f h = record {
 }
 
 module _ (i l o v w : Option (List ℕ)) (kept : Keeps v w) where
-  makes_kept : {T : Type 0} (label : List ℕ) (moment capacity : ℕ) (outcome : Result T Fault) (J K : List Event) (honest : Bool) → Makes label moment capacity outcome J K honest o v → Makes label moment capacity outcome J K honest o w
+  makes_kept : {T : Type 0} (label : List ℕ) (moment capacity : ℕ) (outcome : Result T Fault) (J K : List Event) (honest : Bool) → MakesVolume label moment capacity outcome J K honest o v → MakesVolume label moment capacity outcome J K honest o w
   makes_kept label moment capacity (Ok x) J K honest h = (h.0, keeps_on o v w formatted_text h.1 kept)
   makes_kept label moment capacity (Err Usage) J K honest h = h
   makes_kept label moment capacity (Err Path) J K honest h = h
@@ -120,7 +120,7 @@ module _ (i l o v w : Option (List ℕ)) (kept : Keeps v w) where
     left_by = left_kept fault h.some.bytes h.some.answers h.some.reader h.left_by;
   }
 
-  applies_kept : {T : Type 0} (outcome : Result T Fault) (before behind : Situation) → Applies outcome before behind i l o v → Applies outcome before behind i l o w
+  applies_kept : {T : Type 0} (outcome : Result T Fault) (before behind : Situation) → AppliesStream outcome before behind i l o v → AppliesStream outcome before behind i l o w
   applies_kept (Ok x) before behind (store, h) = (store, serves_kept before (with_store store behind) h)
   applies_kept (Err Usage) before behind h = h
   applies_kept (Err Path) before behind h = h
@@ -159,7 +159,7 @@ module _ (i l o v w : Option (List ℕ)) (kept : Keeps v w) where
     left_by = left_kept fault h.some.bytes h.some.answers h.some.reader h.left_by;
   }
 
-  shows_kept : {T : Type 0} (question : Question) (outcome : Result T Fault) (capacity : ℕ) (J : List Event) (honest : Bool) → Shows question outcome capacity J honest o v → Shows question outcome capacity J honest o w
+  shows_kept : {T : Type 0} (question : Question) (outcome : Result T Fault) (capacity : ℕ) (J : List Event) (honest : Bool) → PrintsAnswer question outcome capacity J honest o v → PrintsAnswer question outcome capacity J honest o w
   shows_kept question (Ok x) capacity J honest h = record { bytes = h.bytes; printed = keeps_on o v w h.bytes h.printed kept; said = h.said }
   shows_kept question (Err Usage) capacity J honest h = h
   shows_kept question (Err Path) capacity J honest h = h
@@ -172,7 +172,7 @@ module _ (i l o v w : Option (List ℕ)) (kept : Keeps v w) where
   sent_kept : SendsSome i l o v → SendsSome i l o w
   sent_kept h = record { sent = h.sent; consumed = h.consumed; came = h.came; front = front_kept o v w h.came h.front kept }
 
-  sends_kept : {T : Type 0} (outcome : Result T Fault) → Sends outcome i l o v → Sends outcome i l o w
+  sends_kept : {T : Type 0} (outcome : Result T Fault) → SendsFrames outcome i l o v → SendsFrames outcome i l o w
   sends_kept (Ok x) h = record { sent = h.sent; consumed = h.consumed; end = h.end; came = h.came; copied = keeps_on o v w h.came h.copied kept; answered = h.answered }
   sends_kept (Err Usage) h = h
   sends_kept (Err Path) h = h
@@ -198,20 +198,20 @@ module _ (old new : Images) (i l o v w : Option (List ℕ)) (kept : Keeps v w) w
 
   applied_kept : {T : Type 0} (image : List ℕ) (outcome : Result T Fault) → AppliesToImage image outcome old new i l o v → AppliesToImage image outcome old new i l o w
   applied_kept image outcome (inl (h, same)) = inl (unopened_kept outcome h, same)
-  applied_kept image outcome (inr h) = inr (on_image IsThere 450000 image (λ before behind. Applies outcome before behind i l o v) (λ before behind. Applies outcome before behind i l o w) old new (applies_kept i l o v w kept outcome) h)
+  applied_kept image outcome (inr h) = inr (on_image IsThere 450000 image (λ before behind. AppliesStream outcome before behind i l o v) (λ before behind. AppliesStream outcome before behind i l o w) old new (applies_kept i l o v w kept outcome) h)
 
   shown_kept : {T : Type 0} (question : Question) (image : List ℕ) (outcome : Result T Fault) → ShowsImage question image outcome old new o v → ShowsImage question image outcome old new o w
   shown_kept question image outcome (inl h) = inl (unopened_kept outcome h)
   shown_kept question image outcome (inr h) =
-      inr (on_image IsThere 450000 image (λ before behind. (behind.journal ≡ before.journal) × Shows question outcome before.capacity before.journal behind.honest o v)
-      (λ before behind. (behind.journal ≡ before.journal) × Shows question outcome before.capacity before.journal behind.honest o w) old new
+      inr (on_image IsThere 450000 image (λ before behind. (behind.journal ≡ before.journal) × PrintsAnswer question outcome before.capacity before.journal behind.honest o v)
+      (λ before behind. (behind.journal ≡ before.journal) × PrintsAnswer question outcome before.capacity before.journal behind.honest o w) old new
       (λ before behind k. (k.0, shows_kept i l o v w kept question outcome before.capacity before.journal behind.honest k.1)) h)
 
   path_kept : {T : Type 0} (question : tree.Path → Question) (image text : List ℕ) (outcome : Result T Fault) → ShowsPath question image text outcome old new o v → ShowsPath question image text outcome old new o w
   path_kept question image text outcome (inl (h, same, k)) = inl (h, same, keeps_trans o v w k kept)
   path_kept question image text outcome (inr (path, is, reads, h)) = inr (path, is, reads, shown_kept (question path) image outcome h)
 
-  does_kept : {T : Type 0} (task : Task) (outcome : Result T Fault) → Does task outcome old new i l o v → Does task outcome old new i l o w
+  does_kept : {T : Type 0} (task : Task) (outcome : Result T Fault) → IsTaskDone task outcome old new i l o v → IsTaskDone task outcome old new i l o w
   does_kept (Format image label moment capacity) outcome h = (h.0, made_kept image label moment capacity outcome h.1)
   does_kept (Apply_to_image image) outcome h = applied_kept image outcome h
   does_kept (Apply_in_memory capacity) outcome h = (h.0, answers_kept i l o v w kept outcome capacity h.1)
@@ -233,8 +233,8 @@ written_out None now bytes h = tt
 written_out (Some xs) None bytes h = absurd h
 written_out (Some xs) (Some ys) bytes h = h
 
--- or a front of it
-written_part : (known now : Option (List ℕ)) (bytes : List ℕ) → PutsFront known now bytes → IsFrontOf (append_known known bytes) now
+-- or a prefix of it
+written_part : (known now : Option (List ℕ)) (bytes : List ℕ) → PutsPrefix known now bytes → IsPrefixOf (append_known known bytes) now
 written_part None now bytes h = tt
 written_part (Some xs) None bytes h = absurd h.1
 written_part (Some xs) (Some ys) bytes h = (length xs + h.0, h.1 ∙ sym (take-append-add xs bytes h.0))
@@ -269,7 +269,7 @@ module _ (task : Task) (status : ℕ) (old new : Images) (i l e f : Option (List
   pub gathered_done : (now : Option (List ℕ)) → Appends (contents inner) now bytes → status ≡ 0 → Ends task 0 old new i l (contents output) now e f
   gathered_done now put done = subst (λ (n : ℕ). Ends task n old new i l (contents output) now e f) done (gathered_all now put)
 
-  pub gathered_part : (now : Option (List ℕ)) → PutsFront (contents inner) now bytes → HasFront task status old new i l (contents output) now e f
+  pub gathered_part : (now : Option (List ℕ)) → PutsPrefix (contents inner) now bytes → HasPrefix task status old new i l (contents output) now e f
   gathered_part now put = record {
     outcome = there.outcome;
     gathered = append_known (contents inner) bytes;
@@ -282,8 +282,8 @@ module _ (task : Task) (status : ℕ) (old new : Images) (i l e f : Option (List
   }
 
   -- it went well, and then the output failed, which was said
-  pub gathered_failed : (now : Option (List ℕ)) (fault : ServeFault) (last_status : ℕ) (told : Option (List ℕ)) → PutsFront (contents inner) now bytes → status ≡ 0 → fault ≡ streams.Write
-      → last_status ≡ 1 → Reports {T = Unit {0}} (codes "udfburn") (Err (Stream fault)) f told → HasFront task last_status old new i l (contents output) now e told
+  pub gathered_failed : (now : Option (List ℕ)) (fault : ServeFault) (last_status : ℕ) (told : Option (List ℕ)) → PutsPrefix (contents inner) now bytes → status ≡ 0 → fault ≡ streams.Write
+      → last_status ≡ 1 → Reports {T = Unit {0}} (codes "udfburn") (Err (Stream fault)) f told → HasPrefix task last_status old new i l (contents output) now e told
   gathered_failed now fault last_status told put done write is reports = record {
     outcome = there.outcome;
     gathered = append_known (contents inner) bytes;
@@ -297,7 +297,7 @@ module _ (task : Task) (status : ℕ) (old new : Images) (i l e f : Option (List
         (subst (λ (x : ServeFault). Reports {T = Unit {0}} (codes "udfburn") (Err (Stream x)) f told) write reports);
   }
 
-  pub gathered_whole : (now : Option (List ℕ)) → Appends (contents inner) now bytes → HasFront task status old new i l (contents output) now e f
+  pub gathered_whole : (now : Option (List ℕ)) → Appends (contents inner) now bytes → HasPrefix task status old new i l (contents output) now e f
   gathered_whole now put = gathered_part now (whole_front (contents inner) now bytes put)
 
 -- ---- where nothing is written
@@ -310,10 +310,10 @@ module _ {O : Type 0} (contents : O → Option (List ℕ)) (output first last in
   ended_with : append_known (contents last) waited ≡ append_known (contents inner) bytes
   ended_with = ap (λ (x : O). append_known (contents x) waited) (sym taken) ∙ ap (λ (b : List ℕ). append_known (contents inner) b) (sym (same ∙ left))
 
-  pub part_unwritten : (now : Option (List ℕ)) → append_known (contents last) waited ≡ append_known (contents first) waiting → PutsFront (contents inner) now bytes → IsFrontOf (contents output) now
-  part_unwritten now unwritten put = subst (λ (x : Option (List ℕ)). IsFrontOf x now) (sym ended_with ∙ unwritten ∙ begun_with) (written_part (contents inner) now bytes put)
+  pub part_unwritten : (now : Option (List ℕ)) → append_known (contents last) waited ≡ append_known (contents first) waiting → PutsPrefix (contents inner) now bytes → IsPrefixOf (contents output) now
+  part_unwritten now unwritten put = subst (λ (x : Option (List ℕ)). IsPrefixOf x now) (sym ended_with ∙ unwritten ∙ begun_with) (written_part (contents inner) now bytes put)
 
-  pub all_unwritten : (now : Option (List ℕ)) → append_known (contents last) waited ≡ append_known (contents first) waiting → Appends (contents inner) now bytes → IsFrontOf (contents output) now
+  pub all_unwritten : (now : Option (List ℕ)) → append_known (contents last) waited ≡ append_known (contents first) waiting → Appends (contents inner) now bytes → IsPrefixOf (contents output) now
   all_unwritten now unwritten put = part_unwritten now unwritten (whole_front (contents inner) now bytes put)
 
 -- ---- the same of a connection
@@ -335,9 +335,9 @@ module _ (before behind : Situation) (i l : Option (List ℕ)) {O : Type 0} (con
       (subst (λ (a : Option (List ℕ)). ServesAll before behind i l a (append_known (contents inner) bytes)) begins_with
       (subst (λ (b : Option (List ℕ)). ServesAll before behind i l (append_known (contents first) waiting) b) ends_with h))
 
-  -- all messages were answered, and a front of what waited was written
-  pub served_part : (fault : ServeFault) (now : Option (List ℕ)) → fault ≡ streams.Write → PutsFront (contents inner) now bytes → ServesAll before behind i l (append_known (contents first) waiting) (append_known (contents last) waited)
-      → ServesFront fault before behind i l (contents output) now
+  -- all messages were answered, and a prefix of what waited was written
+  pub served_part : (fault : ServeFault) (now : Option (List ℕ)) → fault ≡ streams.Write → PutsPrefix (contents inner) now bytes → ServesAll before behind i l (append_known (contents first) waiting) (append_known (contents last) waited)
+      → ServesPrefix fault before behind i l (contents output) now
   served_part fault now write put h = record {
     gathered = append_known (contents inner) bytes;
     serves = inr (
@@ -348,8 +348,8 @@ module _ (before behind : Situation) (i l : Option (List ℕ)) {O : Type 0} (con
     front = written_part (contents inner) now bytes put;
   }
 
-  served_front : (fault : ServeFault) (now : Option (List ℕ)) → PutsFront (contents inner) now bytes → ServesUntil fault before behind i l (append_known (contents first) waiting) (append_known (contents last) waited)
-      → ServesFront fault before behind i l (contents output) now
+  served_front : (fault : ServeFault) (now : Option (List ℕ)) → PutsPrefix (contents inner) now bytes → ServesUntil fault before behind i l (append_known (contents first) waiting) (append_known (contents last) waited)
+      → ServesPrefix fault before behind i l (contents output) now
   served_front fault now put h = record {
     gathered = append_known (contents inner) bytes;
     serves = inl (subst (λ (a : Option (List ℕ)). ServesUntil fault before behind i l a (append_known (contents inner) bytes)) begins_with
@@ -358,11 +358,11 @@ module _ (before behind : Situation) (i l : Option (List ℕ)) {O : Type 0} (con
   }
 
   -- what waited was let go
-  pub served_cut : (fault : ServeFault) → ServesUntil fault before behind i l (append_known (contents first) waiting) (append_known (contents last) waited) → ServesFront fault before behind i l (contents output) (contents inner)
+  pub served_cut : (fault : ServeFault) → ServesUntil fault before behind i l (append_known (contents first) waiting) (append_known (contents last) waited) → ServesPrefix fault before behind i l (contents output) (contents inner)
   served_cut fault h = served_front fault (contents inner) (0, nothing_more (contents inner)) h
 
-  -- what waited was written, or a front of it
-  pub served_tried : {T E : Type 0} (fault : ServeFault) (r : Result T E) (now : Option (List ℕ)) → OnOk r (Appends (contents inner) now bytes) → OnErr r (PutsFront (contents inner) now bytes)
-      → ServesUntil fault before behind i l (append_known (contents first) waiting) (append_known (contents last) waited) → ServesFront fault before behind i l (contents output) now
+  -- what waited was written, or a prefix of it
+  pub served_tried : {T E : Type 0} (fault : ServeFault) (r : Result T E) (now : Option (List ℕ)) → OnOk r (Appends (contents inner) now bytes) → OnErr r (PutsPrefix (contents inner) now bytes)
+      → ServesUntil fault before behind i l (append_known (contents first) waiting) (append_known (contents last) waited) → ServesPrefix fault before behind i l (contents output) now
   served_tried fault (Ok x) now all some h = served_front fault now (whole_front (contents inner) now bytes all) h
   served_tried fault (Err e) now all some h = served_front fault now some h

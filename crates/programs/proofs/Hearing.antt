@@ -3,13 +3,13 @@ use Rattle.std.proofs.Common.{◌≡◌, inl, inr, ℕ, ◌+◌, ◌-◌, ◌^�
 use Rattle.std.specs.Prelude.{IfErr, IfNone, IfSome, IsSomeAnd, OnOk}
 use Rattle.std.specs.List.{flat_map}
 use Rattle.drive.specs.Journal.{Event, counted}
-use Rattle.drive.specs.Reads.{Counts}
+use Rattle.drive.specs.Reads.{CountsFailures}
 use Rattle.engine.specs.Served.{ServesAll}
 use Rattle.engine.specs.Situation.{Situation, situation}
 use Rattle.store.specs.declared.store.Store as stored
 use Rattle.programs.specs.declared.fault.Fault.{Fault}
 use Rattle.programs.specs.declared.fault.Fault.TheVariants.{Usage, Path, Socket, Store, Stream}
-use Rattle.programs.specs.Connections.{GoesOn, LeavesStream}
+use Rattle.programs.specs.Connections.{ServesMessages, LeavesStream}
 use Rattle.programs.specs.Listening.{EndsBy, EndsOne, Heard, LetsGo, ServesList, ServesOne}
 use Rattle.programs.specs.Outputs.{IsBlank, known}
 use Rattle.programs.proofs.Going.{goes_none}
@@ -22,7 +22,7 @@ pub record Hearing (connections left tries : ℕ) (old new : Heard) (before behi
   pub ended : new.ended ≡ old.ended ++ flat_map known outputs
   pub served : ServesList inputs outputs before behind
   pub failed : ℕ
-  pub missed : Counts failed old.missed new.missed
+  pub missed : CountsFailures failed old.missed new.missed
   pub total : length inputs + failed ≡ tries
   pub rest : length inputs + left ≡ connections
 
@@ -46,7 +46,7 @@ hearing_new connections heard store J failures capacity honest writes e =
     subst (λ (s : Option stored.Store). Hearing connections connections 0 heard heard (situation s J failures capacity honest writes) (situation store J failures capacity honest writes)) e
     (hearing_none connections heard (situation store J failures capacity honest writes))
 
-one_more : (old now next failed : ℕ) → Counts failed old now → next ≡ min (now + 1) (2 ^ 64 - 1) → Counts (failed + 1) old next
+one_more : (old now next failed : ℕ) → CountsFailures failed old now → next ≡ min (now + 1) (2 ^ 64 - 1) → CountsFailures (failed + 1) old next
 one_more old now next failed h e low = omega (arith, e, low, h (omega (arith, e, low)))
 
 -- a try that gave no connection
@@ -86,7 +86,7 @@ hearing_more outcome connections left less tries old now between next before dur
   ended = one.ended ∙ ap (λ (l : List (List ℕ)). l ++ known one.written) (ended ∙ h.ended) ∙ append_assoc old.ended (flat_map known h.outputs) (known one.written) ∙ ap (λ (l : List (List ℕ)). old.ended ++ l) (known_more h.outputs one.written);
   served = serves_more h.inputs h.outputs input one.written before during behind h.served (outcome, one.is);
   failed = h.failed;
-  missed = subst (λ (n : ℕ). Counts h.failed old.missed n) (sym (one.missed ∙ missed)) h.missed;
+  missed = subst (λ (n : ℕ). CountsFailures h.failed old.missed n) (sym (one.missed ∙ missed)) h.missed;
   total = omega (arith, h.total, length-append h.inputs (input ∷ []));
   rest = omega (arith, h.rest, fewer, length-append h.inputs (input ∷ []));
 }
@@ -103,7 +103,7 @@ ends_by (Err (Store fault)) before behind input left output written all front = 
 ends_by (Err (Stream fault)) before behind input left output written all front = front
 
 -- its streams were served, and its output is there
-pub ends_some : {T O : Type 0} (contents : O → Option (List ℕ)) (outcome : Result T Fault) (o : Option O) (w : O) (old new : Heard) (input left output : Option (List ℕ)) (before behind : Situation) → o ≡ Some w → IsBlank output → GoesOn before behind
+pub ends_some : {T O : Type 0} (contents : O → Option (List ℕ)) (outcome : Result T Fault) (o : Option O) (w : O) (old new : Heard) (input left output : Option (List ℕ)) (before behind : Situation) → o ≡ Some w → IsBlank output → ServesMessages before behind
     → OnOk outcome (IsSomeAnd o (λ x. ServesAll before behind input left output (contents x))) → IfErr outcome (λ fault. IfSome o (λ x. LeavesStream fault before behind input left output (contents x)))
     → new.ended ≡ old.ended ++ known (contents w) → new.given ≡ old.given → new.missed ≡ old.missed → EndsOne outcome input old new before behind
 ends_some {O = O} contents outcome o w old new input left output before behind is blank goes all front ended given missed = record {
@@ -122,7 +122,7 @@ ends_some {O = O} contents outcome o w old new input left output before behind i
 }
 
 -- or was let go
-pub ends_none : {T O : Type 0} (outcome : Result T Fault) (o : Option O) (heard : Heard) (input output : Option (List ℕ)) (before behind : Situation) → o ≡ None → IsBlank output → GoesOn before behind → IfNone o (LetsGo outcome before behind)
+pub ends_none : {T O : Type 0} (outcome : Result T Fault) (o : Option O) (heard : Heard) (input output : Option (List ℕ)) (before behind : Situation) → o ≡ None → IsBlank output → ServesMessages before behind → IfNone o (LetsGo outcome before behind)
     → EndsOne outcome input heard heard before behind
 ends_none {O = O} outcome o heard input output before behind is blank goes let_go = record {
   written = None;

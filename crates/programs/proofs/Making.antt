@@ -10,12 +10,12 @@ use Rattle.engine.specs.declared.serving.ServeFault.TheVariants as streams
 use Rattle.programs.specs.declared.fault.Fault.{Fault}
 use Rattle.programs.specs.declared.fault.Fault.TheVariants.{Usage, Path, Socket, Store, Stream}
 use Rattle.programs.specs.Images.{Images, IsOpened, IsPutBack, IsThereOrMade}
-use Rattle.programs.specs.Lines.{Puts, formatted_text}
-use Rattle.programs.specs.NewVolumes.{Makes, MakesOn, MakesOnImage, IsBegun, IsUnbegun}
+use Rattle.programs.specs.Lines.{PutsBytes, formatted_text}
+use Rattle.programs.specs.NewVolumes.{MakesVolume, MakesOn, MakesOnImage, HasFormatPrefix, IsUnbegun}
 use Rattle.programs.proofs.Opening.{keeps_self, on_media}
 
-pub makes_put : {T : Type 0} (label : List ℕ) (moment capacity : ℕ) (outcome : Result T Fault) (J K : List Event) (honest : Bool) (o w : Option (List ℕ)) → Puts outcome o w formatted_text
-    → IsFormatted capacity (words_on capacity label moment) J K honest → Makes label moment capacity outcome J K honest o w
+pub makes_put : {T : Type 0} (label : List ℕ) (moment capacity : ℕ) (outcome : Result T Fault) (J K : List Event) (honest : Bool) (o w : Option (List ℕ)) → PutsBytes outcome o w formatted_text
+    → IsFormatted capacity (words_on capacity label moment) J K honest → MakesVolume label moment capacity outcome J K honest o w
 makes_put label moment capacity (Ok x) J K honest o w puts made = (made, puts)
 makes_put label moment capacity (Err Usage) J K honest o w puts made = puts
 makes_put label moment capacity (Err Path) J K honest o w puts made = puts
@@ -26,10 +26,10 @@ makes_put label moment capacity (Err (Stream streams.Write)) J K honest o w puts
 makes_put label moment capacity (Err (Stream streams.Memory)) J K honest o w puts made = puts
 
 pub makes_refused : {T : Type 0} (label : List ℕ) (moment capacity : ℕ) (outcome : Result T Fault) (J K : List Event) (honest : Bool) (o : Option (List ℕ)) (fault : StoreFault) → IsErrAnd outcome (λ f. f ≡ Store fault)
-    → IsFormatRefused capacity (words_on capacity label moment) J K honest fault → Makes label moment capacity outcome J K honest o o
+    → IsFormatRefused capacity (words_on capacity label moment) J K honest fault → MakesVolume label moment capacity outcome J K honest o o
 makes_refused {T} label moment capacity (Ok x) J K honest o fault is refused = absurd is
 makes_refused {T} label moment capacity (Err f) J K honest o fault is refused =
-    subst (λ (g : Fault). Makes {T = T} label moment capacity (Err g) J K honest o o) (sym is) (refused, keeps_self o)
+    subst (λ (g : Fault). MakesVolume {T = T} label moment capacity (Err g) J K honest o o) (sym is) (refused, keeps_self o)
 
 -- ---- on an image that was opened
 
@@ -41,12 +41,12 @@ unbegun_on drive label moment (Err f) fault d e o is why journal =
     inl (record { refused = refl; why = subst (λ (g : Fault). IsUnbegun (drive.capacity d) label moment (drive.journal d) g) (sym is) why; journal = journal; unwritten = keeps_self o })
 
 pub makes_on : {T D : Type 0} (drive : Ghosts D) (label : List ℕ) (moment room : ℕ) (outcome : Result T Fault) (before : List Event) (d e : D) (o w : Option (List ℕ)) → room ≡ drive.capacity d → before ≡ drive.journal d
-    → IsBegun (drive.capacity d) label moment (drive.journal d) → Makes label moment room outcome before (drive.journal e) (drive.honest e) o w
+    → HasFormatPrefix (drive.capacity d) label moment (drive.journal d) → MakesVolume label moment room outcome before (drive.journal e) (drive.honest e) o w
     → MakesOn label moment (drive.capacity d) outcome (situation_on drive None d) (situation_on drive None e) o w
 makes_on drive label moment room outcome before d e o w same journal begun h = inr (
   begun,
-  subst (λ (n : ℕ). Makes label moment n outcome (drive.journal d) (drive.journal e) (drive.honest e) o w) same
-      (subst (λ (j : List Event). Makes label moment room outcome j (drive.journal e) (drive.honest e) o w) journal h),
+  subst (λ (n : ℕ). MakesVolume label moment n outcome (drive.journal d) (drive.journal e) (drive.honest e) o w) same
+      (subst (λ (j : List Event). MakesVolume label moment room outcome j (drive.journal e) (drive.honest e) o w) journal h),
 )
 
 pub makes_image : {T D : Type 0} (drive : Ghosts D) (image label : List ℕ) (moment capacity : ℕ) (outcome : Result T Fault) (d e : D) (before between behind : Images) (o w : Option (List ℕ))

@@ -17,28 +17,28 @@ use Rattle.recover.specs.declared.fault.StoreFault.TheVariants.{Memory}
 use Rattle.store.specs.declared.history.Commit.{Commit}
 use Rattle.store.specs.declared.store.Store.{Store}
 use Rattle.store.specs.Asked.{said_names}
-use Rattle.store.specs.Calls.{Knows}
+use Rattle.store.specs.Calls.{IsOpenOn}
 use Rattle.store.specs.History.{IsHistory, IsHistoryRefused}
 use Rattle.store.specs.Opened.{IsOpenRefused}
-use Rattle.store.specs.Past.{AllStood, IsCheckRefused}
+use Rattle.store.specs.Past.{AllRecovered, IsCheckRefused}
 use Rattle.store.specs.Queries.{IsQueryRefused as QueryRefused}
-use Rattle.store.specs.Shows.{Shows as TreeShows}
+use Rattle.store.specs.Shows.{PrintsAnswer as TreeShows}
 use Rattle.store.proofs.Knowing.{shows}
 use Rattle.store.proofs.Queried.{gets, lists}
 use Rattle.engine.specs.declared.serving.ServeFault.TheVariants as streams
 use Rattle.programs.specs.declared.fault.Fault.{Fault}
 use Rattle.programs.specs.declared.fault.Fault.TheVariants as faults
 use Rattle.programs.specs.Images.{Images, IsOpened, IsPutBack, IsThere}
-use Rattle.programs.specs.Lines.{Puts, names_text, commits_text, sound_text}
-use Rattle.programs.specs.Questions.{Question, Says, Refuses, IsQuestionAnswered, IsQuestionRefused, Shows, ShowsImage, ShowsPath}
+use Rattle.programs.specs.Lines.{PutsBytes, names_text, commits_text, sound_text}
+use Rattle.programs.specs.Questions.{Question, IsAnswerText, RefusesQuestion, IsQuestionAnswered, IsQuestionRefused, PrintsAnswer, ShowsImage, ShowsPath}
 use Rattle.programs.specs.Questions.Question.{Names_at, Bytes_at, Commits, Soundness}
 use Rattle.programs.specs.Status.{IsPathTold}
 use Rattle.programs.proofs.Opening.{keeps_self, on_media, untouched}
 
 -- ---- by the outcome
 
-pub shows_put : {T : Type 0} (question : Question) (outcome : Result T Fault) (capacity : ℕ) (J : List Event) (honest : Bool) (o w : Option (List ℕ)) (bytes : List ℕ) → Puts outcome o w bytes
-    → (IsTrue honest → Once J → IsQuestionAnswered question capacity J bytes) → Shows question outcome capacity J honest o w
+pub shows_put : {T : Type 0} (question : Question) (outcome : Result T Fault) (capacity : ℕ) (J : List Event) (honest : Bool) (o w : Option (List ℕ)) (bytes : List ℕ) → PutsBytes outcome o w bytes
+    → (IsTrue honest → Once J → IsQuestionAnswered question capacity J bytes) → PrintsAnswer question outcome capacity J honest o w
 shows_put question (Ok x) capacity J honest o w bytes puts said = record { bytes = bytes; printed = puts; said = said }
 shows_put question (Err faults.Usage) capacity J honest o w bytes puts said = puts
 shows_put question (Err faults.Path) capacity J honest o w bytes puts said = puts
@@ -49,39 +49,39 @@ shows_put question (Err (faults.Stream streams.Write)) capacity J honest o w byt
 shows_put question (Err (faults.Stream streams.Memory)) capacity J honest o w bytes puts said = puts
 
 pub shows_refused : {T : Type 0} (question : Question) (outcome : Result T Fault) (capacity : ℕ) (J : List Event) (honest : Bool) (o : Option (List ℕ)) (fault : StoreFault) → IsErrAnd outcome (λ f. f ≡ faults.Store fault)
-    → (IsTrue honest → Once J → IsOpenRefused capacity (held J) fault ⊎ IsQuestionRefused question capacity J fault) → Shows question outcome capacity J honest o o
+    → (IsTrue honest → Once J → IsOpenRefused capacity (held J) fault ⊎ IsQuestionRefused question capacity J fault) → PrintsAnswer question outcome capacity J honest o o
 shows_refused {T} question (Ok x) capacity J honest o fault is refused = absurd is
 shows_refused {T} question (Err f) capacity J honest o fault is refused =
-    subst (λ (g : Fault). Shows {T = T} question (Err g) capacity J honest o o) (sym is) (record { unwritten = keeps_self o; refused = refused })
+    subst (λ (g : Fault). PrintsAnswer {T = T} question (Err g) capacity J honest o o) (sym is) (record { unwritten = keeps_self o; refused = refused })
 
 -- ---- by what a store says of the state that it knows
 
 module _ (capacity : ℕ) (J : List Event) (store : Store) where
   abbrev Standing : Type 0
-  Standing = (S : State) × Knows capacity store.capacity J S store
+  Standing = (S : State) × IsOpenOn capacity store.capacity J S store
 
-  said_of : (question : Question) (bytes : List ℕ) (known : Standing) → Says question capacity store.capacity (held J) known.0 known.1.stands.at bytes → IsQuestionAnswered question capacity J bytes
+  said_of : (question : Question) (bytes : List ℕ) (known : Standing) → IsAnswerText question capacity store.capacity (held J) known.0 known.1.stands.at bytes → IsQuestionAnswered question capacity J bytes
   said_of question bytes known says = record { volume = store.capacity; state = known.0; stands = known.1.stands; says = says }
 
-  refused_of : (question : Question) (fault : StoreFault) (known : Standing) → Refuses question capacity store.capacity (held J) known.0 known.1.stands.at fault → IsQuestionRefused question capacity J fault
+  refused_of : (question : Question) (fault : StoreFault) (known : Standing) → RefusesQuestion question capacity store.capacity (held J) known.0 known.1.stands.at fault → IsQuestionRefused question capacity J fault
   refused_of question fault known refuses = record { volume = store.capacity; state = known.0; stands = known.1.stands; refuses = refuses }
 
-  module _ (K : List Event) (opened later : Bool) (journal : K ≡ J) (still : IsTrue later → IsTrue opened) (stands : IsTrue opened → Once J → (S : State) × Knows capacity store.capacity J S store) where
+  module _ (K : List Event) (opened later : Bool) (journal : K ≡ J) (still : IsTrue later → IsTrue opened) (stands : IsTrue opened → Once J → (S : State) × IsOpenOn capacity store.capacity J S store) where
     known_at : IsTrue later → Once J → Standing
     known_at honest once = stands (still honest) once
 
     -- what the blocks show, on the journal as the query finds it
-    shown_at : (honest : IsTrue later) (once : Once J) → TreeShows later K store.directories store.at store.vat.entries.items (known_at honest once).0.tree
+    shown_at : (honest : IsTrue later) (once : Once J) → TreeShows later K store.directories store.vat_icb_address store.vat.entries.items (known_at honest once).0.tree
     shown_at honest once = let known = known_at honest once in
-        subst (λ (j : List Event). TreeShows later j store.directories store.at store.vat.entries.items known.0.tree) (sym journal) (shows capacity store.capacity J known.0 store known.1 later honest)
+        subst (λ (j : List Event). TreeShows later j store.directories store.vat_icb_address store.vat.entries.items known.0.tree) (sym journal) (shows capacity store.capacity J known.0 store known.1 later honest)
 
-    pub names_said : (path : Path) (names : List Listed) (bytes : List ℕ) → ((tree : Tree) → TreeShows later K store.directories store.at store.vat.entries.items tree → told tree (List_ path) ≡ Names (said_names names))
+    pub names_said : (path : Path) (names : List Listed) (bytes : List ℕ) → ((tree : Tree) → TreeShows later K store.directories store.vat_icb_address store.vat.entries.items tree → told tree (List_ path) ≡ Names (said_names names))
         → bytes ≡ names_text (said_names names) → IsTrue later → Once J → IsQuestionAnswered (Names_at path) capacity J bytes
     names_said path names bytes is text honest once = let known = known_at honest once in
         said_of (Names_at path) bytes known (said_names names, is known.0.tree (shown_at honest once), text)
 
     pub names_refused : (path : Path) (fault : StoreFault) → store.is_stopped ≡ false
-        → ((tree : Tree) → TreeShows later K store.directories store.at store.vat.entries.items tree → store.is_stopped ≡ false → QueryRefused (told tree (List_ path)) fault)
+        → ((tree : Tree) → TreeShows later K store.directories store.vat_icb_address store.vat.entries.items tree → store.is_stopped ≡ false → QueryRefused (told tree (List_ path)) fault)
         → IsTrue later → Once J → IsOpenRefused capacity (held J) fault ⊎ IsQuestionRefused (Names_at path) capacity J fault
     names_refused path fault going refused honest once = let known = known_at honest once in
         inr (refused_of (Names_at path) fault known (lists known.0 path (Err fault) tt (refused known.0.tree (shown_at honest once) going)))
@@ -89,59 +89,59 @@ module _ (capacity : ℕ) (J : List Event) (store : Store) where
     pub names_short : (path : Path) → IsTrue later → Once J → IsOpenRefused capacity (held J) Memory ⊎ IsQuestionRefused (Names_at path) capacity J Memory
     names_short path honest once = inr (refused_of (Names_at path) Memory (known_at honest once) (inl (inr refl)))
 
-    pub bytes_said : (path : Path) (data_ bytes : List ℕ) → ((tree : Tree) → TreeShows later K store.directories store.at store.vat.entries.items tree → told tree (Get path) ≡ Data data_)
+    pub bytes_said : (path : Path) (data_ bytes : List ℕ) → ((tree : Tree) → TreeShows later K store.directories store.vat_icb_address store.vat.entries.items tree → told tree (Get path) ≡ Data data_)
         → bytes ≡ data_ → IsTrue later → Once J → IsQuestionAnswered (Bytes_at path) capacity J bytes
     bytes_said path data_ bytes is same honest once = let known = known_at honest once in
         said_of (Bytes_at path) bytes known (is known.0.tree (shown_at honest once) ∙ ap (λ (x : List ℕ). Data x) (sym same))
 
     pub bytes_refused : (path : Path) (fault : StoreFault) → store.is_stopped ≡ false
-        → ((tree : Tree) → TreeShows later K store.directories store.at store.vat.entries.items tree → store.is_stopped ≡ false → QueryRefused (told tree (Get path)) fault)
+        → ((tree : Tree) → TreeShows later K store.directories store.vat_icb_address store.vat.entries.items tree → store.is_stopped ≡ false → QueryRefused (told tree (Get path)) fault)
         → IsTrue later → Once J → IsOpenRefused capacity (held J) fault ⊎ IsQuestionRefused (Bytes_at path) capacity J fault
     bytes_refused path fault going refused honest once = let known = known_at honest once in
         inr (refused_of (Bytes_at path) fault known (gets known.0 path (Err fault) tt (refused known.0.tree (shown_at honest once) going)))
 
-    -- the store's address is that of the table's entry with which the state stands
-    here : (honest : IsTrue later) (once : Once J) → store.at ≡ (known_at honest once).1.stands.at
+    -- the store's address is that of the VAT ICB with which the state stands
+    here : (honest : IsTrue later) (once : Once J) → store.vat_icb_address ≡ (known_at honest once).1.stands.at
     here honest once = (known_at honest once).1.at
 
-    knows_here : (size : ℕ) → size ≡ capacity → (honest : IsTrue later) (once : Once J) → Knows size store.capacity K (known_at honest once).0 store
+    knows_here : (size : ℕ) → size ≡ capacity → (honest : IsTrue later) (once : Once J) → IsOpenOn size store.capacity K (known_at honest once).0 store
     knows_here size same honest once = let known = known_at honest once in
-        subst (λ (n : ℕ). Knows n store.capacity K known.0 store) (sym same) (subst (λ (j : List Event). Knows capacity store.capacity j known.0 store) (sym journal) known.1)
+        subst (λ (n : ℕ). IsOpenOn n store.capacity K known.0 store) (sym same) (subst (λ (j : List Event). IsOpenOn capacity store.capacity j known.0 store) (sym journal) known.1)
 
-    pub commits_said : (size : ℕ) (commits : List Commit) (bytes : List ℕ) → size ≡ capacity → (IsTrue later → IsHistory (held K) store.at commits)
-        → ((volume : ℕ) (T : State) → IsTrue later → Knows size volume K T store → length commits ≡ T.commits + 1)
+    pub commits_said : (size : ℕ) (commits : List Commit) (bytes : List ℕ) → size ≡ capacity → (IsTrue later → IsHistory (held K) store.vat_icb_address commits)
+        → ((volume : ℕ) (T : State) → IsTrue later → IsOpenOn size volume K T store → length commits ≡ T.commits + 1)
         → bytes ≡ commits_text commits → IsTrue later → Once J → IsQuestionAnswered Commits capacity J bytes
     commits_said size commits bytes same history all text honest once = let known = known_at honest once in
         said_of Commits bytes known (
           commits,
-          subst (λ (a : ℕ). IsHistory (held J) a commits) (here honest once) (subst (λ (j : List Event). IsHistory (held j) store.at commits) journal (history honest)),
+          subst (λ (a : ℕ). IsHistory (held J) a commits) (here honest once) (subst (λ (j : List Event). IsHistory (held j) store.vat_icb_address commits) journal (history honest)),
           all store.capacity known.0 honest (knows_here size same honest once),
           text,
         )
 
-    pub commits_refused : (fault : StoreFault) → (IsTrue later → IsHistoryRefused (held K) store.at fault)
+    pub commits_refused : (fault : StoreFault) → (IsTrue later → IsHistoryRefused (held K) store.vat_icb_address fault)
         → IsTrue later → Once J → IsOpenRefused capacity (held J) fault ⊎ IsQuestionRefused Commits capacity J fault
     commits_refused fault refused honest once =
         inr (refused_of Commits fault (known_at honest once)
-        (subst (λ (a : ℕ). IsHistoryRefused (held J) a fault) (here honest once) (subst (λ (j : List Event). IsHistoryRefused (held j) store.at fault) journal (refused honest))))
+        (subst (λ (a : ℕ). IsHistoryRefused (held J) a fault) (here honest once) (subst (λ (j : List Event). IsHistoryRefused (held j) store.vat_icb_address fault) journal (refused honest))))
 
     pub commits_short : IsTrue later → Once J → IsOpenRefused capacity (held J) Memory ⊎ IsQuestionRefused Commits capacity J Memory
     commits_short honest once = inr (refused_of Commits Memory (known_at honest once) tt)
 
     pub sound_said : (size n : ℕ) (bytes : List ℕ) → size ≡ capacity
-        → ((volume : ℕ) (T : State) → IsTrue later → Knows size volume K T store → (n ≡ T.commits) × AllStood size volume (held K) n)
+        → ((volume : ℕ) (T : State) → IsTrue later → IsOpenOn size volume K T store → (n ≡ T.commits) × AllRecovered size volume (held K) n)
         → bytes ≡ sound_text n → IsTrue later → Once J → IsQuestionAnswered Soundness capacity J bytes
     sound_said size n bytes same whole text honest once =
         let known = known_at honest once in
         let all = whole store.capacity known.0 honest (knows_here size same honest once) in
         said_of Soundness bytes known (
-          subst (λ (m : ℕ). AllStood capacity store.capacity (held J) m) all.0
-              (subst (λ (c : ℕ). AllStood c store.capacity (held J) n) same (subst (λ (j : List Event). AllStood size store.capacity (held j) n) journal all.1)),
+          subst (λ (m : ℕ). AllRecovered capacity store.capacity (held J) m) all.0
+              (subst (λ (c : ℕ). AllRecovered c store.capacity (held J) n) same (subst (λ (j : List Event). AllRecovered size store.capacity (held j) n) journal all.1)),
           text ∙ ap sound_text all.0,
         )
 
     pub sound_refused : (size : ℕ) (fault : StoreFault) → size ≡ capacity → store.is_stopped ≡ false
-        → ((volume : ℕ) (T : State) → IsTrue later → Knows size volume K T store → store.is_stopped ≡ false → IsCheckRefused size volume (held K) T.commits fault)
+        → ((volume : ℕ) (T : State) → IsTrue later → IsOpenOn size volume K T store → store.is_stopped ≡ false → IsCheckRefused size volume (held K) T.commits fault)
         → IsTrue later → Once J → IsOpenRefused capacity (held J) fault ⊎ IsQuestionRefused Soundness capacity J fault
     sound_refused size fault same going refused honest once =
         let known = known_at honest once in
@@ -156,9 +156,9 @@ module _ (capacity : ℕ) (J : List Event) (store : Store) where
 
 pub shows_image : {T D : Type 0} (drive : Ghosts D) (question : Question) (image : List ℕ) (outcome : Result T Fault) (d e : D) (before between behind : Images) (o w : Option (List ℕ))
     → IsOpened drive IsThere 450000 image d before between → IsPutBack drive image e between behind → drive.journal e ≡ drive.journal d
-    → Shows question outcome (drive.capacity d) (drive.journal d) (drive.honest e) o w → ShowsImage question image outcome before behind o w
+    → PrintsAnswer question outcome (drive.capacity d) (drive.journal d) (drive.honest e) o w → ShowsImage question image outcome before behind o w
 shows_image drive question image outcome d e before between behind o w opened back journal h =
-    inr (on_media drive IsThere 450000 image (λ first last. (last.journal ≡ first.journal) × Shows question outcome first.capacity first.journal last.honest o w) d e before between behind opened back (journal, h))
+    inr (on_media drive IsThere 450000 image (λ first last. (last.journal ≡ first.journal) × PrintsAnswer question outcome first.capacity first.journal last.honest o w) d e before between behind opened back (journal, h))
 
 pub shows_path : {T : Type 0} (question : Path → Question) (image text : List ℕ) (path : Path) (outcome : Result T Fault) (before behind : Images) (o w : Option (List ℕ)) → IsPath path × (text ≡ path_text path)
     → ShowsImage (question path) image outcome before behind o w → ShowsPath question image text outcome before behind o w

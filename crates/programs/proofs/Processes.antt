@@ -14,16 +14,16 @@ use Rattle.model.specs.Tree as tree
 use Rattle.model.proofs.Runs.{after-append}
 use Rattle.durability.specs.Commit.{need}
 use Rattle.durability.specs.Journal.{Advances, HoldsOnJournal}
-use Rattle.durability.specs.Volume.{Stands}
+use Rattle.durability.specs.Volume.{RecoversTo}
 use Rattle.durability.proofs.Lists.{side}
 use Rattle.udf.specs.Udf.{udf, spelled}
-use Rattle.formatting.specs.NewVolume.{Words, HoldsFronts, IsFormatOf, IsFormatted, IsFormatRefused, words_on}
+use Rattle.formatting.specs.NewVolume.{Words, HoldsPrefixes, IsFormatOf, IsFormatted, IsFormatRefused, words_on}
 use Rattle.formatting.specs.NewVolume as new_volumes
 use Rattle.formatting.proofs.NewVolumes.{format_long}
 use Rattle.recover.specs.declared.fault.StoreFault.{StoreFault}
 use Rattle.recover.specs.declared.fault.StoreFault.TheVariants as stores
-use Rattle.engine.specs.Losses.{AreCut, IsCut, Life, Survives}
-use Rattle.engine.specs.Said.{said_answers}
+use Rattle.engine.specs.Losses.{AreCut, IsRunCutShort, Life, Survives}
+use Rattle.engine.specs.Said.{model_answers}
 use Rattle.engine.specs.Served.{brought, frames_of}
 use Rattle.engine.specs.Situation.{Situation, situation}
 use Rattle.engine.specs.Steps.{HoldsState}
@@ -33,16 +33,16 @@ use Rattle.engine.proofs.Running.{runs_begin}
 use Rattle.engine.proofs.Withstanding.{held_stands}
 use Rattle.programs.specs.declared.fault.Fault.{Fault}
 use Rattle.programs.specs.declared.fault.Fault.TheVariants.{Usage, Path, Socket, Store, Stream}
-use Rattle.programs.specs.Applied.{Applies, AppliesToImage}
+use Rattle.programs.specs.Applied.{AppliesStream, AppliesToImage}
 use Rattle.programs.specs.Connections.{AreOneRun}
 use Rattle.programs.specs.Images.{AreUntouched, Images, IsThere, IsThereOrMade, OnMedia, Unopened}
 use Rattle.programs.specs.Listening.{Heard, ServesRun}
-use Rattle.programs.specs.NewVolumes.{Makes, MakesOn, MakesOnImage}
+use Rattle.programs.specs.NewVolumes.{MakesVolume, MakesOn, MakesOnImage}
 use Rattle.programs.specs.Processes.{AllDid, AllRan, AnswersInput, Did, Process, ProcessesAreRuns, Ran, RanCommand, life_of}
 use Rattle.programs.specs.Processes.Process.{Command, Daemon}
-use Rattle.programs.specs.Questions.{Question, Shows, ShowsImage, ShowsPath}
+use Rattle.programs.specs.Questions.{Question, PrintsAnswer, ShowsImage, ShowsPath}
 use Rattle.programs.specs.Questions.Question.{Names_at, Bytes_at, Commits, Soundness}
-use Rattle.programs.specs.Tasks.{Does, Task}
+use Rattle.programs.specs.Tasks.{IsTaskDone, Task}
 use Rattle.programs.specs.Tasks.Task.{Format, Apply_to_image, Apply_in_memory, List_names, Get_bytes, Log, Check, Send}
 use Rattle.programs.proofs.Copying.{whole_front}
 
@@ -68,7 +68,7 @@ module _ (old new : Images) (honest : IsTrue new.honest) where
   applies_honest image outcome i l o w (inl h) = untouched_honest h.0.untouched
   applies_honest image outcome i l o w (inr h) = h.honest honest
 
-  does_honest : {T : Type 0} (task : Task) (outcome : Result T Fault) (i l o w : Option (List ℕ)) → Does task outcome old new i l o w → IsTrue old.honest
+  does_honest : {T : Type 0} (task : Task) (outcome : Result T Fault) (i l o w : Option (List ℕ)) → IsTaskDone task outcome old new i l o w → IsTrue old.honest
   does_honest (Format image label moment capacity) outcome i l o w h = makes_honest image label moment capacity outcome o w h.1
   does_honest (Apply_to_image image) outcome i l o w h = applies_honest image outcome i l o w h
   does_honest (Apply_in_memory capacity) outcome i l o w h = untouched_honest h.0
@@ -97,8 +97,8 @@ record Left (path : List ℕ) (volume : ℕ) (S : State) (before : List Event) (
   pub cuts : AreCut 450000 volume S before lives done behind
   pub held_is : new.held path ≡ Some behind
 
--- nothing is lost behind a run that no loss of power cut off
-advances_none : (volume : ℕ) (T T' : State) (journal : List Event) → Once journal → Stands udf 450000 volume (held journal) T' → Advances udf 450000 volume journal T journal T'
+-- nothing is lost behind a run that no power loss cut off
+advances_none : (volume : ℕ) (T T' : State) (journal : List Event) → Once journal → RecoversTo udf 450000 volume (held journal) T' → Advances udf 450000 volume journal T journal T'
 advances_none volume T T' journal once stands = record {
   front = take_all (length journal) journal (omega arith);
   once = once;
@@ -109,10 +109,10 @@ some_same : (a b : List Event) → Some a ≡ Some b → a ≡ b
 some_same a b e = ap begun e
 
 -- A format finds nothing to write where a state stands: nothing stands before the last of its blocks.
-module _ (capacity volume : ℕ) (words : Words) (S : State) (before behind : List Event) (blocks : List (List ℕ)) (stands : Stands udf 450000 volume (held before) S) (is : IsFormatOf words blocks) (fronts : HoldsFronts capacity words blocks before behind) (front : take (length before) behind ≡ before) where
+module _ (capacity volume : ℕ) (words : Words) (S : State) (before behind : List Event) (blocks : List (List ℕ)) (stands : RecoversTo udf 450000 volume (held before) S) (is : IsFormatOf words blocks) (fronts : HoldsPrefixes capacity words blocks before behind) (front : take (length before) behind ≡ before) where
   none_left : drop (next_of before) blocks ≡ []
   none_left = elim (side (next_of before) 262) [
-    | inl low ↦ absurd (fronts.nothing (length before) 450000 volume S (omega arith) (subst (λ (j : List Event). next_of j < 262) (sym front) low) (subst (λ (j : List Event). Stands udf 450000 volume (held j) S) (sym front) stands))
+    | inl low ↦ absurd (fronts.nothing (length before) 450000 volume S (omega arith) (subst (λ (j : List Event). next_of j < 262) (sym front) low) (subst (λ (j : List Event). RecoversTo udf 450000 volume (held j) S) (sym front) stands))
     | inr most ↦ drop_all (next_of before) blocks (omega (arith, most, format_long words blocks is))
   ]
 
@@ -123,13 +123,13 @@ module _ (capacity volume : ℕ) (words : Words) (S : State) (before behind : Li
   same_with : (m : ℕ) → before ++ written (next_of before) (take m (drop (next_of before) blocks)) ≡ before
   same_with m = ap (λ (bs : List (List ℕ)). before ++ written (next_of before) (take m bs)) none_left ∙ nothing_taken m
 
-module _ (capacity volume : ℕ) (words : Words) (S : State) (before behind : List Event) (honest : Bool) (stands : Stands udf 450000 volume (held before) S) (sure : IsTrue honest) where
+module _ (capacity volume : ℕ) (words : Words) (S : State) (before behind : List Event) (honest : Bool) (stands : RecoversTo udf 450000 volume (held before) S) (sure : IsTrue honest) where
   formatted_same : IsFormatted capacity words before behind honest → behind ≡ before
   formatted_same h =
       let front : take (length before) behind ≡ before = ap (λ (j : List Event). take (length before) j) h.journal ∙ take-append_seam before (written (next_of before) (drop (next_of before) h.blocks)) in
       h.journal ∙ ap (λ (bs : List (List ℕ)). before ++ written (next_of before) bs) (none_left capacity volume words S before behind h.blocks stands h.is (h.fronts sure) front) ∙ append-nil before
 
-  cut_same : new_volumes.IsCut capacity words before behind honest → behind ≡ before
+  cut_same : new_volumes.IsFormatCutShort capacity words before behind honest → behind ≡ before
   cut_same h =
       let added : List Event = written (next_of before) (take h.journal.0 (drop (next_of before) h.blocks)) in
       let front : take (length before) behind ≡ before = ap (λ (j : List Event). take (length before) j) h.journal.2 ∙ take-append_seam before added in
@@ -151,8 +151,8 @@ module _ (capacity volume : ℕ) (words : Words) (S : State) (before behind : Li
   refused_same stores.IsDirectory h = absurd h
   refused_same stores.NotDirectory h = absurd h
 
-makes_none : {T : Type 0} (label : List ℕ) (moment capacity : ℕ) (outcome : Result T Fault) (before behind : List Event) (honest : Bool) (o w : Option (List ℕ)) (volume : ℕ) (S : State) → Stands udf 450000 volume (held before) S → IsTrue honest
-    → Makes label moment capacity outcome before behind honest o w → behind ≡ before
+makes_none : {T : Type 0} (label : List ℕ) (moment capacity : ℕ) (outcome : Result T Fault) (before behind : List Event) (honest : Bool) (o w : Option (List ℕ)) (volume : ℕ) (S : State) → RecoversTo udf 450000 volume (held before) S → IsTrue honest
+    → MakesVolume label moment capacity outcome before behind honest o w → behind ≡ before
 makes_none label moment capacity (Ok x) before behind honest o w volume S stands sure h = formatted_same capacity volume (words_on capacity label moment) S before behind honest stands sure h.0
 makes_none label moment capacity (Err Usage) before behind honest o w volume S stands sure h = absurd h
 makes_none label moment capacity (Err Path) before behind honest o w volume S stands sure h = absurd h
@@ -167,13 +167,13 @@ record Run (volume : ℕ) (S : State) (before behind : List Event) (Are : List M
   pub messages : List Message
   pub answers : List Answer
   pub are : Are messages answers
-  pub holds : HoldsOnJournal udf (need spelled) 450000 volume S before behind (brought messages) (said_answers answers)
+  pub holds : HoldsOnJournal udf (need spelled) 450000 volume S before behind (brought messages) (model_answers answers)
 
-module _ (volume : ℕ) (S : State) (J : List Event) (once : Once J) (stands : Stands udf 450000 volume (held J) S) (last : Situation) (honest : IsTrue last.honest) where
+module _ (volume : ℕ) (S : State) (J : List Event) (once : Once J) (stands : RecoversTo udf 450000 volume (held J) S) (last : Situation) (honest : IsTrue last.honest) where
   at_start : HoldsState volume S (situation None J 0 450000 true [])
   at_start = (runs_begin volume S J 0 450000 true [] once stands).0
 
-  applies_run : {T : Type 0} (outcome : Result T Fault) (i l o w : Option (List ℕ)) → Applies outcome (situation None J 0 450000 true []) last i l o w → Run volume S J last.journal (λ messages answers. AnswersInput i l o w (life_of messages answers))
+  applies_run : {T : Type 0} (outcome : Result T Fault) (i l o w : Option (List ℕ)) → AppliesStream outcome (situation None J 0 450000 true []) last i l o w → Run volume S J last.journal (λ messages answers. AnswersInput i l o w (life_of messages answers))
   applies_run (Ok x) i l o w (kept, h) = record {
     messages = h.serving.messages;
     answers = h.serving.answers;
@@ -209,23 +209,23 @@ module _ (volume : ℕ) (S : State) (J : List Event) (once : Once J) (stands : S
     holds = h.some.holds volume S honest at_start;
   }
 
-module _ (path : List ℕ) (volume : ℕ) (S : State) (J : List Event) (once : Once J) (stands : Stands udf 450000 volume (held J) S) (old new : Images) (honest : IsTrue new.honest) (there : old.held path ≡ Some J) where
+module _ (path : List ℕ) (volume : ℕ) (S : State) (J : List Event) (once : Once J) (stands : RecoversTo udf 450000 volume (held J) S) (old new : Images) (honest : IsTrue new.honest) (there : old.held path ≡ Some J) where
   stays : (Are : List Life → Type 0) → new.held path ≡ Some J → Are [] → Left path volume S J new Are
   stays Are same are = record { lives = []; done = []; behind = J; are = are; cuts = (refl, refl); held_is = same }
 
   untouched_stays : (Are : List Life → Type 0) → AreUntouched old new → Are [] → Left path volume S J new Are
   untouched_stays Are h are = stays Are (h.same path ∙ there) are
 
-  ran : (Are : List Life → Type 0) (messages : List Message) (answers : List Answer) (K : List Event) → HoldsOnJournal udf (need spelled) 450000 volume S J K (brought messages) (said_answers answers) → new.held path ≡ Some K
+  ran : (Are : List Life → Type 0) (messages : List Message) (answers : List Answer) (K : List Event) → HoldsOnJournal udf (need spelled) 450000 volume S J K (brought messages) (model_answers answers) → new.held path ≡ Some K
       → Are (life_of messages answers ∷ []) → Left path volume S J new Are
   ran Are messages answers K run held_is are =
       let committed : List Request = run.holds.committed in
-      let ends : Stands udf 450000 volume (held K) (after S committed) = held_stands volume 450000 (brought messages) S J K (said_answers answers) run in
-      let cut : IsCut 450000 volume S J (life_of messages answers) K = record {
+      let ends : RecoversTo udf 450000 volume (held K) (after S committed) = held_stands volume 450000 (brought messages) S J K (model_answers answers) run in
+      let cut : IsRunCutShort 450000 volume S J (life_of messages answers) K = record {
         during = K;
         run = run;
         few = inl refl;
-        advances = advances_none volume (after S committed) (after S (committed ++ [])) K run.once (subst (λ (D : List Request). Stands udf 450000 volume (held K) (after S D)) (sym (append-nil committed)) ends);
+        advances = advances_none volume (after S committed) (after S (committed ++ [])) K run.once (subst (λ (D : List Request). RecoversTo udf 450000 volume (held K) (after S D)) (sym (append-nil committed)) ends);
       } in
       record { lives = life_of messages answers ∷ []; done = (committed ++ []) ++ []; behind = K; are = are; cuts = (K, cut, [], refl, (refl, refl)); held_is = held_is }
 
@@ -261,7 +261,7 @@ module _ (path : List ℕ) (volume : ℕ) (S : State) (J : List Event) (once : O
 
   shown : {T : Type 0} (question : Question) (image : List ℕ) (outcome : Result T Fault) (o w : Option (List ℕ)) (Are : List Life → Type 0) → ShowsImage question image outcome old new o w → Are [] → Left path volume S J new Are
   shown question image outcome o w Are (inl h) are = untouched_stays Are h.untouched are
-  shown question image outcome o w Are (inr h) are = quiet IsThere same_there 450000 image (λ first last. (last.journal ≡ first.journal) × Shows question outcome first.capacity first.journal last.honest o w) h Are (λ did. did.0) are
+  shown question image outcome o w Are (inr h) are = quiet IsThere same_there 450000 image (λ first last. (last.journal ≡ first.journal) × PrintsAnswer question outcome first.capacity first.journal last.honest o w) h Are (λ did. did.0) are
 
   shown_at : {T : Type 0} (question : tree.Path → Question) (image text : List ℕ) (outcome : Result T Fault) (o w : Option (List ℕ)) (Are : List Life → Type 0) → ShowsPath question image text outcome old new o w → Are [] → Left path volume S J new Are
   shown_at question image text outcome o w Are (inl h) are = untouched_stays Are h.1 are
@@ -285,10 +285,10 @@ module _ (path : List ℕ) (volume : ℕ) (S : State) (J : List Event) (once : O
   applied image outcome i l o w Are (inl (h, same)) unopened apart here = untouched_stays Are h.untouched (unopened h)
   applied image outcome i l o w Are (inr h) unopened apart here = elim (bytes_cases path image) [
     | inl is ↦ (
-        let run = applies_run volume S J once stands h.last (h.drive_honest honest) outcome i l o w (did_here IsThere same_there 450000 image (λ first last. Applies outcome first last i l o w) h is.1) in
-        ran Are run.messages run.answers h.last.journal run.holds (left_here IsThere same_there 450000 image (λ first last. Applies outcome first last i l o w) h is.1) (here is.1 (life_of run.messages run.answers) run.are)
+        let run = applies_run volume S J once stands h.last (h.drive_honest honest) outcome i l o w (did_here IsThere same_there 450000 image (λ first last. AppliesStream outcome first last i l o w) h is.1) in
+        ran Are run.messages run.answers h.last.journal run.holds (left_here IsThere same_there 450000 image (λ first last. AppliesStream outcome first last i l o w) h is.1) (here is.1 (life_of run.messages run.answers) run.are)
         )
-    | inr other ↦ stays Are (elsewhere IsThere same_there 450000 image (λ first last. Applies outcome first last i l o w) h other.0) (apart other.1)
+    | inr other ↦ stays Are (elsewhere IsThere same_there 450000 image (λ first last. AppliesStream outcome first last i l o w) h other.0) (apart other.1)
   ]
 
   served : (image : List ℕ) (connections : ℕ) (before behind : Heard) → OnMedia IsThere 450000 image (ServesRun connections before behind) old new → Left path volume S J new (Ran path (Daemon image connections before behind))
@@ -301,7 +301,7 @@ module _ (path : List ℕ) (volume : ℕ) (S : State) (J : List Event) (once : O
     | inr other ↦ stays (Ran path (Daemon image connections before behind)) (elsewhere IsThere same_there 450000 image (ServesRun connections before behind) h other.0) (inl (refl, other.1))
   ]
 
-  does : (task : Task) (outcome : Result (Unit {0}) Fault) (i l o w : Option (List ℕ)) → Does task outcome old new i l o w → Left path volume S J new (RanCommand path task outcome i l o w)
+  does : (task : Task) (outcome : Result (Unit {0}) Fault) (i l o w : Option (List ℕ)) → IsTaskDone task outcome old new i l o w → Left path volume S J new (RanCommand path task outcome i l o w)
   does (Format image label moment capacity) outcome i l o w h = made image label moment capacity outcome o w (RanCommand path (Format image label moment capacity) outcome i l o w) h.1 refl
   does (Apply_to_image image) outcome i l o w h =
       applied image outcome i l o w (RanCommand path (Apply_to_image image) outcome i l o w) h (λ none. inl (refl, inl none.fault)) (λ apart. inl (refl, inr apart)) (λ here life is. inr (here, (life, refl, is)))
@@ -333,7 +333,7 @@ cut_append volume (life ∷ first) second S before between behind done more (nex
       cut_append volume first second (after S now) next between behind rest more others (subst (λ (T : State). AreCut 450000 volume T between second more behind) state s),
     )
 
-all_did : (path : List ℕ) (processes : List Process) (old new : Images) (volume : ℕ) (S : State) (before : List Event) → IsTrue new.honest → AllDid processes old new → old.held path ≡ Some before → Once before → Stands udf 450000 volume (held before) S
+all_did : (path : List ℕ) (processes : List Process) (old new : Images) (volume : ℕ) (S : State) (before : List Event) → IsTrue new.honest → AllDid processes old new → old.held path ≡ Some before → Once before → RecoversTo udf 450000 volume (held before) S
     → Left path volume S before new (AllRan path processes)
 all_did path [] old new volume S before honest h there once stands = untouched_stays path volume S before once stands old new honest there (AllRan path []) h refl
 all_did path (process ∷ processes) old new volume S before honest (between, first, rest) there once stands =

@@ -8,7 +8,7 @@ use Rattle.programs.specs.declared.fault.Fault.{Fault}
 use Rattle.programs.specs.Images.{Images}
 use Rattle.programs.specs.Questions.{Question, ShowsImage, ShowsPath}
 use Rattle.programs.specs.Questions.Question.{Names_at, Bytes_at, Commits, Soundness}
-use Rattle.programs.specs.Tasks.{Does, IsReading, Task}
+use Rattle.programs.specs.Tasks.{IsTaskDone, IsReading, Task}
 use Rattle.programs.specs.Tasks.Task.{Format, Apply_to_image, Apply_in_memory, List_names, Get_bytes, Log, Check, Send}
 
 module _ {T : Type 0} (outcome : Result T Fault) (old new : Images) (i l o w : Option (List ℕ)) (honest : IsTrue new.honest) where
@@ -23,7 +23,7 @@ module _ {T : Type 0} (outcome : Result T Fault) (old new : Images) (i l o w : O
   path_same question image text (inl h) = h.1.same
   path_same question image text (inr h) = shown_same (question h.0) image h.3
 
-  pub reading_same : (task : Task) → IsReading task → Does task outcome old new i l o w → Same old.held new.held
+  pub reading_same : (task : Task) → IsReading task → IsTaskDone task outcome old new i l o w → Same old.held new.held
   reading_same (Format image label moment capacity) reads h = absurd reads
   reading_same (Apply_to_image image) reads h = absurd reads
   reading_same (Apply_in_memory capacity) reads h = h.0.same

@@ -2,8 +2,8 @@
 use Rattle.std.specs.Prelude.{◌≡◌, ◌⊎◌, ⊤, ℕ, ◌<◌, List, codes, sum_by, Option, None, IsSome, IsTrue, Result, Ok, Err}
 use Rattle.std.specs.Io.KnownBytes.{Appends, Consumes, IsAtEnd, Keeps}
 use Rattle.limits.specs.declared.TheConstants.{GREATEST_CAPACITY, LEAST_CAPACITY, FORMAT_BLOCKS}
-use Rattle.drive.specs.Reads.{Counts}
-use Rattle.osta.specs.FirstFault.{first_fault}
+use Rattle.drive.specs.Reads.{CountsFailures}
+use Rattle.osta.specs.FirstFault.{first_text_fault}
 use Rattle.osta.specs.Label.{label_faults}
 use Rattle.request.specs.declared.answer.Answer.{Answer}
 use Rattle.request.specs.declared.message.Message.{Message}
@@ -19,8 +19,8 @@ use Rattle.recover.specs.declared.fault.StoreFault.{StoreFault}
 use Rattle.recover.specs.declared.fault.StoreFault.TheVariants as stores
 use Rattle.store.specs.declared.store.Store.{Store}
 use Rattle.engine.specs.Situation.{Situation, with_store}
-use Rattle.engine.specs.Streams.{PutsFront}
-use Rattle.engine.specs.Said.{said_answers}
+use Rattle.engine.specs.Streams.{PutsPrefix}
+use Rattle.engine.specs.Said.{model_answers}
 use Rattle.engine.specs.Answered.{faults}
 use Rattle.engine.specs.Steps.{HoldsState}
 use Rattle.engine.specs.Served.{AllAnswered, IsCutOff, LeftBy, ServesAll, ServesUntil, brought, frames_of}
@@ -29,7 +29,7 @@ use Rattle.programs.specs.declared.fault.Fault.{Fault}
 use Rattle.programs.specs.declared.fault.Fault.TheVariants.{Usage, Path, Socket, Store as Stored, Stream}
 use Rattle.programs.specs.Images.{Images, IsThere, OnMedia, Unopened}
 
--- All messages of the input were answered, or the first ones up to where this fault came. Which store is open behind them is not told.
+-- All messages of the input were answered, or the first ones up to where this fault came. Which store is open after them is not told.
 abbrev pub AppliesAll : Situation → Situation → Option (List ℕ) → Option (List ℕ) → Option (List ℕ) → Option (List ℕ) → Type 0
 AppliesAll before behind input left output written = (kept : Option Store) × ServesAll before (with_store kept behind) input left output written
 
@@ -37,18 +37,18 @@ abbrev pub AppliesUntil : ServeFault → Situation → Situation → Option (Lis
 AppliesUntil fault before behind input left output written = (kept : Option Store) × ServesUntil fault before (with_store kept behind) input left output written
 
 -- by the outcome, which is no other fault than that of a stream
-abbrev pub Applies : {T : Type 0} → Result T Fault → Situation → Situation → Option (List ℕ) → Option (List ℕ) → Option (List ℕ) → Option (List ℕ) → Type 0
-Applies (Ok x) before behind input left output written = AppliesAll before behind input left output written
-Applies (Err Usage) before behind input left output written = ⊥
-Applies (Err Path) before behind input left output written = ⊥
-Applies (Err Socket) before behind input left output written = ⊥
-Applies (Err (Stored fault)) before behind input left output written = ⊥
-Applies (Err (Stream fault)) before behind input left output written = AppliesUntil fault before behind input left output written
+abbrev pub AppliesStream : {T : Type 0} → Result T Fault → Situation → Situation → Option (List ℕ) → Option (List ℕ) → Option (List ℕ) → Option (List ℕ) → Type 0
+AppliesStream (Ok x) before behind input left output written = AppliesAll before behind input left output written
+AppliesStream (Err Usage) before behind input left output written = ⊥
+AppliesStream (Err Path) before behind input left output written = ⊥
+AppliesStream (Err Socket) before behind input left output written = ⊥
+AppliesStream (Err (Stored fault)) before behind input left output written = ⊥
+AppliesStream (Err (Stream fault)) before behind input left output written = AppliesUntil fault before behind input left output written
 
 -- the same on the image at a path
 abbrev pub AppliesToImage : {T : Type 0} → List ℕ → Result T Fault → Images → Images → Option (List ℕ) → Option (List ℕ) → Option (List ℕ) → Option (List ℕ) → Type 0
 AppliesToImage image outcome old new input left output written =
-    (Unopened outcome old new output written × (left ≡ input)) ⊎ OnMedia IsThere GREATEST_CAPACITY image (λ before behind. Applies outcome before behind input left output written) old new
+    (Unopened outcome old new output written × (left ≡ input)) ⊎ OnMedia IsThere GREATEST_CAPACITY image (λ before behind. AppliesStream outcome before behind input left output written) old new
 
 -- ---- a volume in memory, whose drive is honest: no premise is left
 
@@ -64,12 +64,12 @@ pub record IsRunOfNew (capacity : ℕ) (messages : List Message) (answers : List
   pub closed : new.store ≡ None
   pub stands : HoldsState capacity (formatted 0) new
   pub answered : AllAnswered messages new answers last
-  pub failures : Counts (sum_by faults answers) new.failures last.failures
+  pub failures : CountsFailures (sum_by faults answers) new.failures last.failures
   pub end : ℕ
   pub marks : List ℕ
   pub counts : List ℕ
   pub committed : List Request
-  pub fits : Fits (need spelled) capacity end (formatted 0) FORMAT_BLOCKS 0 (brought messages) (said_answers answers) marks counts committed
+  pub fits : Fits (need spelled) capacity end (formatted 0) FORMAT_BLOCKS 0 (brought messages) (model_answers answers) marks counts committed
   pub all_new : AllNew (formatted 0) committed
   pub each_once : EachOnce committed
 
@@ -87,8 +87,8 @@ pub record AnswersAll (capacity : ℕ) (input left output written : Option (List
   pub idle : IsIdle reader
   pub ends : IsAtEnd left ⊎ IsCutOff bytes reader
 
--- The first messages of the bytes that were read were answered so, and a front of the answers' frames was written.
-pub record AnswersSome (capacity : ℕ) (input left output written : Option (List ℕ)) : Type 0 where
+-- The first messages of the bytes that were read were answered so, and a prefix of the answers' frames was written.
+pub record AnswersSomeInMemory (capacity : ℕ) (input left output written : Option (List ℕ)) : Type 0 where
   pub bytes : List ℕ
   pub messages : List Message
   pub answers : List Answer
@@ -96,17 +96,17 @@ pub record AnswersSome (capacity : ℕ) (input left output written : Option (Lis
   pub consumed : Consumes input left bytes
   pub messages_are : MessagesAre bytes messages reader
   pub run : IsRunOfNew capacity messages answers
-  pub front : PutsFront output written (frames_of answers)
+  pub front : PutsPrefix output written (frames_of answers)
 
 -- The same, and this fault tells how far that went.
 pub record AnswersUntil (fault : ServeFault) (capacity : ℕ) (input left output written : Option (List ℕ)) : Type 0 where
-  pub some : AnswersSome capacity input left output written
+  pub some : AnswersSomeInMemory capacity input left output written
   pub left_by : LeftBy fault some.bytes some.answers some.reader output written
 
 -- Why there is no new volume in memory: it would be too small, or memory is short for its blocks. Its label is right.
 abbrev pub IsUnmade : ℕ → StoreFault → Type 0
 IsUnmade capacity stores.NotBlank = (blocks : List Block) → IsFormatOf (words_on capacity (codes "MEM") 0) blocks → ⊥
-IsUnmade capacity stores.Label = IsSome (first_fault (label_faults (codes "MEM")))
+IsUnmade capacity stores.Label = IsSome (first_text_fault (label_faults (codes "MEM")))
 IsUnmade capacity stores.Small = capacity < LEAST_CAPACITY
 IsUnmade capacity stores.Device = ⊤
 IsUnmade capacity stores.Memory = ⊤

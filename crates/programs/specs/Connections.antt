@@ -10,28 +10,28 @@ use Rattle.engine.specs.declared.serving.ServeFault.TheVariants as streams
 use Rattle.recover.specs.declared.fault.StoreFault.TheVariants as stores
 use Rattle.programs.specs.declared.fault.Fault.{Fault}
 use Rattle.programs.specs.declared.fault.Fault.TheVariants.{Usage, Path, Socket, Store as Stored, Stream}
-use Rattle.programs.specs.Tasks.{IsFrontOf}
+use Rattle.programs.specs.Tasks.{IsPrefixOf}
 
 -- Messages were answered in turn, and nothing else was done: from where the engine and its drive were before, to where they are.
--- On an honest drive where a state stands, what stands at each front of what was written is the state after the first of the requests that were committed,
--- and whatever a loss of power leaves of the writes for a message, the state after all that were committed by then stands, or the one after its request.
-pub record GoesOn (before behind : Situation) : Type 0 where
+-- On an honest drive where a state stands, what stands at each prefix of what was written is the state after the first of the requests that were committed,
+-- and whatever a power loss leaves of the writes for a message, the state after all that were committed by then stands, or the one after its request.
+pub record ServesMessages (before behind : Situation) : Type 0 where
   pub messages : List Message
   pub answers : List Answer
   pub answered : AllAnswered messages before answers behind
   pub holds : ServedHolds messages before answers behind
   pub withstands : ServedWithstands messages before answers behind answered
 
--- which store is open behind the last is not told
+-- which store is open after the last is not told
 abbrev pub AreOneRun : Situation → Situation → Type 0
-AreOneRun before behind = (kept : Option Store) × GoesOn before (with_store kept behind)
+AreOneRun before behind = (kept : Option Store) × ServesMessages before (with_store kept behind)
 
 -- The first messages of a connection were answered up to where this fault came, or all were and then the output failed; and
 -- of what was written with that a front is there.
-pub record ServesFront (fault : ServeFault) (before behind : Situation) (input left output written : Option (List ℕ)) : Type 0 where
+pub record ServesPrefix (fault : ServeFault) (before behind : Situation) (input left output written : Option (List ℕ)) : Type 0 where
   pub gathered : Option (List ℕ)
   pub serves : ServesUntil fault before behind input left output gathered ⊎ ((fault ≡ streams.Write) × ServesAll before behind input left output gathered)
-  pub front : IsFrontOf gathered written
+  pub front : IsPrefixOf gathered written
 
 -- so it is of a connection whose output is there in the end, which is left by a stream's fault alone
 abbrev pub LeavesStream : Fault → Situation → Situation → Option (List ℕ) → Option (List ℕ) → Option (List ℕ) → Option (List ℕ) → Type 0
@@ -39,7 +39,7 @@ LeavesStream Usage before behind input left output written = ⊥
 LeavesStream Path before behind input left output written = ⊥
 LeavesStream Socket before behind input left output written = ⊥
 LeavesStream (Stored fault) before behind input left output written = ⊥
-LeavesStream (Stream fault) before behind input left output written = ServesFront fault before behind input left output written
+LeavesStream (Stream fault) before behind input left output written = ServesPrefix fault before behind input left output written
 
 -- Why a connection was left. Nothing was done where the socket cannot be had, or memory is short for what waits to be written.
 abbrev pub LeavesConnection : Fault → Situation → Situation → Type 0

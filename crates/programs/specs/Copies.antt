@@ -1,7 +1,7 @@
 -- What a copy from one stream to another does, where their bytes are known.
 use Rattle.std.specs.Prelude.{◌≡◌, ◌⊎◌, ℕ, ◌≤◌, List, [], ◌++◌, length, take, Option, Result, Ok, Err}
 use Rattle.std.specs.Io.KnownBytes.{Appends, Consumes, IsAtEnd, Keeps}
-use Rattle.engine.specs.Streams.{PutsFront}
+use Rattle.engine.specs.Streams.{PutsPrefix}
 use Rattle.engine.specs.declared.serving.ServeFault.TheVariants as stream
 use Rattle.recover.specs.declared.fault.StoreFault.TheVariants as store
 use Rattle.programs.specs.declared.fault.Fault.{Fault}
@@ -26,7 +26,7 @@ pub record CopiesFrames (count : ℕ) (input left output written : Option (List 
   pub all : CopiesAll input left output written
   pub counted : IsCountOf all.bytes count
 
--- A piece was read behind what was written, and so many bytes of it were.
+-- A piece was read after what was written, and so many bytes of it were.
 pub record CopiesPart (input left output written : Option (List ℕ)) : Type 0 where
   pub copied : List ℕ
   pub piece : List ℕ
@@ -65,16 +65,16 @@ pub record SendsSome (input left output written : Option (List ℕ)) : Type 0 wh
   pub sent : List ℕ
   pub consumed : Consumes input left sent
   pub came : List ℕ
-  pub front : PutsFront output written came
+  pub front : PutsPrefix output written came
 
 -- By the outcome. Nothing was done where no daemon is there. Memory is short before anything is read of the input, or before
 -- anything is written.
-abbrev pub Sends : {T : Type 0} → Result T Fault → Option (List ℕ) → Option (List ℕ) → Option (List ℕ) → Option (List ℕ) → Type 0
-Sends (Ok x) input left output written = SendsAll input left output written
-Sends (Err Usage) input left output written = ⊥
-Sends (Err Path) input left output written = ⊥
-Sends (Err Socket) input left output written = (left ≡ input) × Keeps output written
-Sends (Err (Store fault)) input left output written = (fault ≡ store.Memory) × ((left ≡ input) ⊎ Keeps output written) × SendsSome input left output written
-Sends (Err (Stream stream.Read)) input left output written = SendsSome input left output written
-Sends (Err (Stream stream.Write)) input left output written = SendsSome input left output written
-Sends (Err (Stream stream.Memory)) input left output written = ⊥
+abbrev pub SendsFrames : {T : Type 0} → Result T Fault → Option (List ℕ) → Option (List ℕ) → Option (List ℕ) → Option (List ℕ) → Type 0
+SendsFrames (Ok x) input left output written = SendsAll input left output written
+SendsFrames (Err Usage) input left output written = ⊥
+SendsFrames (Err Path) input left output written = ⊥
+SendsFrames (Err Socket) input left output written = (left ≡ input) × Keeps output written
+SendsFrames (Err (Store fault)) input left output written = (fault ≡ store.Memory) × ((left ≡ input) ⊎ Keeps output written) × SendsSome input left output written
+SendsFrames (Err (Stream stream.Read)) input left output written = SendsSome input left output written
+SendsFrames (Err (Stream stream.Write)) input left output written = SendsSome input left output written
+SendsFrames (Err (Stream stream.Memory)) input left output written = ⊥

@@ -2,7 +2,7 @@
 use Rattle.std.specs.Prelude.{◌≡◌, ℕ, List, [], ◌++◌, codes, decimal, Option, Some, None, Result, Ok, Err}
 use Rattle.engine.specs.declared.serving.ServeFault.{ServeFault}
 use Rattle.engine.specs.declared.serving.ServeFault.TheVariants as streams
-use Rattle.engine.specs.Streams.{PutsFront}
+use Rattle.engine.specs.Streams.{PutsPrefix}
 use Rattle.recover.specs.declared.fault.StoreFault.{StoreFault}
 use Rattle.recover.specs.declared.fault.StoreFault.TheVariants as stores
 use Rattle.programs.specs.declared.fault.Fault.{Fault}
@@ -73,8 +73,8 @@ fault_line name fault = name ++ codes ": " ++ fault_name fault ++ damage_text (f
 -- Of an outcome that is a fault its line was said, or a front where the stream failed; of another nothing.
 abbrev pub Reports : {T : Type 0} → List ℕ → Result T Fault → Option (List ℕ) → Option (List ℕ) → Type 0
 Reports name (Ok x) errors told = told ≡ errors
-Reports name (Err fault) errors told = PutsFront errors told (fault_line name fault)
+Reports name (Err fault) errors told = PutsPrefix errors told (fault_line name fault)
 
 -- A program with this name ended with this status, which is that of an outcome, and said of it what there is to say.
-abbrev pub TellsOutcome : List ℕ → ℕ → Option (List ℕ) → Option (List ℕ) → Type 0
-TellsOutcome name status errors told = (outcome : Result (Unit {0}) Fault) × (status ≡ status_of outcome) × Reports name outcome errors told
+abbrev pub ReportsOutcome : List ℕ → ℕ → Option (List ℕ) → Option (List ℕ) → Type 0
+ReportsOutcome name status errors told = (outcome : Result (Unit {0}) Fault) × (status ≡ status_of outcome) × Reports name outcome errors told

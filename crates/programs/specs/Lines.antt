@@ -4,7 +4,7 @@ use Rattle.std.specs.List.{flat_map}
 use Rattle.std.specs.Io.KnownBytes.{Appends}
 use Rattle.model.specs.Tree.{Name}
 use Rattle.store.specs.declared.history.Commit.{Commit}
-use Rattle.engine.specs.Streams.{PutsFront}
+use Rattle.engine.specs.Streams.{PutsPrefix}
 use Rattle.engine.specs.declared.serving.ServeFault.TheVariants as stream
 use Rattle.programs.specs.declared.fault.Fault.{Fault}
 use Rattle.programs.specs.declared.fault.Fault.TheVariants.{Usage, Path, Socket, Store, Stream}
@@ -39,12 +39,12 @@ abbrev pub formatted_text : List ℕ
 formatted_text = codes "formatted\n"
 
 -- bytes were written, all of them or, where a write failed, a front
-abbrev pub Puts : {T : Type 0} → Result T Fault → Option (List ℕ) → Option (List ℕ) → List ℕ → Type 0
-Puts (Ok x) output written bytes = Appends output written bytes
-Puts (Err Usage) output written bytes = ⊥
-Puts (Err Path) output written bytes = ⊥
-Puts (Err Socket) output written bytes = ⊥
-Puts (Err (Store fault)) output written bytes = ⊥
-Puts (Err (Stream stream.Read)) output written bytes = ⊥
-Puts (Err (Stream stream.Write)) output written bytes = PutsFront output written bytes
-Puts (Err (Stream stream.Memory)) output written bytes = ⊥
+abbrev pub PutsBytes : {T : Type 0} → Result T Fault → Option (List ℕ) → Option (List ℕ) → List ℕ → Type 0
+PutsBytes (Ok x) output written bytes = Appends output written bytes
+PutsBytes (Err Usage) output written bytes = ⊥
+PutsBytes (Err Path) output written bytes = ⊥
+PutsBytes (Err Socket) output written bytes = ⊥
+PutsBytes (Err (Store fault)) output written bytes = ⊥
+PutsBytes (Err (Stream stream.Read)) output written bytes = ⊥
+PutsBytes (Err (Stream stream.Write)) output written bytes = PutsPrefix output written bytes
+PutsBytes (Err (Stream stream.Memory)) output written bytes = ⊥

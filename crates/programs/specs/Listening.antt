@@ -1,7 +1,7 @@
 -- What became of the connections of a listener, one after another.
 use Rattle.std.specs.Prelude.{◌≡◌, ◌⊎◌, ℕ, ◌+◌, ◌-◌, ◌^◌, ◌<◌, List, [], ◌∷◌, ◌++◌, length, Option, None, Result, Ok, Err}
 use Rattle.std.specs.List.{flat_map}
-use Rattle.drive.specs.Reads.{Counts}
+use Rattle.drive.specs.Reads.{CountsFailures}
 use Rattle.recover.specs.declared.fault.StoreFault.TheVariants.{Memory}
 use Rattle.store.specs.declared.store.Store as stored
 use Rattle.engine.specs.Situation.{Situation, with_store}
@@ -9,10 +9,10 @@ use Rattle.engine.specs.Served.{ServesAll}
 use Rattle.programs.specs.declared.listening.Listener.{Ghosts}
 use Rattle.programs.specs.declared.fault.Fault.{Fault}
 use Rattle.programs.specs.declared.fault.Fault.TheVariants.{Usage, Path, Socket, Store, Stream}
-use Rattle.programs.specs.Connections.{AreOneRun, GoesOn, ServesFront}
+use Rattle.programs.specs.Connections.{AreOneRun, ServesMessages, ServesPrefix}
 use Rattle.programs.specs.Outputs.{IsBlank, known}
 
--- How a connection ended, by the outcome. All messages of what its client sends were answered, or the first ones and a front of
+-- How a connection ended, by the outcome. All messages of what its client sends were answered, or the first ones and a prefix of
 -- their answers was written; or nothing was done, since the connection could not be had or memory was short.
 abbrev pub EndsBy : {T : Type 0} → Result T Fault → Situation → Situation → Option (List ℕ) → Option (List ℕ) → Option (List ℕ) → Option (List ℕ) → Type 0
 EndsBy (Ok x) before behind input left output written = ServesAll before behind input left output written
@@ -20,9 +20,9 @@ EndsBy (Err Usage) before behind input left output written = ⊥
 EndsBy (Err Path) before behind input left output written = ⊥
 EndsBy (Err Socket) before behind input left output written = (behind ≡ before) × (written ≡ output)
 EndsBy (Err (Store fault)) before behind input left output written = ⊥
-EndsBy (Err (Stream fault)) before behind input left output written = ServesFront fault before behind input left output written
+EndsBy (Err (Stream fault)) before behind input left output written = ServesPrefix fault before behind input left output written
 
--- or its output was let go, for want of memory, and nothing was done
+-- or its output was let go, for lack of memory, and nothing was done
 abbrev pub LetsGo : {T : Type 0} → Result T Fault → Situation → Situation → Type 0
 LetsGo outcome before behind = (outcome ≡ Err (Store Memory)) × (behind ≡ before)
 
@@ -32,7 +32,7 @@ pub record IsServed {T : Type 0} (outcome : Result T Fault) (input written : Opt
   pub output : Option (List ℕ)
   pub blank : IsBlank output
   pub ends : EndsBy outcome before behind input left output written ⊎ ((written ≡ None) × LetsGo outcome before behind)
-  pub goes : GoesOn before behind
+  pub goes : ServesMessages before behind
 
 abbrev pub ServesOne : Option (List ℕ) → Option (List ℕ) → Situation → Situation → Type 0
 ServesOne input written before behind = (outcome : Result (Unit {0}) Fault) × IsServed outcome input written before behind
@@ -64,7 +64,7 @@ pub record EndsOne {T : Type 0} (outcome : Result T Fault) (input : Option (List
 -- As many connections were served as were asked for, or fewer, where the listener was asked 2 ^ 64 - 1 times.
 abbrev pub AreEnough : ℕ → ℕ → ℕ → ℕ → Type 0
 AreEnough connections served missed now =
-    (served ≡ connections) ⊎ ((served < connections) × ((failed : ℕ) × (served + failed ≡ 2 ^ 64 - 1) × Counts failed missed now))
+    (served ≡ connections) ⊎ ((served < connections) × ((failed : ℕ) × (served + failed ≡ 2 ^ 64 - 1) × CountsFailures failed missed now))
 
 -- So many connections of a listener were served, with one engine that was new.
 pub record ServesEach (connections : ℕ) (old new : Heard) (before behind : Situation) : Type 0 where

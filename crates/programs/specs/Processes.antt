@@ -7,18 +7,18 @@ use Rattle.request.specs.declared.answer.Answer.{Answer}
 use Rattle.request.specs.declared.message.Message.{Message}
 use Rattle.request.specs.Frames.{MessagesAre}
 use Rattle.model.specs.Session.{State, Request}
-use Rattle.durability.specs.Volume.{Stands}
+use Rattle.durability.specs.Volume.{RecoversTo}
 use Rattle.udf.specs.Udf.{udf}
 use Rattle.recover.specs.declared.fault.StoreFault.TheVariants.{Device}
 use Rattle.engine.specs.Losses.{AreCut, Life, Survives}
-use Rattle.engine.specs.Said.{said_answers}
+use Rattle.engine.specs.Said.{model_answers}
 use Rattle.engine.specs.Served.{brought, frames_of}
-use Rattle.engine.specs.Streams.{PutsFront}
+use Rattle.engine.specs.Streams.{PutsPrefix}
 use Rattle.programs.specs.declared.fault.Fault.{Fault}
 use Rattle.programs.specs.declared.fault.Fault.TheVariants.{Store}
 use Rattle.programs.specs.Images.{AreUntouched, Images, IsThere, OnMedia}
 use Rattle.programs.specs.Listening.{Heard, ServesRun}
-use Rattle.programs.specs.Tasks.{Does, Task}
+use Rattle.programs.specs.Tasks.{IsTaskDone, Task}
 use Rattle.programs.specs.Tasks.Task.{Format, Apply_to_image, Apply_in_memory, List_names, Get_bytes, Log, Check, Send}
 
 -- a process of one of the two programs
@@ -28,7 +28,7 @@ pub data Process : Type 0 where
 
 -- what it did to the images, as `command_on` and `daemon_on` say it
 abbrev pub Did : Process → Images → Images → Type 0
-Did (Command task outcome input left output written) old new = Does task outcome old new input left output written
+Did (Command task outcome input left output written) old new = IsTaskDone task outcome old new input left output written
 Did (Daemon image connections before behind) old new = OnMedia IsThere GREATEST_CAPACITY image (ServesRun connections before behind) old new
 
 -- each of them on what the one before it left
@@ -36,9 +36,9 @@ abbrev pub AllDid : List Process → Images → Images → Type 0
 AllDid [] old new = AreUntouched old new
 AllDid (process ∷ processes) old new = (between : Images) × Did process old between × AllDid processes between new
 
--- what came to a process and was answered, where no loss of power cut it off
+-- what came to a process and was answered, where no power loss cut it off
 abbrev pub life_of : List Message → List Answer → Life
-life_of messages answers = record { said = brought messages; answers = said_answers answers; under = [] }
+life_of messages answers = record { said = brought messages; answers = model_answers answers; under = [] }
 
 -- A command answered the first messages of what it read, and of the answers' frames a front was written.
 pub record AnswersInput (input left output written : Option (List ℕ)) (life : Life) : Type 0 where
@@ -48,7 +48,7 @@ pub record AnswersInput (input left output written : Option (List ℕ)) (life : 
   pub reader : Option (List ℕ)
   pub consumed : Consumes input left bytes
   pub messages_are : MessagesAre bytes messages reader
-  pub front : PutsFront output written (frames_of answers)
+  pub front : PutsPrefix output written (frames_of answers)
   pub is : life ≡ life_of messages answers
 
 -- one run on the image at this path, or none where another was meant or could be had
@@ -88,4 +88,4 @@ pub record AreRuns (path : List ℕ) (processes : List Process) (volume : ℕ) (
 abbrev pub ProcessesAreRuns : Type 0
 ProcessesAreRuns =
     (path : List ℕ) (processes : List Process) (old new : Images) (volume : ℕ) (S : State) (before : List Event) → IsTrue new.honest → AllDid processes old new
-    → old.held path ≡ Some before → Once before → Stands udf GREATEST_CAPACITY volume (held before) S → AreRuns path processes volume S before new
+    → old.held path ≡ Some before → Once before → RecoversTo udf GREATEST_CAPACITY volume (held before) S → AreRuns path processes volume S before new

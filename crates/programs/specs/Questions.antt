@@ -5,7 +5,7 @@ use Rattle.limits.specs.declared.TheConstants.{GREATEST_CAPACITY}
 use Rattle.drive.specs.Journal.{Event, Once, held}
 use Rattle.model.specs.Session.{State}
 use Rattle.model.specs.Tree.{Name, Path}
-use Rattle.durability.specs.Volume.{Stands}
+use Rattle.durability.specs.Volume.{RecoversTo}
 use Rattle.durability.specs.Runs.{told}
 use Rattle.durability.specs.Runs.Answer.{Data, Names}
 use Rattle.durability.specs.Runs.Query.{Get, List_}
@@ -17,8 +17,8 @@ use Rattle.store.specs.declared.history.Commit.{Commit}
 use Rattle.store.specs.Calls.{GetRefuses, ListRefuses}
 use Rattle.store.specs.History.{IsHistory, IsHistoryRefused}
 use Rattle.store.specs.Opened.{IsOpenRefused}
-use Rattle.store.specs.Past.{AllStood, IsCheckRefused}
-use Rattle.engine.specs.Streams.{PutsFront}
+use Rattle.store.specs.Past.{AllRecovered, IsCheckRefused}
+use Rattle.engine.specs.Streams.{PutsPrefix}
 use Rattle.engine.specs.declared.serving.ServeFault.TheVariants as stream
 use Rattle.programs.specs.declared.fault.Fault.{Fault}
 use Rattle.programs.specs.declared.fault.Fault.TheVariants as faults
@@ -32,33 +32,33 @@ pub data Question : Type 0 where
   Commits : Question
   Soundness : Question
 
--- The bytes say what holds of a state that stands on the medium, with its table's entry at an address.
-abbrev pub Says : Question → ℕ → ℕ → List (List ℕ) → State → ℕ → List ℕ → Type 0
-Says (Names_at path) capacity volume medium S at bytes = (names : List (Bool × Name)) × (told S.tree (List_ path) ≡ Names names) × (bytes ≡ names_text names)
-Says (Bytes_at path) capacity volume medium S at bytes = told S.tree (Get path) ≡ Data bytes
-Says Commits capacity volume medium S at bytes = (commits : List Commit) × IsHistory medium at commits × (length commits ≡ S.commits + 1) × (bytes ≡ commits_text commits)
-Says Soundness capacity volume medium S at bytes = AllStood capacity volume medium S.commits × (bytes ≡ sound_text S.commits)
+-- The bytes say what holds of a state that stands on the medium, with its VAT ICB at an address.
+abbrev pub IsAnswerText : Question → ℕ → ℕ → List (List ℕ) → State → ℕ → List ℕ → Type 0
+IsAnswerText (Names_at path) capacity volume medium S at bytes = (names : List (Bool × Name)) × (told S.tree (List_ path) ≡ Names names) × (bytes ≡ names_text names)
+IsAnswerText (Bytes_at path) capacity volume medium S at bytes = told S.tree (Get path) ≡ Data bytes
+IsAnswerText Commits capacity volume medium S at bytes = (commits : List Commit) × IsHistory medium at commits × (length commits ≡ S.commits + 1) × (bytes ≡ commits_text commits)
+IsAnswerText Soundness capacity volume medium S at bytes = AllRecovered capacity volume medium S.commits × (bytes ≡ sound_text S.commits)
 
 -- why a state that stands gives no answer
-abbrev pub Refuses : Question → ℕ → ℕ → List (List ℕ) → State → ℕ → StoreFault → Type 0
-Refuses (Names_at path) capacity volume medium S at fault = ListRefuses (told S.tree (List_ path)) fault
-Refuses (Bytes_at path) capacity volume medium S at fault = GetRefuses (told S.tree (Get path)) fault
-Refuses Commits capacity volume medium S at fault = IsHistoryRefused medium at fault
-Refuses Soundness capacity volume medium S at fault = IsCheckRefused capacity volume medium S.commits fault
+abbrev pub RefusesQuestion : Question → ℕ → ℕ → List (List ℕ) → State → ℕ → StoreFault → Type 0
+RefusesQuestion (Names_at path) capacity volume medium S at fault = ListRefuses (told S.tree (List_ path)) fault
+RefusesQuestion (Bytes_at path) capacity volume medium S at fault = GetRefuses (told S.tree (Get path)) fault
+RefusesQuestion Commits capacity volume medium S at fault = IsHistoryRefused medium at fault
+RefusesQuestion Soundness capacity volume medium S at fault = IsCheckRefused capacity volume medium S.commits fault
 
 -- a state stands, and the bytes say it
 pub record IsQuestionAnswered (question : Question) (capacity : ℕ) (journal : List Event) (bytes : List ℕ) : Type 0 where
   pub volume : ℕ
   pub state : State
-  pub stands : Stands udf capacity volume (held journal) state
-  pub says : Says question capacity volume (held journal) state stands.at bytes
+  pub stands : RecoversTo udf capacity volume (held journal) state
+  pub says : IsAnswerText question capacity volume (held journal) state stands.at bytes
 
 -- a state stands, and gives no answer
 pub record IsQuestionRefused (question : Question) (capacity : ℕ) (journal : List Event) (fault : StoreFault) : Type 0 where
   pub volume : ℕ
   pub state : State
-  pub stands : Stands udf capacity volume (held journal) state
-  pub refuses : Refuses question capacity volume (held journal) state stands.at fault
+  pub stands : RecoversTo udf capacity volume (held journal) state
+  pub refuses : RefusesQuestion question capacity volume (held journal) state stands.at fault
 
 -- The bytes were printed, all of them or a front. On an honest drive they say what holds of the state that stands.
 pub record Prints (question : Question) (capacity : ℕ) (journal : List Event) (honest : Bool) (output written : Option (List ℕ)) : Type 0 where
@@ -66,9 +66,9 @@ pub record Prints (question : Question) (capacity : ℕ) (journal : List Event) 
   pub printed : Appends output written bytes
   pub said : IsTrue honest → Once journal → IsQuestionAnswered question capacity journal bytes
 
-pub record PrintsFront (question : Question) (capacity : ℕ) (journal : List Event) (honest : Bool) (output written : Option (List ℕ)) : Type 0 where
+pub record PrintsPrefix (question : Question) (capacity : ℕ) (journal : List Event) (honest : Bool) (output written : Option (List ℕ)) : Type 0 where
   pub bytes : List ℕ
-  pub front : PutsFront output written bytes
+  pub front : PutsPrefix output written bytes
   pub said : IsTrue honest → Once journal → IsQuestionAnswered question capacity journal bytes
 
 -- Nothing was printed. On an honest drive none stands, or the one that does gives no answer, or the drive failed or memory was short.
@@ -77,21 +77,21 @@ pub record PrintsNothing (question : Question) (capacity : ℕ) (journal : List 
   pub refused : IsTrue honest → Once journal → IsOpenRefused capacity (held journal) fault ⊎ IsQuestionRefused question capacity journal fault
 
 -- by the outcome
-abbrev pub Shows : {T : Type 0} → Question → Result T Fault → ℕ → List Event → Bool → Option (List ℕ) → Option (List ℕ) → Type 0
-Shows question (Ok x) capacity journal honest output written = Prints question capacity journal honest output written
-Shows question (Err faults.Usage) capacity journal honest output written = ⊥
-Shows question (Err faults.Path) capacity journal honest output written = ⊥
-Shows question (Err faults.Socket) capacity journal honest output written = ⊥
-Shows question (Err (faults.Store fault)) capacity journal honest output written = PrintsNothing question capacity journal honest fault output written
-Shows question (Err (faults.Stream stream.Read)) capacity journal honest output written = ⊥
-Shows question (Err (faults.Stream stream.Write)) capacity journal honest output written = PrintsFront question capacity journal honest output written
-Shows question (Err (faults.Stream stream.Memory)) capacity journal honest output written = ⊥
+abbrev pub PrintsAnswer : {T : Type 0} → Question → Result T Fault → ℕ → List Event → Bool → Option (List ℕ) → Option (List ℕ) → Type 0
+PrintsAnswer question (Ok x) capacity journal honest output written = Prints question capacity journal honest output written
+PrintsAnswer question (Err faults.Usage) capacity journal honest output written = ⊥
+PrintsAnswer question (Err faults.Path) capacity journal honest output written = ⊥
+PrintsAnswer question (Err faults.Socket) capacity journal honest output written = ⊥
+PrintsAnswer question (Err (faults.Store fault)) capacity journal honest output written = PrintsNothing question capacity journal honest fault output written
+PrintsAnswer question (Err (faults.Stream stream.Read)) capacity journal honest output written = ⊥
+PrintsAnswer question (Err (faults.Stream stream.Write)) capacity journal honest output written = PrintsPrefix question capacity journal honest output written
+PrintsAnswer question (Err (faults.Stream stream.Memory)) capacity journal honest output written = ⊥
 
 -- the same on the image at a path, to which nothing is written
 abbrev pub ShowsImage : {T : Type 0} → Question → List ℕ → Result T Fault → Images → Images → Option (List ℕ) → Option (List ℕ) → Type 0
 ShowsImage question image outcome old new output written =
     Unopened outcome old new output written
-    ⊎ OnMedia IsThere GREATEST_CAPACITY image (λ before behind. (behind.journal ≡ before.journal) × Shows question outcome before.capacity before.journal behind.honest output written) old new
+    ⊎ OnMedia IsThere GREATEST_CAPACITY image (λ before behind. (behind.journal ≡ before.journal) × PrintsAnswer question outcome before.capacity before.journal behind.honest output written) old new
 
 -- The text is that of no path, or there was no memory for it.
 abbrev pub IsUnread : {T : Type 0} → List ℕ → Result T Fault → Type 0

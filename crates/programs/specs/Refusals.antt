@@ -4,7 +4,7 @@ use Rattle.limits.specs.declared.TheConstants.{GREATEST_CAPACITY}
 use Rattle.command_line.specs.declared.daemon.DaemonWords.{DaemonWords}
 use Rattle.command_line.specs.Daemon.{AsksDaemon}
 use Rattle.engine.specs.Situation.{Situation}
-use Rattle.engine.specs.Streams.{PutsFront}
+use Rattle.engine.specs.Streams.{PutsPrefix}
 use Rattle.recover.specs.declared.fault.StoreFault.TheVariants as stores
 use Rattle.programs.specs.declared.fault.Fault.{Fault}
 use Rattle.programs.specs.declared.fault.Fault.TheVariants.{Usage, Path, Socket, Store, Stream}
@@ -38,11 +38,11 @@ ServesImage image Did (Err (Store fault)) old new = AreUntouched old new × (fau
 ServesImage image Did (Err (Stream fault)) old new = ⊥
 
 -- this is its status, and the line that is said of it, or a front where the stream fails
-pub record TellsRefusal (words : List (List ℕ)) (status : ℕ) (old new : Images) (errors told : Option (List ℕ)) : Type 0 where
+pub record ReportsRefusal (words : List (List ℕ)) (status : ℕ) (old new : Images) (errors told : Option (List ℕ)) : Type 0 where
   pub fault : Fault
   pub refuses : RefusesDaemon words fault old new
   pub status_is : status ≡ fault_status fault
-  pub line : PutsFront errors told (fault_line (codes "udfburnd") fault)
+  pub line : PutsPrefix errors told (fault_line (codes "udfburnd") fault)
 
 -- why a connection could not be had, or was left
 abbrev pub IsLeaving : Fault → Type 0
@@ -52,29 +52,29 @@ IsLeaving Socket = ⊤
 IsLeaving (Store fault) = fault ≡ stores.Memory
 IsLeaving (Stream fault) = ⊤
 
--- the lines of such faults were said one after another, the last of them first here, or a front of one where the stream failed
-abbrev pub SaysEach : List Fault → Option (List ℕ) → Option (List ℕ) → Type 0
-SaysEach [] errors told = told ≡ errors
-SaysEach (fault ∷ earlier) errors told =
-    (between : Option (List ℕ)) × SaysEach earlier errors between × IsLeaving fault × PutsFront between told (fault_line (codes "udfburnd") fault)
+-- the lines of such faults were said one after another, the last of them first here, or a prefix of one where the stream failed
+abbrev pub ReportsEach : List Fault → Option (List ℕ) → Option (List ℕ) → Type 0
+ReportsEach [] errors told = told ≡ errors
+ReportsEach (fault ∷ earlier) errors told =
+    (between : Option (List ℕ)) × ReportsEach earlier errors between × IsLeaving fault × PutsPrefix between told (fault_line (codes "udfburnd") fault)
 
 -- such lines were said, and nothing else
-pub record SaysFaults (errors told : Option (List ℕ)) : Type 0 where
+pub record ReportsFaults (errors told : Option (List ℕ)) : Type 0 where
   pub faults : List Fault
-  pub lines : SaysEach faults errors told
+  pub lines : ReportsEach faults errors told
 
 -- The words of the process are no texts, memory is short for them or for the output, or a descriptor cannot be held.
 abbrev pub IsEarly : Fault → Type 0
 IsEarly fault = (fault ≡ Usage) ⊎ ((fault ≡ Store stores.Memory) ⊎ (fault ≡ Store stores.Device))
 
 -- So a program of this name ended before anything was begun.
-pub record TellsEarly (name : List ℕ) (status : ℕ) (errors told : Option (List ℕ)) : Type 0 where
+pub record ReportsEarly (name : List ℕ) (status : ℕ) (errors told : Option (List ℕ)) : Type 0 where
   pub fault : Fault
   pub early : IsEarly fault
   pub status_is : status ≡ fault_status fault
-  pub line : PutsFront errors told (fault_line name fault)
+  pub line : PutsPrefix errors told (fault_line name fault)
 
 -- why the process of a daemon served nothing: before it had its words, or with these
-abbrev pub IsDaemonTold : ℕ → Images → Images → Option (List ℕ) → Option (List ℕ) → Type 0
-IsDaemonTold status old new errors told =
-    (AreUntouched old new × TellsEarly (codes "udfburnd") status errors told) ⊎ ((words : List (List ℕ)) × TellsRefusal words status old new errors told)
+abbrev pub IsDaemonReported : ℕ → Images → Images → Option (List ℕ) → Option (List ℕ) → Type 0
+IsDaemonReported status old new errors told =
+    (AreUntouched old new × ReportsEarly (codes "udfburnd") status errors told) ⊎ ((words : List (List ℕ)) × ReportsRefusal words status old new errors told)

@@ -23,7 +23,7 @@ status_of (Err fault) = fault_status fault
 abbrev pub IsRefusal : Fault → Type 0
 IsRefusal fault = fault_status fault ≡ 1
 
--- how a fault of the words is told: other words as such, want of memory as a refusal
+-- how a fault of the words is told: other words as such, lack of memory as a refusal
 abbrev pub AreWordsTold : WordsFault → Fault → Type 0
 AreWordsTold words.Usage fault = fault ≡ Usage
 AreWordsTold words.Memory fault = fault ≡ Store store.Memory

@@ -8,7 +8,7 @@ use Rattle.engine.specs.declared.serving.ServeFault.TheVariants as stream
 use Rattle.programs.specs.declared.fault.Fault.{Fault}
 use Rattle.programs.specs.declared.fault.Fault.TheVariants.{Stream}
 use Rattle.programs.specs.Applied.{AppliesToImage, AnswersInMemory}
-use Rattle.programs.specs.Copies.{Sends}
+use Rattle.programs.specs.Copies.{SendsFrames}
 use Rattle.programs.specs.FaultLines.{Reports}
 use Rattle.programs.specs.Images.{AreUntouched, Images}
 use Rattle.programs.specs.NewVolumes.{MakesOnImage}
@@ -38,15 +38,15 @@ task_of (commands.Check image) = Check image.now
 task_of (commands.Send socket) = Send
 
 -- what was done, by the outcome: of the images that are held, and of what is read and written
-abbrev pub Does : {T : Type 0} → Task → Result T Fault → Images → Images → Option (List ℕ) → Option (List ℕ) → Option (List ℕ) → Option (List ℕ) → Type 0
-Does (Format image label moment capacity) outcome old new input left output written = (left ≡ input) × MakesOnImage image label moment capacity outcome old new output written
-Does (Apply_to_image image) outcome old new input left output written = AppliesToImage image outcome old new input left output written
-Does (Apply_in_memory capacity) outcome old new input left output written = AreUntouched old new × AnswersInMemory outcome capacity input left output written
-Does (List_names image path) outcome old new input left output written = (left ≡ input) × ShowsPath Names_at image path outcome old new output written
-Does (Get_bytes image path) outcome old new input left output written = (left ≡ input) × ShowsPath Bytes_at image path outcome old new output written
-Does (Log image) outcome old new input left output written = (left ≡ input) × ShowsImage Commits image outcome old new output written
-Does (Check image) outcome old new input left output written = (left ≡ input) × ShowsImage Soundness image outcome old new output written
-Does Send outcome old new input left output written = AreUntouched old new × Sends outcome input left output written
+abbrev pub IsTaskDone : {T : Type 0} → Task → Result T Fault → Images → Images → Option (List ℕ) → Option (List ℕ) → Option (List ℕ) → Option (List ℕ) → Type 0
+IsTaskDone (Format image label moment capacity) outcome old new input left output written = (left ≡ input) × MakesOnImage image label moment capacity outcome old new output written
+IsTaskDone (Apply_to_image image) outcome old new input left output written = AppliesToImage image outcome old new input left output written
+IsTaskDone (Apply_in_memory capacity) outcome old new input left output written = AreUntouched old new × AnswersInMemory outcome capacity input left output written
+IsTaskDone (List_names image path) outcome old new input left output written = (left ≡ input) × ShowsPath Names_at image path outcome old new output written
+IsTaskDone (Get_bytes image path) outcome old new input left output written = (left ≡ input) × ShowsPath Bytes_at image path outcome old new output written
+IsTaskDone (Log image) outcome old new input left output written = (left ≡ input) × ShowsImage Commits image outcome old new output written
+IsTaskDone (Check image) outcome old new input left output written = (left ≡ input) × ShowsImage Soundness image outcome old new output written
+IsTaskDone Send outcome old new input left output written = AreUntouched old new × SendsFrames outcome input left output written
 
 -- a command that writes to no image
 abbrev pub IsReading : Task → Type 0
@@ -62,15 +62,15 @@ IsReading Send = ⊤
 -- There is an outcome by which that was done. It has this status, and a fault's line was said.
 pub record Ends (task : Task) (status : ℕ) (old new : Images) (input left output written errors told : Option (List ℕ)) : Type 0 where
   pub outcome : Result (Unit {0}) Fault
-  pub does : Does task outcome old new input left output written
+  pub does : IsTaskDone task outcome old new input left output written
   pub status_is : status ≡ status_of outcome
   pub reports : Reports (codes "udfburn") outcome errors told
 
 -- a beginning of the bytes, where those are known
-abbrev pub IsFrontOf : Option (List ℕ) → Option (List ℕ) → Type 0
-IsFrontOf None written = ⊤
-IsFrontOf (Some bytes) None = ⊥
-IsFrontOf (Some bytes) (Some written) = (count : ℕ) × (written ≡ take count bytes)
+abbrev pub IsPrefixOf : Option (List ℕ) → Option (List ℕ) → Type 0
+IsPrefixOf None written = ⊤
+IsPrefixOf (Some bytes) None = ⊥
+IsPrefixOf (Some bytes) (Some written) = (count : ℕ) × (written ≡ take count bytes)
 
 -- what is told of an outcome: the same, or that it went well and the output failed in the end
 abbrev pub IsToldAs : Result (Unit {0}) Fault → Result (Unit {0}) Fault → Type 0
@@ -78,26 +78,26 @@ IsToldAs outcome told = (told ≡ outcome) ⊎ (IsOk outcome × (told ≡ Err (S
 
 -- Something was done by an outcome, and of what was written with it a front is there. The status and the line are those of
 -- what is told of it.
-pub record HasFront (task : Task) (status : ℕ) (old new : Images) (input left output written errors told : Option (List ℕ)) : Type 0 where
+pub record HasPrefix (task : Task) (status : ℕ) (old new : Images) (input left output written errors told : Option (List ℕ)) : Type 0 where
   pub outcome : Result (Unit {0}) Fault
   pub gathered : Option (List ℕ)
-  pub does : Does task outcome old new input left output gathered
-  pub front : IsFrontOf gathered written
+  pub does : IsTaskDone task outcome old new input left output gathered
+  pub front : IsPrefixOf gathered written
   pub told_as : Result (Unit {0}) Fault
   pub is_told : IsToldAs outcome told_as
   pub status_is : status ≡ status_of told_as
   pub reports : Reports (codes "udfburn") told_as errors told
 
 -- There are words of a command, and all was done that they ask for.
-pub record IsDone (old new : Images) (input left output written errors told : Option (List ℕ)) : Type 0 where
+pub record IsWhollyDone (old new : Images) (input left output written errors told : Option (List ℕ)) : Type 0 where
   pub words : List (List ℕ)
   pub asked : Command
   pub asks : Asks words asked
   pub ends : Ends (task_of asked) 0 old new input left output written errors told
 
 -- There are words of a command, and of what was written for them a front is there.
-pub record IsBegun (status : ℕ) (old new : Images) (input left output written errors told : Option (List ℕ)) : Type 0 where
+pub record IsPartlyDone (status : ℕ) (old new : Images) (input left output written errors told : Option (List ℕ)) : Type 0 where
   pub words : List (List ℕ)
   pub asked : Command
   pub asks : Asks words asked
-  pub front : HasFront (task_of asked) status old new input left output written errors told
+  pub front : HasPrefix (task_of asked) status old new input left output written errors told

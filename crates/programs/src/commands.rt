@@ -4,10 +4,10 @@ ghost use Rattle.std.specs.Prelude.{◌≡◌, ◌≤◌, ◌↔◌, map, codes,
 ghost use Rattle.command_line.specs.Commands.{Asks};
 ghost use Rattle.media.specs.Held.{Same};
 ghost use Rattle.programs.specs.Asked.{IsInRange};
-ghost use Rattle.programs.specs.FaultLines.{TellsOutcome};
+ghost use Rattle.programs.specs.FaultLines.{ReportsOutcome};
 ghost use Rattle.programs.specs.Images.{AreUntouched, images_on};
 ghost use Rattle.programs.specs.Status.{IsRefusal};
-ghost use Rattle.programs.specs.Tasks.{Does, Ends, IsReading, task_of};
+ghost use Rattle.programs.specs.Tasks.{IsTaskDone, Ends, IsReading, task_of};
 
 use crate::fault::{Fault, report};
 use crate::questions::{check_image, get_image, list_image, log_image};
@@ -41,7 +41,7 @@ where
     ensures status { result ≤ 2 }
     ensures asks { result ≤ 1 → (asked : _) × Asks (map (λ w. w.now) words.now) asked }
     // Why it was refused is all that is said.
-    ensures tells { TellsOutcome (codes "udfburn") result (E.contents errors.old) (E.contents errors.new) }
+    ensures reports { ReportsOutcome (codes "udfburn") result (E.contents errors.old) (E.contents errors.new) }
     // Of other words nothing is read, nothing is written, and no image is changed.
     ensures unread { result ≡ 2 → I.remaining input.new ≡ I.remaining input.old }
     ensures unwritten { result ≡ 2 → O.contents output.new ≡ O.contents output.old }
@@ -72,7 +72,7 @@ where
     O: Write,
     requires { IsInRange asked }
     ensures refusal { IfErr result IsRefusal }
-    ensures does { Does (task_of asked.entry) result (images_on M.Media media.old) (images_on M.Media media.new) (I.remaining input.old) (I.remaining input.new) (O.contents output.old) (O.contents output.new) }
+    ensures does { IsTaskDone (task_of asked.entry) result (images_on M.Media media.old) (images_on M.Media media.new) (I.remaining input.old) (I.remaining input.new) (O.contents output.old) (O.contents output.new) }
 {
     let alloc = rt.alloc();
     match asked {

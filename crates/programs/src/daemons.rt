@@ -1,14 +1,14 @@
 //! The program `udfburnd`.
 
 ghost use Rattle.std.specs.Prelude.{◌≡◌, ◌≤◌, ◌-◌, ◌^◌, None, unwrap_or, map, IfErr, OnOk, OnErr, IfNone, IfSome, IsSomeAnd};
-ghost use Rattle.drive.specs.Reads.{Follows};
+ghost use Rattle.drive.specs.Reads.{ReadsAndWrites};
 ghost use Rattle.engine.specs.Situation.{IsReady, seen_on, situation_on};
 ghost use Rattle.engine.specs.Served.{ServesAll};
-ghost use Rattle.programs.specs.Connections.{GoesOn, LeavesConnection, LeavesStream};
+ghost use Rattle.programs.specs.Connections.{ServesMessages, LeavesConnection, LeavesStream};
 ghost use Rattle.programs.specs.Images.{IsUnchanged, images_on};
 ghost use Rattle.programs.specs.Listening.{EndsOne, LetsGo, ServesRun, heard_on};
 ghost use Rattle.programs.specs.Outputs.{IsBlank};
-ghost use Rattle.programs.specs.Refusals.{OnAsked, RefusesDaemon, SaysFaults, ServesImage, TellsRefusal};
+ghost use Rattle.programs.specs.Refusals.{OnAsked, RefusesDaemon, ReportsFaults, ServesImage, ReportsRefusal};
 ghost use Rattle.programs.specs.Status.{IsRefusal};
 
 use crate::fault::{Fault, report};
@@ -49,9 +49,9 @@ where
     // that they name, one after another, as one run.
     ensures run { result ≡ 0 → OnAsked (map (λ w. w.now) words.now) (λ asked. ServesRun (unwrap_or asked.connections (2 ^ 64 - 1)) (heard_on L.Listener listener.old) (heard_on L.Listener listener.new)) (images_on M.Media media.old) (images_on M.Media media.new) }
     // What it said then is why connections could not be had, or were left.
-    ensures said { result ≡ 0 → SaysFaults (E.contents errors.old) (E.contents errors.new) }
+    ensures described { result ≡ 0 → ReportsFaults (E.contents errors.old) (E.contents errors.new) }
     // Where it was refused, it said why, and nothing else, and asked for no connection.
-    ensures tells { 1 ≤ result → TellsRefusal (map (λ w. w.now) words.now) result (images_on M.Media media.old) (images_on M.Media media.new) (E.contents errors.old) (E.contents errors.new) }
+    ensures reports { 1 ≤ result → ReportsRefusal (map (λ w. w.now) words.now) result (images_on M.Media media.old) (images_on M.Media media.new) (E.contents errors.old) (E.contents errors.new) }
     ensures unheard { 1 ≤ result → heard_on L.Listener listener.new ≡ heard_on L.Listener listener.old }
 {
     let outcome = serve_words(rt, media, listener, words, errors);
@@ -72,9 +72,9 @@ where
     R: Clock + AllocGlobal,
     E: Write,
     ensures run { OnOk result (OnAsked (map (λ w. w.now) words.now) (λ asked. ServesRun (unwrap_or asked.connections (2 ^ 64 - 1)) (heard_on L.Listener listener.old) (heard_on L.Listener listener.new)) (images_on M.Media media.old) (images_on M.Media media.new)) }
-    ensures said { OnOk result (SaysFaults (E.contents errors.old) (E.contents errors.new)) }
+    ensures described { OnOk result (ReportsFaults (E.contents errors.old) (E.contents errors.new)) }
     ensures refused { IfErr result (λ fault. RefusesDaemon (map (λ w. w.now) words.now) fault (images_on M.Media media.old) (images_on M.Media media.new)) }
-    ensures unsaid { OnErr result (E.contents errors.new ≡ E.contents errors.old) }
+    ensures unreported { OnErr result (E.contents errors.new ≡ E.contents errors.old) }
     ensures unheard { OnErr result (heard_on L.Listener listener.new ≡ heard_on L.Listener listener.old) }
 {
     match read_daemon(rt.alloc(), words) {
@@ -98,8 +98,8 @@ where
     R: Clock + AllocGlobal,
     E: Write,
     ensures serves { ServesImage asked.now.image.now (ServesRun (unwrap_or asked.now.connections (2 ^ 64 - 1)) (heard_on L.Listener listener.old) (heard_on L.Listener listener.new)) result (images_on M.Media media.old) (images_on M.Media media.new) }
-    ensures said { OnOk result (SaysFaults (E.contents errors.old) (E.contents errors.new)) }
-    ensures unsaid { OnErr result (E.contents errors.new ≡ E.contents errors.old) }
+    ensures described { OnOk result (ReportsFaults (E.contents errors.old) (E.contents errors.new)) }
+    ensures unreported { OnErr result (E.contents errors.new ≡ E.contents errors.old) }
     ensures unheard { OnErr result (heard_on L.Listener listener.new ≡ heard_on L.Listener listener.old) }
 {
     let mut drive = open_image(media, asked.image)?;
@@ -124,8 +124,8 @@ where
     ensures refused { IfErr result (λ fault. fault ≡ Fault.Socket) }
     ensures unchanged { OnErr result (IsUnchanged (situation_on D.Drive None drive.old) (situation_on D.Drive None drive.new)) }
     ensures run { OnOk result (ServesRun (unwrap_or asked.now.connections (2 ^ 64 - 1)) (heard_on L.Listener listener.old) (heard_on L.Listener listener.new) (situation_on D.Drive None drive.old) (situation_on D.Drive None drive.new)) }
-    ensures said { OnOk result (SaysFaults (E.contents errors.old) (E.contents errors.new)) }
-    ensures unsaid { OnErr result (E.contents errors.new ≡ E.contents errors.old) }
+    ensures described { OnOk result (ReportsFaults (E.contents errors.old) (E.contents errors.new)) }
+    ensures unreported { OnErr result (E.contents errors.new ≡ E.contents errors.old) }
     ensures unheard { OnErr result (heard_on L.Listener listener.new ≡ heard_on L.Listener listener.old) }
 {
     listen(listener, asked.socket)?;
@@ -153,7 +153,7 @@ where
     D: Drive,
     E: Write,
     ensures run { ServesRun connections (heard_on L.Listener listener.old) (heard_on L.Listener listener.new) (situation_on D.Drive None drive.old) (situation_on D.Drive None drive.new) }
-    ensures said { SaysFaults (E.contents errors.old) (E.contents errors.new) }
+    ensures described { ReportsFaults (E.contents errors.old) (E.contents errors.new) }
 {
     let mut engine = Engine::new();
     let mut left = connections;
@@ -162,14 +162,14 @@ where
     while left > 0 && tries < u64::MAX {
         tries += 1;
         let Ok((input, output)) = listener.accept(rt.alloc()) else {
-            // It goes on failing while descriptors are short, so it is told once, and waited out.
+            // It goes on failing while descriptors are short, so it is reported once, and waited out.
             tell_once(is_told, errors);
             is_told = true;
             thread::sleep(rt, Duration::from_millis(PAUSE));
             continue;
         };
         let served = serve_one(rt.alloc(), listener, input, output, &mut engine, drive);
-        // The daemon goes on: what was told already is all that there is to a connection's fault.
+        // Keep serving: `report` has already said all that there is to say of this fault.
         report(NAME, served, errors);
         left -= 1;
         is_told = false;
@@ -178,7 +178,7 @@ where
 
 /// Says that a connection could not be had, where that is not told already.
 fn tell_once<E: Write>(is_told: bool, errors: &mut E)
-    ensures { SaysFaults (E.contents errors.old) (E.contents errors.new) }
+    ensures { ReportsFaults (E.contents errors.old) (E.contents errors.new) }
 {
     if is_told {
         return;
@@ -198,9 +198,9 @@ pub fn serve_one<L: Listener, D: Drive>(
 ) -> Result<(), Fault>
     requires { IsReady (seen_on D.Drive engine.old drive.old) }
     ensures ready { IsReady (seen_on D.Drive engine.new drive.new) }
-    ensures lent { Follows D.Drive 0 drive.old drive.new }
+    ensures lent { ReadsAndWrites D.Drive 0 drive.old drive.new }
     // Messages were answered, and nothing else was done.
-    ensures goes { GoesOn (seen_on D.Drive engine.old drive.old) (seen_on D.Drive engine.new drive.new) }
+    ensures goes { ServesMessages (seen_on D.Drive engine.old drive.old) (seen_on D.Drive engine.new drive.new) }
     // Or nothing was, by the fault that it is left with.
     ensures left { IfErr result (λ fault. LeavesConnection fault (seen_on D.Drive engine.old drive.old) (seen_on D.Drive engine.new drive.new)) }
     ensures refusal { IfErr result IsRefusal }
@@ -223,7 +223,7 @@ pub fn serve_one<L: Listener, D: Drive>(
 }
 
 /// Answers the messages of the input on an output that is written many bytes at a time. It answers how that ended and the
-/// output, but for one that was let go for want of memory.
+/// output, but for one that was let go for lack of memory.
 fn serve_stream<I, O, D>(
     alloc: Global,
     input: &mut I,
@@ -237,12 +237,12 @@ where
     D: Drive,
     requires { IsReady (seen_on D.Drive engine.old drive.old) }
     ensures ready { IsReady (seen_on D.Drive engine.new drive.new) }
-    ensures lent { Follows D.Drive 0 drive.old drive.new }
-    ensures goes { GoesOn (seen_on D.Drive engine.old drive.old) (seen_on D.Drive engine.new drive.new) }
+    ensures lent { ReadsAndWrites D.Drive 0 drive.old drive.new }
+    ensures goes { ServesMessages (seen_on D.Drive engine.old drive.old) (seen_on D.Drive engine.new drive.new) }
     ensures refusal { IfErr result.0 IsRefusal }
     // Where it ended well, all messages of the input were answered, and each answer is written.
     ensures all { OnOk result.0 (IsSomeAnd result.1 (λ written. ServesAll (seen_on D.Drive engine.old drive.old) (seen_on D.Drive engine.new drive.new) (I.remaining input.old) (I.remaining input.new) (O.contents output) (O.contents written))) }
-    // Else the first of them were, as far as the fault tells, and a front of their answers is written.
+    // Else the first of them were, as far as the fault tells, and a prefix of their answers is written.
     ensures front { IfErr result.0 (λ fault. IfSome result.1 (λ written. LeavesStream fault (seen_on D.Drive engine.old drive.old) (seen_on D.Drive engine.new drive.new) (I.remaining input.old) (I.remaining input.new) (O.contents output) (O.contents written))) }
     ensures left { IfErr result.0 (λ fault. LeavesConnection fault (seen_on D.Drive engine.old drive.old) (seen_on D.Drive engine.new drive.new)) }
     // Where the output was let go nothing was done.

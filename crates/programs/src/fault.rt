@@ -2,7 +2,7 @@
 
 ghost use Rattle.std.specs.Prelude.{◌≡◌, OnOk, OnErr};
 ghost use Rattle.std.specs.Io.KnownBytes.{Appends};
-ghost use Rattle.engine.specs.Streams.{PutsFront};
+ghost use Rattle.engine.specs.Streams.{PutsPrefix};
 ghost use Rattle.recover.specs.declared.fault.StoreFault.TheVariants.{Memory};
 ghost use Rattle.programs.specs.FaultLines.{Reports, damage_text, fault_line, place_text};
 ghost use Rattle.programs.specs.FaultLines as said;
@@ -142,7 +142,7 @@ impl From<WordsFault> for Fault {
 /// told.
 pub fn report<E: Write>(name: &str, outcome: Result<(), Fault>, errors: &mut E) -> u8
     ensures status { result ≡ status_of outcome }
-    ensures says { Reports name.now outcome (E.contents errors.old) (E.contents errors.new) }
+    ensures describes { Reports name.now outcome (E.contents errors.old) (E.contents errors.new) }
 {
     let fault = match outcome {
         Ok(()) => return DONE,
@@ -159,7 +159,7 @@ pub fn report<E: Write>(name: &str, outcome: Result<(), Fault>, errors: &mut E) 
 /// Says a fault in a line.
 fn say<E: Write>(name: &str, fault: Fault, errors: &mut E) -> Result<(), ServeFault>
     ensures ok { OnOk result (Appends (E.contents errors.old) (E.contents errors.new) (fault_line name.now fault)) }
-    ensures err { OnErr result (PutsFront (E.contents errors.old) (E.contents errors.new) (fault_line name.now fault)) }
+    ensures err { OnErr result (PutsPrefix (E.contents errors.old) (E.contents errors.new) (fault_line name.now fault)) }
 {
     put_all(errors, name.as_bytes())?;
     put_all(errors, b": ")?;
@@ -171,7 +171,7 @@ fn say<E: Write>(name: &str, fault: Fault, errors: &mut E) -> Result<(), ServeFa
 /// Says what is damaged, and how.
 fn say_damage<E: Write>(damage: Option<(u32, u8)>, errors: &mut E) -> Result<(), ServeFault>
     ensures ok { OnOk result (Appends (E.contents errors.old) (E.contents errors.new) (damage_text damage)) }
-    ensures err { OnErr result (PutsFront (E.contents errors.old) (E.contents errors.new) (damage_text damage)) }
+    ensures err { OnErr result (PutsPrefix (E.contents errors.old) (E.contents errors.new) (damage_text damage)) }
 {
     match damage {
         Some((block, cause)) => say_place(block, cause, errors),
@@ -181,7 +181,7 @@ fn say_damage<E: Write>(damage: Option<(u32, u8)>, errors: &mut E) -> Result<(),
 
 fn say_place<E: Write>(block: u32, cause: u8, errors: &mut E) -> Result<(), ServeFault>
     ensures ok { OnOk result (Appends (E.contents errors.old) (E.contents errors.new) (place_text block cause)) }
-    ensures err { OnErr result (PutsFront (E.contents errors.old) (E.contents errors.new) (place_text block cause)) }
+    ensures err { OnErr result (PutsPrefix (E.contents errors.old) (E.contents errors.new) (place_text block cause)) }
 {
     put_all(errors, b" block ")?;
     put_all(errors, Buffer::new().format(block).as_bytes())?;

@@ -2,7 +2,7 @@
 
 ghost use Rattle.std.specs.Prelude.{◌≡◌, ◌++◌, IfOk, IfErr, OnOk, string_bytes};
 ghost use Rattle.store.specs.Asked.{said_listed, said_names};
-ghost use Rattle.programs.specs.Lines.{Puts, name_line, names_text, commit_line, commits_text, sound_text};
+ghost use Rattle.programs.specs.Lines.{PutsBytes, name_line, names_text, commit_line, commits_text, sound_text};
 ghost use Rattle.programs.specs.Status.{IsRefusal};
 
 use crate::fault::Fault;
@@ -12,7 +12,7 @@ use std::alloc::{AllocError, Global};
 use std::io::Write;
 use store::Commit;
 
-/// Names, each in a line behind a letter that tells its kind.
+/// Names, each in a line after a letter that tells its kind.
 pub(crate) fn name_lines(alloc: Global, names: &[Listed]) -> Result<String, AllocError>
     ensures { IfOk result (λ text. string_bytes text ≡ names_text (said_names names.now)) }
 {
@@ -34,8 +34,8 @@ fn push_name(text: &mut String, listed: &Listed) -> Result<(), AllocError>
     writeln!(text, "{letter} {name}")
 }
 
-/// Commits, each in a line: its number, the address of its table's entry, and how many files and directories the tree had
-/// behind it.
+/// Commits, each in a line: its number, the address of its VAT ICB, and how many files and directories the tree had
+/// after it.
 pub(crate) fn commit_lines(alloc: Global, commits: &[Commit]) -> Result<String, AllocError>
     ensures { IfOk result (λ text. string_bytes text ≡ commits_text commits.now) }
 {
@@ -51,7 +51,7 @@ fn push_commit(text: &mut String, told: Commit) -> Result<(), AllocError>
 {
     let Commit {
         commit,
-        at,
+        vat_icb_address: at,
         files,
         directories,
     } = told;
@@ -68,7 +68,7 @@ pub(crate) fn sound_line(alloc: Global, commits: u32) -> Result<String, AllocErr
 /// Writes the bytes, and all that waits in a buffer.
 pub(crate) fn put<O: Write>(output: &mut O, bytes: &[u8]) -> Result<(), Fault>
     ensures refusal { IfErr result IsRefusal }
-    ensures puts { Puts result (O.contents output.old) (O.contents output.new) bytes.now }
+    ensures puts { PutsBytes result (O.contents output.old) (O.contents output.new) bytes.now }
 {
     put_all(output, bytes)?;
     match output.flush() {

@@ -2,11 +2,11 @@
 
 ghost use Rattle.std.specs.Prelude.{◌≡◌, ◌≤◌, ◌-◌, ◌^◌, unwrap_or, map, codes, IfErr, IfNone, IfOk, IfSome, IsSomeAnd, OnErr};
 ghost use Rattle.command_line.specs.Commands.{Asks};
-ghost use Rattle.programs.specs.FaultLines.{TellsOutcome};
+ghost use Rattle.programs.specs.FaultLines.{ReportsOutcome};
 ghost use Rattle.programs.specs.Images.{AreUntouched, images_on};
 ghost use Rattle.programs.specs.Listening.{ServesRun, heard_on};
-ghost use Rattle.programs.specs.Refusals.{IsDaemonTold, IsEarly, OnAsked, SaysFaults, TellsEarly};
-ghost use Rattle.programs.specs.Tasks.{Ends, HasFront, IsBegun, IsDone, IsFrontOf, task_of};
+ghost use Rattle.programs.specs.Refusals.{IsDaemonReported, IsEarly, OnAsked, ReportsFaults, ReportsEarly};
+ghost use Rattle.programs.specs.Tasks.{Ends, HasPrefix, IsPartlyDone, IsWhollyDone, IsPrefixOf, task_of};
 
 use crate::commands::command_on;
 use crate::daemons::daemon_on;
@@ -42,19 +42,19 @@ where
     I: Read,
     O: Write + Drop,
     E: Write,
-    ensures tells { TellsOutcome (codes "udfburn") result.0 (E.contents errors.old) (E.contents errors.new) }
+    ensures reports { ReportsOutcome (codes "udfburn") result.0 (E.contents errors.old) (E.contents errors.new) }
     // At status 0 there are words of a command, and all is written that was done of what they ask for.
-    ensures done { result.0 ≡ 0 → IsSomeAnd result.1 (λ written. IsDone (images_on M.Media media.old) (images_on M.Media media.new) (I.remaining input.old) (I.remaining input.new) (O.contents output) (O.contents written) (E.contents errors.old) (E.contents errors.new)) }
+    ensures done { result.0 ≡ 0 → IsSomeAnd result.1 (λ written. IsWhollyDone (images_on M.Media media.old) (images_on M.Media media.new) (I.remaining input.old) (I.remaining input.new) (O.contents output) (O.contents written) (E.contents errors.old) (E.contents errors.new)) }
     // At status 1 there are such words too where the output was not let go, and a front is written.
-    ensures begun { result.0 ≤ 1 → IfSome result.1 (λ written. IsBegun result.0 (images_on M.Media media.old) (images_on M.Media media.new) (I.remaining input.old) (I.remaining input.new) (O.contents output) (O.contents written) (E.contents errors.old) (E.contents errors.new)) }
+    ensures begun { result.0 ≤ 1 → IfSome result.1 (λ written. IsPartlyDone result.0 (images_on M.Media media.old) (images_on M.Media media.new) (I.remaining input.old) (I.remaining input.new) (O.contents output) (O.contents written) (E.contents errors.old) (E.contents errors.new)) }
     // Of other words nothing is read, and nothing is written.
     ensures unread { result.0 ≡ 2 → I.remaining input.new ≡ I.remaining input.old }
-    ensures unwritten { result.0 ≡ 2 → IfSome result.1 (λ written. IsFrontOf (O.contents output) (O.contents written)) }
+    ensures unwritten { result.0 ≡ 2 → IfSome result.1 (λ written. IsPrefixOf (O.contents output) (O.contents written)) }
     ensures untouched { result.0 ≡ 2 → AreUntouched (images_on M.Media media.old) (images_on M.Media media.new) }
     // Where the output was let go nothing was read and no image changed, and it says why nothing was begun.
     ensures let_go { IfNone result.1 (I.remaining input.new ≡ I.remaining input.old) }
     ensures left { IfNone result.1 (AreUntouched (images_on M.Media media.old) (images_on M.Media media.new)) }
-    ensures early { IfNone result.1 (TellsEarly (codes "udfburn") result.0 (E.contents errors.old) (E.contents errors.new)) }
+    ensures early { IfNone result.1 (ReportsEarly (codes "udfburn") result.0 (E.contents errors.old) (E.contents errors.new)) }
 {
     match try_command(rt, media, input, output, errors) {
         Ok(ended) => ended,
@@ -75,10 +75,10 @@ where
     // they name, as one run.
     ensures run { result ≡ 0 → (words : _) × OnAsked words (λ asked. ServesRun (unwrap_or asked.connections (2 ^ 64 - 1)) (heard_on L.Listener listener.old) (heard_on L.Listener listener.new)) (images_on M.Media media.old) (images_on M.Media media.new) }
     // What it said then is why connections could not be had, or were left.
-    ensures said { result ≡ 0 → SaysFaults (E.contents errors.old) (E.contents errors.new) }
+    ensures described { result ≡ 0 → ReportsFaults (E.contents errors.old) (E.contents errors.new) }
     // Where it was refused, it said why, and nothing else, and asked for no connection.
     ensures unheard { 1 ≤ result → heard_on L.Listener listener.new ≡ heard_on L.Listener listener.old }
-    ensures tells { 1 ≤ result → IsDaemonTold result (images_on M.Media media.old) (images_on M.Media media.new) (E.contents errors.old) (E.contents errors.new) }
+    ensures reports { 1 ≤ result → IsDaemonReported result (images_on M.Media media.old) (images_on M.Media media.new) (E.contents errors.old) (E.contents errors.new) }
 {
     match try_daemon(rt, media, listener, errors) {
         Ok(status) => status,
@@ -99,28 +99,28 @@ where
     I: Read,
     O: Write + Drop,
     E: Write,
-    ensures unsaid { IfErr result (λ _. E.contents errors.new ≡ E.contents errors.old) }
-    ensures tells { IfOk result (λ ended. TellsOutcome (codes "udfburn") ended.0 (E.contents errors.old) (E.contents errors.new)) }
-    ensures done { IfOk result (λ ended. ended.0 ≡ 0 → IsSomeAnd ended.1 (λ written. IsDone (images_on M.Media media.old) (images_on M.Media media.new) (I.remaining input.old) (I.remaining input.new) (O.contents output) (O.contents written) (E.contents errors.old) (E.contents errors.new))) }
-    ensures begun { IfOk result (λ ended. ended.0 ≤ 1 → IfSome ended.1 (λ written. IsBegun ended.0 (images_on M.Media media.old) (images_on M.Media media.new) (I.remaining input.old) (I.remaining input.new) (O.contents output) (O.contents written) (E.contents errors.old) (E.contents errors.new))) }
+    ensures unreported { IfErr result (λ _. E.contents errors.new ≡ E.contents errors.old) }
+    ensures reports { IfOk result (λ ended. ReportsOutcome (codes "udfburn") ended.0 (E.contents errors.old) (E.contents errors.new)) }
+    ensures done { IfOk result (λ ended. ended.0 ≡ 0 → IsSomeAnd ended.1 (λ written. IsWhollyDone (images_on M.Media media.old) (images_on M.Media media.new) (I.remaining input.old) (I.remaining input.new) (O.contents output) (O.contents written) (E.contents errors.old) (E.contents errors.new))) }
+    ensures begun { IfOk result (λ ended. ended.0 ≤ 1 → IfSome ended.1 (λ written. IsPartlyDone ended.0 (images_on M.Media media.old) (images_on M.Media media.new) (I.remaining input.old) (I.remaining input.new) (O.contents output) (O.contents written) (E.contents errors.old) (E.contents errors.new))) }
     ensures unheard { OnErr result (I.remaining input.new ≡ I.remaining input.old) }
     ensures unread { IfOk result (λ ended. ended.0 ≡ 2 → I.remaining input.new ≡ I.remaining input.old) }
-    ensures unwritten { IfOk result (λ ended. ended.0 ≡ 2 → IfSome ended.1 (λ written. IsFrontOf (O.contents output) (O.contents written))) }
+    ensures unwritten { IfOk result (λ ended. ended.0 ≡ 2 → IfSome ended.1 (λ written. IsPrefixOf (O.contents output) (O.contents written))) }
     ensures refused { IfErr result IsEarly }
     ensures unopened { OnErr result (AreUntouched (images_on M.Media media.old) (images_on M.Media media.new)) }
     ensures untouched { IfOk result (λ ended. ended.0 ≡ 2 → AreUntouched (images_on M.Media media.old) (images_on M.Media media.new)) }
     ensures let_go { IfOk result (λ ended. IfNone ended.1 (I.remaining input.new ≡ I.remaining input.old)) }
     ensures left { IfOk result (λ ended. IfNone ended.1 (AreUntouched (images_on M.Media media.old) (images_on M.Media media.new))) }
-    ensures early { IfOk result (λ ended. IfNone ended.1 (TellsEarly (codes "udfburn") ended.0 (E.contents errors.old) (E.contents errors.new))) }
+    ensures early { IfOk result (λ ended. IfNone ended.1 (ReportsEarly (codes "udfburn") ended.0 (E.contents errors.old) (E.contents errors.new))) }
 {
     hold_standard_streams(rt)?;
     let words = own_words(rt)?;
     let texts = texts(rt.alloc(), &words)?;
-    Ok(gathered(rt, media, behind_name(&texts), input, output, errors))
+    Ok(gathered(rt, media, after_program_name(&texts), input, output, errors))
 }
 
 /// `command_on` with an output that is written many bytes at a time. What waits in the end is written then. It answers the status
-/// and the output, but for one that was let go for want of memory.
+/// and the output, but for one that was let go for lack of memory.
 fn gathered<M, R, I, O, E>(
     rt: &R,
     media: &mut M,
@@ -135,20 +135,20 @@ where
     I: Read,
     O: Write + Drop,
     E: Write,
-    ensures tells { TellsOutcome (codes "udfburn") result.0 (E.contents errors.old) (E.contents errors.new) }
+    ensures reports { ReportsOutcome (codes "udfburn") result.0 (E.contents errors.old) (E.contents errors.new) }
     ensures asks { result.0 ≤ 1 → IfSome result.1 (λ _. (asked : _) × Asks (map (λ w. w.now) words.now) asked) }
     ensures kept { result.0 ≡ 0 → IsSomeAnd result.1 (λ _. (asked : _) × Asks (map (λ w. w.now) words.now) asked) }
-    // At status 0 all is written that was done, and else a front of it.
+    // At status 0 all is written that was done, and else a prefix of it.
     ensures all { (asked : _) → Asks (map (λ w. w.now) words.now) asked → result.0 ≡ 0 → IsSomeAnd result.1 (λ written. Ends (task_of asked) 0 (images_on M.Media media.old) (images_on M.Media media.new) (I.remaining input.old) (I.remaining input.new) (O.contents output) (O.contents written) (E.contents errors.old) (E.contents errors.new)) }
     // Of other words nothing is read, and nothing is written.
     ensures unread { result.0 ≡ 2 → I.remaining input.new ≡ I.remaining input.old }
-    ensures unwritten { result.0 ≡ 2 → IfSome result.1 (λ written. IsFrontOf (O.contents output) (O.contents written)) }
+    ensures unwritten { result.0 ≡ 2 → IfSome result.1 (λ written. IsPrefixOf (O.contents output) (O.contents written)) }
     ensures untouched { result.0 ≡ 2 → AreUntouched (images_on M.Media media.old) (images_on M.Media media.new) }
     // Where the output was let go nothing is read and no image changed, since memory is short.
     ensures let_go { IfNone result.1 (I.remaining input.new ≡ I.remaining input.old) }
     ensures left { IfNone result.1 (AreUntouched (images_on M.Media media.old) (images_on M.Media media.new)) }
-    ensures early { IfNone result.1 (TellsEarly (codes "udfburn") result.0 (E.contents errors.old) (E.contents errors.new)) }
-    ensures front { (asked : _) → Asks (map (λ w. w.now) words.now) asked → IfSome result.1 (λ written. HasFront (task_of asked) result.0 (images_on M.Media media.old) (images_on M.Media media.new) (I.remaining input.old) (I.remaining input.new) (O.contents output) (O.contents written) (E.contents errors.old) (E.contents errors.new)) }
+    ensures early { IfNone result.1 (ReportsEarly (codes "udfburn") result.0 (E.contents errors.old) (E.contents errors.new)) }
+    ensures front { (asked : _) → Asks (map (λ w. w.now) words.now) asked → IfSome result.1 (λ written. HasPrefix (task_of asked) result.0 (images_on M.Media media.old) (images_on M.Media media.new) (I.remaining input.old) (I.remaining input.new) (O.contents output) (O.contents written) (E.contents errors.old) (E.contents errors.new)) }
 {
     let mut writer = match BufWriter::new(rt.alloc(), output) {
         Ok(writer) => writer,
@@ -181,15 +181,15 @@ where
     L: Listener,
     R: Files<File = File> + Clock + Env + AllocGlobal,
     E: Write,
-    ensures unsaid { IfErr result (λ _. E.contents errors.new ≡ E.contents errors.old) }
+    ensures unreported { IfErr result (λ _. E.contents errors.new ≡ E.contents errors.old) }
     ensures status { IfOk result (λ status. status ≤ 2) }
     ensures run { IfOk result (λ status. status ≡ 0 → (words : _) × OnAsked words (λ asked. ServesRun (unwrap_or asked.connections (2 ^ 64 - 1)) (heard_on L.Listener listener.old) (heard_on L.Listener listener.new)) (images_on M.Media media.old) (images_on M.Media media.new)) }
     ensures unopened { OnErr result (AreUntouched (images_on M.Media media.old) (images_on M.Media media.new)) }
-    ensures said { IfOk result (λ status. status ≡ 0 → SaysFaults (E.contents errors.old) (E.contents errors.new)) }
+    ensures described { IfOk result (λ status. status ≡ 0 → ReportsFaults (E.contents errors.old) (E.contents errors.new)) }
     ensures refused { IfErr result IsEarly }
     ensures unasked { OnErr result (heard_on L.Listener listener.new ≡ heard_on L.Listener listener.old) }
     ensures unheard { IfOk result (λ status. 1 ≤ status → heard_on L.Listener listener.new ≡ heard_on L.Listener listener.old) }
-    ensures tells { IfOk result (λ status. 1 ≤ status → IsDaemonTold status (images_on M.Media media.old) (images_on M.Media media.new) (E.contents errors.old) (E.contents errors.new)) }
+    ensures reports { IfOk result (λ status. 1 ≤ status → IsDaemonReported status (images_on M.Media media.old) (images_on M.Media media.new) (E.contents errors.old) (E.contents errors.new)) }
 {
     hold_standard_streams(rt)?;
     let words = own_words(rt)?;
@@ -241,8 +241,8 @@ fn texts(alloc: Global, words: &[String]) -> Result<Vec<&str>, Fault>
     }
 }
 
-/// The words behind the program's name.
-fn behind_name<'a, 'w>(words: &'a [&'w str]) -> &'a [&'w str] {
+/// The words after the program's name.
+fn after_program_name<'a, 'w>(words: &'a [&'w str]) -> &'a [&'w str] {
     let (_, rest) = words.split_at(words.len().min(1));
     rest
 }

@@ -2,7 +2,7 @@
 
 ghost use Rattle.std.specs.Prelude.{◌≡◌, IfErr, IsTrue};
 ghost use Rattle.programs.specs.Images.{images_on};
-ghost use Rattle.programs.specs.Questions.{Shows, ShowsImage, ShowsPath};
+ghost use Rattle.programs.specs.Questions.{PrintsAnswer, ShowsImage, ShowsPath};
 ghost use Rattle.programs.specs.Questions.Question.{Names_at, Bytes_at, Commits, Soundness};
 ghost use Rattle.programs.specs.Status.{IsRefusal};
 
@@ -25,7 +25,7 @@ pub(crate) fn list_image<M: Media, O: Write>(
     output: &mut O,
 ) -> Result<(), Fault>
     ensures refusal { IfErr result IsRefusal }
-    ensures shows { ShowsPath Names_at image.now path.now result (images_on M.Media media.old) (images_on M.Media media.new) (O.contents output.old) (O.contents output.new) }
+    ensures prints { ShowsPath Names_at image.now path.now result (images_on M.Media media.old) (images_on M.Media media.new) (O.contents output.old) (O.contents output.new) }
 {
     let path = Path::parse(alloc, path)?;
     let mut drive = read_image(media, image)?;
@@ -43,7 +43,7 @@ pub(crate) fn get_image<M: Media, O: Write>(
     output: &mut O,
 ) -> Result<(), Fault>
     ensures refusal { IfErr result IsRefusal }
-    ensures shows { ShowsPath Bytes_at image.now path.now result (images_on M.Media media.old) (images_on M.Media media.new) (O.contents output.old) (O.contents output.new) }
+    ensures prints { ShowsPath Bytes_at image.now path.now result (images_on M.Media media.old) (images_on M.Media media.new) (O.contents output.old) (O.contents output.new) }
 {
     let path = Path::parse(alloc, path)?;
     let mut drive = read_image(media, image)?;
@@ -60,7 +60,7 @@ pub(crate) fn log_image<M: Media, O: Write>(
     output: &mut O,
 ) -> Result<(), Fault>
     ensures refusal { IfErr result IsRefusal }
-    ensures shows { ShowsImage Commits image.now result (images_on M.Media media.old) (images_on M.Media media.new) (O.contents output.old) (O.contents output.new) }
+    ensures prints { ShowsImage Commits image.now result (images_on M.Media media.old) (images_on M.Media media.new) (O.contents output.old) (O.contents output.new) }
 {
     let mut drive = read_image(media, image)?;
     let shown = log(alloc, &mut drive, output);
@@ -76,7 +76,7 @@ pub(crate) fn check_image<M: Media, O: Write>(
     output: &mut O,
 ) -> Result<(), Fault>
     ensures refusal { IfErr result IsRefusal }
-    ensures shows { ShowsImage Soundness image.now result (images_on M.Media media.old) (images_on M.Media media.new) (O.contents output.old) (O.contents output.new) }
+    ensures prints { ShowsImage Soundness image.now result (images_on M.Media media.old) (images_on M.Media media.new) (O.contents output.old) (O.contents output.new) }
 {
     let mut drive = read_image(media, image)?;
     let shown = check(alloc, &mut drive, output);
@@ -84,7 +84,7 @@ pub(crate) fn check_image<M: Media, O: Write>(
     shown
 }
 
-/// The names in a directory, each in a line behind a letter that tells its kind.
+/// The names in a directory, each in a line after a letter that tells its kind.
 fn list<D: Drive, O: Write>(
     alloc: Global,
     drive: &mut D,
@@ -92,7 +92,7 @@ fn list<D: Drive, O: Write>(
     output: &mut O,
 ) -> Result<(), Fault>
     ensures refusal { IfErr result IsRefusal }
-    ensures shows { Shows (Names_at path.now) result (D.capacity drive.old) (D.journal drive.old) (D.honest drive.new) (O.contents output.old) (O.contents output.new) }
+    ensures prints { PrintsAnswer (Names_at path.now) result (D.capacity drive.old) (D.journal drive.old) (D.honest drive.new) (O.contents output.old) (O.contents output.new) }
     ensures journal { D.journal drive.new ≡ D.journal drive.old }
     ensures honest { IsTrue (D.honest drive.new) → IsTrue (D.honest drive.old) }
 {
@@ -110,7 +110,7 @@ fn get<D: Drive, O: Write>(
     output: &mut O,
 ) -> Result<(), Fault>
     ensures refusal { IfErr result IsRefusal }
-    ensures shows { Shows (Bytes_at path.now) result (D.capacity drive.old) (D.journal drive.old) (D.honest drive.new) (O.contents output.old) (O.contents output.new) }
+    ensures prints { PrintsAnswer (Bytes_at path.now) result (D.capacity drive.old) (D.journal drive.old) (D.honest drive.new) (O.contents output.old) (O.contents output.new) }
     ensures journal { D.journal drive.new ≡ D.journal drive.old }
     ensures honest { IsTrue (D.honest drive.new) → IsTrue (D.honest drive.old) }
 {
@@ -119,11 +119,11 @@ fn get<D: Drive, O: Write>(
     put(output, data.as_slice())
 }
 
-/// The commits, the newest first, each in a line: its number, the address of its table's entry, and how many files and
-/// directories the tree had behind it.
+/// The commits, the newest first, each in a line: its number, the address of its VAT ICB, and how many files and
+/// directories the tree had after it.
 fn log<D: Drive, O: Write>(alloc: Global, drive: &mut D, output: &mut O) -> Result<(), Fault>
     ensures refusal { IfErr result IsRefusal }
-    ensures shows { Shows Commits result (D.capacity drive.old) (D.journal drive.old) (D.honest drive.new) (O.contents output.old) (O.contents output.new) }
+    ensures prints { PrintsAnswer Commits result (D.capacity drive.old) (D.journal drive.old) (D.honest drive.new) (O.contents output.old) (O.contents output.new) }
     ensures journal { D.journal drive.new ≡ D.journal drive.old }
     ensures honest { IsTrue (D.honest drive.new) → IsTrue (D.honest drive.old) }
 {
@@ -136,7 +136,7 @@ fn log<D: Drive, O: Write>(alloc: Global, drive: &mut D, output: &mut O) -> Resu
 /// How many commits there are, where the state after each of them stands.
 fn check<D: Drive, O: Write>(alloc: Global, drive: &mut D, output: &mut O) -> Result<(), Fault>
     ensures refusal { IfErr result IsRefusal }
-    ensures shows { Shows Soundness result (D.capacity drive.old) (D.journal drive.old) (D.honest drive.new) (O.contents output.old) (O.contents output.new) }
+    ensures prints { PrintsAnswer Soundness result (D.capacity drive.old) (D.journal drive.old) (D.honest drive.new) (O.contents output.old) (O.contents output.new) }
     ensures journal { D.journal drive.new ≡ D.journal drive.old }
     ensures honest { IsTrue (D.honest drive.new) → IsTrue (D.honest drive.old) }
 {

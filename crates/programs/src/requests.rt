@@ -3,7 +3,7 @@
 ghost use Rattle.limits.specs.declared.TheConstants.{GREATEST_CAPACITY};
 ghost use Rattle.std.specs.Prelude.{◌≤◌, IfErr};
 ghost use Rattle.engine.specs.Situation.{situation_on};
-ghost use Rattle.programs.specs.Applied.{Applies, AppliesToImage, AnswersInMemory};
+ghost use Rattle.programs.specs.Applied.{AppliesStream, AppliesToImage, AnswersInMemory};
 ghost use Rattle.programs.specs.Images.{images_on};
 ghost use Rattle.programs.specs.Status.{IsRefusal};
 
@@ -64,7 +64,7 @@ fn apply<D: Drive, I: Read, O: Write>(
     output: &mut O,
 ) -> Result<(), Fault>
     ensures refusal { IfErr result IsRefusal }
-    ensures applies { Applies result (situation_on D.Drive None drive.old)
+    ensures applies { AppliesStream result (situation_on D.Drive None drive.old)
         (situation_on D.Drive None drive.new)
         (I.remaining input.old) (I.remaining input.new) (O.contents output.old) (O.contents output.new) }
 {

@@ -2,7 +2,7 @@
 
 ghost use Rattle.std.specs.Prelude.{◌≡◌, ◌<◌, ◌≤◌, IfErr, IfOk, OnOk};
 ghost use Rattle.programs.specs.Status.{IsRefusal};
-ghost use Rattle.programs.specs.Copies.{CopiesFrames, CopiesUntil, Sends, SendsUntil};
+ghost use Rattle.programs.specs.Copies.{CopiesFrames, CopiesUntil, SendsFrames, SendsUntil};
 
 use crate::counting::FrameCount;
 use crate::fault::Fault;
@@ -25,7 +25,7 @@ pub(crate) fn send<R: Net + AllocGlobal, I: Read, O: Write>(
     output: &mut O,
 ) -> Result<(), Fault>
     ensures refusal { IfErr result IsRefusal }
-    ensures sends { Sends result (I.remaining input.old) (I.remaining input.new) (O.contents output.old) (O.contents output.new) }
+    ensures sends { SendsFrames result (I.remaining input.old) (I.remaining input.new) (O.contents output.old) (O.contents output.new) }
 {
     let mut stream = match UnixStream::connect(rt, socket) {
         Ok(stream) => stream,

@@ -4,7 +4,7 @@ ghost use Rattle.std.specs.Prelude.{◌≡◌, ◌<◌, IfErr, OnOk};
 ghost use Rattle.engine.specs.Situation.{situation_on};
 ghost use Rattle.formatting.specs.NewVolume.{words_on};
 ghost use Rattle.programs.specs.Images.{images_on};
-ghost use Rattle.programs.specs.NewVolumes.{Begins, IsBegun, IsNoPart, IsUnbegun, Makes, MakesOn, MakesOnImage};
+ghost use Rattle.programs.specs.NewVolumes.{BeginsBlock, HasFormatPrefix, IsNoPart, IsUnbegun, MakesVolume, MakesOn, MakesOnImage};
 ghost use Rattle.programs.specs.Status.{IsRefusal};
 
 use crate::fault::Fault;
@@ -64,7 +64,7 @@ fn make<D: Drive, O: Write>(
 ) -> Result<(), Fault>
     requires { moment < 4_102_444_800_000_000 }
     ensures refusal { IfErr result IsRefusal }
-    ensures makes { Makes label.now moment (D.capacity drive.old) result (D.journal drive.old) (D.journal drive.new) (D.honest drive.new) (O.contents output.old) (O.contents output.new) }
+    ensures makes { MakesVolume label.now moment (D.capacity drive.old) result (D.journal drive.old) (D.journal drive.new) (D.honest drive.new) (O.contents output.old) (O.contents output.new) }
 {
     format(alloc, drive, label, moment)?;
     put(output, b"formatted\n")
@@ -84,7 +84,7 @@ fn require_beginning<M: Media>(
     ensures journal { M.Drive.journal drive.new ≡ M.Drive.journal drive.old }
     ensures capacity { M.Drive.capacity drive.new ≡ M.Drive.capacity drive.old }
     ensures honest { M.Drive.honest drive.new ≡ M.Drive.honest drive.old }
-    ensures begun { OnOk result (IsBegun (M.Drive.capacity drive.old) label.now moment (M.Drive.journal drive.old)) }
+    ensures begun { OnOk result (HasFormatPrefix (M.Drive.capacity drive.old) label.now moment (M.Drive.journal drive.old)) }
     ensures refused { IfErr result (IsUnbegun (M.Drive.capacity drive.old) label.now moment (M.Drive.journal drive.old)) }
 {
     let mut part = [0; 2048];
@@ -111,7 +111,7 @@ fn require_part(
 ) -> Result<(), Fault>
     requires { moment < 4_102_444_800_000_000 }
     ensures refusal { IfErr result IsRefusal }
-    ensures begins { OnOk result (Begins (words_on capacity label.now moment) at part.now) }
+    ensures begins { OnOk result (BeginsBlock (words_on capacity label.now moment) at part.now) }
     ensures refused { IfErr result (IsNoPart capacity label.now moment at part.now) }
 {
     let mut whole = MemDrive::new(alloc, capacity, Vec::new(alloc));

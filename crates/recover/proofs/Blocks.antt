@@ -1,4 +1,4 @@
--- One more block, behind those that were read.
+-- One more block, after those that were read.
 use Rattle.std.proofs.Common.{◌≡◌, ℕ, inl, inr, ◌+◌, ◌-◌, ◌*◌, ◌<◌, ◌≤◌, List, [], ◌∷◌, ◌++◌, length, take, drop, Some, refl, sym, ap, ◌∙◌, arith, length-drop, length-append}
 use Rattle.std.specs.Prelude.{slice_get, min}
 use Rattle.std.specs.List.{flat_map}

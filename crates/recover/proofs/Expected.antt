@@ -10,7 +10,7 @@ use Rattle.std.proofs.lemmas.Option.{none-some, same_Some}
 use Rattle.dir.specs.declared.entry.Entry.{Entry as DirEntry}
 use Rattle.dir.specs.Directory.{is_directory}
 use Rattle.model.specs.Tree.{Name, Path, Tree, IsTree, Has, found_identity, identity_at}
-use Rattle.model.specs.Graph.{Graph, Stored, Entry, HasParent, Leads, MakesTree, Reach, entries_of, node_of}
+use Rattle.model.specs.Graph.{Graph, Stored, Entry, HasParent, PathLeads, MakesTree, Reach, entries_of, node_of}
 use Rattle.model.specs.Identities.{HasIdentities}
 use Rattle.model.proofs.Lists.{contains_here, contains_there, contains_cons, contains_map, not_in_nil, all_contains, not_same}
 use Rattle.model.proofs.Maps.{has_some}
@@ -18,7 +18,7 @@ use Rattle.model.proofs.Paths.{longer}
 use Rattle.udf.specs.Said.{said_entries, said_entry}
 use Rattle.recover.specs.declared.walk.Named.{Named}
 use Rattle.recover.specs.declared.walk.Walk.{Walk}
-use Rattle.recover.specs.Forest.{At, IsDrawn, by_address, by_identity}
+use Rattle.recover.specs.Forest.{At, IsAssigned, by_address, by_identity}
 use Rattle.recover.specs.Forest.Forest.{End, Seen}
 use Rattle.recover.specs.Refused.{Expects, IsBeside}
 use Rattle.recover.specs.Walk.{Begun, reached_in, uniques_in}
@@ -52,8 +52,8 @@ name_apart (x ∷ es) (suc i) e d at c =
 
 -- ---- paths
 
-leads_join : (graph : Graph) (p q : Path) (from to next : ℕ) → Leads graph from p to → Leads graph to q next → Leads graph from (p ++ q) next
-leads_join graph [] q from to next l m = subst (λ a. Leads graph a q next) (sym l) m
+leads_join : (graph : Graph) (p q : Path) (from to next : ℕ) → PathLeads graph from p to → PathLeads graph to q next → PathLeads graph from (p ++ q) next
+leads_join graph [] q from to next l m = subst (λ a. PathLeads graph a q next) (sym l) m
 leads_join graph (x ∷ p) q from to next l m = (l.0, l.1, leads_join graph p q l.0 to next l.2 m)
 
 -- what lies beside a path lies beside each longer one
@@ -101,7 +101,7 @@ module _ (graph : Graph) (tree : Tree) (is : IsTree tree) (makes : MakesTree gra
           go false f = f
           go true t = let (other, has, same, out) = e.uniques node.unique t in absurd (out [] (identities.distinct other path has has_path (same ∙ sym own) ∙ sym (append-nil path)))
 
-      pub drawn : IsDrawn before.next_unique node.address node.unique
+      pub drawn : IsAssigned before.next_unique node.address node.unique
       drawn = (
         (λ root. sym own ∙ ap (identity_at tree) (makes.one_path path [] 1 (subst (Reach graph path) root e.reach) refl) ∙ identities.root),
         λ apart.
@@ -117,8 +117,8 @@ module _ (graph : Graph) (tree : Tree) (is : IsTree tree) (makes : MakesTree gra
       keys_apart : Contains (keys_of (take i entries)) name → ⊥
       keys_apart = name_apart entries i (name, entry) (subst (IsDistinct bytes_eq) (names_said entries) (subst (λ es. IsDistinct bytes_eq (map (λ (x : Entry). x.name) es)) b.entries_are b.seen.distinct)) at_i
 
-      reach_child : Reach graph (path ++ name ∷ []) entry.icb
-      reach_child = leads_push graph path 1 node.address name entry.icb e.reach (b.stored, b.seen.there, said_entry (name, entry), inside, refl, refl)
+      reach_child : Reach graph (path ++ name ∷ []) entry.virtual_address
+      reach_child = leads_push graph path 1 node.address name entry.virtual_address e.reach (b.stored, b.seen.there, said_entry (name, entry), inside, refl, refl)
 
       -- a node of it that was seen, at another path
       abbrev Other : ℕ → Stored → Type 0
@@ -133,7 +133,7 @@ module _ (graph : Graph) (tree : Tree) (is : IsTree tree) (makes : MakesTree gra
           let listed : Contains (said_entries (take i entries)) x = subst (λ es. Contains es x) b.names c in
           let in_keys : Contains (keys_of (take i entries)) x.name = subst (λ ks. Contains ks x.name) (names_said (take i entries)) (contains_map (λ (y : Entry). y.name) (said_entries (take i entries)) x listed) in
           let in_stored : Contains (entries_of b.stored) x = subst (λ es. Contains es x) (sym b.entries_are) (said_take i entries x listed) in
-          let down : Leads graph node.address (x.name ∷ rest) a = (x.address, (b.stored, b.seen.there, x, in_stored, refl, refl), leads) in (
+          let down : PathLeads graph node.address (x.name ∷ rest) a = (x.address, (b.stored, b.seen.there, x, in_stored, refl, refl), leads) in (
             path ++ x.name ∷ rest,
             leads_join graph path (x.name ∷ rest) 1 node.address a e.reach down,
             seen.there,
@@ -150,11 +150,11 @@ module _ (graph : Graph) (tree : Tree) (is : IsTree tree) (makes : MakesTree gra
               ]
       other_at q a s (inr (inr none)) = absurd none
 
-      pub child_expects : (child : Named) → is_directory child.kind ≡ is_directory entry.kind → child.address ≡ entry.icb → child.unique ≡ entry.unique → child.above ≡ node.address → child.depth ≡ node.depth + 1
+      pub child_expects : (child : Named) → is_directory child.kind ≡ is_directory entry.kind → child.address ≡ entry.virtual_address → child.unique ≡ entry.unique → child.above ≡ node.address → child.depth ≡ node.depth + 1
           → Expects graph tree now child (path ++ name ∷ [])
       child_expects child kind address unique above depth =
           let (s, g, kind_is, identity_is) = makes.agree path node.address b.stored (said_entry (name, entry)) e.reach b.seen.there inside in
-          let parent = makes.parents path name node.address entry.icb s e.reach (b.stored, b.seen.there, said_entry (name, entry), inside, refl, refl) g in
+          let parent = makes.parents path name node.address entry.virtual_address s e.reach (b.stored, b.seen.there, said_entry (name, entry), inside, refl, refl) g in
           record {
             reach = subst (Reach graph (path ++ name ∷ [])) (sym address) reach_child;
             depth = (let l = length-append path (name ∷ []) in let d = e.depth in omega (arith, l, d, depth));

@@ -6,9 +6,9 @@ use Rattle.std.proofs.lemmas.Bool.{true≢false}
 use Rattle.std.proofs.lemmas.Map.Views.{exact_unsigned_eq}
 use Rattle.std.specs.Cmp.{nat_eq_equiv}
 use Rattle.model.specs.Tree.{Name, Path}
-use Rattle.model.specs.Graph.{Graph, Stored, Entry, IsFunctional, Leads, entries_of, is_directory}
+use Rattle.model.specs.Graph.{Graph, Stored, Entry, IsFunctional, PathLeads, entries_of, is_directory}
 use Rattle.model.proofs.Lists.{contains_here, contains_there, contains_cons, not_in_nil, all_contains, bytes_eq-itself}
-use Rattle.recover.specs.Forest.{Forest, IsSeen, IsWalked, IsDrawn, AreDrawn, At, Numbers, Puts, Adds, named, height}
+use Rattle.recover.specs.Forest.{Forest, IsSeen, IsWalked, IsAssigned, AreAssigned, At, Numbers, InsertsNumber, Adds, entries_named, height}
 use Rattle.recover.specs.Forest.Forest.{End, Seen}
 
 pub head_same : (a b : Name) (p q : Path) → a ∷ p ≡ b ∷ q → a ≡ b
@@ -32,10 +32,10 @@ at_nil (Seen name here node below rest) a s (inr (inl (p, e, x))) = cons_nil nam
 at_nil (Seen name here node below rest) a s (inr (inr at)) = at_nil rest a s at
 
 -- a path begins with the name of one of the nodes
-pub at_first : (f : Forest) (name : Name) (p : Path) (a : ℕ) (s : Stored) → At f (name ∷ p) a s → Contains (map (λ (e : Entry). e.name) (named f)) name
+pub at_first : (f : Forest) (name : Name) (p : Path) (a : ℕ) (s : Stored) → At f (name ∷ p) a s → Contains (map (λ (e : Entry). e.name) (entries_named f)) name
 at_first End name p a s at = absurd at
-at_first (Seen n here node below rest) name p a s (inl (e, i, x)) = subst (λ m. Contains (map (λ (e : Entry). e.name) (named (Seen n here node below rest))) m) (sym (head_same name n p [] e)) (contains_here n _)
-at_first (Seen n here node below rest) name p a s (inr (inl (q, e, x))) = subst (λ m. Contains (map (λ (e : Entry). e.name) (named (Seen n here node below rest))) m) (sym (head_same name n p q e)) (contains_here n _)
+at_first (Seen n here node below rest) name p a s (inl (e, i, x)) = subst (λ m. Contains (map (λ (e : Entry). e.name) (entries_named (Seen n here node below rest))) m) (sym (head_same name n p [] e)) (contains_here n _)
+at_first (Seen n here node below rest) name p a s (inr (inl (q, e, x))) = subst (λ m. Contains (map (λ (e : Entry). e.name) (entries_named (Seen n here node below rest))) m) (sym (head_same name n p q e)) (contains_here n _)
 at_first (Seen n here node below rest) name p a s (inr (inr at)) = contains_there n _ name (at_first rest name p a s at)
 
 pub at_short : (f : Forest) (p : Path) (a : ℕ) (s : Stored) → At f p a s → length p ≤ height f
@@ -44,9 +44,9 @@ at_short (Seen n here node below rest) p a s (inl (e, i, x)) = let l : length p 
 at_short (Seen n here node below rest) p a s (inr (inl (q, e, at))) = let l : length p ≡ suc (length q) = ap length e in let r = at_short below q a s at in omega arith
 at_short (Seen n here node below rest) p a s (inr (inr at)) = let r = at_short rest p a s at in omega arith
 
-pub at_drawn : (next : ℕ) (f : Forest) (p : Path) (a : ℕ) (s : Stored) → AreDrawn next f → At f p a s → IsDrawn next a s.identity
+pub at_drawn : (next : ℕ) (f : Forest) (p : Path) (a : ℕ) (s : Stored) → AreAssigned next f → At f p a s → IsAssigned next a s.identity
 at_drawn next End p a s d at = absurd at
-at_drawn next (Seen n here node below rest) p a s d (inl (e, same, is)) = subst (λ i. IsDrawn next i s.identity) (sym same) (subst (λ (t : Stored). IsDrawn next here t.identity) (sym is) d.0)
+at_drawn next (Seen n here node below rest) p a s d (inl (e, same, is)) = subst (λ i. IsAssigned next i s.identity) (sym same) (subst (λ (t : Stored). IsAssigned next here t.identity) (sym is) d.0)
 at_drawn next (Seen n here node below rest) p a s d (inr (inl (q, e, at))) = at_drawn next below q a s d.1 at
 at_drawn next (Seen n here node below rest) p a s d (inr (inr at)) = at_drawn next rest p a s d.2 at
 
@@ -61,10 +61,10 @@ module _ (graph : Graph) where
   abbrev pub Child : ℕ → Entry → Type 0
   Child above e = (s : Stored) × IsSeen graph above e.address s × (e.is_directory ≡ is_directory s) × (e.identity ≡ s.identity)
 
-  top : (f : Forest) (above : ℕ) (e : Entry) → IsWalked graph above f → Contains (named f) e → Child above e
+  top : (f : Forest) (above : ℕ) (e : Entry) → IsWalked graph above f → Contains (entries_named f) e → Child above e
   top End above e w c = absurd (not_in_nil e c)
   top (Seen n here node below rest) above e w c =
-      elim (contains_cons _ (named rest) e c) [
+      elim (contains_cons _ (entries_named rest) e c) [
         | inl same ↦ subst (Child above) same (node, w.0, refl, refl)
         | inr later ↦ top rest above e w.3 later
       ]
@@ -77,7 +77,7 @@ module _ (graph : Graph) where
   at_child (Seen n here node below rest) above p a s e w (inr (inr at)) c = at_child rest above p a s e w.3 at c
 
   -- the nodes of a directory have distinct names
-  pub at_one : (f : Forest) (above : ℕ) (p : Path) (a b : ℕ) (s t : Stored) → IsWalked graph above f → IsDistinct bytes_eq (map (λ (e : Entry). e.name) (named f)) → At f p a s → At f p b t → (a ≡ b) × (s ≡ t)
+  pub at_one : (f : Forest) (above : ℕ) (p : Path) (a b : ℕ) (s t : Stored) → IsWalked graph above f → IsDistinct bytes_eq (map (λ (e : Entry). e.name) (entries_named f)) → At f p a s → At f p b t → (a ≡ b) × (s ≡ t)
   unfolding IsDistinct
   at_one End above p a b s t w d x y = absurd x
   at_one (Seen n here node below rest) above p a b s t w d x y =
@@ -86,7 +86,7 @@ module _ (graph : Graph) where
     where
       apart : (q : Path) (c : ℕ) (u : Stored) → p ≡ n ∷ q → At rest p c u → ⊥
       apart q c u e r =
-          let none = all_contains (λ m. bytes_eq n m ≡ false) (map (λ (e : Entry). e.name) (named rest)) n d.0 (at_first rest n q c u (subst (λ r. At rest r c u) e r)) in
+          let none = all_contains (λ m. bytes_eq n m ≡ false) (map (λ (e : Entry). e.name) (entries_named rest)) n d.0 (at_first rest n q c u (subst (λ r. At rest r c u) e r)) in
           true≢false (sym (bytes_eq-itself n) ∙ none)
 
       go : ((q : Path) → At below q a s → At below q b t → (a ≡ b) × (s ≡ t)) → (At rest p a s → At rest p b t → (a ≡ b) × (s ≡ t)) → At (Seen n here node below rest) p a s → At (Seen n here node below rest) p b t → (a ≡ b) × (s ≡ t)
@@ -101,35 +101,35 @@ module _ (graph : Graph) where
       go under later (inr (inr x)) (inr (inr y)) = later x y
 
   -- from a node of the forest a path leads to a node below it
-  pub leads_down : IsFunctional graph → (f : Forest) (above : ℕ) (e : Entry) (p : Path) (a : ℕ) → IsWalked graph above f → Contains (named f) e → Leads graph e.address p a
+  pub leads_down : IsFunctional graph → (f : Forest) (above : ℕ) (e : Entry) (p : Path) (a : ℕ) → IsWalked graph above f → Contains (entries_named f) e → PathLeads graph e.address p a
       → (s : Stored) × At f (e.name ∷ p) a s
   leads_down one End above e p a w c l = absurd (not_in_nil e c)
   leads_down one (Seen n here node below rest) above e p a w c l =
-      elim (contains_cons _ (named rest) e c) [
-        | inl same ↦ subst (λ (x : Entry). (s : Stored) × At (Seen n here node below rest) (x.name ∷ p) a s) same (first p (subst (λ (x : Entry). Leads graph x.address p a) (sym same) l) (λ d q. leads_down one below here d q a w.2))
+      elim (contains_cons _ (entries_named rest) e c) [
+        | inl same ↦ subst (λ (x : Entry). (s : Stored) × At (Seen n here node below rest) (x.name ∷ p) a s) same (first p (subst (λ (x : Entry). PathLeads graph x.address p a) (sym same) l) (λ d q. leads_down one below here d q a w.2))
         | inr later ↦ let r = leads_down one rest above e p a w.3 later l in (r.0, inr (inr r.1))
       ]
     where
-      first : (p : Path) → Leads graph here p a → ((d : Entry) (q : Path) → Contains (named below) d → Leads graph d.address q a → (s : Stored) × At below (d.name ∷ q) a s)
+      first : (p : Path) → PathLeads graph here p a → ((d : Entry) (q : Path) → Contains (entries_named below) d → PathLeads graph d.address q a → (s : Stored) × At below (d.name ∷ q) a s)
           → (s : Stored) × At (Seen n here node below rest) (n ∷ p) a s
       first [] l deeper = (node, inl (refl, sym l, refl))
       first (m ∷ q) (next, (s, g, d, c, name, to), l) deeper =
           let same : s ≡ node = one here s node g w.0.there in
-          let inside : Contains (named below) d = subst (λ es. Contains es d) (sym w.1) (subst (λ (t : Stored). Contains (entries_of t) d) same c) in
-          let r = deeper d q inside (subst (λ i. Leads graph i q a) (sym to) l) in
+          let inside : Contains (entries_named below) d = subst (λ es. Contains es d) (sym w.1) (subst (λ (t : Stored). Contains (entries_of t) d) same c) in
+          let r = deeper d q inside (subst (λ i. PathLeads graph i q a) (sym to) l) in
           (r.0, inr (inl (m ∷ q, refl, subst (λ x. At below (x ∷ q) a r.0) name r.1)))
 
   -- and each node of the forest is reached so
   pub leads_up : (f : Forest) (above : ℕ) (p : Path) (a : ℕ) (s : Stored) → IsWalked graph above f → At f p a s
-      → (e : Entry) × (q : Path) × Contains (named f) e × (p ≡ e.name ∷ q) × Leads graph e.address q a
+      → (e : Entry) × (q : Path) × Contains (entries_named f) e × (p ≡ e.name ∷ q) × PathLeads graph e.address q a
   leads_up End above p a s w at = absurd at
-  leads_up (Seen n here node below rest) above p a s w (inl (e, same, is)) = (_, [], contains_here _ (named rest), e, sym same)
+  leads_up (Seen n here node below rest) above p a s w (inl (e, same, is)) = (_, [], contains_here _ (entries_named rest), e, sym same)
   leads_up (Seen n here node below rest) above p a s w (inr (inl (q, e, at))) =
       let (d, r, c, is, l) = leads_up below here q a s w.2 at in
-      (_, q, contains_here _ (named rest), e, subst (λ x. Leads graph here x a) (sym is) (d.address, (node, w.0.there, d, subst (λ es. Contains es d) w.1 c, refl, refl), l))
+      (_, q, contains_here _ (entries_named rest), e, subst (λ x. PathLeads graph here x a) (sym is) (d.address, (node, w.0.there, d, subst (λ es. Contains es d) w.1 c, refl, refl), l))
   leads_up (Seen n here node below rest) above p a s w (inr (inr at)) =
       let (d, r, c, is, l) = leads_up rest above p a s w.3 at in
-      (d, r, contains_there _ (named rest) d c, is, l)
+      (d, r, contains_there _ (entries_named rest) d c, is, l)
 
 -- ---- numbers that are added
 
@@ -140,21 +140,21 @@ n_case x n = go (nat_eq x n) refl
     go true e = inl (e, exact_unsigned_eq x n e)
     go false e = inr e
 
-put_kept : (p q : Numbers) (n x : ℕ) → Puts p n q → p x ≡ true → q x ≡ true
+put_kept : (p q : Numbers) (n x : ℕ) → InsertsNumber p n q → p x ≡ true → q x ≡ true
 put_kept p q n x h t = h.1 x ∙ go (x == n)
   where
     go : (b : Bool) → (if b then true else p x) ≡ true
     go true = refl
     go false = t
 
-put_only : (p q : Numbers) (n x : ℕ) → Puts p n q → q x ≡ true → (p x ≡ true) ⊎ (x ≡ n)
+put_only : (p q : Numbers) (n x : ℕ) → InsertsNumber p n q → q x ≡ true → (p x ≡ true) ⊎ (x ≡ n)
 put_only p q n x h t = go (n_case x n)
   where
     go : ((nat_eq x n ≡ true) × (x ≡ n)) ⊎ (nat_eq x n ≡ false) → (p x ≡ true) ⊎ (x ≡ n)
     go (inl e) = inr e.1
     go (inr f) = inl (sym (h.1 x ∙ ap (λ (b : Bool). if b then true else p x) f) ∙ t)
 
-put_has : (p q : Numbers) (n : ℕ) → Puts p n q → q n ≡ true
+put_has : (p q : Numbers) (n : ℕ) → InsertsNumber p n q → q n ≡ true
 put_has p q n h = h.1 n ∙ ap (λ (b : Bool). if b then true else p n) (nat_eq_equiv.refl n)
 
 module _ (key : ℕ → Stored → ℕ) where

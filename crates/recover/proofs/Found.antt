@@ -10,12 +10,12 @@ use Rattle.model.proofs.Lists.{get-take}
 use Rattle.durability.specs.Volume.{graph_of}
 use Rattle.udf.specs.Udf.{udf}
 use Rattle.recover.specs.declared.directory.Extent.{Extent}
-use Rattle.recover.specs.declared.seen.SeenFile.{SeenFile}
-use Rattle.recover.specs.declared.seen.SeenFiles.{SeenFiles}
+use Rattle.recover.specs.declared.checked.CheckedFile.{CheckedFile}
+use Rattle.recover.specs.declared.checked.CheckedFiles.{CheckedFiles}
 use Rattle.recover.specs.declared.walk.Named.{Named}
 use Rattle.recover.specs.declared.walk.Walk.{Walk}
-use Rattle.recover.specs.Forest.{IsDrawn, Puts}
-use Rattle.recover.specs.Seen.{AreSeen, GoesOn, IsFileSeen, IsNameSeen, VisitsName}
+use Rattle.recover.specs.Forest.{IsAssigned, InsertsNumber}
+use Rattle.recover.specs.Seen.{AreSeen, WalksOn, IsFileSeen, IsNameSeen, VisitsName}
 use Rattle.recover.specs.Walk.{Begun, HasNode, LeadsTo, LiesBelow, Tallied, Visits, nodes_of, reached_in, uniques_in}
 use Rattle.recover.proofs.Held.{length-held, lies_there}
 use Rattle.recover.proofs.Walks.{begun_more, file_seen, file_visits, visits_same}
@@ -45,26 +45,26 @@ higher H top at entry_at node low (body, entry, below) =
       lies_higher top at low body.extent below,
     )
 
-module _ (J : List Event) (before after : Walk) (file : SeenFile) (seen : IsFileSeen (held J) file) where
+module _ (J : List Event) (before after : Walk) (file : CheckedFile) (seen : IsFileSeen (held J) file) where
   visits_file : before.at ≤ next_of J → (child : Named) → child.kind ≡ File → child.address ≡ file.address → child.unique ≡ file.unique → child.depth ≤ 16
       → LeadsTo before.entries.now file.address (file.number + 257) → file.top ≤ before.at → file.unique < before.next_unique
-      → Puts (reached_in before) file.address (reached_in after) → Puts (uniques_in before) file.unique (uniques_in after)
+      → InsertsNumber (reached_in before) file.address (reached_in after) → InsertsNumber (uniques_in before) file.unique (uniques_in after)
       → Tallied before.files 1 after.files → after.directories ≡ before.directories → Visits (nodes_of J before) before after child
   visits_file within child kind address unique deep leads low drawn reached uniques files directories =
       let long : before.at ≤ length (take before.at (held J)) = omega (arith, length-take before.at (held J), length-held J, within) in
       let (body, entry, below) = higher (held J) file.top before.at (file.number + 257) child low (seen.has child kind address unique) in
       let there = subst (λ (a : ℕ). LeadsTo before.entries.now a (file.number + 257)) (sym address) leads in
-      let is_drawn : IsDrawn before.next_unique child.address child.unique =
+      let is_drawn : IsAssigned before.next_unique child.address child.unique =
       (λ one. absurd (seen.is_no_root (sym address ∙ one)), λ other. (let d = seen.drawn in omega (arith, d, unique), omega (arith, drawn, unique))) in
       file_visits (nodes_of J before) before after child (reached_in after) (uniques_in after)
       (file_seen (take before.at (held J)) before.entries.now child body (file.number + 257) there entry before.at long kind below) kind deep is_drawn
-      (subst (λ (a : ℕ). Puts (reached_in before) a (reached_in after)) (sym address) reached) (λ x. refl)
-      (subst (λ (u : ℕ). Puts (uniques_in before) u (uniques_in after)) (sym unique) uniques) (λ x. refl)
+      (subst (λ (a : ℕ). InsertsNumber (reached_in before) a (reached_in after)) (sym address) reached) (λ x. refl)
+      (subst (λ (u : ℕ). InsertsNumber (uniques_in before) u (uniques_in after)) (sym unique) uniques) (λ x. refl)
       files (omega (arith, directories), (λ lt. omega (arith, directories)), omega (arith, directories))
 
-pub visits_name : (J : List Event) (before after : Walk) (file : SeenFile) (entries : List (List ℕ × DirEntry)) (index depth : ℕ) → IsNameSeen (held J) entries index file
+pub visits_name : (J : List Event) (before after : Walk) (file : CheckedFile) (entries : List (List ℕ × DirEntry)) (index depth : ℕ) → IsNameSeen (held J) entries index file
     → before.at ≤ next_of J → depth < 16 → LeadsTo before.entries.now file.address (file.number + 257) → file.top ≤ before.at → file.unique < before.next_unique
-    → Puts (reached_in before) file.address (reached_in after) → Puts (uniques_in before) file.unique (uniques_in after)
+    → InsertsNumber (reached_in before) file.address (reached_in after) → InsertsNumber (uniques_in before) file.unique (uniques_in after)
     → Tallied before.files 1 after.files → after.directories ≡ before.directories → VisitsName (nodes_of J before) before after entries index (depth + 1)
 visits_name J before after file entries index depth named within deep leads low drawn reached uniques files directories = (
   named.name,
@@ -75,9 +75,9 @@ visits_name J before after file entries index depth named within deep leads low 
 )
 
 -- one more of a directory's
-pub goes_on : (before now after : Walk) (files : SeenFiles) (depth from index : ℕ) → now.at ≡ before.at → now.entries.now ≡ before.entries.now → now.next_unique ≡ before.next_unique
+pub goes_on : (before now after : Walk) (files : CheckedFiles) (depth from index : ℕ) → now.at ≡ before.at → now.entries.now ≡ before.entries.now → now.next_unique ≡ before.next_unique
     → ((J : List Event) (entries : List (List ℕ × DirEntry)) → now.at ≤ next_of J → AreSeen (held J) entries files → VisitsName (nodes_of J now) now after entries index (depth + 1))
-    → GoesOn before now files depth from index → GoesOn before after files depth from (index + 1)
+    → WalksOn before now files depth from index → WalksOn before after files depth from (index + 1)
 goes_on before now after files depth from index at table next one before_it J start node entries within are here start_next begun =
     let (name, there, visits) = one J entries (omega (arith, at, within)) are in
     let child : Named = record { kind = name.1.kind; address = name.1.icb; unique = name.1.unique; above = node.address; named_at = 0; depth = node.depth + 1 } in
@@ -86,8 +86,8 @@ goes_on before now after files depth from index at table next one before_it J st
     (visits_same J J now before _ _ _ refl at table (visits child refl refl refl (omega (arith, here))))
 
 -- and so from what was seen of a directory under the same table
-pub goes_on_same : (J : List Event) (now start after : Walk) (files : SeenFiles) (from to : ℕ) (node : Named) (entries : List (List ℕ × DirEntry)) → now.at ≡ start.at
-    → now.entries.now ≡ start.entries.now → now.next_unique ≡ start.next_unique → start.at ≤ next_of J → AreSeen (held J) entries files → GoesOn now after files node.depth from to
+pub goes_on_same : (J : List Event) (now start after : Walk) (files : CheckedFiles) (from to : ℕ) (node : Named) (entries : List (List ℕ × DirEntry)) → now.at ≡ start.at
+    → now.entries.now ≡ start.entries.now → now.next_unique ≡ start.next_unique → start.at ≤ next_of J → AreSeen (held J) entries files → WalksOn now after files node.depth from to
     → Begun (nodes_of J start) start now node entries from → Begun (nodes_of J start) start after node entries to
 goes_on_same J now start after files from to node entries at table next within are on begun =
     let same : nodes_of J now ≡ nodes_of J start = λ i. graph_of udf (take (at i) (held J)) (table i) in

@@ -25,6 +25,6 @@ held_at J at block lt e =
 pub lies_there : (M : List (List ℕ)) (n at : ℕ) (block : List ℕ) → at < n → slice_get M at ≡ Some block → slice_get (take n M) at ≡ Some block
 lies_there M n at block below there = get-take n M at below ∙ there
 
--- and so below an address behind it
+-- and so below an address after it
 pub held_below : (J : List Event) (n at : ℕ) (block : List ℕ) → at < n → at < next_of J → last_at J at ≡ Some block → slice_get (take n (held J)) at ≡ Some block
 held_below J n at block below lt e = lies_there (held J) n at block below (held_at J at block lt e)

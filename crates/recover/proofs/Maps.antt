@@ -5,7 +5,7 @@ use Rattle.std.specs.HashMap.{HashMap, get, IsUnchanged, Updates}
 use Rattle.std.specs.Map.{lookup}
 use Rattle.std.proofs.lemmas.Bool.{eqb-true}
 use Rattle.recover.specs.declared.directory.Extent.{Extent}
-use Rattle.recover.specs.Known.{same_extent}
+use Rattle.recover.specs.ReadCache.{same_extent}
 
 -- ---- what compares as equal is the same
 

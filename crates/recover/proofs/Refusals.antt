@@ -14,10 +14,10 @@ use Rattle.model.specs.Session.{State as ModelState}
 use Rattle.model.proofs.Lists.{bytes_eq-itself}
 use Rattle.durability.specs.Formats.{NodeFields, NodePlace, Table_}
 use Rattle.durability.specs.Formats.NodePlace.{Nowhere, Extent, Inside}
-use Rattle.durability.specs.Volume.{HasTable, IsWithin, Tells, bytes_in, extent, graph_of}
-use Rattle.udf.specs.Said.{said_fields, said_table}
+use Rattle.durability.specs.Volume.{HasTable, IsWithin, Describes, bytes_in, extent, graph_of}
+use Rattle.udf.specs.Said.{said_fields, model_table}
 use Rattle.udf.specs.Udf.{udf}
-use Rattle.udf.specs.Words.{fields_of, kind_of, table_of}
+use Rattle.udf.specs.Words.{icb_fields, icb_kind_of, table_of}
 use Rattle.udf.proofs.Formats.{exact}
 use Rattle.udf.proofs.Said.{entries_agree, tables_agree}
 use Rattle.vat.specs.declared.table.Vat.{Vat}
@@ -30,8 +30,8 @@ use Rattle.volume.proofs.ReadingLaws.{front_tells, one_told}
 use Rattle.recover.specs.declared.fault.StoreFault.{StoreFault}
 use Rattle.recover.specs.declared.fault.StoreFault.TheVariants.{Device, Memory, Damaged}
 use Rattle.recover.specs.declared.table.TableEntry.{TableEntry}
-use Rattle.recover.specs.State.{HasFileSet, HasTree, IsFrontRefused, IsSetRefused, IsStateRefused, IsTreeRefused, IsUntold}
-use Rattle.recover.specs.Tables.{HasDataBelow, HasEntry, IsEntryAt, IsEntryRefused, IsTableRefused, data_of, table_fields}
+use Rattle.recover.specs.State.{HasFileSet, CountsTree, IsFrontRefused, IsSetRefused, IsStateRefused, IsTreeRefused, IsUntold}
+use Rattle.recover.specs.Tables.{HasDataBelow, HasVatIcb, IsEntryAt, IsEntryRefused, IsTableRefused, table_data_of, table_fields}
 use Rattle.recover.proofs.Walks.{part_below}
 
 first_of : NodePlace → ℕ
@@ -42,9 +42,9 @@ first_of (Inside bytes) = 0
 module _ (M : List (List ℕ)) (at : ℕ) (low : 257 ≤ at) (long : at < length M) where
   -- ---- the entry of the table
 
-  no_table_entry : (block : List ℕ) (table : Table_) (moment : ℕ) → slice_get M at ≡ Some block → (HasEntry M at → ⊥) → HasTable udf (take at M) at block table moment → ⊥
+  no_table_entry : (block : List ℕ) (table : Table_) (moment : ℕ) → slice_get M at ≡ Some block → (HasVatIcb M at → ⊥) → HasTable udf (take at M) at block table moment → ⊥
   no_table_entry block table moment there never h =
-      never (record { block = block; there = there; is = record { fields = fields_of h.fields; kind = ap kind_of h.kind; entry = h.entry } })
+      never (record { block = block; there = there; is = record { fields = icb_fields h.fields; kind = ap icb_kind_of h.kind; entry = h.entry } })
 
   module _ (e : TableEntry) (is : IsEntryAt M at e) (block : List ℕ) (table : Table_) (moment : ℕ) (there : slice_get M at ≡ Some block) (h : HasTable udf (take at M) at block table moment) where
     same_fields : h.fields ≡ said_fields (table_fields e)
@@ -67,11 +67,11 @@ module _ (M : List (List ℕ)) (at : ℕ) (low : 257 ≤ at) (long : at < length
         omega (arith, within, l, long)
 
     -- its data
-    pub told_table : udf.IsTable table (at - 257) (data_of M e)
+    pub told_table : udf.IsTable table (at - 257) (table_data_of M e)
     told_table =
         let below = data_below in
         let part = part_below (e.first + 257) (div_ceil e.size 2048) at M below in
-        let same : bytes_in e.size (extent (take at M) e.first e.size) ≡ data_of M e = ap (λ (blocks : List (List ℕ)). take e.size (flat_map (λ b. b) blocks)) part in
+        let same : bytes_in e.size (extent (take at M) e.first e.size) ≡ table_data_of M e = ap (λ (blocks : List (List ℕ)). take e.size (flat_map (λ b. b) blocks)) part in
         subst (udf.IsTable table (at - 257)) same
         (subst (λ (n : ℕ). udf.IsTable table (at - 257) (bytes_in e.size (extent (take at M) n e.size))) same_first
         (subst (λ (n : ℕ). udf.IsTable table (at - 257) (bytes_in n (extent (take at M) h.first n))) same_size h.is))
@@ -85,10 +85,10 @@ module _ (M : List (List ℕ)) (at : ℕ) (low : 257 ≤ at) (long : at < length
       ]
 
   pub table_is_read : (block : List ℕ) (table : Table_) (moment : ℕ) → slice_get M at ≡ Some block → HasTable udf (take at M) at block table moment → (e : TableEntry) → IsEntryAt M at e
-      → (b c : ℕ) → IsTableRefused (at - 257) e (data_of M e) (Damaged b c) → ⊥
+      → (b c : ℕ) → IsTableRefused (at - 257) e (table_data_of M e) (Damaged b c) → ⊥
   table_is_read block table moment there h e is b c r =
       let told = told_table e is block table moment there h in
-      no_fault (table_rules (at - 257) (data_of M e)) r.1 r.3 (rules_hold (at - 257) (table_of told.0 table) (data_of M e) told.1)
+      no_fault (table_rules (at - 257) (table_data_of M e)) r.1 r.3 (rules_hold (at - 257) (table_of told.0 table) (table_data_of M e) told.1)
 
   pub entry_refused : (capacity : ℕ) (fault : StoreFault) → IsEntryRefused M at fault → IsStateRefused capacity M at fault
   entry_refused capacity Device r = tt
@@ -97,7 +97,7 @@ module _ (M : List (List ℕ)) (at : ℕ) (low : 257 ≤ at) (long : at < length
 
   -- ---- the front
 
-  told_front : (capacity volume : ℕ) (block : List ℕ) (said : ModelState) (tells : Tells udf capacity volume (take at M) at block said) → IsFront tells.table.label tells.formatted volume (take 257 M)
+  told_front : (capacity volume : ℕ) (block : List ℕ) (said : ModelState) (tells : Describes udf capacity volume (take at M) at block said) → IsFront tells.table.label tells.formatted volume (take 257 M)
   told_front capacity volume block said tells = subst (IsFront tells.table.label tells.formatted volume) (part_below 0 257 at M low) tells.front
 
   pub front_refused : (capacity : ℕ) (fault : StoreFault) → IsFrontRefused (take 257 M) fault → IsStateRefused capacity M at fault
@@ -106,7 +106,7 @@ module _ (M : List (List ℕ)) (at : ℕ) (low : 257 ≤ at) (long : at < length
   front_refused capacity _ r = absurd r
 
   module _ (label : List ℕ) (formatted size : ℕ) (front : IsFront label formatted size (take 257 M)) (capacity volume : ℕ) (block : List ℕ) (said : ModelState)
-      (tells : Tells udf capacity volume (take at M) at block said) where
+      (tells : Describes udf capacity volume (take at M) at block said) where
     one_front : ◌≡◌ {A = Front} (record { label = tells.table.label; moment = tells.formatted; capacity = volume }) (record { label = label; moment = formatted; capacity = size })
     one_front =
         one_told _ _ _ _ (front_tells (record { label = tells.table.label; moment = tells.formatted; capacity = volume }) (take 257 M) (told_front capacity volume block said tells))
@@ -130,18 +130,18 @@ module _ (M : List (List ℕ)) (at : ℕ) (low : 257 ≤ at) (long : at < length
 
   -- ---- the table
 
-  pub no_table : (capacity : ℕ) (e : TableEntry) → IsEntryAt M at e → (fault : StoreFault) → IsTableRefused (at - 257) e (data_of M e) fault → IsStateRefused capacity M at fault
+  pub no_table : (capacity : ℕ) (e : TableEntry) → IsEntryAt M at e → (fault : StoreFault) → IsTableRefused (at - 257) e (table_data_of M e) fault → IsStateRefused capacity M at fault
   no_table capacity e is Device r = tt
   no_table capacity e is Memory r = tt
   no_table capacity e is (Damaged b c) r = λ volume block said there tells. table_is_read block tells.table said.moment there tells.has e is b c r
   no_table capacity e is _ r = absurd r
 
-  module _ (e : TableEntry) (is : IsEntryAt M at e) (vat : Vat) (read : IsTableAt (at - 257) (view vat) (data_of M e)) (capacity volume : ℕ) (block : List ℕ) (said : ModelState)
-      (there : slice_get M at ≡ Some block) (tells : Tells udf capacity volume (take at M) at block said) where
-    pub one_table : tells.table ≡ said_table (view vat)
-    one_table = exact.table (at - 257) (data_of M e) tells.table (said_table (view vat)) (told_table e is block tells.table said.moment there tells.has) (tables_agree (view vat) (at - 257) (data_of M e) read)
+  module _ (e : TableEntry) (is : IsEntryAt M at e) (vat : Vat) (read : IsTableAt (at - 257) (view vat) (table_data_of M e)) (capacity volume : ℕ) (block : List ℕ) (said : ModelState)
+      (there : slice_get M at ≡ Some block) (tells : Describes udf capacity volume (take at M) at block said) where
+    pub one_table : tells.table ≡ model_table (view vat)
+    one_table = exact.table (at - 257) (table_data_of M e) tells.table (model_table (view vat)) (told_table e is block tells.table said.moment there tells.has) (tables_agree (view vat) (at - 257) (table_data_of M e) read)
 
-  module _ (e : TableEntry) (is : IsEntryAt M at e) (vat : Vat) (read : IsTableAt (at - 257) (view vat) (data_of M e)) (label : List ℕ) (formatted size : ℕ) (front : IsFront label formatted size (take 257 M)) (capacity : ℕ) where
+  module _ (e : TableEntry) (is : IsEntryAt M at e) (vat : Vat) (read : IsTableAt (at - 257) (view vat) (table_data_of M e)) (label : List ℕ) (formatted size : ℕ) (front : IsFront label formatted size (take 257 M)) (capacity : ℕ) where
     -- labels that `!=` tells apart
     pub other_label : (r : Bool) → r ≡ not (pointwise nat_eq vat.label label) → r ≡ true → IsUntold capacity M at
     other_label r is_not apart volume block said there tells =
@@ -151,7 +151,7 @@ module _ (M : List (List ℕ)) (at : ℕ) (low : 257 ≤ at) (long : at < length
 
     -- ---- the file set
 
-    told_set : (volume : ℕ) (block : List ℕ) (said : ModelState) → slice_get M at ≡ Some block → Tells udf capacity volume (take at M) at block said → HasFileSet (take at M) vat.entries.items label formatted
+    told_set : (volume : ℕ) (block : List ℕ) (said : ModelState) → slice_get M at ≡ Some block → Describes udf capacity volume (take at M) at block said → HasFileSet (take at M) vat.entries.items label formatted
     told_set volume block said there tells =
         let table = one_table e is vat read capacity volume block said there tells in
         let same = one_label label formatted size front capacity volume block said tells in
@@ -171,8 +171,8 @@ module _ (M : List (List ℕ)) (at : ℕ) (low : 257 ≤ at) (long : at < length
 
     -- ---- the tree
 
-    told_tree : (volume : ℕ) (block : List ℕ) (said : ModelState) → slice_get M at ≡ Some block → Tells udf capacity volume (take at M) at block said
-        → HasTree (take at M) vat × (2 * vat.sessions.commits + 261 ≤ at) × (vat.sessions.next_unique ≤ 16 + vat.sessions.commits)
+    told_tree : (volume : ℕ) (block : List ℕ) (said : ModelState) → slice_get M at ≡ Some block → Describes udf capacity volume (take at M) at block said
+        → CountsTree (take at M) vat × (2 * vat.sessions.commits + 261 ≤ at) × (vat.sessions.next_unique ≤ 16 + vat.sessions.commits)
     told_tree volume block said there tells =
         let table = one_table e is vat read capacity volume block said there tells in
         let next : said.next_identity ≡ vat.sessions.next_unique = sym tells.next_identity ∙ ap (λ (t : Table_). t.next_identity) table in

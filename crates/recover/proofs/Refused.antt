@@ -21,57 +21,57 @@ use Rattle.durability.specs.Formats.NodePlace.{Nowhere, Extent as MediumExtent, 
 use Rattle.durability.specs.Volume.{HoldsBody, HoldsDirectory, HoldsFile, IsStoredAt, extent, graph_of}
 use Rattle.udf.specs.Said.{said_entries, said_entry, names_directory}
 use Rattle.udf.specs.Udf.{IsBlock, udf}
-use Rattle.udf.specs.Words.{entries_of, entry_of, fields_of, kind_of, name_kind, place_of}
+use Rattle.udf.specs.Words.{directory_entries, directory_entry, icb_fields, icb_kind_of, name_kind, icb_place}
 use Rattle.recover.specs.declared.directory.Extent.{Extent}
 use Rattle.recover.specs.declared.fault.StoreFault.{StoreFault}
 use Rattle.recover.specs.declared.fault.StoreFault.TheVariants.{Damaged, Device, Memory}
 use Rattle.recover.specs.declared.walk.Body.{Body as ReadBody}
 use Rattle.recover.specs.declared.walk.Named.{Named}
 use Rattle.recover.specs.declared.walk.Walk.{Walk}
-use Rattle.recover.specs.Forest.{IsDrawn}
+use Rattle.recover.specs.Forest.{IsAssigned}
 use Rattle.recover.specs.Nodes.{data_of, links_of}
 use Rattle.recover.specs.Refused.{Expects, IsBodyRefused, IsNamesRefused, IsReachRefused, IsVisitRefused}
-use Rattle.recover.specs.Marks.{marked}
-use Rattle.recover.specs.Walk.{Begun, HasEntry, LeadsTo, LiesBelow, extent_in, icb_kind, nodes_of, reached_in, uniques_in}
+use Rattle.recover.specs.IdSet.{marked}
+use Rattle.recover.specs.Walk.{Begun, HasFileEntry, LeadsTo, LiesBelow, extent_in, icb_kind, nodes_of, reached_in, uniques_in}
 use Rattle.recover.proofs.Expected.{child_expects, drawn, not_deep, not_reached, not_seen}
 use Rattle.recover.proofs.Nodes.{extent_below}
 use Rattle.recover.proofs.Walks.{links_said, part_below}
 
 -- ---- what the entry of a node says
 
-kind_held : (M : List (List ℕ)) (fields : NodeFields) (body : Body) (kind : Kind) → HoldsBody udf M fields body → has_names (content_in body) ≡ is_directory kind → kind_of fields.kind ≡ icb_kind kind
-kind_held M fields (Bytes bytes) File h d = ap kind_of h.0
+kind_held : (M : List (List ℕ)) (fields : NodeFields) (body : Body) (kind : Kind) → HoldsBody udf M fields body → has_names (content_in body) ≡ is_directory kind → icb_kind_of fields.kind ≡ icb_kind kind
+kind_held M fields (Bytes bytes) File h d = ap icb_kind_of h.0
 kind_held M fields (Bytes bytes) Directory h d = absurd (false≢true d)
 kind_held M fields (Entries parent entries) File h d = absurd (true≢false d)
-kind_held M fields (Entries parent entries) Directory h d = ap kind_of h.0
+kind_held M fields (Entries parent entries) Directory h d = ap icb_kind_of h.0
 
 file_links : (body : Body) (kind : Kind) → has_names (content_in body) ≡ is_directory kind → kind ≡ File → links_in body ≡ 1
 file_links (Bytes bytes) kind d file = refl
 file_links (Entries parent entries) kind d file = absurd (true≢false (d ∙ ap is_directory file))
 
 module _ (M : List (List ℕ)) (at : ℕ) (long : length M ≤ at) where
-  file_within : (size : ℕ) (place : NodePlace) (bytes : List ℕ) → HoldsFile M size place bytes → IfSome (extent_in size (place_of place)) (λ (e : Extent). e.first + 257 + div_ceil e.size 2048 ≤ at)
+  file_within : (size : ℕ) (place : NodePlace) (bytes : List ℕ) → HoldsFile M size place bytes → IfSome (extent_in size (icb_place place)) (λ (e : Extent). e.first + 257 + div_ceil e.size 2048 ≤ at)
   file_within size Nowhere bytes h = tt
   file_within size (MediumExtent first) bytes h = (let w = h.0 in omega (arith, w, long))
   file_within size (Inside inside) bytes h = tt
 
   directory_within : (size : ℕ) (place : NodePlace) (parent : ℕ) (entries : List Entry) → HoldsDirectory udf M size place parent entries
-      → IfSome (extent_in size (place_of place)) (λ (e : Extent). e.first + 257 + div_ceil e.size 2048 ≤ at)
+      → IfSome (extent_in size (icb_place place)) (λ (e : Extent). e.first + 257 + div_ceil e.size 2048 ≤ at)
   directory_within size Nowhere parent entries h = tt
   directory_within size (MediumExtent first) parent entries h = (let w = h.0 in omega (arith, w, long))
   directory_within size (Inside inside) parent entries h = tt
 
-  body_within : (fields : NodeFields) (body : Body) → HoldsBody udf M fields body → IfSome (extent_in fields.size (place_of fields.place)) (λ (e : Extent). e.first + 257 + div_ceil e.size 2048 ≤ at)
+  body_within : (fields : NodeFields) (body : Body) → HoldsBody udf M fields body → IfSome (extent_in fields.size (icb_place fields.place)) (λ (e : Extent). e.first + 257 + div_ceil e.size 2048 ≤ at)
   body_within fields (Bytes bytes) h = file_within fields.size fields.place bytes h.1
   body_within fields (Entries parent entries) h = directory_within fields.size fields.place parent entries h.1
 
 -- the blocks of a directory hold it
-directory_at : (M : List (List ℕ)) (size : ℕ) (place : NodePlace) (parent : ℕ) (entries : List Entry) (e : Extent) → extent_in size (place_of place) ≡ Some e → HoldsDirectory udf M size place parent entries
-    → All IsBlock (extent M e.first e.size) × IsDirectory parent (entries_of entries) e.first e.size (extent M e.first e.size)
+directory_at : (M : List (List ℕ)) (size : ℕ) (place : NodePlace) (parent : ℕ) (entries : List Entry) (e : Extent) → extent_in size (icb_place place) ≡ Some e → HoldsDirectory udf M size place parent entries
+    → All IsBlock (extent M e.first e.size) × IsDirectory parent (directory_entries entries) e.first e.size (extent M e.first e.size)
 directory_at M size Nowhere parent entries e some h = absurd h
 directory_at M size (Inside inside) parent entries e some h = absurd h
 directory_at M size (MediumExtent first) parent entries e some h =
-    subst (λ (x : Extent). All IsBlock (extent M x.first x.size) × IsDirectory parent (entries_of entries) x.first x.size (extent M x.first x.size)) (same_Some (record { first = first; size = size }) e some) (h.1.blocks_are, h.1.is)
+    subst (λ (x : Extent). All IsBlock (extent M x.first x.size) × IsDirectory parent (directory_entries entries) x.first x.size (extent M x.first x.size)) (same_Some (record { first = first; size = size }) e some) (h.1.blocks_are, h.1.is)
 
 -- ---- the words of the medium and back
 
@@ -79,17 +79,17 @@ kind_said : (b : Bool) → names_directory (name_kind b) ≡ b
 kind_said true = refl
 kind_said false = refl
 
-entry_said : (e : Entry) → said_entry (entry_of e) ≡ e
+entry_said : (e : Entry) → said_entry (directory_entry e) ≡ e
 entry_said e =
     let of : Bool → Entry = λ b. record { name = e.name; is_directory = b; address = e.address; identity = e.identity } in
     ap of (kind_said e.is_directory)
 
-entries_said : (es : List Entry) → said_entries (entries_of es) ≡ es
+entries_said : (es : List Entry) → said_entries (directory_entries es) ≡ es
 entries_said [] = refl
 entries_said (e ∷ es) = λ i. entry_said e i ∷ entries_said es i
 
-links_are : (es : List Entry) → links_of (entries_of es) ≡ 1 + count_by (λ (e : Entry). e.is_directory) es
-links_are es = ap (λ n. 1 + n) (links_said (entries_of es) ∙ ap (count_by (λ (e : Entry). e.is_directory)) (entries_said es))
+links_are : (es : List Entry) → links_of (directory_entries es) ≡ 1 + count_by (λ (e : Entry). e.is_directory) es
+links_are es = ap (λ n. 1 + n) (links_said (directory_entries es) ∙ ap (count_by (λ (e : Entry). e.is_directory)) (entries_said es))
 
 -- ---- a node that a tree has
 
@@ -99,7 +99,7 @@ module _ (M : List (List ℕ)) (before : Walk) (long : length M ≤ before.at) (
   there = e.there
 
   abbrev fields : IcbFields
-  fields = fields_of there.fields
+  fields = icb_fields there.fields
 
   is_entry : IsEntry fields node.address there.block
   is_entry = there.entry
@@ -115,7 +115,7 @@ module _ (M : List (List ℕ)) (before : Walk) (long : length M ≤ before.at) (
   abbrev body_of : ReadBody
   body_of = record { links = e.stored.links; extent = extent_in fields.size fields.place }
 
-  abbrev has_entry : (entry_at : ℕ) → LeadsTo before.entries.now node.address entry_at → HasEntry M entry_at node body_of
+  abbrev has_entry : (entry_at : ℕ) → LeadsTo before.entries.now node.address entry_at → HasFileEntry M entry_at node body_of
   has_entry entry_at leads = record {
     block = there.block;
     there = subst (λ n. slice_get M n ≡ Some there.block) (sym (one_lead entry_at leads)) there.there;
@@ -139,10 +139,10 @@ module _ (M : List (List ℕ)) (before : Walk) (long : length M ≤ before.at) (
       none (there.number + 257) (record { number = there.number; used = there.used; is = refl }) (omega (arith, within, long))
 
   module _ (entry_at : ℕ) (leads : LeadsTo before.entries.now node.address entry_at) where
-    pub is_taken : ((body : ReadBody) → HasEntry M entry_at node body → IfSome body.extent (LiesBelow before.at) → ⊥) → ⊥
+    pub is_taken : ((body : ReadBody) → HasFileEntry M entry_at node body → IfSome body.extent (LiesBelow before.at) → ⊥) → ⊥
     is_taken none = none body_of (has_entry entry_at leads) lies_below
 
-    module _ (body : ReadBody) (has : HasEntry M entry_at node body) where
+    module _ (body : ReadBody) (has : HasFileEntry M entry_at node body) where
       one_fields : has.fields ≡ fields
       one_fields =
           let taken = has_entry entry_at leads in
@@ -164,7 +164,7 @@ module _ (M : List (List ℕ)) (before : Walk) (long : length M ≤ before.at) (
           go (Entries parent entries) same =
               let directory = directory_at M there.fields.size there.fields.place parent entries x (sym one_extent ∙ some) (subst (HoldsBody udf M there.fields) same there.body).1 in
               let above : parent ≡ node.above = subst (λ b. IsUnder b node.above) same (e.parent (e.kind ∙ ap is_directory kind)) in
-              none (entries_of entries) directory.0 (subst (λ p. IsDirectory p (entries_of entries) x.first x.size (extent M x.first x.size)) above directory.1)
+              none (directory_entries entries) directory.0 (subst (λ p. IsDirectory p (directory_entries entries) x.first x.size (extent M x.first x.size)) above directory.1)
               (one_links ∙ ap links_in same ∙ sym (links_are entries))
 
 -- ---- refusals
@@ -184,12 +184,12 @@ module _ (M : List (List ℕ)) (before : Walk) (long : length M ≤ before.at) (
   body_refused entry_at leads now at next uniques (Damaged block cause) r = λ tree path is makes identities e.
       is_taken M before long node tree path is makes identities e entry_at leads (λ body has below.
       r body has (subst (λ n. IfSome body.extent (LiesBelow n)) (sym at) below)
-      (subst (λ n. IsDrawn n node.address node.unique) (sym next) (drawn (graph_of udf M before.entries.now) tree is makes before node path e identities))
+      (subst (λ n. IsAssigned n node.address node.unique) (sym next) (drawn (graph_of udf M before.entries.now) tree is makes before node path e identities))
       (ap (λ u. marked u node.unique) uniques ∙ not_seen (graph_of udf M before.entries.now) tree is makes before node path e identities))
   body_refused entry_at leads now at next uniques _ r = absurd r
 
 -- blocks that hold no such directory
-pub names_refused : (H : List (List ℕ)) (before : Walk) (node : Named) (entry_at : ℕ) → LeadsTo before.entries.now node.address entry_at → (body : ReadBody) → HasEntry (take before.at H) entry_at node body → node.kind ≡ Directory
+pub names_refused : (H : List (List ℕ)) (before : Walk) (node : Named) (entry_at : ℕ) → LeadsTo before.entries.now node.address entry_at → (body : ReadBody) → HasFileEntry (take before.at H) entry_at node body → node.kind ≡ Directory
     → (x : Extent) → body.extent ≡ Some x → LiesBelow before.at x → (fault : StoreFault) → IsNamesRefused H node.above body.links x fault → IsVisitRefused (graph_of udf (take before.at H) before.entries.now) before node fault
 names_refused H before node entry_at leads body has kind x some below Device r = tt
 names_refused H before node entry_at leads body has kind x some below Memory r = tt
@@ -202,7 +202,7 @@ names_refused H before node entry_at leads body has kind x some below _ r = absu
 
 -- a node of the directory that is refused
 pub child_refused : (graph : Graph) (before now : Walk) (node child : Named) (entries : List (List ℕ × DirEntry)) (i : ℕ) (name : List ℕ) (entry : DirEntry)
-    → slice_get entries i ≡ Some (name, entry) → child.kind ≡ entry.kind → child.address ≡ entry.icb → child.unique ≡ entry.unique → child.above ≡ node.address → child.depth ≡ node.depth + 1
+    → slice_get entries i ≡ Some (name, entry) → child.kind ≡ entry.kind → child.address ≡ entry.virtual_address → child.unique ≡ entry.unique → child.above ≡ node.address → child.depth ≡ node.depth + 1
     → now.next_unique ≡ before.next_unique → Begun graph before now node entries i → (fault : StoreFault) → IsVisitRefused graph now child fault → IsVisitRefused graph before node fault
 child_refused graph before now node child entries i name entry at_i kind address unique above depth next b Device r = tt
 child_refused graph before now node child entries i name entry at_i kind address unique above depth next b Memory r = tt

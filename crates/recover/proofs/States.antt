@@ -15,7 +15,7 @@ use Rattle.model.proofs.Lists.{bytes_same}
 use Rattle.model.proofs.Made.{one_tree}
 use Rattle.durability.specs.Volume.{HasTable, bytes_in, extent, graph_of}
 use Rattle.durability.proofs.Stored.{stored_one}
-use Rattle.udf.specs.Said.{said_fields, said_table}
+use Rattle.udf.specs.Said.{said_fields, model_table}
 use Rattle.udf.specs.Udf.{udf}
 use Rattle.udf.proofs.Formats.{bounded, exact}
 use Rattle.icb.specs.VatIcb.{IsVatIcb}
@@ -29,12 +29,12 @@ use Rattle.recover.specs.declared.state.State.{State}
 use Rattle.recover.specs.declared.table.TableEntry.{TableEntry}
 use Rattle.recover.specs.declared.walk.Named.{Named}
 use Rattle.recover.specs.declared.walk.Walk.{Walk}
-use Rattle.recover.specs.Forest.{Adds, AreDrawn, IsWholeForest, IsWalked, by_address, by_identity, directories_in, files_in, whole}
+use Rattle.recover.specs.Forest.{Adds, AreAssigned, IsWholeForest, IsWalked, by_address, by_identity, directories_in, files_in, whole}
 use Rattle.recover.specs.Forest.Forest.{End, Seen}
-use Rattle.recover.specs.Laws.{LastStands}
-use Rattle.recover.specs.State.{HasTree, IsCounted, IsDescribed, IsShown, IsTreeRefused}
+use Rattle.recover.specs.Laws.{LastRecovers}
+use Rattle.recover.specs.State.{CountsTree, IsCounted, IsDescribed, IsShown, IsTreeRefused}
 use Rattle.recover.specs.Refused.{IsVisitRefused}
-use Rattle.recover.specs.Tables.{HasDataBelow, IsEntryAt, data_of, table_fields}
+use Rattle.recover.specs.Tables.{HasDataBelow, IsEntryAt, table_data_of, table_fields}
 use Rattle.recover.specs.Walk.{Visits, reached_in, uniques_in}
 use Rattle.recover.proofs.Refused.{root_expects}
 use Rattle.recover.proofs.Trees.{tree_of, makes_tree, is_tree, has_identities, files_are, directories_are}
@@ -50,7 +50,7 @@ same_label a b r e f = go (pointwise nat_eq a b) refl (sym e ∙ f)
 
 -- a table has few nodes
 pub few_nodes : (icb : ℕ) (vat : Vat) (bytes : List ℕ) → IsTableAt icb (view vat) bytes → (16 ≤ vat.sessions.next_unique) × (vat.files + vat.directories ≤ 4096)
-few_nodes icb vat bytes is = (is.table.fits.next_unique, let used = bounded.nodes (said_table (view vat)) icb bytes (tables_agree (view vat) icb bytes is) in let a = used.0 in let b = used.1 in omega (arith, a, b))
+few_nodes icb vat bytes is = (is.table.fits.next_unique, let used = bounded.nodes (model_table (view vat)) icb bytes (tables_agree (view vat) icb bytes is) in let a = used.0 in let b = used.1 in omega (arith, a, b))
 
 -- ---- the tree
 
@@ -68,8 +68,8 @@ module _ (medium : List (List ℕ)) (vat : Vat) (before after : Walk) (node : Na
     is_root = visits.kind ∙ ap is_directory kind;
     shallow = (let s = visits.counts.shallow in omega (arith, s, depth));
     drawn =
-        subst (λ (k : ℕ). AreDrawn k (whole visits.stored visits.below)) next
-        (subst (λ (i : ℕ). AreDrawn before.next_unique (Seen [] i visits.stored visits.below End)) address visits.counts.drawn);
+        subst (λ (k : ℕ). AreAssigned k (whole visits.stored visits.below)) next
+        (subst (λ (i : ℕ). AreAssigned before.next_unique (Seen [] i visits.stored visits.below End)) address visits.counts.drawn);
     addresses = (
       reached_in after,
       subst (λ (i : ℕ). Adds by_address (λ x. false) (Seen [] i visits.stored visits.below End) (reached_in after)) address
@@ -83,7 +83,7 @@ module _ (medium : List (List ℕ)) (vat : Vat) (before after : Walk) (node : Na
   }
 
   pub has_tree : 16 ≤ vat.sessions.next_unique → vat.files + vat.directories ≤ 4096 → before.files ≡ 0 → before.directories ≡ 0 → after.files ≡ vat.files → after.directories ≡ vat.directories
-      → HasTree medium vat
+      → CountsTree medium vat
   has_tree enough few no_files no_directories files directories =
       let w = is_whole in
       let counted_files = files_are (graph_of udf medium vat.entries.items) functional vat.sessions.next_unique visits.stored visits.below w in
@@ -100,7 +100,7 @@ module _ (medium : List (List ℕ)) (vat : Vat) (before after : Walk) (node : Na
       }
 
   -- what was counted is what the table counts, where the nodes make a tree that it counts
-  pub counts_agree : vat.files + vat.directories ≤ 4096 → before.files ≡ 0 → before.directories ≡ 0 → HasTree medium vat → (after.files ≡ vat.files) × (after.directories ≡ vat.directories)
+  pub counts_agree : vat.files + vat.directories ≤ 4096 → before.files ≡ 0 → before.directories ≡ 0 → CountsTree medium vat → (after.files ≡ vat.files) × (after.directories ≡ vat.directories)
   counts_agree few no_files no_directories has =
       let w = is_whole in
       let graph = graph_of udf medium vat.entries.items in
@@ -131,7 +131,7 @@ tree_refused medium at vat before node none_reached none_unique kind address uni
 
 -- the table of an entry that was read, on the blocks below it
 pub has_table : (medium : List (List ℕ)) (at : ℕ) (entry : TableEntry) (is : IsEntryAt medium at entry) (read : Table) → at ≤ length medium → HasDataBelow at entry
-    → IsTableAt (at - 257) read (data_of medium entry) → HasTable udf (take at medium) at is.block (said_table read) entry.moment
+    → IsTableAt (at - 257) read (table_data_of medium entry) → HasTable udf (take at medium) at is.block (model_table read) entry.moment
 has_table medium at entry is read long below table = record {
   fields = said_fields (table_fields entry);
   kind = refl;
@@ -142,12 +142,12 @@ has_table medium at entry is read long below table = record {
   within = (let l = length-take at medium in omega (arith, l, long, below));
   is =
       let part = part_below (entry.first + 257) (div_ceil entry.size 2048) at medium below in
-      let same : data_of medium entry ≡ bytes_in entry.size (extent (take at medium) entry.first entry.size) = ap (λ (blocks : List (List ℕ)). take entry.size (flat_map (λ b. b) blocks)) (sym part) in
+      let same : table_data_of medium entry ≡ bytes_in entry.size (extent (take at medium) entry.first entry.size) = ap (λ (blocks : List (List ℕ)). take entry.size (flat_map (λ b. b) blocks)) (sym part) in
       tables_agree read (at - 257) _ (subst (IsTableAt (at - 257) read) same table);
 }
 
 pub is_shown : (capacity : ℕ) (medium : List (List ℕ)) (at : ℕ) (state : State) → 257 ≤ at → at < length medium → IsDescribed capacity medium at state
-    → HasTree (take at medium) state.vat → IsCounted at state.vat → IsShown capacity medium at state
+    → CountsTree (take at medium) state.vat → IsCounted at state.vat → IsShown capacity medium at state
 is_shown capacity medium at state low long described tree counted =
     let entry = described.entry in
     let is = described.is_entry in
@@ -158,7 +158,7 @@ is_shown capacity medium at state low long described tree counted =
     record {
       said = record {
         tree = tree.tree;
-        records = (said_table (view state.vat)).records;
+        records = (model_table (view state.vat)).records;
         commits = state.vat.sessions.commits;
         next_identity = state.vat.sessions.next_unique;
         table_length = length state.vat.entries.items;
@@ -167,7 +167,7 @@ is_shown capacity medium at state low long described tree counted =
       block = is.block;
       there = is.there;
       tells = record {
-        table = said_table (view state.vat);
+        table = model_table (view state.vat);
         has = has_table medium at entry is (view state.vat) (omega (arith, long)) described.below described.table;
         commits = refl;
         next_identity = refl;
@@ -194,8 +194,8 @@ is_shown capacity medium at state low long described tree counted =
       label = label;
     }
 
--- at the last entry of a table it stands
-pub last_stands : LastStands
+-- at the last VAT ICB it stands
+pub last_stands : LastRecovers
 last_stands capacity medium at state shown (low, here, none) =
     let same = same_Some here.block shown.block (sym here.there ∙ shown.there) in
     record {

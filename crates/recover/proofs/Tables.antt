@@ -20,29 +20,29 @@ use Rattle.recover.specs.declared.fault.StoreFault.{StoreFault}
 use Rattle.recover.specs.declared.fault.StoreFault.TheVariants.{Damaged, Device}
 use Rattle.recover.specs.declared.table.TableEntry.{TableEntry}
 use Rattle.recover.specs.Faults.{IsShortage}
-use Rattle.recover.specs.Tables.{HasDataBelow, HasEntry, HasNoneFrom, HasTableAt, IsEntryAt, IsEntryRefused, IsTableRefused, data_of}
+use Rattle.recover.specs.Tables.{HasDataBelow, HasVatIcb, HasNoneFrom, HasTableAt, IsEntryAt, IsEntryRefused, IsTableRefused, table_data_of}
 
--- a number below that of a table's entry lies below the entry's address
+-- a number below that of a VAT ICB lies below the entry's address
 pub below_entry : (previous : Option ℕ) (at : ℕ) → 257 ≤ at → IfSome previous (λ p. p < at - 257) → IfSome previous (λ p. p + 257 < at)
 below_entry None at low h = tt
 below_entry (Some p) at low h = omega arith
 
--- behind the last block there is no entry
+-- after the last block there is no entry
 pub none_behind : (M : List (List ℕ)) (n : ℕ) → length M ≤ n → HasNoneFrom M n
 none_behind M n long at from h = let within : at < length M = slice_get_within M at h.block h.there in omega arith
 
 pub none_above : (M : List (List ℕ)) (n m : ℕ) → n ≤ m → HasNoneFrom M n → HasNoneFrom M m
 none_above M n m le none at from h = none at (omega arith) h
 
-none_here : (M : List (List ℕ)) (at : ℕ) (block : List ℕ) → slice_get M at ≡ Some block → (IsVatIcb block (at - 257) → ⊥) → HasEntry M at → ⊥
+none_here : (M : List (List ℕ)) (at : ℕ) (block : List ℕ) → slice_get M at ≡ Some block → (IsVatIcb block (at - 257) → ⊥) → HasVatIcb M at → ⊥
 none_here M at block there never h = never (subst (λ (b : List ℕ). IsVatIcb b (at - 257)) (same_Some h.block block (sym h.there ∙ there)) h.is)
 
--- a block that is no entry, before those behind it
+-- a block that is no entry, before those after it
 pub none_more : (M : List (List ℕ)) (at : ℕ) (block : List ℕ) → slice_get M at ≡ Some block → (IsVatIcb block (at - 257) → ⊥) → HasNoneFrom M (at + 1) → HasNoneFrom M at
 none_more M at block there never none other from h =
     elim (cases_lt at other) [
       | inl lt ↦ none other (omega arith) h
-      | inr le ↦ none_here M at block there never (subst (HasEntry M) (let same : other ≡ at = omega arith in same) h)
+      | inr le ↦ none_here M at block there never (subst (HasVatIcb M) (let same : other ≡ at = omega arith in same) h)
     ]
 
 pub fields_are : (k : Kind) (m l u s : ℕ) (p : Place) (first : ℕ) → k ≡ kinds.Vat → l ≡ 0 → u ≡ 0 → p ≡ Extent first
@@ -89,7 +89,7 @@ table_refused icb e bytes stored fault cause same number never told =
     (refl, fault, number, subst (λ (b : List ℕ). IsFirst (table_rules icb b) fault) same first)
 
 -- a table that was read, by its entry
-pub has_table : (M : List (List ℕ)) (at : ℕ) (e : TableEntry) (t : Table) (bytes : List ℕ) → IsEntryAt M at e → HasDataBelow at e → bytes ≡ data_of M e
+pub has_table : (M : List (List ℕ)) (at : ℕ) (e : TableEntry) (t : Table) (bytes : List ℕ) → IsEntryAt M at e → HasDataBelow at e → bytes ≡ table_data_of M e
     → IsTableAt (at - 257) t bytes → HasTableAt M at t
 has_table M at e t bytes is below same table = record { entry = e; is_entry = is; below = below; is = subst (IsTableAt (at - 257) t) same table }
 

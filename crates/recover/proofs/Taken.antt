@@ -19,8 +19,8 @@ use Rattle.recover.specs.declared.fault.StoreFault.{StoreFault}
 use Rattle.recover.specs.declared.fault.StoreFault.TheVariants.{Device, Damaged}
 use Rattle.recover.specs.declared.walk.Named.{Named}
 use Rattle.recover.specs.declared.walk.Walk.{Walk}
-use Rattle.recover.specs.Forest.{IsDrawn}
-use Rattle.recover.specs.Known.{IsUnsaid}
+use Rattle.recover.specs.Forest.{IsAssigned}
+use Rattle.recover.specs.ReadCache.{IsUnsaid}
 use Rattle.recover.specs.Nodes.{data_of, links_of}
 use Rattle.recover.specs.Refused.{HasNoBody, HaveNoNames, IsBodyRefused}
 use Rattle.recover.specs.Walk.{LiesBelow, extent_in, icb_kind, uniques_in}
@@ -37,7 +37,7 @@ module _ (M : List (List ℕ)) (before : Walk) (entry_at : ℕ) (node : Named) (
   abbrev Suits : Fields → Type 0
   Suits f =
       (f.kind ≡ icb_kind node.kind) × (f.unique ≡ node.unique) × (node.kind ≡ File → f.links ≡ 1) × IfSome (extent_in f.size f.place) (LiesBelow before.at)
-      × IsDrawn before.next_unique node.address node.unique × (uniques_in before node.unique ≡ false)
+      × IsAssigned before.next_unique node.address node.unique × (uniques_in before node.unique ≡ false)
 
   -- the block is no entry for this address that suits
   pub no_entry : ((f : Fields) → IsEntry f node.address block → Suits f → ⊥) → HasNoBody M before entry_at node

@@ -7,14 +7,14 @@ use Rattle.std.specs.Str.{bytes_eq}
 use Rattle.std.proofs.lemmas.Bool.{true≢false}
 use Rattle.std.proofs.lemmas.Option.{none-some, same_Some}
 use Rattle.model.specs.Tree.{Name, Path, Node, Tree, IsTree, Has, path_cmp, names_at, found_names, names_in, found_directory, found_identity, identity_at, files_of, directories_of, is_directory as node_is_directory}
-use Rattle.model.specs.Graph.{Graph, Stored, Entry, HasParent, IsFunctional, MakesTree, Names, Leads, Reach, Agrees, entries_of, is_directory, node_of, content_in, entries_in, Body}
+use Rattle.model.specs.Graph.{Graph, Stored, Entry, HasParent, IsFunctional, MakesTree, Names, PathLeads, Reach, NameAgrees, entries_of, is_directory, node_of, content_in, entries_in, Body}
 use Rattle.model.specs.Graph.Body.{Bytes, Entries}
 use Rattle.model.specs.Identities.{HasIdentities}
 use Rattle.model.proofs.Lists.{contains_here, contains_there, contains_cons, contains_map, map_contains, not_in_nil, all_contains, bytes_eq-itself}
 use Rattle.model.proofs.Paths.{path_cases, path_cmp_total}
 use Rattle.model.proofs.Maps.{has_some, some_at, has_lists}
 use Rattle.model.proofs.Counts.{total, total-insert_new, total-empty, files-total, directories-total}
-use Rattle.recover.specs.Forest.{Forest, IsSeen, IsWalked, At, IsWholeForest, by_address, by_identity, named, height, files_in, directories_in, whole}
+use Rattle.recover.specs.Forest.{Forest, IsSeen, IsWalked, At, IsWholeForest, by_address, by_identity, entries_named, height, files_in, directories_in, whole}
 use Rattle.recover.specs.Forest.Forest.{End, Seen}
 use Rattle.recover.proofs.Forests.{tail_same, at_nil, at_short, at_drawn, at_seen, at_child, at_one, at_first, leads_down, leads_up, adds_one}
 
@@ -167,7 +167,7 @@ module _ (f : Bool → Bool) where
 apart_from : (n : Name) (es : List Entry) → AllByRecursion (λ m. bytes_eq n m ≡ false) (map (λ (e : Entry). e.name) es) → Contains (map (λ (e : Entry). e.name) es) n → ⊥
 apart_from n es all c = true≢false (sym (bytes_eq-itself n) ∙ all_contains (λ m. bytes_eq n m ≡ false) (map (λ (e : Entry). e.name) es) n all c)
 
-apart_listed : (graph : Graph) (f : Forest) (above : ℕ) → IsWalked graph above f → IsDistinct bytes_eq (map (λ (e : Entry). e.name) (named f)) → Apart (listed f)
+apart_listed : (graph : Graph) (f : Forest) (above : ℕ) → IsWalked graph above f → IsDistinct bytes_eq (map (λ (e : Entry). e.name) (entries_named f)) → Apart (listed f)
 unfolding listed longer IsDistinct
 apart_listed graph End above w d = tt
 apart_listed graph (Seen n a s b r) above w d = (
@@ -186,7 +186,7 @@ apart_listed graph (Seen n a s b r) above w d = (
 )
   where
     beside_other : (q : Path) (i : ℕ) (t : Stored) → At r (n ∷ q) i t → ⊥
-    beside_other q i t at = apart_from n (named r) d.0 (at_first r n q i t at)
+    beside_other q i t at = apart_from n (entries_named r) d.0 (at_first r n q i t at)
 
 one_file : (d : Bool) → ◌≡◌ {A = ℕ} (cond (not d) 1 0) (if d then 0 else 1)
 one_file true = refl
@@ -223,11 +223,11 @@ names-content (Bytes bytes) = refl
 names-content (Entries parent entries) = refl
 
 module _ (graph : Graph) where
-  pub leads_push : (q : Path) (v w : ℕ) (name : Name) (to : ℕ) → Leads graph v q w → Names graph w name to → Leads graph v (q ++ name ∷ []) to
+  pub leads_push : (q : Path) (v w : ℕ) (name : Name) (to : ℕ) → PathLeads graph v q w → Names graph w name to → PathLeads graph v (q ++ name ∷ []) to
   leads_push [] v w name to l n = (to, subst (λ x. Names graph x name to) (sym l) n, refl)
   leads_push (x ∷ q) v w name to l n = (l.0, l.1, leads_push q l.0 w name to l.2 n)
 
-  leads_last : (q : Path) (v : ℕ) (name : Name) (to : ℕ) → Leads graph v (q ++ name ∷ []) to → (w : ℕ) × Leads graph v q w × Names graph w name to
+  leads_last : (q : Path) (v : ℕ) (name : Name) (to : ℕ) → PathLeads graph v (q ++ name ∷ []) to → (w : ℕ) × PathLeads graph v q w × Names graph w name to
   leads_last [] v name to l = (v, refl, subst (Names graph v name) l.2 l.1)
   leads_last (x ∷ q) v name to l = let rest = leads_last q l.0 name to l.2 in (rest.0, (l.0, l.1, rest.1), rest.2)
 
@@ -239,7 +239,7 @@ module _ (graph : Graph) (functional : IsFunctional graph) (next : ℕ) (root : 
   root_seen : IsSeen graph 1 1 root
   root_seen = is.walked.0
 
-  below_distinct : IsDistinct bytes_eq (map (λ (e : Entry). e.name) (named below))
+  below_distinct : IsDistinct bytes_eq (map (λ (e : Entry). e.name) (entries_named below))
   below_distinct = subst (λ es. IsDistinct bytes_eq (map (λ (e : Entry). e.name) es)) (sym is.walked.1) root_seen.distinct
 
   -- the node at the end of a path
@@ -255,7 +255,7 @@ module _ (graph : Graph) (functional : IsFunctional graph) (next : ℕ) (root : 
       let (e, q, c, same, l) = leads_up graph (whole root below) 1 ([] ∷ p) a s is.walked at in
       let (up, seen) = at_seen graph (whole root below) 1 ([] ∷ p) a s is.walked at in
       elim (contains_cons _ [] e c) [
-        | inl here ↦ (subst (λ r. Leads graph 1 r a) (sym (tail_same [] e.name p q same)) (subst (λ (x : Entry). Leads graph x.address q a) (sym here) l), seen.there)
+        | inl here ↦ (subst (λ r. PathLeads graph 1 r a) (sym (tail_same [] e.name p q same)) (subst (λ (x : Entry). PathLeads graph x.address q a) (sym here) l), seen.there)
         | inr none ↦ absurd (not_in_nil e none)
       ]
 
@@ -298,7 +298,7 @@ module _ (graph : Graph) (functional : IsFunctional graph) (next : ℕ) (root : 
   found_seen : (p : Path) (a : ℕ) (s : Stored) → Found p a s → (up : ℕ) × IsSeen graph up a s
   found_seen p a s at = at_seen graph (whole root below) 1 ([] ∷ p) a s is.walked at
 
-  agrees : (p : Path) (a : ℕ) (s : Stored) (e : Entry) → Reach graph p a → graph a s → Contains (entries_of s) e → Agrees graph e
+  agrees : (p : Path) (a : ℕ) (s : Stored) (e : Entry) → Reach graph p a → graph a s → Contains (entries_of s) e → NameAgrees graph e
   agrees p a s e r g c = let (t, seen, kind, identity) = found_child p a s e (reach_found_at p a s r g) c in (t, seen.there, kind, identity)
 
   pub makes_tree : MakesTree graph (tree_of root below)

@@ -29,10 +29,10 @@ use Rattle.recover.specs.declared.directory.Extent.{Extent}
 use Rattle.recover.specs.declared.walk.Body.{Body}
 use Rattle.recover.specs.declared.walk.Named.{Named}
 use Rattle.recover.specs.declared.walk.Walk.{Walk}
-use Rattle.recover.specs.Forest.{Forest, IsSeen, IsWalked, IsDrawn, AreDrawn, Adds, Puts, Numbers, by_address, by_identity, named, height, files_in, directories_in}
+use Rattle.recover.specs.Forest.{Forest, IsSeen, IsWalked, IsAssigned, AreAssigned, Adds, InsertsNumber, Numbers, by_address, by_identity, entries_named, height, files_in, directories_in}
 use Rattle.recover.specs.Forest.Forest.{End, Seen}
 use Rattle.recover.specs.Nodes.{data_of}
-use Rattle.recover.specs.Walk.{Begun, Counts, HasEntry, HasNames, LeadsTo, LiesBelow, Tallied, Visits, extent_in, icb_kind, nodes_of, reached_in, uniques_in}
+use Rattle.recover.specs.Walk.{Begun, CountsWalk, HasFileEntry, HasListing, LeadsTo, LiesBelow, Tallied, Visits, extent_in, icb_kind, nodes_of, reached_in, uniques_in}
 
 -- ---- parts of a medium
 
@@ -70,12 +70,12 @@ unfolding beside
 directories-beside End g = omega arith
 directories-beside (Seen n a s b r) g = let e = directories-beside r g in omega (arith, e)
 
-named-beside : (f g : Forest) → named (beside f g) ≡ named f ++ named g
+named-beside : (f g : Forest) → entries_named (beside f g) ≡ entries_named f ++ entries_named g
 unfolding beside
 named-beside End g = refl
 named-beside (Seen n a s b r) g = ap (λ (es : List Entry). record { name = n; is_directory = stored_is_directory s; address = a; identity = s.identity } ∷ es) (named-beside r g)
 
-drawn_beside : (next : ℕ) (f g : Forest) → AreDrawn next f → AreDrawn next g → AreDrawn next (beside f g)
+drawn_beside : (next : ℕ) (f g : Forest) → AreAssigned next f → AreAssigned next g → AreAssigned next (beside f g)
 unfolding beside
 drawn_beside next End g d e = e
 drawn_beside next (Seen n a s b r) g d e = (d.0, d.1, drawn_beside next r g d.2 e)
@@ -117,10 +117,10 @@ tallied_more a b c m n k t u e = (
 )
 
 -- a node, before those below it
-pub begin_counts : (before after : Walk) (node : Named) (s : Stored) (reached uniques : Numbers) → node.depth ≤ 16 → IsDrawn before.next_unique node.address s.identity
-    → Puts (reached_in before) node.address reached → ((x : ℕ) → reached_in after x ≡ reached x) → Puts (uniques_in before) s.identity uniques → ((x : ℕ) → uniques_in after x ≡ uniques x)
+pub begin_counts : (before after : Walk) (node : Named) (s : Stored) (reached uniques : Numbers) → node.depth ≤ 16 → IsAssigned before.next_unique node.address s.identity
+    → InsertsNumber (reached_in before) node.address reached → ((x : ℕ) → reached_in after x ≡ reached x) → InsertsNumber (uniques_in before) s.identity uniques → ((x : ℕ) → uniques_in after x ≡ uniques x)
     → Tallied before.files (if stored_is_directory s then 0 else 1) after.files → Tallied before.directories (if stored_is_directory s then 1 else 0) after.directories
-    → Counts before after node.depth (Seen [] node.address s End End)
+    → CountsWalk before after node.depth (Seen [] node.address s End End)
 begin_counts before after node s reached uniques deep drawn put_reached same_reached put_uniques same_uniques files directories = record {
   shallow = (let e : node.depth + height (Seen [] node.address s End End) ≤ 17 = omega (arith, deep) in e);
   drawn = (drawn, tt, tt);
@@ -132,7 +132,7 @@ begin_counts before after node s reached uniques deep drawn put_reached same_rea
 
 -- one node more below it
 more_counts : (before now after : Walk) (depth a i : ℕ) (s t : Stored) (n : Name) (f b : Forest) → now.next_unique ≡ before.next_unique
-    → Counts before now depth (Seen [] a s f End) → Counts now after (depth + 1) (Seen [] i t b End) → Counts before after depth (Seen [] a s (beside f (Seen n i t b End)) End)
+    → CountsWalk before now depth (Seen [] a s f End) → CountsWalk now after (depth + 1) (Seen [] i t b End) → CountsWalk before after depth (Seen [] a s (beside f (Seen n i t b End)) End)
 more_counts before now after depth a i s t n f b next c d =
     let tall = height-beside f (Seen n i t b End) in
     let many = files-beside f (Seen n i t b End) in
@@ -141,7 +141,7 @@ more_counts before now after depth a i s t n f b next c d =
     let d_shallow = d.shallow in
     record {
       shallow = omega (arith, tall, c_shallow, d_shallow);
-      drawn = (c.drawn.0, drawn_beside before.next_unique f (Seen n i t b End) c.drawn.1 (subst (λ (k : ℕ). AreDrawn k (Seen n i t b End)) next d.drawn), tt);
+      drawn = (c.drawn.0, drawn_beside before.next_unique f (Seen n i t b End) c.drawn.1 (subst (λ (k : ℕ). AreAssigned k (Seen n i t b End)) next d.drawn), tt);
       reached = adds_child by_address (reached_in before) (reached_in now) (reached_in after) a i s t n f b c.reached d.reached;
       uniques = adds_child by_identity (uniques_in before) (uniques_in now) (uniques_in after) a i s t n f b c.uniques d.uniques;
       files = tallied_more before.files now.files after.files _ _ _ c.files d.files (omega (arith, many));
@@ -171,7 +171,7 @@ module _ (M : List (List ℕ)) (at : ℕ) (long : at ≤ length M) where
       let b = below.below in
       subst (λ (x : Extent). HoldsDirectory udf M x.size (said_place (IcbExtent x.first)) parent entries) (sym same) (omega (arith, b, long), is)
 
-module _ (M : List (List ℕ)) (table : List (Option ℕ)) (node : Named) (body : Body) (entry_at : ℕ) (leads : LeadsTo table node.address entry_at) (entry : HasEntry M entry_at node body) where
+module _ (M : List (List ℕ)) (table : List (Option ℕ)) (node : Named) (body : Body) (entry_at : ℕ) (leads : LeadsTo table node.address entry_at) (entry : HasFileEntry M entry_at node body) where
   there_at : slice_get M (leads.number + 257) ≡ Some entry.block
   there_at = subst (λ i. slice_get M i ≡ Some entry.block) leads.is entry.there
 
@@ -224,9 +224,9 @@ pub names_said : (es : List (List ℕ × DirEntry)) → map (λ (e : Entry). e.n
 names_said [] = refl
 names_said (e ∷ es) = ap (λ ks. e.0 ∷ ks) (names_said es)
 
-module _ (H : List (List ℕ)) (table : List (Option ℕ)) (node : Named) (body : Body) (entry_at at : ℕ) (leads : LeadsTo table node.address entry_at) (entry : HasEntry (take at H) entry_at node body) where
+module _ (H : List (List ℕ)) (table : List (Option ℕ)) (node : Named) (body : Body) (entry_at at : ℕ) (leads : LeadsTo table node.address entry_at) (entry : HasFileEntry (take at H) entry_at node body) where
   -- a directory
-  pub directory_seen : at ≤ length (take at H) → node.kind ≡ Directory → (e : Extent) → body.extent ≡ Some e → LiesBelow at e → (directory : Dir) → HasNames H node.above body.links e directory
+  pub directory_seen : at ≤ length (take at H) → node.kind ≡ Directory → (e : Extent) → body.extent ≡ Some e → LiesBelow at e → (directory : Dir) → HasListing H node.above body.links e directory
       → (s : Stored) × IsSeen (graph_of udf (take at H) table) node.above node.address s × (stored_is_directory s ≡ true) × (s.identity ≡ node.unique) × (entries_of s ≡ said_entries directory.entries.entries)
   directory_seen long kind e some below directory names =
       let f = entry.fields in
@@ -265,7 +265,7 @@ module _ (H : List (List ℕ)) (table : List (Option ℕ)) (node : Named) (body 
 
 -- one more
 pub begun_more : (graph : Graph) (before now after : Walk) (node child : Named) (entries : List (List ℕ × DirEntry)) (i : ℕ) (name : List ℕ) (entry : DirEntry)
-    → slice_get entries i ≡ Some (name, entry) → child.kind ≡ entry.kind → child.address ≡ entry.icb → child.unique ≡ entry.unique → child.above ≡ node.address → child.depth ≡ node.depth + 1
+    → slice_get entries i ≡ Some (name, entry) → child.kind ≡ entry.kind → child.address ≡ entry.virtual_address → child.unique ≡ entry.unique → child.above ≡ node.address → child.depth ≡ node.depth + 1
     → now.next_unique ≡ before.next_unique → Begun graph before now node entries i → Visits graph now after child → Begun graph before after node entries (i + 1)
 begun_more graph before now after node child entries i name entry there kind address unique above depth next b v =
     let tree = Seen name child.address v.stored v.below End in
@@ -285,7 +285,7 @@ begun_more graph before now after node child entries i name entry there kind add
           named-beside b.below tree ∙ (λ j. b.names j ++ said j ∷ []) ∙ sym (map-append said_entry (take i entries) ((name, entry) ∷ [])) ∙ ap said_entries (sym more);
       counts =
           more_counts before now after node.depth node.address child.address b.stored v.stored name b.below v.below next b.counts
-          (subst (λ d. Counts now after d (Seen [] child.address v.stored v.below End)) depth v.counts);
+          (subst (λ d. CountsWalk now after d (Seen [] child.address v.stored v.below End)) depth v.counts);
     }
 
 -- all of them
@@ -303,8 +303,8 @@ begun_all graph before now node entries i long kind b = record {
 -- none of them yet
 pub begun_none : (graph : Graph) (before now : Walk) (node : Named) (entries : List (List ℕ × DirEntry)) (reached uniques : Numbers)
     → ((s : Stored) × IsSeen graph node.above node.address s × (stored_is_directory s ≡ true) × (s.identity ≡ node.unique) × (entries_of s ≡ said_entries entries))
-    → node.depth ≤ 16 → IsDrawn before.next_unique node.address node.unique
-    → Puts (reached_in before) node.address reached → ((x : ℕ) → reached_in now x ≡ reached x) → Puts (uniques_in before) node.unique uniques → ((x : ℕ) → uniques_in now x ≡ uniques x)
+    → node.depth ≤ 16 → IsAssigned before.next_unique node.address node.unique
+    → InsertsNumber (reached_in before) node.address reached → ((x : ℕ) → reached_in now x ≡ reached x) → InsertsNumber (uniques_in before) node.unique uniques → ((x : ℕ) → uniques_in now x ≡ uniques x)
     → Tallied before.files 0 now.files → Tallied before.directories 1 now.directories → Begun graph before now node entries 0
 begun_none graph before now node entries reached uniques (s, seen, is, identity, names) deep drawn put_reached same_reached put_uniques same_uniques files directories = record {
   stored = s;
@@ -318,15 +318,15 @@ begun_none graph before now node entries reached uniques (s, seen, is, identity,
   counts =
       let none : ◌≡◌ {A = ℕ} (if stored_is_directory s then 0 else 1) 0 = ap (λ b. if b then 0 else 1) is in
       let one : ◌≡◌ {A = ℕ} (if stored_is_directory s then 1 else 0) 1 = ap (λ b. if b then 1 else 0) is in
-      begin_counts before now node s reached uniques deep (subst (IsDrawn before.next_unique node.address) (sym identity) drawn) put_reached same_reached
-      (subst (λ n. Puts (uniques_in before) n uniques) (sym identity) put_uniques) same_uniques (tallied_same _ _ _ _ files (sym none)) (tallied_same _ _ _ _ directories (sym one));
+      begin_counts before now node s reached uniques deep (subst (IsAssigned before.next_unique node.address) (sym identity) drawn) put_reached same_reached
+      (subst (λ n. InsertsNumber (uniques_in before) n uniques) (sym identity) put_uniques) same_uniques (tallied_same _ _ _ _ files (sym none)) (tallied_same _ _ _ _ directories (sym one));
 }
 
 -- a file
 pub file_visits : (graph : Graph) (before now : Walk) (node : Named) (reached uniques : Numbers)
     → ((s : Stored) × IsSeen graph node.above node.address s × (stored_is_directory s ≡ false) × (s.identity ≡ node.unique) × (entries_of s ≡ [])) → node.kind ≡ File
-    → node.depth ≤ 16 → IsDrawn before.next_unique node.address node.unique
-    → Puts (reached_in before) node.address reached → ((x : ℕ) → reached_in now x ≡ reached x) → Puts (uniques_in before) node.unique uniques → ((x : ℕ) → uniques_in now x ≡ uniques x)
+    → node.depth ≤ 16 → IsAssigned before.next_unique node.address node.unique
+    → InsertsNumber (reached_in before) node.address reached → ((x : ℕ) → reached_in now x ≡ reached x) → InsertsNumber (uniques_in before) node.unique uniques → ((x : ℕ) → uniques_in now x ≡ uniques x)
     → Tallied before.files 1 now.files → Tallied before.directories 0 now.directories → Visits graph before now node
 file_visits graph before now node reached uniques (s, seen, is, identity, names) kind deep drawn put_reached same_reached put_uniques same_uniques files directories = record {
   stored = s;
@@ -337,8 +337,8 @@ file_visits graph before now node reached uniques (s, seen, is, identity, names)
   counts =
       let none : ◌≡◌ {A = ℕ} (if stored_is_directory s then 1 else 0) 0 = ap (λ b. if b then 1 else 0) is in
       let one : ◌≡◌ {A = ℕ} (if stored_is_directory s then 0 else 1) 1 = ap (λ b. if b then 0 else 1) is in
-      begin_counts before now node s reached uniques deep (subst (IsDrawn before.next_unique node.address) (sym identity) drawn) put_reached same_reached
-      (subst (λ n. Puts (uniques_in before) n uniques) (sym identity) put_uniques) same_uniques (tallied_same _ _ _ _ files (sym one)) (tallied_same _ _ _ _ directories (sym none));
+      begin_counts before now node s reached uniques deep (subst (IsAssigned before.next_unique node.address) (sym identity) drawn) put_reached same_reached
+      (subst (λ n. InsertsNumber (uniques_in before) n uniques) (sym identity) put_uniques) same_uniques (tallied_same _ _ _ _ files (sym one)) (tallied_same _ _ _ _ directories (sym none));
 }
 
 -- what was seen from a state with the same table on the same medium

@@ -2,7 +2,7 @@
 use Rattle.std.proofs.Common.{◌≡◌, ℕ, zero, suc, ◌<◌, List, [], ◌∷◌, length, get_or, set, refl, arith}
 
 module _ {X : Type 0} (d : X) where
-  -- whatever holds of each place, and of what is written at its own, holds of each place behind it
+  -- whatever holds of each place, and of what is written at its own, holds of each place after it
   pub holds_written : (P : ℕ → X → Type 0) (xs : List X) (i : ℕ) (v : X) → i < length xs → P i v → ((k : ℕ) → P k (get_or xs k d)) → (k : ℕ) → P k (get_or (set xs i v) k d)
   holds_written P [] i v within p h k = h k
   holds_written P (x ∷ xs) zero v within p h zero = p

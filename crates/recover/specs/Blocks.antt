@@ -9,5 +9,5 @@ abbrev pub blocks_at : List (List ℕ) → ℕ → ℕ → List (List ℕ)
 blocks_at medium at count = take count (drop at medium)
 
 -- so many bytes
-abbrev pub bytes_at : List (List ℕ) → ℕ → ℕ → List ℕ
-bytes_at medium at size = take size (flat_map (λ b. b) (blocks_at medium at (div_ceil size BLOCK_BYTES)))
+abbrev pub medium_bytes_at : List (List ℕ) → ℕ → ℕ → List ℕ
+medium_bytes_at medium at size = take size (flat_map (λ b. b) (blocks_at medium at (div_ceil size BLOCK_BYTES)))

@@ -12,9 +12,9 @@ pub data Forest : Type 0 where
   Seen : (name : Name) (address : ℕ) (stored : Stored) (below rest : Forest) → Forest
 
 -- the entries that a directory with these nodes has
-abbrev pub named : Forest → List Entry
-named End = []
-named (Seen name address stored below rest) = record { name = name; is_directory = is_directory stored; address = address; identity = stored.identity } ∷ named rest
+abbrev pub entries_named : Forest → List Entry
+entries_named End = []
+entries_named (Seen name address stored below rest) = record { name = name; is_directory = is_directory stored; address = address; identity = stored.identity } ∷ entries_named rest
 
 -- a node that is stored in a directory with this address, with the links and the names that a node may have
 pub record IsSeen (graph : Graph) (above address : ℕ) (stored : Stored) : Type 0 where
@@ -27,7 +27,7 @@ pub record IsSeen (graph : Graph) (above address : ℕ) (stored : Stored) : Type
 abbrev pub IsWalked : Graph → ℕ → Forest → Type 0
 IsWalked graph above End = ⊤
 IsWalked graph above (Seen name address stored below rest) =
-    IsSeen graph above address stored × (named below ≡ entries_of stored) × IsWalked graph address below × IsWalked graph above rest
+    IsSeen graph above address stored × (entries_named below ≡ entries_of stored) × IsWalked graph address below × IsWalked graph above rest
 
 -- a node at the end of this path
 abbrev pub At : Forest → Path → ℕ → Stored → Type 0
@@ -50,26 +50,26 @@ directories_in End = 0
 directories_in (Seen name address stored below rest) = (if is_directory stored then 1 else 0) + (directories_in below + directories_in rest)
 
 -- the identity of a node with this address that is below the next one
-abbrev pub IsDrawn : ℕ → ℕ → ℕ → Type 0
-IsDrawn next address identity = (address ≡ 1 → identity ≡ 0) × ((address ≡ 1 → ⊥) → (FIRST_UNIQUE ≤ identity) × (identity < next))
+abbrev pub IsAssigned : ℕ → ℕ → ℕ → Type 0
+IsAssigned next address identity = (address ≡ 1 → identity ≡ 0) × ((address ≡ 1 → ⊥) → (FIRST_UNIQUE ≤ identity) × (identity < next))
 
-abbrev pub AreDrawn : ℕ → Forest → Type 0
-AreDrawn next End = ⊤
-AreDrawn next (Seen name address stored below rest) = IsDrawn next address stored.identity × AreDrawn next below × AreDrawn next rest
+abbrev pub AreAssigned : ℕ → Forest → Type 0
+AreAssigned next End = ⊤
+AreAssigned next (Seen name address stored below rest) = IsAssigned next address stored.identity × AreAssigned next below × AreAssigned next rest
 
 -- a set of numbers
 abbrev pub Numbers : Type 0
 Numbers = ℕ → Bool
 
 -- the numbers with one that was not among them
-abbrev pub Puts : Numbers → ℕ → Numbers → Type 0
-Puts before n after = (before n ≡ false) × ((x : ℕ) → after x ≡ (if x == n then true else before x))
+abbrev pub InsertsNumber : Numbers → ℕ → Numbers → Type 0
+InsertsNumber before n after = (before n ≡ false) × ((x : ℕ) → after x ≡ (if x == n then true else before x))
 
 -- the numbers with one of each node, none of them twice
 abbrev pub Adds : (ℕ → Stored → ℕ) → Numbers → Forest → Numbers → Type 0
 Adds key before End after = (x : ℕ) → after x ≡ before x
 Adds key before (Seen name address stored below rest) after =
-    (here : Numbers) × Puts before (key address stored) here × (under : Numbers) × Adds key here below under × Adds key under rest after
+    (here : Numbers) × InsertsNumber before (key address stored) here × (under : Numbers) × Adds key here below under × Adds key under rest after
 
 abbrev pub by_address : ℕ → Stored → ℕ
 by_address address stored = address
@@ -86,6 +86,6 @@ pub record IsWholeForest (graph : Graph) (next : ℕ) (root : Stored) (below : F
   pub walked : IsWalked graph 1 (whole root below)
   pub is_root : is_directory root ≡ true
   pub shallow : height (whole root below) ≤ PATH_NAMES + 1
-  pub drawn : AreDrawn next (whole root below)
+  pub drawn : AreAssigned next (whole root below)
   pub addresses : (after : Numbers) × Adds by_address (λ x. false) (whole root below) after
   pub identities : (after : Numbers) × Adds by_identity (λ x. false) (whole root below) after

@@ -9,7 +9,7 @@ use Rattle.volume.specs.Front.{IsFront}
 use Rattle.recover.specs.declared.directory.Extent.{Extent}
 use Rattle.recover.specs.declared.fault.StoreFault.{StoreFault}
 use Rattle.recover.specs.declared.fault.StoreFault.TheVariants.{Device, Damaged}
-use Rattle.recover.specs.declared.known.Known.{Known}
+use Rattle.recover.specs.declared.read_cache.ReadCache.{ReadCache}
 use Rattle.recover.specs.declared.kept.Directories.{Directories}
 use Rattle.recover.specs.declared.kept.Entries.{Entries}
 use Rattle.recover.specs.declared.kept.EntryPlace.{EntryPlace}
@@ -38,26 +38,26 @@ IsUnsaid medium place (Damaged at cause) =
 IsUnsaid medium place _ = ⊥
 
 -- the blocks of this extent hold the directory, and each of its files that is kept stands where it was found
-pub record IsNamed (medium : List (List ℕ)) (extent : Extent) (names : Names) : Type 0 where
+pub record IsCachedListing (medium : List (List ℕ)) (extent : Extent) (names : Names) : Type 0 where
   pub are : All IsBlock (data_of medium extent)
   pub is : IsDirectory names.dir.parent names.dir.entries.entries extent.first extent.size (data_of medium extent)
   pub seen : AreSeen medium names.dir.entries.entries names.files
 
 -- each entry that is kept for a virtual address is what the medium has there
-abbrev pub AreEntries : List (List ℕ) → Entries → Type 0
-AreEntries medium entries = (address : ℕ) → IfSome (get_or entries.kept.items address None) (λ k. IsEntrySaid medium (record { at = k.at; address = address }) k.entry)
+abbrev pub AreCachedEntries : List (List ℕ) → Entries → Type 0
+AreCachedEntries medium entries = (address : ℕ) → IfSome (get_or entries.kept.items address None) (λ k. IsEntrySaid medium (record { at = k.at; address = address }) k.entry)
 
 -- as extents are compared
 abbrev pub same_extent : Extent → Extent → Bool
 same_extent x y = (x.first == y.first) && (x.size == y.size)
 
 -- each directory that is kept is what the medium has there
-abbrev pub AreDirectories : List (List ℕ) → Directories → Type 0
-AreDirectories medium directories = (extent : Extent) → IfSome (get same_extent directories.kept extent) (IsNamed medium extent)
+abbrev pub AreCachedDirectories : List (List ℕ) → Directories → Type 0
+AreCachedDirectories medium directories = (extent : Extent) → IfSome (get same_extent directories.kept extent) (IsCachedListing medium extent)
 
 -- and so is the front
-pub record IsKnown (medium : List (List ℕ)) (known : Known) : Type 0 where
+pub record IsKnown (medium : List (List ℕ)) (known : ReadCache) : Type 0 where
   pub front : IfSome known.front (λ f. IsFront f.label f.moment f.capacity (take PARTITION_START medium))
-  pub entries : AreEntries medium known.entries
-  pub before : AreDirectories medium known.before
-  pub met : AreDirectories medium known.met
+  pub entries : AreCachedEntries medium known.entries
+  pub before : AreCachedDirectories medium known.before
+  pub met : AreCachedDirectories medium known.met

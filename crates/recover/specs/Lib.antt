@@ -1,9 +1,9 @@
 pub mod Blocks
 pub mod Faults
 pub mod Forest
-pub mod Known
+pub mod ReadCache
 pub mod Laws
-pub mod Marks
+pub mod IdSet
 pub mod Nodes
 pub mod Refused
 pub mod Seen

@@ -13,9 +13,9 @@ use Rattle.recover.specs.declared.fault.StoreFault.TheVariants.{Device, Memory, 
 use Rattle.recover.specs.declared.walk.Body.{Body}
 use Rattle.recover.specs.declared.walk.Named.{Named}
 use Rattle.recover.specs.declared.walk.Walk.{Walk}
-use Rattle.recover.specs.Forest.{IsDrawn}
+use Rattle.recover.specs.Forest.{IsAssigned}
 use Rattle.recover.specs.Nodes.{data_of, links_of}
-use Rattle.recover.specs.Walk.{HasEntry, LeadsTo, LiesBelow, reached_in, uniques_in}
+use Rattle.recover.specs.Walk.{HasFileEntry, LeadsTo, LiesBelow, reached_in, uniques_in}
 
 -- why no entry was reached: the table leads to none below its own, or it was reached before, or the path is too long
 abbrev pub IsReachRefused : Walk → Named → StoreFault → Type 0
@@ -27,7 +27,7 @@ IsReachRefused before node _ = ⊥
 -- the node has no entry there with bytes that lie below, or its unique ID is not its own
 abbrev pub HasNoBody : List (List ℕ) → Walk → ℕ → Named → Type 0
 HasNoBody medium before entry_at node =
-    (body : Body) → HasEntry medium entry_at node body → IfSome body.extent (LiesBelow before.at) → IsDrawn before.next_unique node.address node.unique → uniques_in before node.unique ≡ false → ⊥
+    (body : Body) → HasFileEntry medium entry_at node body → IfSome body.extent (LiesBelow before.at) → IsAssigned before.next_unique node.address node.unique → uniques_in before node.unique ≡ false → ⊥
 
 -- why an entry was not taken
 abbrev pub IsBodyRefused : List (List ℕ) → Walk → ℕ → Named → StoreFault → Type 0

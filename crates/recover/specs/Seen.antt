@@ -5,20 +5,20 @@ use Rattle.drive.specs.Journal.{Event, held, next_of}
 use Rattle.dir.specs.declared.entry.Entry.{Entry}
 use Rattle.dir.specs.declared.entry.Kind.TheVariants.{File}
 use Rattle.model.specs.Graph.{Graph}
-use Rattle.recover.specs.declared.seen.SeenFile.{SeenFile}
-use Rattle.recover.specs.declared.seen.SeenFiles.{SeenFiles}
+use Rattle.recover.specs.declared.checked.CheckedFile.{CheckedFile}
+use Rattle.recover.specs.declared.checked.CheckedFiles.{CheckedFiles}
 use Rattle.recover.specs.declared.walk.Named.{Named}
 use Rattle.recover.specs.declared.walk.Walk.{Walk}
 use Rattle.recover.specs.Walk.{Begun, HasNode, Visits, nodes_of}
 
 -- this file: whatever directory names it so, its entry says the same, and it lies below its top with all its bytes
-pub record IsFileSeen (medium : List (List ℕ)) (file : SeenFile) : Type 0 where
+pub record IsFileSeen (medium : List (List ℕ)) (file : CheckedFile) : Type 0 where
   pub is_no_root : file.address ≡ 1 → ⊥
   pub drawn : FIRST_UNIQUE ≤ file.unique
   pub has : (node : Named) → node.kind ≡ File → node.address ≡ file.address → node.unique ≡ file.unique → HasNode (take file.top medium) file.top (file.number + PARTITION_START) node
 
 -- it is the one that the name at this place stands for
-pub record IsNameSeen (medium : List (List ℕ)) (entries : List (List ℕ × Entry)) (index : ℕ) (file : SeenFile) : Type 0 where
+pub record IsNameSeen (medium : List (List ℕ)) (entries : List (List ℕ × Entry)) (index : ℕ) (file : CheckedFile) : Type 0 where
   pub name : List ℕ × Entry
   pub there : slice_get entries index ≡ Some name
   pub kind : name.1.kind ≡ File
@@ -27,7 +27,7 @@ pub record IsNameSeen (medium : List (List ℕ)) (entries : List (List ℕ × En
   pub seen : IsFileSeen medium file
 
 -- each that is kept
-abbrev pub AreSeen : List (List ℕ) → List (List ℕ × Entry) → SeenFiles → Type 0
+abbrev pub AreSeen : List (List ℕ) → List (List ℕ × Entry) → CheckedFiles → Type 0
 AreSeen medium entries files = (index : ℕ) → IfSome (get_or files.files.items index None) (IsNameSeen medium entries index)
 
 -- the node is the one that the name at this place stands for
@@ -46,7 +46,7 @@ VisitsName graph before after entries index depth =
 
 -- Where the nodes of a directory, so many names deep, were seen up to one place, they are seen up to another: those between
 -- are among its files that are kept.
-abbrev pub GoesOn : Walk → Walk → SeenFiles → ℕ → ℕ → ℕ → Type 0
-GoesOn before after files depth from to =
+abbrev pub WalksOn : Walk → Walk → CheckedFiles → ℕ → ℕ → ℕ → Type 0
+WalksOn before after files depth from to =
     (journal : List Event) (start : Walk) (node : Named) (entries : List (List ℕ × Entry)) → before.at ≤ next_of journal → AreSeen (held journal) entries files
     → node.depth ≡ depth → before.next_unique ≡ start.next_unique → Begun (nodes_of journal before) start before node entries from → Begun (nodes_of journal before) start after node entries to

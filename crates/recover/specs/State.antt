@@ -6,8 +6,8 @@ use Rattle.model.specs.Graph.{MakesTree}
 use Rattle.model.specs.Identities.{HasIdentities}
 use Rattle.model.specs.Session.{State as ModelState}
 use Rattle.model.specs.Tree.{Tree, IsTree, files_of, directories_of}
-use Rattle.durability.specs.Volume.{Tells, graph_of}
-use Rattle.udf.specs.Said.{said_table}
+use Rattle.durability.specs.Volume.{Describes, graph_of}
+use Rattle.udf.specs.Said.{model_table}
 use Rattle.udf.specs.Udf.{udf}
 use Rattle.vat.specs.declared.table.Vat.{Vat}
 use Rattle.vat.specs.Table.{IsTableAt, view}
@@ -16,7 +16,7 @@ use Rattle.recover.specs.declared.fault.StoreFault.{StoreFault}
 use Rattle.recover.specs.declared.fault.StoreFault.TheVariants.{Device, Memory, Damaged}
 use Rattle.recover.specs.declared.state.State.{State}
 use Rattle.recover.specs.declared.table.TableEntry.{TableEntry}
-use Rattle.recover.specs.Tables.{HasDataBelow, IsEntryAt, data_of}
+use Rattle.recover.specs.Tables.{HasDataBelow, IsEntryAt, table_data_of}
 
 -- the table counts the root, and no more commits and unique IDs than the blocks below its entry leave room for
 pub record IsCounted (at : ℕ) (vat : Vat) : Type 0 where
@@ -60,7 +60,7 @@ pub record IsDescribed (capacity : ℕ) (medium : List (List ℕ)) (at : ℕ) (s
   pub entry : TableEntry
   pub is_entry : IsEntryAt medium at entry
   pub below : HasDataBelow at entry
-  pub table : IsTableAt (at - PARTITION_START) (view state.vat) (data_of medium entry)
+  pub table : IsTableAt (at - PARTITION_START) (view state.vat) (table_data_of medium entry)
   pub moment : entry.moment ≡ state.moment
   pub label : state.vat.label ≡ state.label
   pub formatted : ℕ  -- the moment of the format
@@ -69,7 +69,7 @@ pub record IsDescribed (capacity : ℕ) (medium : List (List ℕ)) (at : ℕ) (s
   pub set : HasFileSet (take at medium) state.vat.entries.items state.label formatted
 
 -- the nodes that a table leads to make a tree, which the table counts
-pub record HasTree (medium : List (List ℕ)) (vat : Vat) : Type 0 where
+pub record CountsTree (medium : List (List ℕ)) (vat : Vat) : Type 0 where
   pub tree : Tree
   pub is : IsTree tree
   pub makes : MakesTree (graph_of udf medium vat.entries.items) tree
@@ -81,23 +81,23 @@ pub record HasTree (medium : List (List ℕ)) (vat : Vat) : Type 0 where
 abbrev pub IsTreeRefused : List (List ℕ) → ℕ → Vat → StoreFault → Type 0
 IsTreeRefused medium at vat Device = ⊤
 IsTreeRefused medium at vat Memory = ⊤
-IsTreeRefused medium at vat (Damaged block cause) = HasTree medium vat → 2 * vat.sessions.commits + (FORMAT_BLOCKS - 1) ≤ at → vat.sessions.next_unique ≤ FIRST_UNIQUE + vat.sessions.commits → ⊥
+IsTreeRefused medium at vat (Damaged block cause) = CountsTree medium vat → 2 * vat.sessions.commits + (FORMAT_BLOCKS - 1) ≤ at → vat.sessions.next_unique ≤ FIRST_UNIQUE + vat.sessions.commits → ⊥
 IsTreeRefused medium at vat _ = ⊥
 
--- What was read is what stands where a table's entry does: the state that the blocks below it tell, on a drive of this
+-- What was read is what stands where a VAT ICB does: the state that the blocks below it tell, on a drive of this
 -- capacity, by this table.
 pub record IsShown (capacity : ℕ) (medium : List (List ℕ)) (at : ℕ) (state : State) : Type 0 where
   pub said : ModelState
   pub block : List ℕ
   pub there : slice_get medium at ≡ Some block
-  pub tells : Tells udf capacity state.capacity (take at medium) at block said
+  pub tells : Describes udf capacity state.capacity (take at medium) at block said
   pub moment : said.moment ≡ state.moment
-  pub table : tells.table ≡ said_table (view state.vat)
+  pub table : tells.table ≡ model_table (view state.vat)
   pub label : state.vat.label ≡ state.label
 
 -- no state is told there, on a drive of this capacity
 abbrev pub IsUntold : ℕ → List (List ℕ) → ℕ → Type 0
-IsUntold capacity medium at = (volume : ℕ) (block : List ℕ) (said : ModelState) → slice_get medium at ≡ Some block → Tells udf capacity volume (take at medium) at block said → ⊥
+IsUntold capacity medium at = (volume : ℕ) (block : List ℕ) (said : ModelState) → slice_get medium at ≡ Some block → Describes udf capacity volume (take at medium) at block said → ⊥
 
 -- why no state was read: the drive failed, memory was short, or none is told
 abbrev pub IsStateRefused : ℕ → List (List ℕ) → ℕ → StoreFault → Type 0

@@ -13,28 +13,28 @@ use Rattle.vat.specs.Table.{Table, IsTableAt}
 use Rattle.recover.specs.declared.fault.StoreFault.{StoreFault}
 use Rattle.recover.specs.declared.fault.StoreFault.TheVariants.{Device, Memory, Damaged}
 use Rattle.recover.specs.declared.table.TableEntry.{TableEntry}
-use Rattle.recover.specs.Blocks.{bytes_at}
+use Rattle.recover.specs.Blocks.{medium_bytes_at}
 
--- the block at this address of the partition is the entry of a table for its number
-pub record HasEntry (medium : List (List ℕ)) (at : ℕ) : Type 0 where
+-- the block at this address of the partition is a VAT ICB for its number
+pub record HasVatIcb (medium : List (List ℕ)) (at : ℕ) : Type 0 where
   pub block : List ℕ
   pub there : slice_get medium at ≡ Some block
   pub is : IsVatIcb block (at - PARTITION_START)
 
 -- none is, from this address on
 abbrev pub HasNoneFrom : List (List ℕ) → ℕ → Type 0
-HasNoneFrom medium from = (at : ℕ) → from ≤ at → HasEntry medium at → ⊥
+HasNoneFrom medium from = (at : ℕ) → from ≤ at → HasVatIcb medium at → ⊥
 
--- the address of the last entry of a table, if there is one
-abbrev pub IsLast : List (List ℕ) → Option ℕ → Type 0
-IsLast medium None = HasNoneFrom medium PARTITION_START
-IsLast medium (Some at) = (PARTITION_START ≤ at) × HasEntry medium at × HasNoneFrom medium (at + 1)
+-- the address of the last VAT ICB, if there is one
+abbrev pub IsLastVatIcb : List (List ℕ) → Option ℕ → Type 0
+IsLastVatIcb medium None = HasNoneFrom medium PARTITION_START
+IsLastVatIcb medium (Some at) = (PARTITION_START ≤ at) × HasVatIcb medium at × HasNoneFrom medium (at + 1)
 
--- what the entry of a table says
+-- what a VAT ICB says
 abbrev pub table_fields : TableEntry → Fields
 table_fields e = record { kind = kinds.Vat; moment = e.moment; links = 0; unique = 0; size = e.size; place = Extent e.first }
 
--- the block at this address is the entry of a table that says so
+-- the block at this address is a VAT ICB that says so
 pub record IsEntryAt (medium : List (List ℕ)) (at : ℕ) (entry : TableEntry) : Type 0 where
   pub block : List ℕ
   pub there : slice_get medium at ≡ Some block
@@ -44,14 +44,14 @@ pub record IsEntryAt (medium : List (List ℕ)) (at : ℕ) (entry : TableEntry) 
 abbrev pub HasDataBelow : ℕ → TableEntry → Type 0
 HasDataBelow at e = e.first + PARTITION_START + div_ceil e.size BLOCK_BYTES ≤ at
 
-abbrev pub data_of : List (List ℕ) → TableEntry → List ℕ
-data_of medium e = bytes_at medium (e.first + PARTITION_START) e.size
+abbrev pub table_data_of : List (List ℕ) → TableEntry → List ℕ
+table_data_of medium e = medium_bytes_at medium (e.first + PARTITION_START) e.size
 
 -- why an entry was not read: there is none, or its data do not lie below it
 abbrev pub IsEntryRefused : List (List ℕ) → ℕ → StoreFault → Type 0
 IsEntryRefused medium at Device = ⊤
 IsEntryRefused medium at (Damaged block cause) =
-    (block ≡ at) × (((cause ≡ 78) × (HasEntry medium at → ⊥)) ⊎ ((cause ≡ 72) × (e : TableEntry) × IsEntryAt medium at e × (HasDataBelow at e → ⊥)))
+    (block ≡ at) × (((cause ≡ 78) × (HasVatIcb medium at → ⊥)) ⊎ ((cause ≡ 72) × (e : TableEntry) × IsEntryAt medium at e × (HasDataBelow at e → ⊥)))
 IsEntryRefused medium at _ = ⊥
 
 -- why the table with this entry, at a block number, was not read from its data
@@ -67,13 +67,13 @@ pub record HasTableAt (medium : List (List ℕ)) (at : ℕ) (table : Table) : Ty
   pub entry : TableEntry
   pub is_entry : IsEntryAt medium at entry
   pub below : HasDataBelow at entry
-  pub is : IsTableAt (at - PARTITION_START) table (data_of medium entry)
+  pub is : IsTableAt (at - PARTITION_START) table (table_data_of medium entry)
 
 -- why no table was read whose entry stands at this address
 abbrev pub IsAtRefused : List (List ℕ) → ℕ → StoreFault → Type 0
 IsAtRefused medium at fault =
     IsEntryRefused medium at fault
-    ⊎ ((e : TableEntry) × IsEntryAt medium at e × HasDataBelow at e × IsTableRefused (at - PARTITION_START) e (data_of medium e) fault)
+    ⊎ ((e : TableEntry) × IsEntryAt medium at e × HasDataBelow at e × IsTableRefused (at - PARTITION_START) e (table_data_of medium e) fault)
 
 -- why a link to this address, from a table of so many commits, leads to no table: none is there, or not that of one commit less
 abbrev pub IsLinkRefused : List (List ℕ) → ℕ → ℕ → StoreFault → Type 0

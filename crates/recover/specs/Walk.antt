@@ -20,9 +20,9 @@ use Rattle.recover.specs.declared.directory.Extent.{Extent}
 use Rattle.recover.specs.declared.walk.Body.{Body}
 use Rattle.recover.specs.declared.walk.Named.{Named}
 use Rattle.recover.specs.declared.walk.Walk.{Walk}
-use Rattle.recover.specs.Forest.{Forest, IsSeen, IsWalked, AreDrawn, Adds, Numbers, by_address, by_identity, height, files_in, directories_in, named}
+use Rattle.recover.specs.Forest.{Forest, IsSeen, IsWalked, AreAssigned, Adds, Numbers, by_address, by_identity, height, files_in, directories_in, entries_named}
 use Rattle.recover.specs.Forest.Forest.{End, Seen}
-use Rattle.recover.specs.Marks.{marked}
+use Rattle.recover.specs.IdSet.{marked}
 use Rattle.recover.specs.Nodes.{data_of, links_of}
 
 -- there are bytes, and they lie within the largest partition and below an address
@@ -42,7 +42,7 @@ extent_in size (IcbExtent first) = Some (record { first = first; size = size })
 extent_in size (Inside bytes) = None
 
 -- the entry of a node stands at this address, is what the directory above says, and says this
-pub record HasEntry (medium : List (List ℕ)) (entry_at : ℕ) (node : Named) (body : Body) : Type 0 where
+pub record HasFileEntry (medium : List (List ℕ)) (entry_at : ℕ) (node : Named) (body : Body) : Type 0 where
   pub block : List ℕ
   pub there : slice_get medium entry_at ≡ Some block
   pub fields : Fields
@@ -55,10 +55,10 @@ pub record HasEntry (medium : List (List ℕ)) (entry_at : ℕ) (node : Named) (
 
 -- such an entry stands there, and the bytes that it tells of lie below an address
 abbrev pub HasNode : List (List ℕ) → ℕ → ℕ → Named → Type 0
-HasNode medium at entry_at node = (body : Body) × HasEntry medium entry_at node body × IfSome body.extent (LiesBelow at)
+HasNode medium at entry_at node = (body : Body) × HasFileEntry medium entry_at node body × IfSome body.extent (LiesBelow at)
 
 -- these blocks are a directory's with this address above it, and with so many links
-pub record HasNames (medium : List (List ℕ)) (above count : ℕ) (extent : Extent) (directory : Dir) : Type 0 where
+pub record HasListing (medium : List (List ℕ)) (above count : ℕ) (extent : Extent) (directory : Dir) : Type 0 where
   pub parent : directory.parent ≡ above
   pub links : count ≡ links_of directory.entries.entries
   pub are : All IsBlock (data_of medium extent)
@@ -86,9 +86,9 @@ abbrev pub Tallied : ℕ → ℕ → ℕ → Type 0
 Tallied before n after = (before ≤ after) × (after < 2 ^ 32 - 1 → after ≡ before + n) × (after ≤ before + n)
 
 -- what the walk keeps of the nodes that it saw between two states, at a depth
-pub record Counts (before after : Walk) (depth : ℕ) (forest : Forest) : Type 0 where
+pub record CountsWalk (before after : Walk) (depth : ℕ) (forest : Forest) : Type 0 where
   pub shallow : depth + height forest ≤ PATH_NAMES + 1
-  pub drawn : AreDrawn before.next_unique forest
+  pub drawn : AreAssigned before.next_unique forest
   pub reached : Adds by_address (reached_in before) forest (reached_in after)
   pub uniques : Adds by_identity (uniques_in before) forest (uniques_in after)
   pub files : Tallied before.files (files_in forest) after.files
@@ -101,7 +101,7 @@ pub record Visits (graph : Graph) (before after : Walk) (node : Named) : Type 0 
   pub kind : stored_is_directory stored ≡ is_directory node.kind
   pub identity : stored.identity ≡ node.unique
   pub walked : IsWalked graph node.above (Seen [] node.address stored below End)
-  pub counts : Counts before after node.depth (Seen [] node.address stored below End)
+  pub counts : CountsWalk before after node.depth (Seen [] node.address stored below End)
 
 -- a directory was entered, and the first of its nodes were seen
 pub record Begun (graph : Graph) (before now : Walk) (node : Named) (entries : List (List ℕ × DirEntry)) (i : ℕ) : Type 0 where
@@ -112,5 +112,5 @@ pub record Begun (graph : Graph) (before now : Walk) (node : Named) (entries : L
   pub identity : stored.identity ≡ node.unique
   pub below : Forest
   pub walked : IsWalked graph node.address below
-  pub names : named below ≡ said_entries (take i entries)
-  pub counts : Counts before now node.depth (Seen [] node.address stored below End)
+  pub names : entries_named below ≡ said_entries (take i entries)
+  pub counts : CountsWalk before now node.depth (Seen [] node.address stored below End)

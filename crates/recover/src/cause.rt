@@ -1,10 +1,10 @@
-//! The causes of damage that are seen only where structures are held beside each other. Other causes are the faults of
+//! The causes of damage that are seen only where structures are compared with each other. Other causes are the faults of
 //! one structure alone.
 
 /// The blocks before the partition are not those of one label, moment and capacity.
 pub const FRONT: u8 = 71;
 
-/// A capacity above the drive's, data that does not lie below the table's entry, or an unused virtual address.
+/// A capacity above the drive's, data that does not lie below the VAT ICB, or an unused virtual address.
 pub const RANGE: u8 = 72;
 
 /// A node is not what its directory says: its kind, its unique ID or its link count, or the directory above.

@@ -6,7 +6,7 @@ ghost use Rattle.udf.specs.Udf.{IsBlock};
 ghost use Rattle.std.specs.Int.{div_ceil};
 ghost use Rattle.drive.specs.Journal.{held, next_of};
 ghost use Rattle.dir.specs.Directory.{IsDirectory};
-ghost use Rattle.drive.specs.Reads.{Reads};
+ghost use Rattle.drive.specs.Reads.{ReadsOnly};
 ghost use Rattle.recover.specs.Faults.{devices};
 ghost use Rattle.recover.specs.Nodes.{IsDirectoryRefused, data_of, links_of};
 
@@ -34,7 +34,7 @@ pub fn read_directory<D: Drive>(
     requires within { extent.first + PARTITION_START + div_ceil extent.size BLOCK_BYTES ≤ next_of (D.journal drive.old) }
     ensures directory { IfOk result (λ dir. (blocks : List (List ℕ)) × (IsTrue (D.honest drive.new) → blocks ≡ data_of (held (D.journal drive.old)) extent) × All IsBlock blocks × IsDirectory dir.parent dir.entries.entries extent.first extent.size blocks) }
     ensures refused { IfErr result (λ fault. IsTrue (D.honest drive.new) → IsDirectoryRefused extent (data_of (held (D.journal drive.old)) extent) fault) }
-    ensures reads { Reads D.Drive (devices result) drive.old drive.new }
+    ensures reads { ReadsOnly D.Drive (devices result) drive.old drive.new }
 {
     let at = extent.first + PARTITION_START;
     let blocks = read_blocks(alloc, drive, at, block_count(extent.size))?;

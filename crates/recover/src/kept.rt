@@ -5,11 +5,11 @@ ghost use Rattle.std.specs.Prelude.{◌≡◌, ◌<◌, ◌≤◌, IfSome, lengt
 ghost use Rattle.std.proofs.Props.{props};
 ghost use Rattle.recover.specs.Nodes.{links_of};
 
+use crate::checked::CheckedFiles;
 use crate::directory::{Extent, link_count, read_directory};
 use crate::fault::{StoreFault, damaged};
 use crate::places::reach;
 use crate::reading::read_into;
-use crate::seen::SeenFiles;
 use dir::Dir;
 use drive::Drive;
 use icb::{FileEntry, Kind, Place, decode_fe};
@@ -38,9 +38,9 @@ impl NodeEntry {
     ghost use Rattle.std.specs.Prelude.{◌≡◌, ◌<◌, IsTrue, IfOk, IfErr};
     ghost use Rattle.drive.specs.Journal.{held, next_of};
     ghost use Rattle.icb.specs.Entry.{place_of};
-    ghost use Rattle.drive.specs.Reads.{Reads};
+    ghost use Rattle.drive.specs.Reads.{ReadsOnly};
     ghost use Rattle.recover.specs.Faults.{devices};
-    ghost use Rattle.recover.specs.Known.{IsEntrySaid, IsUnsaid};
+    ghost use Rattle.recover.specs.ReadCache.{IsEntrySaid, IsUnsaid};
     ghost use Rattle.recover.specs.Walk.{extent_in};
 
     /// Reads the entry that stands there.
@@ -48,9 +48,9 @@ impl NodeEntry {
     #[inline(never)]
     pub(crate) fn read<D: Drive>(drive: &mut D, place: EntryPlace) -> Result<NodeEntry, StoreFault>
         requires { place.at < next_of (D.journal drive.old) }
-        ensures said { IfOk result (λ entry. IsTrue (D.honest drive.new) → IsEntrySaid (held (D.journal drive.old)) place entry) }
+        ensures described { IfOk result (λ entry. IsTrue (D.honest drive.new) → IsEntrySaid (held (D.journal drive.old)) place entry) }
         ensures refused { IfErr result (λ fault. IsTrue (D.honest drive.new) → IsUnsaid (held (D.journal drive.old)) place fault) }
-        ensures reads { Reads D.Drive (devices result) drive.old drive.new }
+        ensures reads { ReadsOnly D.Drive (devices result) drive.old drive.new }
     {
         let mut block = [0; 2048];
         read_into(drive, place.at, &mut block)?;
@@ -87,7 +87,7 @@ pub(crate) struct Names {
     /// The links that it has, which are counted once.
     pub links: u16,
     /// Those of its files that were found under their names.
-    pub files: SeenFiles,
+    pub files: CheckedFiles,
     pub ghost few: { length dir.entries.entries ≤ DIRECTORY_NAMES },
     pub ghost counted: { links ≡ links_of dir.entries.entries },
 }
@@ -96,9 +96,9 @@ impl Names {
     ghost use Rattle.std.specs.Prelude.{◌≡◌, ◌+◌, ◌<◌, ◌≤◌, IsTrue, IfOk, IfErr};
     ghost use Rattle.std.specs.Int.{div_ceil};
     ghost use Rattle.drive.specs.Journal.{held, next_of};
-    ghost use Rattle.drive.specs.Reads.{Reads};
+    ghost use Rattle.drive.specs.Reads.{ReadsOnly};
     ghost use Rattle.recover.specs.Faults.{devices};
-    ghost use Rattle.recover.specs.Known.{IsNamed};
+    ghost use Rattle.recover.specs.ReadCache.{IsCachedListing};
     ghost use Rattle.recover.specs.Nodes.{IsDirectoryRefused, data_of};
 
     /// Reads the directory whose bytes lie there.
@@ -111,15 +111,15 @@ impl Names {
         requires some { 0 < extent.size }
         requires first { extent.first ≤ PARTITION_BLOCKS }
         requires within { extent.first + PARTITION_START + div_ceil extent.size BLOCK_BYTES ≤ next_of (D.journal drive.old) }
-        ensures named { IfOk result (λ names. IsTrue (D.honest drive.new) → IsNamed (held (D.journal drive.old)) extent names) }
+        ensures named { IfOk result (λ names. IsTrue (D.honest drive.new) → IsCachedListing (held (D.journal drive.old)) extent names) }
         ensures refused { IfErr result (λ fault. IsTrue (D.honest drive.new) → IsDirectoryRefused extent (data_of (held (D.journal drive.old)) extent) fault) }
-        ensures reads { Reads D.Drive (devices result) drive.old drive.new }
+        ensures reads { ReadsOnly D.Drive (devices result) drive.old drive.new }
     {
         let dir = read_directory(alloc, drive, extent)?;
         Ok(Names {
             links: link_count(&dir),
             dir,
-            files: SeenFiles::new(alloc),
+            files: CheckedFiles::new(alloc),
         })
     }
 }
@@ -143,11 +143,11 @@ pub(crate) struct Entries {
 
 impl Entries {
     ghost use Rattle.std.specs.Prelude.{◌<◌, ◌≤◌, ℕ, List, IfSome, vec_len};
-    ghost use Rattle.recover.specs.Known.{AreEntries, IsEntrySaid};
+    ghost use Rattle.recover.specs.ReadCache.{AreCachedEntries, IsEntrySaid};
 
     /// None yet.
     pub(crate) fn new(alloc: Global) -> Entries
-        ensures { (medium : List (List ℕ)) → AreEntries medium result }
+        ensures { (medium : List (List ℕ)) → AreCachedEntries medium result }
     {
         Entries {
             kept: Vec::new(alloc),
@@ -156,7 +156,7 @@ impl Entries {
 
     /// What the entry there says, if it is kept.
     pub(crate) fn find(&self, place: EntryPlace) -> Option<NodeEntry>
-        ensures { (medium : List (List ℕ)) → AreEntries medium self.now → IfSome result (IsEntrySaid medium place) }
+        ensures { (medium : List (List ℕ)) → AreCachedEntries medium self.now → IfSome result (IsEntrySaid medium place) }
     {
         let index = place.address as usize;
         if index >= self.kept.len() {
@@ -170,7 +170,7 @@ impl Entries {
 
     /// Keeps what the entry there says in place of the one that was kept for its virtual address, if there is memory for it.
     pub(crate) fn keep(&mut self, place: EntryPlace, entry: NodeEntry)
-        ensures { (medium : List (List ℕ)) → IsEntrySaid medium place entry → AreEntries medium self.old → AreEntries medium self.new }
+        ensures { (medium : List (List ℕ)) → IsEntrySaid medium place entry → AreCachedEntries medium self.old → AreCachedEntries medium self.new }
     {
         let index = place.address as usize;
         if index >= ADDRESSES {
@@ -194,11 +194,11 @@ pub(crate) struct Directories {
 
 impl Directories {
     ghost use Rattle.std.specs.Prelude.{ℕ, List, IfSome};
-    ghost use Rattle.recover.specs.Known.{AreDirectories, IsNamed};
+    ghost use Rattle.recover.specs.ReadCache.{AreCachedDirectories, IsCachedListing};
 
     /// None yet.
     pub(crate) fn new(alloc: Global) -> Directories
-        ensures { (medium : List (List ℕ)) → AreDirectories medium result }
+        ensures { (medium : List (List ℕ)) → AreCachedDirectories medium result }
     {
         Directories {
             kept: HashMap::new(alloc),
@@ -207,22 +207,22 @@ impl Directories {
 
     /// Keeps none any longer, and the room that they took for the next ones.
     pub(crate) fn clear(&mut self)
-        ensures { (medium : List (List ℕ)) → AreDirectories medium self.new }
+        ensures { (medium : List (List ℕ)) → AreCachedDirectories medium self.new }
     {
         self.kept.clear();
     }
 
     /// The directory that lies there, which is not kept any longer.
     pub(crate) fn take(&mut self, extent: Extent) -> Option<Names>
-        ensures named { (medium : List (List ℕ)) → AreDirectories medium self.old → IfSome result (IsNamed medium extent) }
-        ensures kept { (medium : List (List ℕ)) → AreDirectories medium self.old → AreDirectories medium self.new }
+        ensures named { (medium : List (List ℕ)) → AreCachedDirectories medium self.old → IfSome result (IsCachedListing medium extent) }
+        ensures kept { (medium : List (List ℕ)) → AreCachedDirectories medium self.old → AreCachedDirectories medium self.new }
     {
         self.kept.remove(&extent)
     }
 
     /// Keeps the directory that lies there, if there is memory for it.
     pub(crate) fn keep(&mut self, extent: Extent, names: Names)
-        ensures { (medium : List (List ℕ)) → IsNamed medium extent names → AreDirectories medium self.old → AreDirectories medium self.new }
+        ensures { (medium : List (List ℕ)) → IsCachedListing medium extent names → AreCachedDirectories medium self.old → AreCachedDirectories medium self.new }
     {
         let _ = self.kept.insert(extent, names);
     }

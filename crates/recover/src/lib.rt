@@ -1,10 +1,10 @@
-//! What lies on a medium, read back: the last table, the tables before it, and the state that stands where a table's entry
+//! What lies on a medium, read back: the last table, the tables before it, and the state that stands where a VAT ICB
 //! does.
 //!
 //! Promised: each call reads alone, so that the drive's journal stays as it was; each refusal is one of `StoreFault`, and one
 //! of the drive is told only where the drive counted a failure. On a drive whose reads are honest `last` finds the last entry
 //! of a table, from the end, and what is read is what the medium has. `state_at` looks at every node that a table leads to,
-//! and what it gives is the state that the blocks below the table's entry tell, which stands where that entry is the last.
+//! and what it gives is the state that the blocks below the VAT ICB tell, which stands where that entry is the last.
 //! Where it tells of damage no state is told there. `state_sharing` gives the same, and reads no node again that the state
 //! had for which it was called before; of a file that stands where it was found under its name it asks no more than where
 //! the table leads.
@@ -13,23 +13,23 @@
 #![tactic(auto)]
 
 pub mod cause;
+mod checked;
 mod directory;
 mod fault;
+mod id_set;
 mod kept;
-mod known;
 mod laws;
-mod marks;
 mod places;
+mod read_cache;
 mod reading;
-mod seen;
 mod state;
 mod table;
 mod walk;
 
 pub use directory::{Extent, read_directory};
 pub use fault::{StoreFault, damaged};
-pub use known::Known;
 pub use laws::last_state_stands;
+pub use read_cache::ReadCache;
 pub use reading::{BLOCK_BYTES, PARTITION_START, block_count, read_block, read_blocks, read_bytes};
 pub use state::{State, state_at, state_sharing};
 pub use table::{TableEntry, before, last, lies_below, linked, read_table, table_at, table_entry};

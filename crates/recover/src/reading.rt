@@ -6,8 +6,8 @@ ghost use Rattle.udf.specs.Udf.{IsBlock};
 ghost use Rattle.std.specs.Int.{div_ceil};
 ghost use Rattle.drive.specs.Journal.{AreWhole, held, last_at, next_of};
 ghost use Rattle.recover.specs.declared.fault.StoreFault.TheVariants.{Device};
-ghost use Rattle.recover.specs.Blocks.{blocks_at, bytes_at};
-ghost use Rattle.drive.specs.Reads.{Reads};
+ghost use Rattle.recover.specs.Blocks.{blocks_at, medium_bytes_at};
+ghost use Rattle.drive.specs.Reads.{ReadsOnly};
 ghost use Rattle.recover.specs.Faults.{IsShortage, devices};
 
 use crate::fault::StoreFault;
@@ -36,7 +36,7 @@ pub fn read_block<D: Drive>(drive: &mut D, at: u32) -> Result<Block, StoreFault>
     ensures block { IfOk result IsBlock }
     ensures whole { AreWhole (D.journal drive.old) }
     ensures device { IfErr result (λ fault. fault ≡ Device) }
-    ensures reads { Reads D.Drive (devices result) drive.old drive.new }
+    ensures reads { ReadsOnly D.Drive (devices result) drive.old drive.new }
 {
     let mut block = [0; 2048];
     match read_into(drive, at, &mut block) {
@@ -56,7 +56,7 @@ pub(crate) fn read_into<D: Drive>(
     ensures block { OnOk result (IsBlock block.new) }
     ensures whole { AreWhole (D.journal drive.old) }
     ensures device { IfErr result (λ fault. fault ≡ Device) }
-    ensures reads { Reads D.Drive (devices result) drive.old drive.new }
+    ensures reads { ReadsOnly D.Drive (devices result) drive.old drive.new }
 {
     match drive.read(at, block) {
         Ok(()) => {
@@ -80,7 +80,7 @@ pub fn read_blocks<D: Drive>(
     ensures blocks { IfOk result (λ blocks. All IsBlock blocks.items) }
     ensures count { IfOk result (λ blocks. vec_len blocks ≡ count) }
     ensures refused { IfErr result IsShortage }
-    ensures reads { Reads D.Drive (devices result) drive.old drive.new }
+    ensures reads { ReadsOnly D.Drive (devices result) drive.old drive.new }
 {
     let mut blocks = Vec::with_capacity(alloc, count as usize)?;
     for i in 0..count {
@@ -99,10 +99,10 @@ pub fn read_bytes<D: Drive>(
 ) -> Result<Vec<u8>, StoreFault>
     requires within { at + div_ceil size BLOCK_BYTES ≤ next_of (D.journal drive.old) }
     requires fits { at + div_ceil size BLOCK_BYTES < 2 ^ 32 }
-    ensures read { IfOk result (λ bytes. IsTrue (D.honest drive.new) → bytes.items ≡ bytes_at (held (D.journal drive.old)) at size) }
+    ensures read { IfOk result (λ bytes. IsTrue (D.honest drive.new) → bytes.items ≡ medium_bytes_at (held (D.journal drive.old)) at size) }
     ensures size { IfOk result (λ bytes. vec_len bytes ≡ size) }
     ensures refused { IfErr result IsShortage }
-    ensures reads { Reads D.Drive (devices result) drive.old drive.new }
+    ensures reads { ReadsOnly D.Drive (devices result) drive.old drive.new }
 {
     let mut bytes = Vec::with_capacity(alloc, size as usize)?;
     for i in 0..block_count(size) {

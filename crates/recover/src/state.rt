@@ -1,19 +1,19 @@
-//! The state that stands where a table's entry does.
+//! The state that stands where a VAT ICB does.
 
 ghost use Rattle.limits.specs.declared.TheConstants.{GREATEST_CAPACITY, LEAST_CAPACITY, NODES, PARTITION_START};
 ghost use Rattle.std.specs.Prelude.{◌≡◌, ℕ, ◌<◌, ◌≤◌, ◌+◌, ◌-◌, List, IsTrue, IfOk, IfErr, OnOk, take};
 ghost use Rattle.drive.specs.Journal.{held, next_of};
 ghost use Rattle.vat.specs.Table.{IsTableAt, view};
 ghost use Rattle.volume.specs.Front.{IsFront};
-ghost use Rattle.drive.specs.Reads.{Reads};
+ghost use Rattle.drive.specs.Reads.{ReadsOnly};
 ghost use Rattle.recover.specs.Faults.{devices};
-ghost use Rattle.recover.specs.Known.{IsKnown};
-ghost use Rattle.recover.specs.State.{HasFileSet, HasTree, IsCounted, IsDescribed, IsFrontRefused, IsSetRefused, IsShown, HasSoundTable, IsStateRefused, IsTreeRefused};
+ghost use Rattle.recover.specs.ReadCache.{IsKnown};
+ghost use Rattle.recover.specs.State.{HasFileSet, CountsTree, IsCounted, IsDescribed, IsFrontRefused, IsSetRefused, IsShown, HasSoundTable, IsStateRefused, IsTreeRefused};
 ghost use Rattle.recover.specs.Tables.{HasTableAt};
 
 use crate::cause;
 use crate::fault::{StoreFault, damaged};
-use crate::known::Known;
+use crate::read_cache::ReadCache;
 use crate::reading::{PARTITION_START, read_block};
 use crate::table::{address_below, read_table, table_entry};
 use crate::walk::{Named, Walk};
@@ -31,10 +31,10 @@ const PRIMARY: u32 = 32;
 /// The address of the partition descriptor.
 const PARTITION: u32 = 34;
 
-/// The least address behind the blocks of a format and its last one's. Each commit writes two blocks at least.
+/// The least address after the blocks of a format and its last one's. Each commit writes two blocks at least.
 const FIRST_TABLE: u64 = limits::FORMAT_BLOCKS as u64 - 1;
 
-/// What stands where the entry of a table does, but for the tree.
+/// What stands where a VAT ICB does, but for the tree.
 #[derive(Drop)]
 pub struct State {
     /// That of the request that the table committed, or of the format.
@@ -45,7 +45,7 @@ pub struct State {
     pub vat: Vat,
 }
 
-/// The state that stands on the blocks up to `at`, where a table's entry stands. Every node is looked at, and each
+/// The state that stands on the blocks up to `at`, where a VAT ICB stands. Every node is looked at, and each
 /// directory is read once and let go.
 pub fn state_at<D: Drive>(alloc: Global, drive: &mut D, at: u32) -> Result<State, StoreFault>
     requires low { PARTITION_START ≤ at }
@@ -57,9 +57,9 @@ pub fn state_at<D: Drive>(alloc: Global, drive: &mut D, at: u32) -> Result<State
     ensures sound { IfOk result (HasSoundTable at (D.capacity drive.old)) }
     // The table that it keeps is the one whose entry stands there.
     ensures table { IfOk result (λ state. IsTrue (D.honest drive.new) → HasTableAt (held (D.journal drive.old)) at (view state.vat)) }
-    ensures reads { Reads D.Drive (devices result) drive.old drive.new }
+    ensures reads { ReadsOnly D.Drive (devices result) drive.old drive.new }
 {
-    let mut known = Known::of_no_nodes(alloc);
+    let mut known = ReadCache::of_no_nodes(alloc);
     state_sharing(alloc, drive, &mut known, at)
 }
 
@@ -68,7 +68,7 @@ pub fn state_at<D: Drive>(alloc: Global, drive: &mut D, at: u32) -> Result<State
 pub fn state_sharing<D: Drive>(
     alloc: Global,
     drive: &mut D,
-    known: &mut Known,
+    known: &mut ReadCache,
     at: u32,
 ) -> Result<State, StoreFault>
     requires low { PARTITION_START ≤ at }
@@ -80,7 +80,7 @@ pub fn state_sharing<D: Drive>(
     ensures table { IfOk result (λ state. IsTrue (D.honest drive.new) → HasTableAt (held (D.journal drive.old)) at (view state.vat)) }
     // What is known stays so, whatever was found.
     ensures known { IsTrue (D.honest drive.new) → IsKnown (held (D.journal drive.new)) known.new }
-    ensures reads { Reads D.Drive (devices result) drive.old drive.new }
+    ensures reads { ReadsOnly D.Drive (devices result) drive.old drive.new }
 {
     known.begin();
     let (state, data_at) = described(alloc, drive, known, at)?;
@@ -92,7 +92,7 @@ pub fn state_sharing<D: Drive>(
 fn described<D: Drive>(
     alloc: Global,
     drive: &mut D,
-    known: &mut Known,
+    known: &mut ReadCache,
     at: u32,
 ) -> Result<(State, u32), StoreFault>
     requires low { PARTITION_START ≤ at }
@@ -103,7 +103,7 @@ fn described<D: Drive>(
     ensures limits { IfOk result (λ found. (LEAST_CAPACITY ≤ found.0.capacity) × (found.0.capacity ≤ GREATEST_CAPACITY) × (found.0.capacity ≤ D.capacity drive.old)) }
     ensures table { IfOk result (λ found. (bytes : List ℕ) × IsTableAt (at - PARTITION_START) (view found.0.vat) bytes) }
     ensures known { IsTrue (D.honest drive.new) → IsKnown (held (D.journal drive.new)) known.new }
-    ensures reads { Reads D.Drive (devices result) drive.old drive.new }
+    ensures reads { ReadsOnly D.Drive (devices result) drive.old drive.new }
 {
     let front = known.front(drive)?;
     if front.capacity > drive.capacity() {
@@ -132,7 +132,7 @@ pub(crate) fn read_front<D: Drive>(drive: &mut D) -> Result<Front, StoreFault>
     ensures front { IfOk result (λ front. IsTrue (D.honest drive.new) → IsFront front.label front.moment front.capacity (take PARTITION_START (held (D.journal drive.old)))) }
     ensures refused { IfErr result (λ fault. IsTrue (D.honest drive.new) → IsFrontRefused (take PARTITION_START (held (D.journal drive.old))) fault) }
     ensures limits { IfOk result (λ front. (LEAST_CAPACITY ≤ front.capacity) × (front.capacity ≤ GREATEST_CAPACITY)) }
-    ensures reads { Reads D.Drive (devices result) drive.old drive.new }
+    ensures reads { ReadsOnly D.Drive (devices result) drive.old drive.new }
 {
     let primary = read_block(drive, PRIMARY)?;
     let partition = read_block(drive, PARTITION)?;
@@ -162,7 +162,7 @@ fn check_file_set<D: Drive>(
     requires within { at < next_of (D.journal drive.old) }
     ensures set { OnOk result (IsTrue (D.honest drive.new) → HasFileSet (take at (held (D.journal drive.old))) vat.now.entries.items front.now.label front.now.moment) }
     ensures refused { IfErr result (λ fault. IsTrue (D.honest drive.new) → IsSetRefused (take at (held (D.journal drive.old))) vat.now.entries.items front.now.label front.now.moment fault) }
-    ensures reads { Reads D.Drive (devices result) drive.old drive.new }
+    ensures reads { ReadsOnly D.Drive (devices result) drive.old drive.new }
 {
     let set_at = match address_below(&vat.entries, 0, at) {
         Some(set_at) => set_at,
@@ -187,7 +187,7 @@ fn check_file_set<D: Drive>(
 fn check_tree<D: Drive>(
     alloc: Global,
     drive: &mut D,
-    known: &mut Known,
+    known: &mut ReadCache,
     vat: &Vat,
     at: u32,
     data_at: u32,
@@ -197,11 +197,11 @@ fn check_tree<D: Drive>(
     requires known { IsTrue (D.honest drive.old) → IsKnown (held (D.journal drive.old)) known.old }
     requires next { 16 ≤ vat.now.sessions.next_unique }
     requires few { vat.now.files + vat.now.directories ≤ NODES }
-    ensures tree { OnOk result (IsTrue (D.honest drive.new) → HasTree (take at (held (D.journal drive.old))) vat.now) }
+    ensures tree { OnOk result (IsTrue (D.honest drive.new) → CountsTree (take at (held (D.journal drive.old))) vat.now) }
     ensures counts { OnOk result (IsCounted at vat.now) }
     ensures refused { IfErr result (λ fault. IsTrue (D.honest drive.new) → IsTreeRefused (take at (held (D.journal drive.old))) at vat.now fault) }
     ensures known { IsTrue (D.honest drive.new) → IsKnown (held (D.journal drive.new)) known.new }
-    ensures reads { Reads D.Drive (devices result) drive.old drive.new }
+    ensures reads { ReadsOnly D.Drive (devices result) drive.old drive.new }
 {
     let sessions = &vat.sessions;
     let mut walk = Walk::new(alloc, at, &vat.entries, sessions.next_unique);

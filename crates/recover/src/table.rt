@@ -8,10 +8,10 @@ ghost use Rattle.icb.specs.declared.entry.Kind.TheVariants as kinds;
 ghost use Rattle.icb.specs.Entry.{FitsEntry, fields_of, place_of};
 ghost use Rattle.icb.specs.Entry.Place.{Extent};
 ghost use Rattle.vat.specs.Table.{IsTableAt, view};
-ghost use Rattle.drive.specs.Reads.{Reads};
+ghost use Rattle.drive.specs.Reads.{ReadsOnly};
 ghost use Rattle.recover.specs.Faults.{devices};
 ghost use Rattle.recover.specs.declared.fault.StoreFault.TheVariants.{Device};
-ghost use Rattle.recover.specs.Tables.{HasDataBelow, IsBefore, IsBeforeRefused, IsEntryAt, IsEntryRefused, IsLast, IsTableRefused, HasTableAt, IsAtRefused, IsLinkRefused, data_of};
+ghost use Rattle.recover.specs.Tables.{HasDataBelow, IsBefore, IsBeforeRefused, IsEntryAt, IsEntryRefused, IsLastVatIcb, IsTableRefused, HasTableAt, IsAtRefused, IsLinkRefused, table_data_of};
 ghost use Rattle.recover.specs.Walk.{LeadsTo};
 
 use crate::cause::{CHAIN, RANGE};
@@ -23,7 +23,7 @@ use icb::{FileEntry, Kind, Place, decode_fe};
 use std::alloc::Global;
 use vat::{Vat, VatFault, decode_vat, is_vat_icb};
 
-/// What the entry of a table says: when its request was committed, and where its data lie.
+/// What a VAT ICB says: when its request was committed, and where its data lie.
 #[derive(Clone, Copy, Debug)]
 pub struct TableEntry {
     pub moment: Timestamp,
@@ -33,13 +33,13 @@ pub struct TableEntry {
     pub size: u32,
 }
 
-/// The address of the last entry of a table, from the partition's start on. It looks from the end, and reads no more
-/// blocks than lie behind it.
+/// The address of the last VAT ICB, from the partition's start on. It looks from the end, and reads no more
+/// blocks than lie after it.
 pub fn last<D: Drive>(drive: &mut D) -> Result<Option<u32>, StoreFault>
-    ensures last { IfOk result (λ found. IsTrue (D.honest drive.new) → IsLast (held (D.journal drive.old)) found) }
+    ensures last { IfOk result (λ found. IsTrue (D.honest drive.new) → IsLastVatIcb (held (D.journal drive.old)) found) }
     ensures within { IfOk result (λ found. IfSome found (λ at. (PARTITION_START ≤ at) × (at < next_of (D.journal drive.old)))) }
     ensures device { IfErr result (λ fault. fault ≡ Device) }
-    ensures reads { Reads D.Drive (devices result) drive.old drive.new }
+    ensures reads { ReadsOnly D.Drive (devices result) drive.old drive.new }
 {
     let mut left = match drive.next() {
         Ok(next) => next,
@@ -55,14 +55,14 @@ pub fn last<D: Drive>(drive: &mut D) -> Result<Option<u32>, StoreFault>
     Ok(None)
 }
 
-/// What the entry of a table at an address says. Where none is there, the chain is broken.
+/// What a VAT ICB at an address says. Where none is there, the chain is broken.
 pub fn table_entry<D: Drive>(drive: &mut D, at: u32) -> Result<TableEntry, StoreFault>
     requires low { PARTITION_START ≤ at }
     requires within { at < next_of (D.journal drive.old) }
     ensures found { IfOk result (λ e. IsTrue (D.honest drive.new) → IsEntryAt (held (D.journal drive.old)) at e) }
     ensures refused { IfErr result (λ fault. IsTrue (D.honest drive.new) → IsEntryRefused (held (D.journal drive.old)) at fault) }
     ensures below { IfOk result (HasDataBelow at) }
-    ensures reads { Reads D.Drive (devices result) drive.old drive.new }
+    ensures reads { ReadsOnly D.Drive (devices result) drive.old drive.new }
 {
     let block = read_block(drive, at)?;
     let entry = match decode_fe(&block, at - PARTITION_START) {
@@ -109,10 +109,10 @@ pub fn read_table<D: Drive>(
     requires low { PARTITION_START ≤ at }
     requires within { at < next_of (D.journal drive.old) }
     requires below { HasDataBelow at entry.now }
-    ensures table { IfOk result (λ vat. (bytes : List ℕ) × (IsTrue (D.honest drive.new) → bytes ≡ data_of (held (D.journal drive.old)) entry.now) × IsTableAt (at - PARTITION_START) (view vat) bytes) }
-    ensures refused { IfErr result (λ fault. IsTrue (D.honest drive.new) → IsTableRefused (at - PARTITION_START) entry.now (data_of (held (D.journal drive.old)) entry.now) fault) }
+    ensures table { IfOk result (λ vat. (bytes : List ℕ) × (IsTrue (D.honest drive.new) → bytes ≡ table_data_of (held (D.journal drive.old)) entry.now) × IsTableAt (at - PARTITION_START) (view vat) bytes) }
+    ensures refused { IfErr result (λ fault. IsTrue (D.honest drive.new) → IsTableRefused (at - PARTITION_START) entry.now (table_data_of (held (D.journal drive.old)) entry.now) fault) }
     ensures previous { IfOk result (λ vat. IfSome vat.previous (λ number. number + PARTITION_START < at)) }
-    ensures reads { Reads D.Drive (devices result) drive.old drive.new }
+    ensures reads { ReadsOnly D.Drive (devices result) drive.old drive.new }
 {
     let start = entry.first + PARTITION_START;
     let bytes = read_bytes(alloc, drive, start, entry.size)?;
@@ -138,7 +138,7 @@ pub fn table_at<D: Drive>(alloc: Global, drive: &mut D, at: u32) -> Result<Vat, 
     ensures refused { IfErr result (λ fault. IsTrue (D.honest drive.new) → IsAtRefused (held (D.journal drive.old)) at fault) }
     ensures previous { IfOk result (λ vat. IfSome vat.previous (λ number. number + PARTITION_START < at)) }
     ensures first { IfOk result (λ vat. IsNone vat.previous ↔ (vat.sessions.commits ≡ 0)) }
-    ensures reads { Reads D.Drive (devices result) drive.old drive.new }
+    ensures reads { ReadsOnly D.Drive (devices result) drive.old drive.new }
 {
     let entry = table_entry(drive, at)?;
     let vat = read_table(alloc, drive, at, &entry)?;
@@ -160,7 +160,7 @@ pub fn linked<D: Drive>(
     ensures refused { IfErr result (λ fault. IsTrue (D.honest drive.new) → IsLinkRefused (held (D.journal drive.old)) (number + PARTITION_START) commits fault) }
     ensures previous { IfOk result (λ vat. IfSome vat.previous (λ earlier. earlier < number)) }
     ensures first { IfOk result (λ vat. IsNone vat.previous ↔ (vat.sessions.commits ≡ 0)) }
-    ensures reads { Reads D.Drive (devices result) drive.old drive.new }
+    ensures reads { ReadsOnly D.Drive (devices result) drive.old drive.new }
 {
     let at = number + PARTITION_START;
     let vat = table_at(alloc, drive, at)?;
@@ -170,7 +170,7 @@ pub fn linked<D: Drive>(
     Ok(vat)
 }
 
-/// The address to which a table's entry for a virtual address leads, if that is below `at`.
+/// The address to which a VAT ICB for a virtual address leads, if that is below `at`.
 pub(crate) fn address_below(entries: &[Option<u32>], address: u32, at: u32) -> Option<u32>
     requires low { PARTITION_START ≤ at }
     ensures some { IfSome result (LeadsTo entries.now address) }
@@ -199,7 +199,7 @@ pub fn before<D: Drive>(alloc: Global, drive: &mut D, at: u32) -> Result<Option<
     ensures before { IfOk result (λ found. IsTrue (D.honest drive.new) → IsBefore (held (D.journal drive.old)) at found) }
     ensures refused { IfErr result (λ fault. IsTrue (D.honest drive.new) → IsBeforeRefused (held (D.journal drive.old)) at fault) }
     ensures below { IfOk result (λ found. IfSome found (λ earlier. (PARTITION_START ≤ earlier) × (earlier < at))) }
-    ensures reads { Reads D.Drive (devices result) drive.old drive.new }
+    ensures reads { ReadsOnly D.Drive (devices result) drive.old drive.new }
 {
     let vat = table_at(alloc, drive, at)?;
     let number = match vat.previous {

@@ -4,22 +4,22 @@ ghost use Rattle.limits.specs.declared.TheConstants.{BLOCK_BYTES, PARTITION_BLOC
 ghost use Rattle.std.specs.Prelude.{◌≡◌, ◌↔◌, ◌+◌, ◌<◌, ◌≤◌, ◌^◌, IsTrue, IfOk, IfErr, IfSome, OnOk, ℕ, List, take};
 ghost use Rattle.std.specs.Int.{div_ceil};
 ghost use Rattle.drive.specs.Journal.{held, next_of};
-ghost use Rattle.drive.specs.Reads.{Reads};
+ghost use Rattle.drive.specs.Reads.{ReadsOnly};
 ghost use Rattle.recover.specs.Faults.{devices};
-ghost use Rattle.recover.specs.Known.{IsKnown};
+ghost use Rattle.recover.specs.ReadCache.{IsKnown};
 ghost use Rattle.recover.specs.Refused.{IsNamesRefused};
 ghost use Rattle.recover.specs.Seen.{AreSeen};
-ghost use Rattle.recover.specs.Walk.{HasNames, HasNode, LeadsTo, LiesBelow, icb_kind};
+ghost use Rattle.recover.specs.Walk.{HasListing, HasNode, LeadsTo, LiesBelow, icb_kind};
 ghost use Rattle.dir.specs.declared.entry.Kind.TheVariants.{Directory, File};
 
 use crate::cause;
+use crate::checked::{CheckedFile, CheckedFiles};
 use crate::directory::Extent;
 use crate::fault::{StoreFault, damaged};
+use crate::id_set::IdSet;
 use crate::kept::{EntryPlace, Names, NodeEntry};
-use crate::known::Known;
-use crate::marks::Marks;
+use crate::read_cache::ReadCache;
 use crate::reading::{PARTITION_START, block_count};
-use crate::seen::{SeenFile, SeenFiles};
 use crate::table::{address_below, lies_below};
 use dir::{Dir, Entry, Kind};
 use drive::Drive;
@@ -85,7 +85,7 @@ impl Named {
     {
         Named {
             kind: entry.kind,
-            address: entry.icb,
+            address: entry.virtual_address,
             unique: entry.unique,
             above: self.address,
             named_at,
@@ -105,13 +105,13 @@ struct Body {
 /// What the walk has seen of the tree that a table leads to.
 #[derive(Drop)]
 pub(crate) struct Walk<'a> {
-    /// The address of the table's entry. All that it leads to lies below.
+    /// The address of the VAT ICB. All that it leads to lies below.
     at: u32,
     entries: &'a [Option<u32>],
     next_unique: u32,
     /// The virtual addresses that a name led to.
-    reached: Marks,
-    uniques: Marks,
+    reached: IdSet,
+    uniques: IdSet,
     pub(crate) files: u32,
     pub(crate) directories: u32,
 }
@@ -122,12 +122,12 @@ impl<'a> Walk<'a> {
     ghost use Rattle.drive.specs.Journal.{Event, held, next_of};
     ghost use Rattle.recover.specs.Faults.{devices};
     ghost use Rattle.recover.specs.declared.fault.StoreFault.TheVariants.{Memory};
-    ghost use Rattle.recover.specs.Forest.{IsDrawn, Puts};
-    ghost use Rattle.recover.specs.Known.{IsKnown};
+    ghost use Rattle.recover.specs.Forest.{IsAssigned, InsertsNumber};
+    ghost use Rattle.recover.specs.ReadCache.{IsKnown};
     ghost use Rattle.recover.specs.Refused.{IsBodyRefused, IsReachRefused, IsVisitRefused};
     ghost use Rattle.dir.specs.declared.entry.Entry.{Entry as DirEntry};
-    ghost use Rattle.recover.specs.Seen.{AreSeen, GoesOn, IsFileSeen, IsNamedAt, VisitsName};
-    ghost use Rattle.recover.specs.Walk.{HasEntry, HasNode, LeadsTo, LiesBelow, Tallied, Visits, nodes_of, reached_in, uniques_in};
+    ghost use Rattle.recover.specs.Seen.{AreSeen, WalksOn, IsFileSeen, IsNamedAt, VisitsName};
+    ghost use Rattle.recover.specs.Walk.{HasFileEntry, HasNode, LeadsTo, LiesBelow, Tallied, Visits, nodes_of, reached_in, uniques_in};
     ghost use Rattle.dir.specs.declared.entry.Kind.TheVariants.{Directory, File};
 
     /// Nothing is seen yet of the tree of a table whose entry stands at `at`.
@@ -150,8 +150,8 @@ impl<'a> Walk<'a> {
             at,
             entries,
             next_unique,
-            reached: Marks::new(alloc),
-            uniques: Marks::new(alloc),
+            reached: IdSet::new(alloc),
+            uniques: IdSet::new(alloc),
             files: 0,
             directories: 0,
         }
@@ -162,7 +162,7 @@ impl<'a> Walk<'a> {
         &mut self,
         alloc: Global,
         drive: &mut D,
-        known: &mut Known,
+        known: &mut ReadCache,
         node: &Named,
     ) -> Result<(), StoreFault>
         requires low { PARTITION_START ≤ self.old.at }
@@ -177,7 +177,7 @@ impl<'a> Walk<'a> {
         ensures counted { OnOk result (node.now.kind ≡ Directory → 1 ≤ self.new.directories) }
         ensures more { self.old.directories ≤ self.new.directories }
         ensures known { IsTrue (D.honest drive.new) → IsKnown (held (D.journal drive.new)) known.new }
-        ensures reads { Reads D.Drive (devices result) drive.old drive.new }
+        ensures reads { ReadsOnly D.Drive (devices result) drive.old drive.new }
     {
         let entry_at = self.reach(node)?;
         let body = self.read_entry(drive, known, node, entry_at)?;
@@ -202,7 +202,7 @@ impl<'a> Walk<'a> {
             ..
         } = names;
         let count = dir.entries.len();
-        let mut index = self.visit_seen(&files, 0, node.depth);
+        let mut index = self.visit_checked(&files, 0, node.depth);
         let is_once = !known.keeps_nodes();
         self.announce(drive, is_once, &dir, index, AHEAD);
         while index < count {
@@ -211,7 +211,7 @@ impl<'a> Walk<'a> {
             let child = node.child(entry, extent.first + PARTITION_START);
             self.visit(alloc, drive, known, &child)?;
             self.keep_seen(known, &child, &mut files, index, count);
-            index = self.visit_seen(&files, index + 1, node.depth);
+            index = self.visit_checked(&files, index + 1, node.depth);
         }
         known.keep_directory(extent, Names { dir, links, files });
         Ok(())
@@ -237,7 +237,7 @@ impl<'a> Walk<'a> {
         let Some((_, entry)) = dir.entries.get_index(index) else {
             return;
         };
-        if let Some(at) = address_below(self.entries, entry.icb, self.at) {
+        if let Some(at) = address_below(self.entries, entry.virtual_address, self.at) {
             drive.read_soon(at, 1);
         }
     }
@@ -246,8 +246,8 @@ impl<'a> Walk<'a> {
     /// does not lead to. The place of that one.
     // (Apart from what else is done for a directory, so that it has the registers.)
     #[inline(never)]
-    fn visit_seen(&mut self, files: &SeenFiles, from: usize, depth: u32) -> usize
-        ensures visits { GoesOn self.old self.new files.now depth from result }
+    fn visit_checked(&mut self, files: &CheckedFiles, from: usize, depth: u32) -> usize
+        ensures visits { WalksOn self.old self.new files.now depth from result }
         ensures on { from ≤ result }
         ensures at { self.new.at ≡ self.old.at }
         ensures entries { self.new.entries ≡ self.old.entries }
@@ -255,7 +255,7 @@ impl<'a> Walk<'a> {
         ensures directories { self.new.directories ≡ self.old.directories }
     {
         let mut index = from;
-        while self.passes(files, index, depth) {
+        while self.are_unchanged(files, index, depth) {
             index += 1;
         }
         index
@@ -264,7 +264,7 @@ impl<'a> Walk<'a> {
     /// Takes the file under the name at this place as seen, if it was found there and the table leads to where it stood.
     /// Whether it did; else nothing is changed.
     #[inline]
-    fn passes(&mut self, files: &SeenFiles, index: usize, depth: u32) -> bool
+    fn are_unchanged(&mut self, files: &CheckedFiles, index: usize, depth: u32) -> bool
         ensures visits { (journal : List Event) (entries : List (List ℕ × DirEntry)) → IsTrue result → self.old.at ≤ next_of journal → AreSeen (held journal) entries files.now → VisitsName (nodes_of journal self.old) self.old self.new entries index (depth + 1) }
         ensures within { IsTrue result → index < vec_len files.now.files }
         ensures unchanged { result ≡ false → self.new ≡ self.old }
@@ -278,7 +278,7 @@ impl<'a> Walk<'a> {
             return false;
         }
         match files.find(index) {
-            Some(file) => self.pass(&file),
+            Some(file) => self.is_unchanged(&file),
             None => false,
         }
     }
@@ -286,12 +286,12 @@ impl<'a> Walk<'a> {
     /// Takes the file as seen, if the table leads to where it was found and all that it needs lies below the table. Whether
     /// it did; else nothing is changed.
     #[inline]
-    fn pass(&mut self, file: &SeenFile) -> bool
+    fn is_unchanged(&mut self, file: &CheckedFile) -> bool
         ensures leads { IsTrue result → LeadsTo self.old.entries.now file.now.address (file.now.number + PARTITION_START) }
         ensures below { IsTrue result → file.now.top ≤ self.old.at }
         ensures drawn { IsTrue result → file.now.unique < self.old.next_unique }
-        ensures reached { IsTrue result → Puts (reached_in self.old) file.now.address (reached_in self.new) }
-        ensures uniques { IsTrue result → Puts (uniques_in self.old) file.now.unique (uniques_in self.new) }
+        ensures reached { IsTrue result → InsertsNumber (reached_in self.old) file.now.address (reached_in self.new) }
+        ensures uniques { IsTrue result → InsertsNumber (uniques_in self.old) file.now.unique (uniques_in self.new) }
         ensures files { IsTrue result → Tallied self.old.files 1 self.new.files }
         ensures unchanged { result ≡ false → self.new ≡ self.old }
         ensures at { self.new.at ≡ self.old.at }
@@ -317,9 +317,9 @@ impl<'a> Walk<'a> {
     /// Keeps the file that was looked at just now, at the place of its name among so many.
     fn keep_seen(
         &self,
-        known: &Known,
+        known: &ReadCache,
         node: &Named,
-        files: &mut SeenFiles,
+        files: &mut CheckedFiles,
         index: usize,
         count: usize,
     )
@@ -332,7 +332,7 @@ impl<'a> Walk<'a> {
     }
 
     /// The file that was looked at just now, if its entry is known; none for a directory.
-    fn seen_file(&self, known: &Known, node: &Named) -> Option<SeenFile>
+    fn seen_file(&self, known: &ReadCache, node: &Named) -> Option<CheckedFile>
         requires { PARTITION_START ≤ self.now.at }
         ensures kind { IfSome result (λ file. node.now.kind ≡ File) }
         ensures address { IfSome result (λ file. node.now.address ≡ file.address) }
@@ -357,7 +357,7 @@ impl<'a> Walk<'a> {
         requires { PARTITION_START ≤ self.old.at }
         ensures below { IfOk result (λ entry_at. (PARTITION_START ≤ entry_at) × (entry_at < self.old.at)) }
         ensures leads { IfOk result (λ entry_at. LeadsTo self.old.entries.now node.now.address entry_at) }
-        ensures reached { OnOk result (Puts (reached_in self.old) node.now.address (reached_in self.new)) }
+        ensures reached { OnOk result (InsertsNumber (reached_in self.old) node.now.address (reached_in self.new)) }
         ensures depth { OnOk result (node.now.depth ≤ PATH_NAMES) }
         ensures refused { IfErr result (IsReachRefused self.old node.now) }
         ensures at { self.new.at ≡ self.old.at }
@@ -385,18 +385,18 @@ impl<'a> Walk<'a> {
     fn read_entry<D: Drive>(
         &mut self,
         drive: &mut D,
-        known: &mut Known,
+        known: &mut ReadCache,
         node: &Named,
         entry_at: u32,
     ) -> Result<Body, StoreFault>
         requires below { entry_at < self.old.at }
         requires within { entry_at < next_of (D.journal drive.old) }
         requires known { IsTrue (D.honest drive.old) → IsKnown (held (D.journal drive.old)) known.old }
-        ensures entry { IfOk result (λ body. IsTrue (D.honest drive.new) → HasEntry (take self.old.at (held (D.journal drive.old))) entry_at node.now body) }
+        ensures entry { IfOk result (λ body. IsTrue (D.honest drive.new) → HasFileEntry (take self.old.at (held (D.journal drive.old))) entry_at node.now body) }
         ensures extent { IfOk result (λ body. IfSome body.extent (LiesBelow self.old.at)) }
         ensures refused { IfErr result (λ fault. IsTrue (D.honest drive.new) → IsBodyRefused (take self.old.at (held (D.journal drive.old))) self.old entry_at node.now fault) }
-        ensures drawn { OnOk result (IsDrawn self.old.next_unique node.now.address node.now.unique) }
-        ensures uniques { OnOk result (Puts (uniques_in self.old) node.now.unique (uniques_in self.new)) }
+        ensures drawn { OnOk result (IsAssigned self.old.next_unique node.now.address node.now.unique) }
+        ensures uniques { OnOk result (InsertsNumber (uniques_in self.old) node.now.unique (uniques_in self.new)) }
         ensures at { self.new.at ≡ self.old.at }
         ensures entries { self.new.entries ≡ self.old.entries }
         ensures next_unique { self.new.next_unique ≡ self.old.next_unique }
@@ -404,7 +404,7 @@ impl<'a> Walk<'a> {
         ensures files { self.new.files ≡ self.old.files }
         ensures directories { self.new.directories ≡ self.old.directories }
         ensures known { IsTrue (D.honest drive.new) → IsKnown (held (D.journal drive.new)) known.new }
-        ensures reads { Reads D.Drive (devices result) drive.old drive.new }
+        ensures reads { ReadsOnly D.Drive (devices result) drive.old drive.new }
     {
         let place = EntryPlace {
             at: entry_at,
@@ -429,9 +429,9 @@ impl<'a> Walk<'a> {
 
     /// Whether the unique ID is one that the node may have, and no node before it had.
     fn is_new_unique(&mut self, node: &Named) -> Result<bool, StoreFault>
-        ensures drawn { IfOk result (λ is. IsTrue is → IsDrawn self.old.next_unique node.now.address node.now.unique) }
-        ensures uniques { IfOk result (λ is. IsTrue is → Puts (uniques_in self.old) node.now.unique (uniques_in self.new)) }
-        ensures only { IfOk result (λ is. IsDrawn self.old.next_unique node.now.address node.now.unique → uniques_in self.old node.now.unique ≡ false → IsTrue is) }
+        ensures drawn { IfOk result (λ is. IsTrue is → IsAssigned self.old.next_unique node.now.address node.now.unique) }
+        ensures uniques { IfOk result (λ is. IsTrue is → InsertsNumber (uniques_in self.old) node.now.unique (uniques_in self.new)) }
+        ensures only { IfOk result (λ is. IsAssigned self.old.next_unique node.now.address node.now.unique → uniques_in self.old node.now.unique ≡ false → IsTrue is) }
         ensures memory { IfErr result (λ fault. fault ≡ Memory) }
         ensures at { self.new.at ≡ self.old.at }
         ensures entries { self.new.entries ≡ self.old.entries }
@@ -457,7 +457,7 @@ impl<'a> Walk<'a> {
 fn read_names<D: Drive>(
     alloc: Global,
     drive: &mut D,
-    known: &mut Known,
+    known: &mut ReadCache,
     above: u32,
     extent: Extent,
     links: u16,
@@ -467,11 +467,11 @@ fn read_names<D: Drive>(
     requires first { extent.first ≤ PARTITION_BLOCKS }
     requires within { extent.first + PARTITION_START + div_ceil extent.size BLOCK_BYTES ≤ next_of (D.journal drive.old) }
     requires known { IsTrue (D.honest drive.old) → IsKnown (held (D.journal drive.old)) known.old }
-    ensures names { IfOk result (λ names. IsTrue (D.honest drive.new) → HasNames (held (D.journal drive.old)) above links extent names.dir) }
+    ensures names { IfOk result (λ names. IsTrue (D.honest drive.new) → HasListing (held (D.journal drive.old)) above links extent names.dir) }
     ensures seen { IfOk result (λ names. IsTrue (D.honest drive.new) → AreSeen (held (D.journal drive.old)) names.dir.entries.entries names.files) }
     ensures refused { IfErr result (λ fault. IsTrue (D.honest drive.new) → IsNamesRefused (held (D.journal drive.old)) above links extent fault) }
     ensures known { IsTrue (D.honest drive.new) → IsKnown (held (D.journal drive.new)) known.new }
-    ensures reads { Reads D.Drive (devices result) drive.old drive.new }
+    ensures reads { ReadsOnly D.Drive (devices result) drive.old drive.new }
 {
     let names = known.directory(alloc, drive, extent)?;
     if names.dir.parent != above {
@@ -484,7 +484,7 @@ fn read_names<D: Drive>(
 }
 
 /// The file whose entry stands there, if that is known and as its directory says.
-fn seen_at(known: &Known, node: &Named, entry_at: u32) -> Option<SeenFile>
+fn seen_at(known: &ReadCache, node: &Named, entry_at: u32) -> Option<CheckedFile>
     requires low { PARTITION_START ≤ entry_at }
     requires high { entry_at + 1 < 2 ^ 32 }
     ensures address { IfSome result (λ file. node.now.address ≡ file.address) }
@@ -502,7 +502,7 @@ fn seen_at(known: &Known, node: &Named, entry_at: u32) -> Option<SeenFile>
     if !is_known(known, node, entry_at, top) {
         return None;
     }
-    Some(SeenFile {
+    Some(CheckedFile {
         address: node.address,
         unique: node.unique,
         number: entry_at - PARTITION_START,
@@ -525,7 +525,7 @@ fn top_of(entry: &NodeEntry, entry_at: u32) -> u32
 }
 
 /// Whether the table leads to the block in which the file was found.
-fn leads_to(entries: &[Option<u32>], file: &SeenFile) -> bool
+fn leads_to(entries: &[Option<u32>], file: &CheckedFile) -> bool
     ensures { IsTrue result → LeadsTo entries.now file.now.address (file.now.number + PARTITION_START) }
 {
     match entries.get(file.address as usize) {
@@ -535,7 +535,7 @@ fn leads_to(entries: &[Option<u32>], file: &SeenFile) -> bool
 }
 
 /// Whether the node's entry is known, and is as its directory says, with bytes below `at`.
-fn is_known(known: &Known, node: &Named, entry_at: u32, at: u32) -> bool
+fn is_known(known: &ReadCache, node: &Named, entry_at: u32, at: u32) -> bool
     requires { entry_at < at }
     ensures { (medium : List (List ℕ)) → IsTrue result → IsKnown medium known.now → HasNode (take at medium) at entry_at node.now }
 {

@@ -11,8 +11,8 @@ use Rattle.request.specs.declared.message.Message.{Message}
 use Rattle.request.specs.declared.message.Message.TheVariants.{NoMemory}
 use Rattle.request.specs.Spelling.{Said}
 use Rattle.request.specs.Reading.{said_at}
-use Rattle.request.specs.Payload.{told_by, TellsPayload}
-use Rattle.request.specs.Frames.{frame, length_at, IsOverlong, IsPartial, Begins, FirstIs, fed, IsFirst, Takes, IsIdle, MessagesAre, Agree}
+use Rattle.request.specs.Payload.{told_by, DecodesPayload}
+use Rattle.request.specs.Frames.{frame, length_at, IsOverlong, IsPartial, IsFramed, FirstIs, fed, IsFirstMessage, TakesMessage, IsIdle, MessagesAre, Agree}
 
 length_of_frame : (payload rest : List ℕ) → length payload < 2 ^ 32 → length_at (frame payload ++ rest) ≡ length payload
 length_of_frame payload rest lt = from_le_bytes-to_le_bytes_4 (length payload) lt
@@ -33,7 +33,7 @@ record Whole (bytes payload : List ℕ) : Type 0 where
   within : 4 + length payload ≤ length bytes
   fits : length payload ≤ 1114112
 
-is_whole : (bytes payload rest : List ℕ) → Begins bytes payload rest → Whole bytes payload
+is_whole : (bytes payload rest : List ℕ) → IsFramed bytes payload rest → Whole bytes payload
 is_whole bytes payload rest b =
     let long : length bytes ≡ 4 + (length payload + length rest) = ap length b.whole ∙ omega (arith, length-append payload rest) in
     record {
@@ -65,7 +65,7 @@ overlong_more bytes piece o =
     let same : length_at (bytes ++ piece) ≡ length_at bytes = ap (from_le_bytes w32) (take-append-le 4 bytes piece o.0) in
     (omega (arith, length-append bytes piece, o.0), omega (arith, same, o.1))
 
-begins_more : (bytes payload rest piece : List ℕ) → Begins bytes payload rest → Begins (bytes ++ piece) payload (rest ++ piece)
+begins_more : (bytes payload rest piece : List ℕ) → IsFramed bytes payload rest → IsFramed (bytes ++ piece) payload (rest ++ piece)
 begins_more bytes payload rest piece b =
     record { whole = ap (λ (x : List ℕ). x ++ piece) b.whole ∙ append_assoc (frame payload) rest piece; fits = b.fits }
 
@@ -77,16 +77,16 @@ feeding (message ∷ messages) bytes piece reader h =
       | inr q ↦ inr (overlong_more bytes piece q.0, q.1, q.2, ap (λ (r : Option (List ℕ)). fed r piece) q.3)
     ]
 
-first_taken : (bytes : List ℕ) (message : Message) (after : Option (List ℕ)) → Takes (Some bytes) message after → MessagesAre bytes (message ∷ []) after
+first_taken : (bytes : List ℕ) (message : Message) (after : Option (List ℕ)) → TakesMessage (Some bytes) message after → MessagesAre bytes (message ∷ []) after
 first_taken bytes message (Some rest) t = inl (rest, t, refl)
 first_taken bytes message None t = inr (t.0, t.1, refl, refl)
 
-pub taking : (messages : List Message) (bytes : List ℕ) (reader after : Option (List ℕ)) (message : Message) → MessagesAre bytes messages reader → Takes reader message after → MessagesAre bytes (messages ++ message ∷ []) after
-taking [] bytes reader after message h t = first_taken bytes message after (subst (λ (r : Option (List ℕ)). Takes r message after) h t)
+pub taking : (messages : List Message) (bytes : List ℕ) (reader after : Option (List ℕ)) (message : Message) → MessagesAre bytes messages reader → TakesMessage reader message after → MessagesAre bytes (messages ++ message ∷ []) after
+taking [] bytes reader after message h t = first_taken bytes message after (subst (λ (r : Option (List ℕ)). TakesMessage r message after) h t)
 taking (first ∷ messages) bytes reader after message h t =
     elim h [
       | inl p ↦ inl (p.0, p.1, taking messages p.0 reader after message p.2 t)
-      | inr q ↦ absurd (subst (λ (r : Option (List ℕ)). Takes r message after) q.3 t)
+      | inr q ↦ absurd (subst (λ (r : Option (List ℕ)). TakesMessage r message after) q.3 t)
     ]
 
 tells_one : (a b : Option (Result Said Cause)) (payload : List ℕ) → IfSome a (λ t. t ≡ said_at payload) → IfSome b (λ t. t ≡ said_at payload) → (a ≡ None) ⊎ ((b ≡ None) ⊎ (a ≡ b))
@@ -98,10 +98,10 @@ tells_one (Some x) (Some y) payload h k = inr (inr (ap (λ (t : Result Said Caus
 first_agree : (bytes : List ℕ) (m n : Message) (x y : List ℕ) → FirstIs bytes m x → FirstIs bytes n y → Agree m n × (x ≡ y)
 first_agree bytes m n x y p q =
     let same = same_frames p.0 q.0 x y (omega (arith, p.1.fits)) (omega (arith, q.1.fits)) (sym p.1.whole ∙ q.1.whole) in
-    (tells_one (told_by m) (told_by n) q.0 (subst (TellsPayload m) same.0 p.2) q.2, same.1)
+    (tells_one (told_by m) (told_by n) q.0 (subst (DecodesPayload m) same.0 p.2) q.2, same.1)
 
 -- a reader that gives a message is left in one way
-taken_once : (reader x y : Option (List ℕ)) (m n : Message) → Takes reader m x → Takes reader n y → x ≡ y
+taken_once : (reader x y : Option (List ℕ)) (m n : Message) → TakesMessage reader m x → TakesMessage reader n y → x ≡ y
 taken_once None x y m n h k = absurd h
 taken_once (Some bytes) None None m n h k = refl
 taken_once (Some bytes) None (Some y) m n h k = absurd (whole_not_overlong bytes k.0 (is_whole bytes k.0 y k.1) h.0)
@@ -110,23 +110,23 @@ taken_once (Some bytes) (Some x) (Some y) m n h k = ap (λ (rest : List ℕ). So
 
 -- what is held begins with a frame
 begins_held : (reader : Option (List ℕ)) (waiting payload rest : List ℕ) (message : Message) → MatchOption reader (waiting ≡ []) (λ bytes. waiting ≡ bytes)
-    → Begins waiting payload rest → TellsPayload message payload → Takes reader message (Some rest)
+    → IsFramed waiting payload rest → DecodesPayload message payload → TakesMessage reader message (Some rest)
 begins_held None waiting payload rest message held b t = absurd (omega (arith, ap length held, (is_whole waiting payload rest b).has_length))
-begins_held (Some bytes) waiting payload rest message held b t = (payload, subst (λ (bs : List ℕ). Begins bs payload rest) held b, t)
+begins_held (Some bytes) waiting payload rest message held b t = (payload, subst (λ (bs : List ℕ). IsFramed bs payload rest) held b, t)
 
 pub is_first : (reader : Option (List ℕ)) (waiting payload rest : List ℕ) (message : Message) → MatchOption reader (waiting ≡ []) (λ bytes. waiting ≡ bytes)
-    → Begins waiting payload rest → TellsPayload message payload → IsFirst reader message
+    → IsFramed waiting payload rest → DecodesPayload message payload → IsFirstMessage reader message
 is_first reader waiting payload rest message held b t = (Some rest, begins_held reader waiting payload rest message held b t)
 
 -- and is left so, where no other way is left
-pub taken_first : (reader left : Option (List ℕ)) (message : Message) → IsFirst reader message → ((m : Message) (after : Option (List ℕ)) → Takes reader m after → left ≡ after) → Takes reader message left
-taken_first reader left message first skips = subst (Takes reader message) (sym (skips message first.0 first.1)) first.1
+pub taken_first : (reader left : Option (List ℕ)) (message : Message) → IsFirstMessage reader message → ((m : Message) (after : Option (List ℕ)) → TakesMessage reader m after → left ≡ after) → TakesMessage reader message left
+taken_first reader left message first skips = subst (TakesMessage reader message) (sym (skips message first.0 first.1)) first.1
 
 -- letting a frame go lets the bytes go that it takes
 pub skipped : (failed : Bool) (taken : ℕ) (bytes waiting payload : List ℕ) (reader : Option (List ℕ)) → (if failed then None else Some (drop taken bytes)) ≡ reader
-    → MatchOption reader (waiting ≡ []) (λ held. waiting ≡ held) → Begins waiting payload (drop (4 + length payload) waiting)
-    → (message : Message) (after : Option (List ℕ)) → Takes reader message after → (if failed then None else Some (drop (taken + (4 + length payload)) bytes)) ≡ after
-skipped true taken bytes waiting payload reader is held b message after t = absurd (subst (λ (r : Option (List ℕ)). Takes r message after) (sym is) t)
+    → MatchOption reader (waiting ≡ []) (λ held. waiting ≡ held) → IsFramed waiting payload (drop (4 + length payload) waiting)
+    → (message : Message) (after : Option (List ℕ)) → TakesMessage reader message after → (if failed then None else Some (drop (taken + (4 + length payload)) bytes)) ≡ after
+skipped true taken bytes waiting payload reader is held b message after t = absurd (subst (λ (r : Option (List ℕ)). TakesMessage r message after) (sym is) t)
 skipped false taken bytes waiting payload reader is held b message after t =
     let used = 4 + length payload in
     let behind : drop (taken + used) bytes ≡ drop used waiting = sym (drop-drop used taken bytes) ∙ ap (drop used) (sym (subst (λ (r : Option (List ℕ)). MatchOption r (waiting ≡ []) (λ bs. waiting ≡ bs)) (sym is) held)) in

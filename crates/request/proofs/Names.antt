@@ -12,7 +12,7 @@ use Rattle.std.proofs.lemmas.Str.{IsUtf8-from_is_utf8, is_utf8-from_IsUtf8, enco
 use lib.Utf8.{encode, encodes}
 use Rattle.osta.specs.declared.fault.NameFault.{NameFault}
 use Rattle.osta.specs.Fault.{text_fault}
-use Rattle.osta.specs.FirstFault.{first_fault}
+use Rattle.osta.specs.FirstFault.{first_text_fault}
 use Rattle.osta.specs.Name.{name_faults, IsName}
 use Rattle.osta.specs.Compressed.{is_narrow, spelling}
 use Rattle.osta.proofs.Rows.{all_hold}
@@ -36,8 +36,8 @@ is_name-from_name bytes h = rw (is_utf8-from_IsUtf8 bytes h.utf8, h.faultless) r
 pub IsName-from_is_name : (bytes : List ℕ) → is_name bytes ≡ true → IsName bytes
 unfolding is_name
 IsName-from_is_name bytes e =
-    let parts = and_parts (is_utf8 bytes) (is_none (first_fault (name_faults bytes))) e in
-    record { utf8 = IsUtf8-from_is_utf8 bytes parts.0; faultless = none_is (first_fault (name_faults bytes)) parts.1 }
+    let parts = and_parts (is_utf8 bytes) (is_none (first_text_fault (name_faults bytes))) e in
+    record { utf8 = IsUtf8-from_is_utf8 bytes parts.0; faultless = none_is (first_text_fault (name_faults bytes)) parts.1 }
 
 no_name : (bytes : List ℕ) → is_name bytes ≡ false → tested_name bytes ≡ Err cause.Path
 unfolding tested_name
@@ -60,7 +60,7 @@ no_text bytes h =
     ] in
     no_name bytes (failed (is_utf8 bytes) refl)
 
-refused : (bytes : List ℕ) (fault : NameFault) → Some fault ≡ first_fault (name_faults bytes) → tested_name bytes ≡ Err cause.Path
+refused : (bytes : List ℕ) (fault : NameFault) → Some fault ≡ first_text_fault (name_faults bytes) → tested_name bytes ≡ Err cause.Path
 unfolding is_name
 refused bytes fault e =
     let failed : (b : Bool) → is_utf8 bytes ≡ b → is_name bytes ≡ false = λ b. elim b as (λ v. is_utf8 bytes ≡ v → is_name bytes ≡ false) [
@@ -70,9 +70,9 @@ refused bytes fault e =
     no_name bytes (failed (is_utf8 bytes) refl)
 
 -- what is told of a name that is refused
-pub refusal : (bytes text : List ℕ) (fault : NameFault) → text ≡ bytes → text_fault fault ≡ first_fault (name_faults text) → text_fault fault ≡ Some fault → tested_name bytes ≡ Err cause.Path
+pub refusal : (bytes text : List ℕ) (fault : NameFault) → text ≡ bytes → text_fault fault ≡ first_text_fault (name_faults text) → text_fault fault ≡ Some fault → tested_name bytes ≡ Err cause.Path
 refusal bytes text fault e told some =
-    refused bytes fault (sym some ∙ told ∙ ap (λ (t : List ℕ). first_fault (name_faults t)) e)
+    refused bytes fault (sym some ∙ told ∙ ap (λ (t : List ℕ). first_text_fault (name_faults t)) e)
 
 -- ---- how long a name is in UTF-8
 

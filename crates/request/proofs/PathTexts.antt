@@ -10,7 +10,7 @@ use Rattle.std.proofs.lemmas.List.Splits.{slice_split-cons_yes, slice_split-cons
 use Rattle.osta.specs.declared.fault.NameFault.{NameFault}
 use Rattle.osta.specs.declared.fault.NameFault.TheVariants as name
 use Rattle.osta.specs.Fault.{text_fault}
-use Rattle.osta.specs.FirstFault.{first_fault}
+use Rattle.osta.specs.FirstFault.{first_text_fault}
 use Rattle.osta.specs.Name.{name_faults, IsName}
 use Rattle.request.specs.declared.path.PathFault.TheVariants as PathFaults
 use Rattle.request.specs.PathFault.{path_fault_of}
@@ -29,7 +29,7 @@ onto_steps x xs (piece ∷ pieces) e =
     let behind : piece ++ flat_map step_text pieces ≡ xs = tail_is 47 47 _ xs (sym (flat_map-cons step_text piece pieces) ∙ e) in
     flat_map-cons step_text (x ∷ piece) pieces ∙ ap (λ (l : List ℕ). 47 ∷ x ∷ l) behind
 
--- the parts, each behind a slash, are the text behind a slash
+-- the parts, each after a slash, are the text after a slash
 pub steps_of_parts : (text : List ℕ) → flat_map step_text (parts text) ≡ 47 ∷ text
 steps_of_parts [] = flat_map-cons step_text [] []
 steps_of_parts (x ∷ xs) =
@@ -80,7 +80,7 @@ parsed (Ok path) text names e h =
 parsed (Err fault) text names e h = tt
 
 -- a fault that is told as the path's own
-pub bad_name : (fault : NameFault) (text : List ℕ) → text_fault fault ≡ first_fault (name_faults text) → path_fault_of fault ≡ PathFaults.Path → IsName text → ⊥
+pub bad_name : (fault : NameFault) (text : List ℕ) → text_fault fault ≡ first_text_fault (name_faults text) → path_fault_of fault ≡ PathFaults.Path → IsName text → ⊥
 bad_name name.Memory text told is good = absurd cc
 bad_name name.Empty text told is good = let e = told ∙ good.faultless in absurd cc
 bad_name name.Dot text told is good = let e = told ∙ good.faultless in absurd cc

@@ -1,4 +1,4 @@
--- Bytes that are read behind the first ones of a buffer.
+-- Bytes that are read after the first ones of a buffer.
 use Rattle.std.proofs.Common.{◌≡◌, ℕ, ◌+◌, ◌≤◌, ◌<◌, List, ◌++◌, length, take, drop, Option, Some, None, Bool, true, false, refl, sym, ap, ◌∙◌, append_assoc, arith, length-drop}
 use Rattle.std.specs.Prelude.{if◌then◌else◌}
 use Rattle.std.specs.Io.KnownBytes.{Consumes, IsAtEnd}
@@ -7,12 +7,12 @@ use Rattle.std.proofs.Math.Seq.{take-add, take-append_seam, drop-append_seam, ta
 use Rattle.request.specs.Frames.{fed}
 use Rattle.request.specs.Streams.{ReadsPiece}
 
--- what was written between a front of a buffer and the rest
+-- what was written between a prefix of a buffer and the rest
 between : (front room rest : List ℕ) → drop (length front) (take (length front + length room) (front ++ (room ++ rest))) ≡ room
 between front room rest =
     ap (drop (length front)) (take-append-add front (room ++ rest) (length room) ∙ ap (λ (x : List ℕ). front ++ x) (take-append_seam room rest)) ∙ drop-append_seam front room
 
--- the same where it is cut, and more stands behind it
+-- the same where it is cut, and more stands after it
 pub between_cut : (n end most : ℕ) (front room rest more : List ℕ) → length front ≡ end → length room ≡ most → end + most ≤ n
     → drop end (take (end + most) (take n (front ++ (room ++ rest) ++ more))) ≡ room
 between_cut n end most front room rest more e f fits =
@@ -41,7 +41,7 @@ fed_held false taken end count bytes before order within same =
     ap (λ (x : List ℕ). Some (drop taken x)) (take-add end count bytes ∙ ap (λ (x : List ℕ). x ++ piece) same)
     ∙ ap (λ (x : List ℕ). Some x) (drop-append-le taken (take end before) piece fits)
 
--- a reader of frames was fed what was read behind the bytes that it holds
+-- a reader of frames was fed what was read after the bytes that it holds
 pub reads_piece : (failed : Bool) (taken end count most : ℕ) (bytes before : List ℕ) (remaining left : Option (List ℕ)) → taken ≤ end → end ≤ length before → 0 < most
     → end + most ≤ length bytes → count ≤ most → take end bytes ≡ take end before
     → (let room = drop end (take (end + most) bytes) in Consumes remaining left (take count room) × (count ≡ 0 → 0 < length room → IsAtEnd left))

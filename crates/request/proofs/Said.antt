@@ -17,9 +17,9 @@ use Rattle.request.specs.declared.payload.Question.TheVariants as question
 use Rattle.request.specs.declared.payload.Kind.{Kind}
 use Rattle.request.specs.declared.payload.Kind.TheVariants as kind
 use Rattle.request.specs.Path.{IsPath}
-use Rattle.request.specs.Spelling.{Said, path_field, data_field, op_kind, op_fields, query_kind, query_path, payload_of, IsOp, IsChange, CanBeSaid}
+use Rattle.request.specs.Spelling.{Said, path_field, data_field, op_kind, op_fields, query_kind, query_path, payload_of, IsOp, IsChange, IsMessageInRange}
 use Rattle.request.specs.Spelling.Said.{Changes, Asks}
-use Rattle.request.specs.Reading.{◌>>=◌, number_at, client_at, number_above_zero_at, moment_at, path_at, data_at, op_at, ended, change_at, asked, question_at, kind_of, kind_at, fields_at, said_at}
+use Rattle.request.specs.Reading.{◌>>=◌, number_at, client_at, number_above_zero_at, moment_at, path_at, data_at, op_at, ended, change_at, asked, question_at, message_kind, kind_at, fields_at, said_at}
 use Rattle.request.specs.Payload.{IsSpelled}
 use Rattle.request.proofs.Fields.{IsBytes, IsBytes-rest, bind_ok, guard_passed, guard_met, ok_is, Takes, Takes-then, wide64, number_takes, number_again}
 use Rattle.request.proofs.Paths.{path_takes, path_again, data_takes, data_again}
@@ -152,10 +152,10 @@ ended_is x y bytes e =
 
 -- the payload with this kind and these fields says it
 record Spelled (kind : ℕ) (bytes : List ℕ) (said : Said) : Type 0 where
-  in_range : CanBeSaid said
+  in_range : IsMessageInRange said
   spelled : kind ∷ bytes ≡ payload_of said
 
--- a kind and fields with nothing behind them
+-- a kind and fields with nothing after them
 spelled_whole : (number kind : ℕ) (bytes fields rest : List ℕ) → bytes ≡ fields ++ rest → rest ≡ [] → kind ≡ number → number ∷ bytes ≡ kind ∷ fields
 spelled_whole number kind bytes fields rest parts none is =
     let whole : bytes ≡ fields = parts ∙ ap (λ (r : List ℕ). fields ++ r) none ∙ append-nil fields in
@@ -245,7 +245,7 @@ kind_row byte number this found others is next =
     ] in
     rows (eqb byte number) refl
 
-kind_is : (byte : ℕ) (found : Kind) → kind_of byte ≡ Ok found → byte ≡ kind_number found
+kind_is : (byte : ℕ) (found : Kind) → message_kind byte ≡ Ok found → byte ≡ kind_number found
 kind_is byte found =
     kind_row byte 1 (kind.Change change.Create) found _ refl
     (kind_row byte 2 (kind.Change change.Replace) found _ refl
@@ -261,7 +261,7 @@ kind_takes : (payload : List ℕ) (x : Kind × List ℕ) → kind_at payload ≡
 unfolding kind_at
 kind_takes [] x e = absurd cc
 kind_takes (byte ∷ bytes) x e =
-    let a = bind_ok (kind_of byte) (λ k. Ok (k, bytes)) x e in
+    let a = bind_ok (message_kind byte) (λ k. Ok (k, bytes)) x e in
     subst (λ (y : Kind × List ℕ). byte ∷ bytes ≡ kind_number y.0 ∷ y.1) (ok_is (a.0, bytes) x a.2) (ap (λ (k : ℕ). k ∷ bytes) (kind_is byte a.0 a.1))
 
 kind_again : (k : Kind) (bytes : List ℕ) → kind_at (kind_number k ∷ bytes) ≡ Ok (k, bytes)
@@ -282,7 +282,7 @@ unfolding fields_at
 fields_take (kind.Change change) bytes said fits e = change_takes change bytes said fits e
 fields_take (kind.Question question) bytes said fits e = question_takes question bytes said fits e
 
-said_takes : (payload : List ℕ) (said : Said) → IsBytes payload → said_at payload ≡ Ok said → CanBeSaid said × (payload ≡ payload_of said)
+said_takes : (payload : List ℕ) (said : Said) → IsBytes payload → said_at payload ≡ Ok said → IsMessageInRange said × (payload ≡ payload_of said)
 unfolding said_at
 said_takes payload said fits e =
     let a = bind_ok (kind_at payload) (λ k. fields_at k.0 k.1) said e in
@@ -291,7 +291,7 @@ said_takes payload said fits e =
     let s = fields_take a.0.0 a.0.1 said rest_fits a.2 in
     (s.in_range, begins ∙ s.spelled)
 
-pub said_again : (said : Said) → CanBeSaid said → said_at (payload_of said) ≡ Ok said
+pub said_again : (said : Said) → IsMessageInRange said → said_at (payload_of said) ≡ Ok said
 unfolding said_at fields_at
 said_again (Changes client number moment o) good =
     let fields : List ℕ = to_le_bytes w64 client ++ (to_le_bytes w64 number ++ (to_le_bytes w64 moment ++ op_fields o)) in
@@ -312,6 +312,6 @@ pub is_spelled : (told : Option (Result Said Cause)) (payload : List ℕ) → Is
 is_spelled None payload fits e = tt
 is_spelled (Some told) payload fits e = spelled_from_told payload told fits e
 
-pub tells_said : (told : Option (Result Said Cause)) (payload : List ℕ) (said : Said) → CanBeSaid said → payload ≡ payload_of said → IfSome told (λ t. t ≡ said_at payload) → IfSome told (λ t. t ≡ Ok said)
+pub tells_said : (told : Option (Result Said Cause)) (payload : List ℕ) (said : Said) → IsMessageInRange said → payload ≡ payload_of said → IfSome told (λ t. t ≡ said_at payload) → IfSome told (λ t. t ≡ Ok said)
 tells_said None payload said good e told-is = tt
 tells_said (Some told) payload said good e told-is = told-is ∙ ap said_at e ∙ said_again said good

@@ -9,7 +9,7 @@ pub record IsPath (path : List (List ℕ)) : Type 0 where
   pub few : length path ≤ MESSAGE_PATH_NAMES
   pub names : All IsName path
 
--- a name behind a slash
+-- a name after a slash
 abbrev pub step_text : List ℕ → List ℕ
 step_text name = 47 ∷ name
 

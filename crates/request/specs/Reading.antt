@@ -3,7 +3,7 @@ use Rattle.std.specs.Prelude.{◌≡◌, ℕ, ◌&&◌, zero, suc, List, [], ◌
 use Rattle.std.specs.Int.{Width, w16, w32, w64, byte_len, from_le_bytes}
 use Rattle.std.specs.Str.{is_utf8}
 use Rattle.limits.specs.declared.TheConstants.{FILE_BYTES, MOMENT_LIMIT}
-use Rattle.osta.specs.FirstFault.{first_fault}
+use Rattle.osta.specs.FirstFault.{first_text_fault}
 use Rattle.osta.specs.Name.{name_faults}
 use Rattle.request.specs.declared.message.Cause.{Cause}
 use Rattle.request.specs.declared.message.Cause.TheVariants as cause
@@ -36,7 +36,7 @@ abbrev pub Gives : {X Y : Type 0} → (X → Y) → Result X ReadError → Resul
 Gives view (Ok x) read = read ≡ Ok (view x)
 Gives view (Err e) read = Fails e read
 
--- A field is a value and the bytes behind it.
+-- A field is a value and the bytes after it.
 abbrev pub number_at : Width → List ℕ → Result (ℕ × List ℕ) Cause
 number_at w bytes = if nat_lt (length bytes) (byte_len w) then Err cause.Short else Ok (from_le_bytes w (take (byte_len w) bytes), drop (byte_len w) bytes)
 
@@ -57,7 +57,7 @@ moment_at bytes = do
 
 -- UTF-8 that has none of the faults of a name
 unfoldable pub is_name : List ℕ → Bool
-is_name bytes = is_utf8 bytes && is_none (first_fault (name_faults bytes))
+is_name bytes = is_utf8 bytes && is_none (first_text_fault (name_faults bytes))
 
 unfoldable pub tested_name : List ℕ → Result (List ℕ) Cause
 tested_name bytes = if is_name bytes then Ok bytes else Err cause.Path
@@ -104,7 +104,7 @@ op_at change.Remove bytes = do
   path ← path_at bytes
   Ok (op.Remove path.0, path.1)
 
--- the value, where no byte stands behind it
+-- the value, where no byte stands after it
 abbrev pub ended : {A : Type 0} → A → List ℕ → Result A Cause
 ended x bytes = if length bytes == 0 then Ok x else Err cause.Extra
 
@@ -126,8 +126,8 @@ question_at question bytes = do
   path ← path_at bytes
   ended (Asks (asked question path.0)) path.1
 
-abbrev pub kind_of : ℕ → Result Kind Cause
-kind_of byte =
+abbrev pub message_kind : ℕ → Result Kind Cause
+message_kind byte =
     if byte == 1 then Ok (kind.Change change.Create)
     else (if byte == 2 then Ok (kind.Change change.Replace)
     else (if byte == 3 then Ok (kind.Change change.MakeDir)
@@ -141,7 +141,7 @@ kind_of byte =
 unfoldable pub kind_at : List ℕ → Result (Kind × List ℕ) Cause
 kind_at [] = Err cause.Short
 kind_at (byte ∷ bytes) = do
-  kind ← kind_of byte
+  kind ← message_kind byte
   Ok (kind, bytes)
 
 unfoldable pub fields_at : Kind → List ℕ → Result Said Cause

@@ -72,6 +72,6 @@ pub record IsChange (client number moment : ℕ) (op : Op) : Type 0 where
   pub op_in_range : IsOp op
 
 -- what can be said
-abbrev pub CanBeSaid : Said → Type 0
-CanBeSaid (Changes client number moment op) = IsChange client number moment op
-CanBeSaid (Asks query) = IsPath (query_path query)
+abbrev pub IsMessageInRange : Said → Type 0
+IsMessageInRange (Changes client number moment op) = IsChange client number moment op
+IsMessageInRange (Asks query) = IsPath (query_path query)

@@ -63,7 +63,7 @@ fn code_of(answer: &Answer) -> u16
     }
 }
 
-/// The bytes behind the answer's code.
+/// The bytes after the answer's code.
 fn body_len(answer: &Answer) -> usize
     ensures length { result ≡ length (answer_body answer.now) }
     ensures few { result ≤ 1048580 }

@@ -3,7 +3,7 @@
 ghost use Rattle.std.specs.Prelude.{◌≡◌, ◌≤◌, ◌<◌, ◌-◌, ◌+◌, vec_len, length, drop, take, ℕ, List, Option, [], Some, None, IfOk, IfErr, OnOk, OnErr, IfSome, IfNone, MatchOption, is_none};
 ghost use Rattle.std.specs.Io.KnownBytes.{Keeps, ReadConsumes};
 ghost use Rattle.request.specs.declared.message.Message.{Message};
-ghost use Rattle.request.specs.Frames.{length_at, fed, IsFirst, Takes, IsIdle};
+ghost use Rattle.request.specs.Frames.{length_at, fed, IsFirstMessage, TakesMessage, IsIdle};
 ghost use Rattle.request.specs.FirstFrame.{IsFirstFrame};
 ghost use Rattle.request.specs.Streams.{ReadsPiece};
 
@@ -27,10 +27,10 @@ pub enum FeedFault {
 }
 
 /// A reader of frames. It holds the bytes that were fed and not yet taken. A contract sees them, or `None`
-/// once a frame was longer than any payload can be: nothing behind it is read.
+/// once a frame was longer than any payload can be: nothing after it is read.
 #[derive(Debug, Drop)]
 pub struct Frames {
-    /// The bytes that are held, and behind them room for more.
+    /// The bytes that are held, and after them room for more.
     bytes: Vec<u8>,
     /// How many bytes at the front were taken already.
     taken: usize,
@@ -111,7 +111,7 @@ impl Frames {
     /// longer than any payload is told of as soon as its length is there.
     #[tactic(auto, using(crate::proofs::FrameLaws::is_first))]
     pub fn first(&self) -> Option<Message<'_>>
-        ensures some { IfSome result (IsFirst self.now) }
+        ensures some { IfSome result (IsFirstMessage self.now) }
         ensures none { IfNone result (IsIdle self.now) }
     {
         match first_frame(self.waiting()) {
@@ -121,10 +121,10 @@ impl Frames {
         }
     }
 
-    /// Lets the next message's frame go. Nothing comes behind one that is longer than any payload. Where no frame is whole the
+    /// Releases the frame of the next message. Nothing comes after one that is longer than any payload. Where no frame is whole the
     /// reader stays as it was.
     pub fn skip(&mut self)
-        ensures taken { (message : Message) (after : Option (List ℕ)) → Takes self.old message after → self.new ≡ after }
+        ensures taken { (message : Message) (after : Option (List ℕ)) → TakesMessage self.old message after → self.new ≡ after }
         ensures idle { IsIdle self.old → self.new ≡ self.old }
     {
         match first_frame(self.waiting()) {
@@ -137,7 +137,7 @@ impl Frames {
         }
     }
 
-    /// What is held, and nothing behind a frame that was longer than any payload.
+    /// What is held, and nothing after a frame that was longer than any payload.
     fn waiting(&self) -> &[u8]
         ensures { MatchOption self.now (result.now ≡ []) (λ bytes. result.now ≡ bytes) }
     {
@@ -213,7 +213,7 @@ fn forget(bytes: &mut Vec<u8>, taken: usize, end: usize)
     front[..count].copy_from_slice(&rest[..count]);
 }
 
-/// Makes room for so many bytes behind the first ones. Zeros are written only where there was none.
+/// Makes room for so many bytes after the first ones. Zeros are written only where there was none.
 fn make_room(bytes: &mut Vec<u8>, end: usize, most: usize) -> Result<(), AllocError>
     requires { end ≤ vec_len bytes.old }
     ensures held { take end bytes.new.items ≡ take end bytes.old.items }
@@ -229,7 +229,7 @@ fn make_room(bytes: &mut Vec<u8>, end: usize, most: usize) -> Result<(), AllocEr
     Ok(())
 }
 
-/// Reads at most so many bytes behind the first ones.
+/// Reads at most so many bytes after the first ones.
 fn fill<R: Read>(reader: &mut R, bytes: &mut Vec<u8>, end: usize, most: usize) -> io::Result<usize>
     requires room { end + most ≤ vec_len bytes.old }
     ensures held { take end bytes.new.items ≡ take end bytes.old.items }

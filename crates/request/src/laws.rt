@@ -5,7 +5,7 @@ ghost use Rattle.std.specs.List.{AllZip};
 ghost use Rattle.request.specs.declared.message.Message.{Message};
 ghost use Rattle.request.specs.declared.answer.Answer.{Answer};
 ghost use Rattle.request.specs.Answers.{IsAnswer, answer_frame};
-ghost use Rattle.request.specs.Frames.{MessagesAre, Frames, Takes, fed, Agree};
+ghost use Rattle.request.specs.Frames.{MessagesAre, Frames, TakesMessage, fed, Agree};
 
 /// Where more bytes of a stream are fed, the messages that were taken are still its first ones.
 pub fn feeding_goes_on()
@@ -16,10 +16,10 @@ pub fn feeding_goes_on()
 /// Where a message is taken, it is the next one of the stream.
 pub fn taking_goes_on()
     ensures { (bytes : List ℕ) (messages : List Message) (message : Message) (reader after : Option (List ℕ)) → MessagesAre bytes messages reader
-        → Takes reader message after → MessagesAre bytes (messages ++ message ∷ []) after }
+        → TakesMessage reader message after → MessagesAre bytes (messages ++ message ∷ []) after }
 {}
 
-/// A stream has one list of messages, want of memory aside, however it was cut into pieces.
+/// A stream has one list of messages, lack of memory aside, however it was cut into pieces.
 pub fn one_reading()
     ensures { (bytes : List ℕ) (messages others : List Message) (reader other : Option (List ℕ)) → Frames bytes messages reader
         → Frames bytes others other → (reader ≡ other) × AllZip Agree messages others }

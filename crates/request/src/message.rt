@@ -124,7 +124,7 @@ pub enum Cause {
     Kind,
     /// The payload ends before its last field does.
     Short,
-    /// Bytes behind the last field, or a file longer than the limit.
+    /// Bytes after the last field, or a file longer than the limit.
     Extra,
     /// A name that no file can have.
     Path,

@@ -33,7 +33,7 @@ impl Model for Path {
 /// Why a text is no path.
 #[derive(Clone, Copy, Debug, PartialEq, Eq)]
 pub enum PathFault {
-    /// The text is not `/` alone, and not 1 to 255 names, each behind a `/`.
+    /// The text is not `/` alone, and not 1 to 255 names, each after a `/`.
     Path,
     /// There was no memory for the names.
     Memory,
@@ -83,7 +83,7 @@ impl Path {
         Ok(())
     }
 
-    /// Reads `/`, the root, or names that each stand behind a `/`.
+    /// Reads `/`, the root, or names that each stand after a `/`.
     pub fn parse(alloc: Global, text: &str) -> Result<Path, PathFault>
         // What is read is a path, and the text is its text.
         ensures found { IfOk result (λ path. IsPath path × (text.now ≡ path_text path)) }

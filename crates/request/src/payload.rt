@@ -2,10 +2,10 @@
 
 ghost use Rattle.std.specs.Prelude.{◌≡◌, ◌≤◌, ◌<◌, List, ℕ, length, Ok, IfOk, IfErr, IfSome};
 ghost use Rattle.std.specs.Int.{w16, w32, w64};
-ghost use Rattle.request.specs.Spelling.{Said, CanBeSaid, payload_of};
+ghost use Rattle.request.specs.Spelling.{Said, IsMessageInRange, payload_of};
 ghost use Rattle.request.specs.Spelling.Said.{Asks};
 ghost use Rattle.request.specs.Reading.{Gives, Fails, number_at, client_at, number_above_zero_at, moment_at, tested_name, name_at, names_at, path_at, data_at, op_at, ended, change_at, question_at, kind_at, fields_at, said_at};
-ghost use Rattle.request.specs.Payload.{TellsPayload, IsSpelled, told_by, said_by};
+ghost use Rattle.request.specs.Payload.{DecodesPayload, IsSpelled, told_by, request_said};
 ghost use Rattle.request.specs.declared.payload.ReadError.TheVariants.{Memory};
 
 use crate::message::{Cause, FILE_BYTES, FileSlice, MOMENT_LIMIT, Message, Op, Query, Request};
@@ -63,11 +63,11 @@ enum Kind {
 /// What the payload of a frame says.
 pub fn read_payload(alloc: Global, payload: &[u8]) -> Message<'_>
     // It is the one thing that the payload says, or its first fault from left to right, unless there was no memory.
-    ensures exact { TellsPayload result payload.now }
+    ensures exact { DecodesPayload result payload.now }
     // What is said may be said, and the payload is its spelling.
     ensures found { IfSome (told_by result) (IsSpelled payload.now) }
     // What may be said is read from its spelling, unless there was no memory.
-    ensures only { (said : Said) → CanBeSaid said → payload.now ≡ payload_of said → IfSome (told_by result) (λ told. told ≡ Ok said) }
+    ensures only { (said : Said) → IsMessageInRange said → payload.now ≡ payload_of said → IfSome (told_by result) (λ told. told ≡ Ok said) }
 {
     match message_of(alloc, payload) {
         Ok(message) => message,
@@ -78,7 +78,7 @@ pub fn read_payload(alloc: Global, payload: &[u8]) -> Message<'_>
 
 #[tactic(auto, unfolding(crate::specs::Reading::said_at, crate::specs::Reading::fields_at))]
 fn message_of(alloc: Global, payload: &[u8]) -> Result<Message<'_>, ReadError>
-    ensures ok { IfOk result (λ m. TellsPayload m payload.now) }
+    ensures ok { IfOk result (λ m. DecodesPayload m payload.now) }
     ensures err { IfErr result (λ e. Fails e (said_at payload.now)) }
 {
     let (kind, fields) = kind_of(payload)?;
@@ -117,13 +117,13 @@ fn kind_of(bytes: &[u8]) -> Result<(Kind, &[u8]), ReadError>
 
 #[tactic(auto, unfolding(crate::specs::Reading::change_at))]
 fn request_of(alloc: Global, change: Change, bytes: &[u8]) -> Result<Request<'_>, ReadError>
-    ensures { Gives said_by result (change_at change bytes.now) }
+    ensures { Gives request_said result (change_at change bytes.now) }
 {
     let (client, rest) = client_of(bytes)?;
     let (number, rest) = number_of(rest)?;
     let (moment, rest) = moment_of(rest)?;
     let (op, rest) = op_of(alloc, change, rest)?;
-    nothing_behind(rest)?;
+    nothing_after(rest)?;
     Ok(Request {
         client,
         number,
@@ -137,7 +137,7 @@ fn query_of(alloc: Global, question: Question, bytes: &[u8]) -> Result<Query, Re
     ensures { Gives (λ q. Asks q) result (question_at question bytes.now) }
 {
     let (path, rest) = path_of(alloc, bytes)?;
-    nothing_behind(rest)?;
+    nothing_after(rest)?;
     match question {
         Question::Get => Ok(Query::Get(path)),
         Question::List => Ok(Query::List(path)),
@@ -271,7 +271,7 @@ fn data_of(bytes: &[u8]) -> Result<(FileSlice<'_>, &[u8]), ReadError>
     Ok((FileSlice::new(data), rest))
 }
 
-fn nothing_behind(bytes: &[u8]) -> Result<(), ReadError>
+fn nothing_after(bytes: &[u8]) -> Result<(), ReadError>
     ensures { Gives (λ x. x) result (ended tt bytes.now) }
 {
     if bytes.is_empty() {

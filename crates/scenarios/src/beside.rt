@@ -311,7 +311,7 @@ impl Beside {
         }
     }
 
-    /// At each front of what was written since the last look, the tree of then; with the last block, the tree of now.
+    /// At each prefix of what was written since the last look, the tree of then; with the last block, the tree of now.
     pub fn fronts(&mut self, machine: &Machine) -> Result<String, Trouble> {
         let alloc = self.alloc;
         let until = machine.blocks();
@@ -479,10 +479,10 @@ impl Beside {
         let mut above = u32::MAX;
         for (commit, counts) in commits.iter().zip(self.counts.iter().rev()) {
             let got = (u64::from(commit.commit), commit.files, commit.directories);
-            if got != *counts || commit.at >= above {
+            if got != *counts || commit.vat_icb_address >= above {
                 return Ok(format!(in self.alloc; "{commit:?}")?);
             }
-            above = commit.at;
+            above = commit.vat_icb_address;
         }
         Ok(String::from_str(self.alloc, SAME)?)
     }

@@ -9,7 +9,7 @@ use icb::{FileEntry, Kind, Place, encode_fe};
 use words::{number, read_word};
 
 /// Appends the bytes that each of the words says: those of every script, and `entry:` with the entry's fields, `imitation:5` for
-/// the entry of a table at the block number 5, or `imitations:3` for those at 5, 7 and 9.
+/// a VAT ICB at the block number 5, or `imitations:3` for those at 5, 7 and 9.
 pub fn read_bytes(words: &[&str], into: &mut Vec<u8>) -> Result<(), Trouble> {
     for word in words {
         if let Some(fields) = word.strip_prefix("entry:") {

@@ -2,7 +2,7 @@
 
 ghost use Rattle.std.specs.Prelude.{◌≡◌, ◌≤◌, ℕ, true, [], length, IfSome};
 ghost use Rattle.drive.specs.MemDrive.{journal_of, capacity_of};
-ghost use Rattle.store.specs.Agrees.{Agrees};
+ghost use Rattle.store.specs.Agrees.{IsStoreOn};
 ghost use Rattle.engine.specs.Situation.{IsReady, situation};
 
 use crate::streams::{Pieces, Room};
@@ -37,7 +37,7 @@ impl Model for Machine {
 
     ghost view = { λ m. length (journal_of m.drive) };
 
-    ghost invariant = { λ m. IsReady (situation m.engine.store (journal_of m.drive) 0 (capacity_of m.drive) true []) × IfSome m.store (Agrees (journal_of m.drive) (capacity_of m.drive)) };
+    ghost invariant = { λ m. IsReady (situation m.engine.store (journal_of m.drive) 0 (capacity_of m.drive) true []) × IfSome m.store (IsStoreOn (journal_of m.drive) (capacity_of m.drive)) };
 }
 
 impl Machine {
@@ -275,8 +275,8 @@ fn frames_of(alloc: Global, answers: &[Answer]) -> Result<Vec<u8>, Trouble> {
 
 /// The answer of a store to a message.
 fn answer(alloc: Global, store: &mut Store, drive: &mut MemDrive, message: Message<'_>) -> Answer
-    requires { Agrees (journal_of drive.old) (capacity_of drive.old) store.old }
-    ensures { Agrees (journal_of drive.new) (capacity_of drive.new) store.new }
+    requires { IsStoreOn (journal_of drive.old) (capacity_of drive.old) store.old }
+    ensures { IsStoreOn (journal_of drive.new) (capacity_of drive.new) store.new }
 {
     match message {
         Message::Malformed(cause) => Answer::Malformed(cause),
@@ -293,8 +293,8 @@ fn answer_request(
     drive: &mut MemDrive,
     request: &Request<'_>,
 ) -> Answer
-    requires { Agrees (journal_of drive.old) (capacity_of drive.old) store.old }
-    ensures { Agrees (journal_of drive.new) (capacity_of drive.new) store.new }
+    requires { IsStoreOn (journal_of drive.old) (capacity_of drive.old) store.old }
+    ensures { IsStoreOn (journal_of drive.new) (capacity_of drive.new) store.new }
 {
     match store.due(request.client, request.number) {
         Due::Repeat(reply) => Answer::Reply(reply),
@@ -310,8 +310,8 @@ fn answer_request(
 
 /// The answer of a store to a query about the newest state.
 fn answer_now(alloc: Global, store: &mut Store, drive: &mut MemDrive, query: &Query) -> Answer
-    requires { Agrees (journal_of drive.old) (capacity_of drive.old) store.old }
-    ensures { Agrees (journal_of drive.new) (capacity_of drive.new) store.new }
+    requires { IsStoreOn (journal_of drive.old) (capacity_of drive.old) store.old }
+    ensures { IsStoreOn (journal_of drive.new) (capacity_of drive.new) store.new }
 {
     match query {
         Query::Get(path) => match store.get(alloc, drive, path) {
@@ -337,15 +337,15 @@ fn answer_then(
     snapshot: &Snapshot,
     query: &Query,
 ) -> Answer
-    requires { Agrees (journal_of drive.old) (capacity_of drive.old) store.old }
-    ensures agrees { Agrees (journal_of drive.new) (capacity_of drive.new) store.new }
+    requires { IsStoreOn (journal_of drive.old) (capacity_of drive.old) store.old }
+    ensures agrees { IsStoreOn (journal_of drive.new) (capacity_of drive.new) store.new }
     ensures journal { journal_of drive.new ≡ journal_of drive.old }
     ensures capacity { capacity_of drive.new ≡ capacity_of drive.old }
 {
     let Ok(next) = drive.next() else {
         return Answer::Fault;
     };
-    if snapshot.commit().at > next {
+    if snapshot.commit().vat_icb_address > next {
         return Answer::Fault;
     }
     match query {

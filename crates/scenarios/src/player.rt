@@ -122,7 +122,7 @@ impl Player {
         self.held = Some(snapshot);
         let text = format!(in self.alloc;
             "{} {} {} {}, {sessions}",
-            told.commit, told.at, told.files, told.directories
+            told.commit, told.vat_icb_address, told.files, told.directories
         )?;
         Ok(text)
     }
@@ -163,7 +163,7 @@ impl Player {
                     write!(
                         text,
                         "{parted}{} {} {} {}",
-                        commit.commit, commit.at, commit.files, commit.directories
+                        commit.commit, commit.vat_icb_address, commit.files, commit.directories
                     )?;
                 }
             }

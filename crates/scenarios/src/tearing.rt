@@ -1,4 +1,4 @@
-//! What a loss of power leaves of a commit: the writes that had returned, and of the write under way any of its blocks.
+//! What a power loss leaves of a commit: the writes that had returned, and of the write under way any of its blocks.
 
 use crate::answers::told;
 use crate::die::Die;

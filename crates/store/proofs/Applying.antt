@@ -3,7 +3,7 @@ use Rattle.std.proofs.Common.{◌≡◌, ◌⊎◌, inl, inr, ℕ, Bool, ◌+◌
 use Rattle.std.specs.Prelude.{Result, Ok, Err, IfOk, IfErr, OnOk, OnErr, is_err}
 use Rattle.std.proofs.lemmas.Bool.{false≢true}
 use Rattle.std.proofs.lemmas.List.{take_all}
-use Rattle.drive.specs.Journal.{AddsFront, Event, held, next_of, written}
+use Rattle.drive.specs.Journal.{AddsPrefix, Event, held, next_of, written}
 use Rattle.drive.proofs.Fronts.{front_whole, held_write}
 use Rattle.drive.specs.Sending.{SendsAlone}
 use Rattle.drive.specs.Writes.{joined}
@@ -14,7 +14,7 @@ use Rattle.durability.specs.Commit.{need}
 use Rattle.durability.specs.Formats.{Block}
 use Rattle.durability.specs.Journal.{Advances}
 use Rattle.durability.specs.Plan.{IsPlanned}
-use Rattle.durability.specs.Volume.{Medium, Stands}
+use Rattle.durability.specs.Volume.{Medium, RecoversTo}
 use Rattle.durability.proofs.OnJournals.{torn_advances}
 use Rattle.durability.proofs.Writes.{joined_writes, left_more}
 use Rattle.udf.proofs.Formats.{exact, bounded, distinct}
@@ -24,27 +24,27 @@ use Rattle.recover.specs.declared.fault.StoreFault.TheVariants as fault
 use Rattle.request.specs.Numbers.{code_number}
 use Rattle.request.specs.declared.answer.Reply as told
 use Rattle.request.specs.declared.message.Request as asking
-use Rattle.udf.specs.Said.{said_table}
+use Rattle.udf.specs.Said.{model_table}
 use Rattle.udf.specs.Udf.{udf, spelled}
 use Rattle.vat.specs.Table.{view}
 use Rattle.planning.specs.declared.change.Change.{Change}
 use Rattle.planning.specs.declared.plan.Plan.{Plan}
 use Rattle.store.specs.declared.store.Store.{Store}
-use Rattle.directories.specs.Asked.{said_operation, said_request}
-use Rattle.directories.specs.Cache.{AreKept}
-use Rattle.store.specs.Calls.{Applies, IsDone, IsFailed, Knows, Refuses, Withstands}
-use Rattle.planning.specs.Changes.{Does}
-use Rattle.next_vat.specs.Commits.{IsPart, IsWholeCommit}
+use Rattle.lookup.specs.Asked.{model_operation, model_request}
+use Rattle.lookup.specs.Cache.{AreKept}
+use Rattle.store.specs.Calls.{Applies, IsCommitDone, IsFailed, IsOpenOn, RefusesRequest, CommitSurvivesPowerLoss}
+use Rattle.planning.specs.Changes.{IsChangeOf}
+use Rattle.table_update.specs.Commits.{IsPart, IsWholeCommit}
 use Rattle.planning.specs.Needs.{change_need}
-use Rattle.next_vat.specs.NextTable.{begun}
+use Rattle.table_update.specs.NextTable.{begun}
 use Rattle.planning.specs.Plan.{IsPlan, node_list, plan_blocks, table_data}
-use Rattle.store.specs.Putting.{Makes}
+use Rattle.store.specs.Putting.{IsPlanOf}
 use Rattle.store.specs.Sessions.{reply_said}
-use Rattle.directories.specs.Shows.{graph_below}
-use Rattle.next_vat.proofs.Committed.{commits_are_part, commits_are_whole, tables_stand}
+use Rattle.lookup.specs.Shows.{graph_below}
+use Rattle.table_update.proofs.Committed.{commits_are_part, commits_are_whole, tables_stand}
 use Rattle.store.proofs.Knowing.{at_is, commits, need_is, next_is, planned, planned_blocks, planned_table}
 
-module _ (capacity volume : ℕ) (J : List Event) (S : State) (store : Store) (knows : Knows capacity volume J S store) where
+module _ (capacity volume : ℕ) (J : List Event) (S : State) (store : Store) (knows : IsOpenOn capacity volume J S store) where
   -- nothing is written
   pub stays : Advances udf capacity volume J S J S
   stays = record {
@@ -59,7 +59,7 @@ module _ (capacity volume : ℕ) (J : List Event) (S : State) (store : Store) (k
   }
 
   -- so nothing can be torn
-  pub unwritten : (r : asking.Request) (W : List (List Block)) (failed : ℕ) (J' : List Event) (W' : List (List Block)) → J' ≡ J → W' ≡ W → Withstands capacity volume J S (said_request r) W failed J' W'
+  pub unwritten : (r : asking.Request) (W : List (List Block)) (failed : ℕ) (J' : List Event) (W' : List (List Block)) → J' ≡ J → W' ≡ W → CommitSurvivesPowerLoss capacity volume J S (model_request r) W failed J' W'
   unwritten r W failed J' W' same kept = record {
     added = [];
     others = [];
@@ -70,7 +70,7 @@ module _ (capacity volume : ℕ) (J : List Event) (S : State) (store : Store) (k
   }
 
   -- the drive failed before anything was written, or memory was short
-  pub short : (r : asking.Request) (refusal : StoreFault) (J' : List Event) (now : Store) → IsShortage refusal → J' ≡ J → Knows capacity volume J' S now → Refuses capacity volume J S (said_request r) refusal J' now
+  pub short : (r : asking.Request) (refusal : StoreFault) (J' : List Event) (now : Store) → IsShortage refusal → J' ≡ J → IsOpenOn capacity volume J' S now → RefusesRequest capacity volume J S (model_request r) refusal J' now
   short r refusal J' now (inl device) same again = inl (
     device,
     record {
@@ -84,25 +84,25 @@ module _ (capacity volume : ℕ) (J : List Event) (S : State) (store : Store) (k
   )
   short r refusal J' now (inr memory) same again = inr (inl (memory, record { journal = same; knows = λ going. again }))
 
-  module _ (r : asking.Request) (change : Change) (does : Does (graph_below store.at store.vat.entries.items J) (free_address store.vat.entries.items) S.tree (said_operation r.op) r.moment store.vat.sessions.next_unique change) where
+  module _ (r : asking.Request) (change : Change) (does : IsChangeOf (graph_below store.vat_icb_address store.vat.entries.items J) (free_address store.vat.entries.items) S.tree (model_operation r.op) r.moment store.vat.sessions.next_unique change) where
     -- so many blocks from the end of the journal on
     abbrev most : ℕ
-    most = next_of J + change_need change (begun store.at r.client r.number (code_number change.code) change.made (view store.vat))
+    most = next_of J + change_need change (begun store.vat_icb_address r.client r.number (code_number change.code) change.made (view store.vat))
 
-    most_is : most ≡ length J + need spelled S (said_request r)
+    most_is : most ≡ length J + need spelled S (model_request r)
     most_is = λ i. next_is capacity volume J S store knows i + need_is capacity volume J S store knows r change does i
 
     -- there may be no room
-    pub full : (refusal : StoreFault) (J' : List Event) (now : Store) → IsShortage refusal ⊎ (refusal ≡ fault.Full) → (refusal ≡ fault.Full → store.capacity < most) → J' ≡ J → Knows capacity volume J' S now
-        → Refuses capacity volume J S (said_request r) refusal J' now
+    pub full : (refusal : StoreFault) (J' : List Event) (now : Store) → IsShortage refusal ⊎ (refusal ≡ fault.Full) → (refusal ≡ fault.Full → store.capacity < most) → J' ≡ J → IsOpenOn capacity volume J' S now
+        → RefusesRequest capacity volume J S (model_request r) refusal J' now
     full refusal J' now (inl few) over same again = short r refusal J' now few same again
     full refusal J' now (inr is) over same again = inr (inr (is, record { journal = same; knows = λ going. again }, omega (arith, over is, most_is, knows.capacity_is)))
 
-    module _ (plan : Plan) (makes : Makes store r change plan) (is : IsPlan (next_of J) capacity plan) (room : most ≤ store.capacity) where
+    module _ (plan : Plan) (makes : IsPlanOf store r change plan) (is : IsPlan (next_of J) capacity plan) (room : most ≤ store.capacity) where
       abbrev blocks : List Block
       blocks = planned_blocks capacity volume J S store knows r change does plan makes is
 
-      roomy : length J + need spelled S (said_request r) ≤ volume
+      roomy : length J + need spelled S (model_request r) ≤ volume
       roomy = omega (arith, room, most_is, knows.capacity_is)
 
       all_is : plan_blocks plan ≡ blocks ++ plan.table.entry ∷ []
@@ -111,14 +111,14 @@ module _ (capacity volume : ℕ) (J : List Event) (S : State) (store : Store) (k
       next : next_of J ≡ length J
       next = next_is capacity volume J S store knows
 
-      abbrev plans : IsPlanned udf capacity volume (held J) S knows.stands (said_request r) blocks plan.table.entry
+      abbrev plans : IsPlanned udf capacity volume (held J) S knows.stands (model_request r) blocks plan.table.entry
       plans = planned capacity volume J S store knows r change does plan makes is
 
       -- a front is written
-      pub stopped : (J' : List Event) (now : Store) → now.is_stopped ≡ true → AddsFront J (next_of J) (plan_blocks plan) J' → IsFailed capacity volume J S (said_request r) J' now
+      pub stopped : (J' : List Event) (now : Store) → now.is_stopped ≡ true → AddsPrefix J (next_of J) (plan_blocks plan) J' → IsFailed capacity volume J S (model_request r) J' now
       stopped J' now stops front =
-          let there : AddsFront J (length J) (blocks ++ plan.table.entry ∷ []) J' = subst (λ (n : ℕ). AddsFront J n (blocks ++ plan.table.entry ∷ []) J') next (subst (λ (bs : List Block). AddsFront J (next_of J) bs J') all_is front) in
-          let part : IsPart capacity volume J S (said_request r) J' = commits_are_part capacity volume J J' S (said_request r) blocks plan.table.entry knows.once knows.stands plans there in
+          let there : AddsPrefix J (length J) (blocks ++ plan.table.entry ∷ []) J' = subst (λ (n : ℕ). AddsPrefix J n (blocks ++ plan.table.entry ∷ []) J') next (subst (λ (bs : List Block). AddsPrefix J (next_of J) bs J') all_is front) in
+          let part : IsPart capacity volume J S (model_request r) J' = commits_are_part capacity volume J J' S (model_request r) blocks plan.table.entry knows.once knows.stands plans there in
           record {
             done = part.done;
             whether = part.whether;
@@ -128,20 +128,20 @@ module _ (capacity volume : ℕ) (J : List Event) (S : State) (store : Store) (k
             knows = λ going. absurd (false≢true (sym going ∙ stops));
           }
 
-      -- what its writes leave, and what a loss of power leaves of them
+      -- what its writes leave, and what a power loss leaves of them
       pub withstands : {D : Type 0} {drive : Ghosts D} (result : Result told.Reply StoreFault) (d e : D) (W : List (List Block)) → drive.writes d ≡ W → SendsAlone drive (node_list plan ++ table_data plan.table) plan.table.entry (is_err result) d e
           → drive.journal d ≡ J → OnOk result (drive.journal e ≡ drive.journal d ++ written (next_of (drive.journal d)) (plan_blocks plan))
-          → OnErr result (AddsFront (drive.journal d) (next_of (drive.journal d)) (plan_blocks plan) (drive.journal e)) → IfErr result (λ refusal. refusal ≡ fault.Device)
-          → Withstands capacity volume J S (said_request r) W (devices result) (drive.journal e) (drive.writes e)
+          → OnErr result (AddsPrefix (drive.journal d) (next_of (drive.journal d)) (plan_blocks plan) (drive.journal e)) → IfErr result (λ refusal. refusal ≡ fault.Device)
+          → CommitSurvivesPowerLoss capacity volume J S (model_request r) W (devices result) (drive.journal e) (drive.writes e)
       withstands {D} {drive} result d e W kept sends same all some device = record {
         added = sends.added;
         others = sends.others;
         writes_are = sends.writes ∙ ap (λ (ws : List (List Block)). ws ++ sends.added) kept;
         front = front_of result (subst₂ (λ (L : List Event) (bs : List Block). OnOk result (drive.journal e ≡ L ++ written (next_of L) bs)) same planned_is all)
-            (subst₂ (λ (L : List Event) (bs : List Block). OnErr result (AddsFront L (next_of L) bs (drive.journal e))) same planned_is some);
+            (subst₂ (λ (L : List Event) (bs : List Block). OnErr result (AddsPrefix L (next_of L) bs (drive.journal e))) same planned_is some);
         whole = λ ok. whole_of result ok device sends.whole (subst (λ (L : List Event). OnOk result (drive.journal e ≡ L ++ written (next_of L) (plan_blocks plan))) same all);
         torn = λ left behind cut there.
-            elim (torn_advances udf capacity volume exact bounded distinct J behind S (said_request r) blocks plan.table.entry knows.once knows.stands plans (sends.added ++ sends.others) left sends.alone
+            elim (torn_advances udf capacity volume exact bounded distinct J behind S (model_request r) blocks plan.table.entry knows.once knows.stands plans (sends.added ++ sends.others) left sends.alone
             (left_more sends.added sends.others left cut) there) [ inl stood ↦ inl stood | inr done ↦ inr done.1 ];
       }
         where
@@ -149,11 +149,11 @@ module _ (capacity volume : ℕ) (J : List Event) (S : State) (store : Store) (k
           planned_is = all_is ∙ sym (joined_writes blocks plan.table.entry (sends.added ++ sends.others) sends.alone)
 
           front_of : (answer : Result told.Reply StoreFault) → OnOk answer (drive.journal e ≡ J ++ written (next_of J) (joined (sends.added ++ sends.others)))
-              → OnErr answer (AddsFront J (next_of J) (joined (sends.added ++ sends.others)) (drive.journal e)) → AddsFront J (length J) (joined (sends.added ++ sends.others)) (drive.journal e)
+              → OnErr answer (AddsPrefix J (next_of J) (joined (sends.added ++ sends.others)) (drive.journal e)) → AddsPrefix J (length J) (joined (sends.added ++ sends.others)) (drive.journal e)
           front_of (Ok reply) done part =
-              subst (λ (L : List Event). AddsFront J (length J) (joined (sends.added ++ sends.others)) L) (sym (done ∙ ap (λ (n : ℕ). J ++ written n (joined (sends.added ++ sends.others))) next))
+              subst (λ (L : List Event). AddsPrefix J (length J) (joined (sends.added ++ sends.others)) L) (sym (done ∙ ap (λ (n : ℕ). J ++ written n (joined (sends.added ++ sends.others))) next))
               (front_whole J (length J) (joined (sends.added ++ sends.others)))
-          front_of (Err refusal) done part = subst (λ (n : ℕ). AddsFront J n (joined (sends.added ++ sends.others)) (drive.journal e)) next part
+          front_of (Err refusal) done part = subst (λ (n : ℕ). AddsPrefix J n (joined (sends.added ++ sends.others)) (drive.journal e)) next part
 
           whole_of : (answer : Result told.Reply StoreFault) → devices answer ≡ 0 → IfErr answer (λ refusal. refusal ≡ fault.Device) → (is_err answer ≡ false → sends.others ≡ [])
               → OnOk answer (drive.journal e ≡ J ++ written (next_of J) (plan_blocks plan)) → drive.journal e ≡ J ++ written (length J) (joined sends.added)
@@ -167,31 +167,31 @@ module _ (capacity volume : ℕ) (J : List Event) (S : State) (store : Store) (k
         there_all : J' ≡ J ++ written (length J) (blocks ++ plan.table.entry ∷ [])
         there_all = whole_is ∙ (λ i. J ++ written (next i) (all_is i))
 
-        pub whole : IsWholeCommit capacity volume J S (said_request r) J'
-        whole = commits_are_whole capacity volume J J' S (said_request r) blocks plan.table.entry knows.once knows.stands plans there_all
+        pub whole : IsWholeCommit capacity volume J S (model_request r) J'
+        whole = commits_are_whole capacity volume J J' S (model_request r) blocks plan.table.entry knows.once knows.stands plans there_all
 
         -- the table that stands there is the plan's
-        stands_there : (later : Stands udf capacity volume (held J') (after_one S (said_request r))) → (later.at ≡ length (held J) + length blocks) × (later.tells.table ≡ plans.table)
+        stands_there : (later : RecoversTo udf capacity volume (held J') (after_one S (model_request r))) → (later.at ≡ length (held J) + length blocks) × (later.tells.table ≡ plans.table)
         stands_there =
-            subst (λ (M : Medium). (later : Stands udf capacity volume M (after_one S (said_request r))) → (later.at ≡ length (held J) + length blocks) × (later.tells.table ≡ plans.table))
+            subst (λ (M : Medium). (later : RecoversTo udf capacity volume M (after_one S (model_request r))) → (later.at ≡ length (held J) + length blocks) × (later.tells.table ≡ plans.table))
             (append_assoc (held J) blocks (plan.table.entry ∷ []) ∙ sym (held_write J J' (length J) (blocks ++ plan.table.entry ∷ []) knows.once refl there_all))
-            (tables_stand capacity volume (held J) S (said_request r) blocks plan.table.entry knows.stands plans (after_one S (said_request r)))
+            (tables_stand capacity volume (held J) S (model_request r) blocks plan.table.entry knows.stands plans (after_one S (model_request r)))
 
-        pub knows_done : (now : Store) → now.at ≡ plan.table.at → now.vat ≡ plan.table.vat → now.capacity ≡ store.capacity → AreKept J' now.directories → Knows capacity volume J' (after_one S (said_request r)) now
+        pub knows_done : (now : Store) → now.at ≡ plan.table.at → now.vat ≡ plan.table.vat → now.capacity ≡ store.capacity → AreKept J' now.directories → IsOpenOn capacity volume J' (after_one S (model_request r)) now
         knows_done now at vat size kept =
-            let later : Stands udf capacity volume (held J') (after_one S (said_request r)) = whole.advances.moves.ends in
+            let later : RecoversTo udf capacity volume (held J') (after_one S (model_request r)) = whole.advances.moves.ends in
             let same = stands_there later in
             record {
               once = whole.advances.once;
               stands = later;
               at = at ∙ at_is capacity volume J S store knows r change does plan makes is ∙ sym same.0;
-              table = ap (λ v. said_table (view v)) vat ∙ sym (planned_table capacity volume J S store knows r change does plan makes is) ∙ sym same.1;
+              table = ap (λ v. model_table (view v)) vat ∙ sym (planned_table capacity volume J S store knows r change does plan makes is) ∙ sym same.1;
               capacity_is = size ∙ knows.capacity_is;
               kept = kept;
             }
 
         pub done : (reply : told.Reply) (now : Store) → reply ≡ plan.reply → now.at ≡ plan.table.at → now.vat ≡ plan.table.vat → now.capacity ≡ store.capacity → AreKept J' now.directories
-            → IsDone capacity volume J S (said_request r) reply J' now
+            → IsCommitDone capacity volume J S (model_request r) reply J' now
         done reply now said at vat size kept = record {
           reply_is = ap reply_said said ∙ reply_planned;
           advances = whole.advances;
@@ -201,14 +201,14 @@ module _ (capacity volume : ℕ) (J : List Event) (S : State) (store : Store) (k
           knows = λ going. knows_done now at vat size kept;
         }
           where
-            reply_planned : reply_said plan.reply ≡ reply_to S (said_request r)
+            reply_planned : reply_said plan.reply ≡ reply_to S (model_request r)
             reply_planned = λ i. record { code = (ap code_number makes.code ∙ does.code_is) i; commit = (makes.commit ∙ ap (λ (n : ℕ). n + 1) (commits capacity volume J S store knows)) i }
 
       -- by what the commit answered
       pub applies : (result : Result told.Reply StoreFault) (K J' : List Event) (now : Store) → K ≡ J → IfOk result (λ reply. reply ≡ plan.reply) → OnOk result (now.at ≡ plan.table.at) → OnOk result (now.vat ≡ plan.table.vat)
-          → OnOk result (J' ≡ K ++ written (next_of K) (plan_blocks plan)) → OnErr result (AddsFront K (next_of K) (plan_blocks plan) J') → IfErr result (λ refusal. refusal ≡ fault.Device)
-          → now.is_stopped ≡ is_err result → now.capacity ≡ store.capacity → AreKept J' now.directories → Applies capacity volume J S (said_request r) result J' now
+          → OnOk result (J' ≡ K ++ written (next_of K) (plan_blocks plan)) → OnErr result (AddsPrefix K (next_of K) (plan_blocks plan) J') → IfErr result (λ refusal. refusal ≡ fault.Device)
+          → now.is_stopped ≡ is_err result → now.capacity ≡ store.capacity → AreKept J' now.directories → Applies capacity volume J S (model_request r) result J' now
       applies (Ok reply) K J' now same said at vat written_is front device stops size kept =
           done J' (written_is ∙ ap (λ (L : List Event). L ++ written (next_of L) (plan_blocks plan)) same) reply now said at vat size kept
       applies (Err refusal) K J' now same said at vat written_is front device stops size kept =
-          inl (device, stopped J' now stops (subst (λ (L : List Event). AddsFront L (next_of L) (plan_blocks plan) J') same front))
+          inl (device, stopped J' now stops (subst (λ (L : List Event). AddsPrefix L (next_of L) (plan_blocks plan) J') same front))

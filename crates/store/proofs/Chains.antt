@@ -4,28 +4,28 @@ use Rattle.std.specs.Prelude.{IfSome, slice_get}
 use Rattle.std.proofs.lemmas.List.{length-take, take-take}
 use Rattle.std.proofs.lemmas.Option.{same_Some, slice_get_within}
 use Rattle.durability.specs.Formats.{Block, Table_}
-use Rattle.durability.specs.Volume.{IsTableEntry, LastTable, Medium, Stands, StoodBefore, Tells}
+use Rattle.durability.specs.Volume.{IsVatIcbAt, LastTable, Medium, RecoversTo, RecoveredBefore, Describes}
 use Rattle.durability.specs.Volume as volumes
 use Rattle.durability.proofs.History.{last_table_one}
 use Rattle.durability.proofs.One.{last_one}
 use Rattle.model.specs.Session as model
 use Rattle.model.proofs.Lists.{get-take}
 use Rattle.udf.specs.Udf.{udf}
-use Rattle.udf.specs.Said.{said_table}
+use Rattle.udf.specs.Said.{model_table}
 use Rattle.udf.proofs.Formats.{exact}
 use Rattle.vat.specs.Table.{Table}
 use Rattle.recover.specs.declared.state.State.{State}
 use Rattle.recover.specs.State.{IsShown}
 use Rattle.recover.specs.Tables.{HasTableAt, IsBefore}
 use Rattle.recover.proofs.Told.{IsTableTold, one_read, read, told}
-use Rattle.store.specs.History.{Leads}
+use Rattle.store.specs.History.{ChainLeads}
 
--- ---- fronts of a medium
+-- ---- prefixes of a medium
 
--- a medium with the same blocks up to an address, behind which it has no table's entry
+-- a medium with the same blocks up to an address, after which it has no VAT ICB
 pub record EndsAt (M : Medium) (at : ℕ) (N : Medium) : Type 0 where
   pub same : take (at + 1) N ≡ take (at + 1) M
-  pub none : (later : ℕ) (other : Block) → at < later → slice_get N later ≡ Some other → IsTableEntry udf other later → ⊥
+  pub none : (later : ℕ) (other : Block) → at < later → slice_get N later ≡ Some other → IsVatIcbAt udf other later → ⊥
 
 module _ (M : Medium) (at : ℕ) (N : Medium) (ends : EndsAt M at N) where
   pub block_same : slice_get N at ≡ slice_get M at
@@ -50,14 +50,14 @@ module _ (M : Medium) (at : ℕ) (N : Medium) (ends : EndsAt M at N) where
     has = subst (λ (B : Medium). volumes.HasTable udf B at is.block t is.moment) (sym below_same) is.has;
   }
 
-  last_at : (t : Table_) → IsTableTold M at t → (last : LastTable udf N) → last.at ≡ at
-  last_at t is last = last_one udf N last.at at last.block is.block last.last (last_in t is).last
+  last_at : (t : Table_) → IsTableTold M at t → (last : LastTable udf N) → last.vat_icb_address ≡ at
+  last_at t is last = last_one udf N last.vat_icb_address at last.block is.block last.last (last_in t is).last
 
   pub last_is : (t : Table_) → IsTableTold M at t → (last : LastTable udf N) → last.table ≡ t
   last_is t is last = last_table_one udf exact N last (last_in t is)
 
   -- the last table is told there
-  last_told : (last : LastTable udf N) → last.at ≡ at → IsTableTold M at last.table
+  last_told : (last : LastTable udf N) → last.vat_icb_address ≡ at → IsTableTold M at last.table
   last_told last same = record {
     block = last.block;
     moment = last.moment;
@@ -67,7 +67,7 @@ module _ (M : Medium) (at : ℕ) (N : Medium) (ends : EndsAt M at N) where
         (subst (λ (n : ℕ). volumes.HasTable udf (take n N) n last.block last.table last.moment) same last.has);
   }
 
-  -- a front of it
+  -- a prefix of it
   cut : (number : ℕ) → number + 257 < at → EndsAt M (number + 257) (take (number + 258) N)
   cut number less = record {
     same = take-take (number + 257 + 1) (number + 258) N (omega arith) ∙ part_same (number + 257 + 1) (omega (arith, less));
@@ -88,7 +88,7 @@ link_less M at number t has link =
 module _ (capacity volume : ℕ) (M : Medium) where
   -- so many steps back along the chain from this address, the state stood
   abbrev pub StoodAt : ℕ → ℕ → model.State → Type 0
-  StoodAt at steps S = (N : Medium) → EndsAt M at N → StoodBefore udf steps capacity volume N S
+  StoodAt at steps S = (N : Medium) → EndsAt M at N → RecoveredBefore udf steps capacity volume N S
 
   pub step_back : (at to steps : ℕ) (S : model.State) → IsBefore M at (Some to) → StoodAt to steps S → StoodAt at (suc steps) S
   step_back at to steps S (t, has, number, link, there, u, before, fewer) stood N ends =
@@ -96,20 +96,20 @@ module _ (capacity volume : ℕ) (M : Medium) where
       let earlier = cut M at N ends number less in
       let is_before = subst (λ (n : ℕ). HasTableAt M n u) there before in
       let there_stood : StoodAt (number + 257) steps S = subst (λ (n : ℕ). StoodAt n steps S) there stood in (
-        last_in M at N ends (said_table t) (told M at t has),
+        last_in M at N ends (model_table t) (told M at t has),
         number,
         link,
-        last_in M (number + 257) (take (number + 258) N) earlier (said_table u) (told M (number + 257) u is_before),
+        last_in M (number + 257) (take (number + 258) N) earlier (model_table u) (told M (number + 257) u is_before),
         refl,
         fewer,
         there_stood (take (number + 258) N) earlier,
       )
 
   -- where more steps were taken the chain goes on
-  pub goes_back : (at steps : ℕ) (S : model.State) (N : Medium) → EndsAt M at N → (t : Table) → HasTableAt M at t → StoodBefore udf (suc steps) capacity volume N S
-      → (to : ℕ) × IsBefore M at (Some to) × (N' : Medium) × EndsAt M to N' × StoodBefore udf steps capacity volume N' S
+  pub goes_back : (at steps : ℕ) (S : model.State) (N : Medium) → EndsAt M at N → (t : Table) → HasTableAt M at t → RecoveredBefore udf (suc steps) capacity volume N S
+      → (to : ℕ) × IsBefore M at (Some to) × (N' : Medium) × EndsAt M to N' × RecoveredBefore udf steps capacity volume N' S
   goes_back at steps S N ends t has (last, previous, link, before, there, fewer, stood) =
-      let same : last.table ≡ said_table t = last_is M at N ends (said_table t) (told M at t has) last in
+      let same : last.table ≡ model_table t = last_is M at N ends (model_table t) (told M at t has) last in
       let is_link : t.previous ≡ Some previous = sym (ap (λ (x : Table_). x.previous) same) ∙ link in
       let less = link_less M at previous t has is_link in
       let earlier = cut M at N ends previous less in
@@ -122,8 +122,8 @@ module _ (capacity volume : ℕ) (M : Medium) where
       let same : number ≡ number' = same_Some number number' (sym link ∙ ap (λ (x : Table_). x.previous) (one_read M at t t' has has') ∙ link') in
       omega (arith, same, there, there')
 
-  pub step_on : (at to steps : ℕ) (S : model.State) (N : Medium) → EndsAt M at N → IsBefore M at (Some to) → StoodBefore udf (suc steps) capacity volume N S
-      → (N' : Medium) × EndsAt M to N' × StoodBefore udf steps capacity volume N' S
+  pub step_on : (at to steps : ℕ) (S : model.State) (N : Medium) → EndsAt M at N → IsBefore M at (Some to) → RecoveredBefore udf (suc steps) capacity volume N S
+      → (N' : Medium) × EndsAt M to N' × RecoveredBefore udf steps capacity volume N' S
   step_on at to steps S N ends before stood =
       let on = goes_back at steps S N ends before.0 before.1 stood in
       let same = same_step at on.0 to on.1 before in
@@ -131,7 +131,7 @@ module _ (capacity volume : ℕ) (M : Medium) where
 
   -- ---- so many steps
 
-  pub stood_along : (from steps to rest : ℕ) (S : model.State) → Leads M from steps to → StoodAt to rest S → StoodAt from (steps + rest) S
+  pub stood_along : (from steps to rest : ℕ) (S : model.State) → ChainLeads M from steps to → StoodAt to rest S → StoodAt from (steps + rest) S
   stood_along from zero to rest S same stood =
       let none : rest ≡ 0 + rest = omega arith in
       subst (λ (k : ℕ). StoodAt from k S) none (subst (λ (n : ℕ). StoodAt n rest S) (sym same) stood)
@@ -139,14 +139,14 @@ module _ (capacity volume : ℕ) (M : Medium) where
       let count : steps + suc rest ≡ suc steps + rest = omega arith in
       subst (λ (n : ℕ). StoodAt from n S) count (stood_along from steps at (suc rest) S leads (step_back at to rest S before stood))
 
-  pub stands_behind : (from steps to rest : ℕ) (S : model.State) (N : Medium) → Leads M from steps to → EndsAt M from N → StoodBefore udf (steps + rest) capacity volume N S
-      → (N' : Medium) × EndsAt M to N' × StoodBefore udf rest capacity volume N' S
+  pub stands_behind : (from steps to rest : ℕ) (S : model.State) (N : Medium) → ChainLeads M from steps to → EndsAt M from N → RecoveredBefore udf (steps + rest) capacity volume N S
+      → (N' : Medium) × EndsAt M to N' × RecoveredBefore udf rest capacity volume N' S
   stands_behind from zero to rest S N same ends stood =
       let none : 0 + rest ≡ rest = omega arith in
-      (N, subst (λ (n : ℕ). EndsAt M n N) same ends, subst (λ (k : ℕ). StoodBefore udf k capacity volume N S) none stood)
+      (N, subst (λ (n : ℕ). EndsAt M n N) same ends, subst (λ (k : ℕ). RecoveredBefore udf k capacity volume N S) none stood)
   stands_behind from (suc steps) to rest S N (at, leads, before) ends stood =
       let count : suc steps + rest ≡ steps + suc rest = omega arith in
-      let there = stands_behind from steps at (suc rest) S N leads ends (subst (λ (n : ℕ). StoodBefore udf n capacity volume N S) count stood) in
+      let there = stands_behind from steps at (suc rest) S N leads ends (subst (λ (n : ℕ). RecoveredBefore udf n capacity volume N S) count stood) in
       step_on at to rest S there.0 there.1 before there.2
 
   -- ---- what is told at an address
@@ -158,30 +158,30 @@ module _ (capacity volume : ℕ) (M : Medium) where
         at = at;
         block = shown.block;
         last = record { there = block_same M at N ends ∙ shown.there; is = (low, has.fields, has.kind, has.entry); no_later = ends.none };
-        tells = subst (λ (B : Medium). Tells udf capacity volume B at shown.block shown.said) (sym (below_same M at N ends))
-            (subst (λ (n : ℕ). Tells udf capacity n (take at M) at shown.block shown.said) size shown.tells);
+        tells = subst (λ (B : Medium). Describes udf capacity volume B at shown.block shown.said) (sym (below_same M at N ends))
+            (subst (λ (n : ℕ). Describes udf capacity n (take at M) at shown.block shown.said) size shown.tells);
       }
 
-  pub stood_told : (at : ℕ) (t : Table) (S : model.State) (N : Medium) → HasTableAt M at t → EndsAt M at N → (stands : Stands udf capacity volume N S)
-      → (slice_get M at ≡ Some stands.block) × Tells udf capacity volume (take at M) at stands.block S
+  pub stood_told : (at : ℕ) (t : Table) (S : model.State) (N : Medium) → HasTableAt M at t → EndsAt M at N → (stands : RecoversTo udf capacity volume N S)
+      → (slice_get M at ≡ Some stands.block) × Describes udf capacity volume (take at M) at stands.block S
   stood_told at t S N has ends stands =
       let is = told M at t has in
-      let same : stands.at ≡ at = last_one udf N stands.at at stands.block is.block stands.last (last_in M at N ends (said_table t) is).last in (
+      let same : stands.at ≡ at = last_one udf N stands.at at stands.block is.block stands.last (last_in M at N ends (model_table t) is).last in (
         sym (block_same M at N ends) ∙ subst (λ (n : ℕ). slice_get N n ≡ Some stands.block) same stands.last.there,
-        subst (λ (B : Medium). Tells udf capacity volume B at stands.block S) (below_same M at N ends)
-            (subst (λ (n : ℕ). Tells udf capacity volume (take n N) n stands.block S) same stands.tells),
+        subst (λ (B : Medium). Describes udf capacity volume B at stands.block S) (below_same M at N ends)
+            (subst (λ (n : ℕ). Describes udf capacity volume (take n N) n stands.block S) same stands.tells),
       )
 
 -- ---- how many steps
 
 module _ (M : Medium) where
   -- where a chain begins there is a table
-  pub first_there : (from steps to : ℕ) (t : Table) → Leads M from steps to → HasTableAt M to t → (u : Table) × HasTableAt M from u
+  pub first_there : (from steps to : ℕ) (t : Table) → ChainLeads M from steps to → HasTableAt M to t → (u : Table) × HasTableAt M from u
   first_there from zero to t same has = (t, subst (λ (n : ℕ). HasTableAt M n t) (sym same) has)
   first_there from (suc steps) to t (at, leads, before) has = first_there from steps at before.0 leads before.1
 
   -- each step is one commit less
-  pub count_along : (from steps to : ℕ) (t u : Table) → Leads M from steps to → HasTableAt M to t → HasTableAt M from u → t.commits + steps ≡ u.commits
+  pub count_along : (from steps to : ℕ) (t u : Table) → ChainLeads M from steps to → HasTableAt M to t → HasTableAt M from u → t.commits + steps ≡ u.commits
   count_along from zero to t u same has first =
       let one = ap (λ (x : Table_). x.commits) (one_read M from t u (subst (λ (n : ℕ). HasTableAt M n t) (sym same) has) first) in
       omega (arith, one)

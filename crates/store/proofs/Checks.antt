@@ -16,7 +16,7 @@ use Rattle.recover.specs.Tables.{HasTableAt}
 use Rattle.recover.proofs.Told.{one_read}
 use Rattle.store.specs.declared.history.Commit.{Commit}
 use Rattle.store.specs.declared.store.Store.{Store}
-use Rattle.store.specs.Calls.{Knows}
+use Rattle.store.specs.Calls.{IsOpenOn}
 use Rattle.store.specs.History.{AreShown, HasUntold, IsChain, IsChecked, IsHistory, IsUnchecked, told_of}
 use Rattle.store.specs.Past.{IsCheckRefused}
 use Rattle.store.proofs.Histories.{GoesOn, ends, goes_on}
@@ -34,7 +34,7 @@ pub record Seen (M : List (List ℕ)) (capacity at : ℕ) (t : Table) : Type 0 w
   pub shown : AreShown capacity M seen
   pub left : (all : List Commit) → IsHistory M at all → IsLeftToCheck M t all
 
--- what a link leads to, below the address of its table's entry
+-- what a link leads to, below the address of its VAT ICB
 pub link_within : (link : Option ℕ) (at : ℕ) → 257 ≤ at → IfSome link (λ n. n < at - 257) → IfSome link (λ n. n + 257 < at)
 link_within None at low below = tt
 link_within (Some n) at low below = omega (arith, low, below)
@@ -120,7 +120,7 @@ module _ (M : List (List ℕ)) (capacity at : ℕ) where
           absurd (other (ap (λ (x : Table_). x.commits + 1) one ∙ fewer))
 
 -- where one of them is not, no state stood after some commit
-pub unchecked : (capacity volume : ℕ) (J : List Event) (T : model.State) (store : Store) → Knows capacity volume J T store → (fault : StoreFault) → IsUnchecked capacity (held J) store.at fault
+pub unchecked : (capacity volume : ℕ) (J : List Event) (T : model.State) (store : Store) → IsOpenOn capacity volume J T store → (fault : StoreFault) → IsUnchecked capacity (held J) store.vat_icb_address fault
     → IsCheckRefused capacity volume (held J) T.commits fault
 unchecked capacity volume J T store knows Device r = tt
 unchecked capacity volume J T store knows Memory r = tt

@@ -42,7 +42,7 @@ more_within next at t found more c before low high is_c is =
     let one : P c = subst P (sym is_c) (low, high) in
     subst (AreWithin next) (sym is) (All-append P found (c ∷ []) before (All-cons P c [] one (All-nil P)))
 
--- a link, and the one behind it
+-- a link, and the one after it
 pub link_below : (link : Option ℕ) (number at : ℕ) → link ≡ Some number → IfSome link (λ n. n + 257 < at) → number + 257 < at
 link_below link number at is below = subst (λ (p : Option ℕ). IfSome p (λ n. n + 257 < at)) is below
 

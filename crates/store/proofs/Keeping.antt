@@ -4,7 +4,7 @@ use Rattle.std.specs.Int.{div_ceil}
 use Rattle.std.specs.Prelude.{All, slice_get}
 use Rattle.std.proofs.lemmas.Option.{slice_get_within}
 use Rattle.std.proofs.lemmas.List.{take_at, drop_at}
-use Rattle.drive.specs.Journal.{Event, held, next_of, written, Once, AddsFront}
+use Rattle.drive.specs.Journal.{Event, held, next_of, written, Once, AddsPrefix}
 use Rattle.drive.proofs.Once.{next_once}
 use Rattle.drive.proofs.Fronts.{begins_after, held_write}
 use Rattle.dir.specs.Directory.{IsDirectory}
@@ -12,11 +12,11 @@ use Rattle.durability.specs.Formats.{Block}
 use Rattle.durability.proofs.Lists.{get-append, get_past, part-append}
 use Rattle.recover.specs.Nodes.{data_of}
 use Rattle.recover.proofs.Held.{length-held}
-use Rattle.directories.specs.Cache.{IsEntryThere, LiesThere, AreKept, SaysPlace}
+use Rattle.lookup.specs.Cache.{IsEntryThere, LiesThere, AreKept, SaysPlace}
 use Rattle.planning.specs.Plan.{directory_data, directory_list, directories_list, file_list, table_data, placed_of, plan_blocks, AreLaid, IsPlan}
-use Rattle.directories.specs.declared.content.Content.{Content}
-use Rattle.directories.specs.declared.directories.Directories.{Directories}
-use Rattle.directories.specs.declared.nodes.Placed.{Placed}
+use Rattle.lookup.specs.declared.content.Content.{Content}
+use Rattle.lookup.specs.declared.directories.DirectoryCache.{DirectoryCache}
+use Rattle.lookup.specs.declared.nodes.Placed.{Placed}
 use Rattle.planning.specs.declared.layout.PlacedDirectory.{PlacedDirectory}
 use Rattle.planning.specs.declared.plan.Plan.{Plan}
 
@@ -49,10 +49,10 @@ module _ (J J' : List Event) (blocks : List Block) (once : Once J) (is : J' ≡ 
         is = subst (λ (bs : List Block). IsDirectory content.dir.parent content.dir.entries.entries extent.first extent.size bs) (sym found) lies.is;
       }
 
-  pub kept_longer : (directories : Directories) → AreKept J directories → AreKept J' directories
+  pub kept_longer : (directories : DirectoryCache) → AreKept J directories → AreKept J' directories
   kept_longer directories kept at one there = let stands = kept at one there in (stands.0, lies_longer one.0 one.1 stands.1)
 
-pub kept_front : (J J' : List Event) (blocks : List Block) (directories : Directories) → AddsFront J (next_of J) blocks J' → Once J → AreKept J directories → AreKept J' directories
+pub kept_front : (J J' : List Event) (blocks : List Block) (directories : DirectoryCache) → AddsPrefix J (next_of J) blocks J' → Once J → AreKept J directories → AreKept J' directories
 kept_front J J' blocks directories (m, le, is) once kept = kept_longer J J' (take m blocks) once is directories kept
 
 -- ---- blocks that are written

@@ -16,7 +16,7 @@ use Rattle.durability.specs.Formats.Kind.{Table as TableEntry}
 use Rattle.durability.specs.Formats.NodePlace.{Extent}
 use Rattle.durability.specs.Plan.{Writing, Written, WritesNodes, IsPlaced, IsPlanned}
 use Rattle.durability.proofs.OnJournals.{length-held}
-use Rattle.udf.specs.Said.{said_table}
+use Rattle.udf.specs.Said.{model_table}
 use Rattle.udf.specs.Udf.{udf, spelled}
 use Rattle.udf.proofs.Formats.{bounded}
 use Rattle.request.specs.Numbers.{code_number}
@@ -25,33 +25,33 @@ use Rattle.vat.specs.Table.{Table, IsTableAt, view}
 use Rattle.planning.specs.declared.change.Change.{Change}
 use Rattle.planning.specs.declared.plan.Plan.{Plan}
 use Rattle.store.specs.declared.store.Store.{Store}
-use Rattle.directories.specs.Asked.{said_operation, said_request}
-use Rattle.directories.specs.Cache.{AreKept}
-use Rattle.store.specs.Calls.{Knows}
-use Rattle.planning.specs.Changes.{Does, gone_of}
-use Rattle.next_vat.specs.Need.{reckoned}
+use Rattle.lookup.specs.Asked.{model_operation, model_request}
+use Rattle.lookup.specs.Cache.{AreKept}
+use Rattle.store.specs.Calls.{IsOpenOn}
+use Rattle.planning.specs.Changes.{IsChangeOf, gone_of}
+use Rattle.table_update.specs.Need.{reckoned}
 use Rattle.planning.specs.Needs.{change_need}
-use Rattle.next_vat.specs.NextTable.{AreTaken, Changes, begun, next_table}
-use Rattle.next_vat.specs.Pieces.{IsTableBehind}
+use Rattle.table_update.specs.NextTable.{AreTaken, ChangesVolume, begun, next_table}
+use Rattle.table_update.specs.Pieces.{IsTableBehind}
 use Rattle.planning.specs.Plan.{IsPlan, node_list, table_data, plan_written}
-use Rattle.store.specs.Putting.{Makes}
-use Rattle.directories.specs.Shows.{Shows, graph_below}
-use Rattle.next_vat.specs.TableChange.{committed}
+use Rattle.store.specs.Putting.{IsPlanOf}
+use Rattle.lookup.specs.Shows.{HasNodesOf, graph_below}
+use Rattle.table_update.specs.TableChange.{committed}
 use Rattle.planning.specs.Writings.{change_writings}
-use Rattle.next_vat.proofs.ChangesTaken.{changes_are_taken}
-use Rattle.next_vat.proofs.PlanPieces.{nodes_are_written, pieces_are_planned, pieces_table}
-use Rattle.next_vat.proofs.Reckoning.{need_is_reckoned}
+use Rattle.table_update.proofs.ChangesTaken.{changes_are_taken}
+use Rattle.table_update.proofs.PlanPieces.{nodes_are_written, pieces_are_planned, pieces_table}
+use Rattle.table_update.proofs.Reckoning.{need_is_reckoned}
 use Rattle.planning.proofs.Sizing.{all_names, bytes_of, change_is_of, change_reckoned}
 use Rattle.planning.proofs.Taking.{IsTakenBy, bare, bare_addresses}
 
-module _ (capacity volume : ℕ) (J : List Event) (S : State) (store : Store) (knows : Knows capacity volume J S store) where
+module _ (capacity volume : ℕ) (J : List Event) (S : State) (store : Store) (knows : IsOpenOn capacity volume J S store) where
   pub entries_are : store.vat.entries.items ≡ knows.stands.tells.table.entries
   entries_are = ap (λ (t : Table_). t.entries) knows.table
 
   pub next_is : next_of J ≡ length J
   next_is = next_once J knows.once
 
-  pub shows : (h : Bool) → IsTrue h → Shows h J store.directories store.at store.vat.entries.items S.tree
+  pub shows : (h : Bool) → IsTrue h → HasNodesOf h J store.directories store.vat_icb_address store.vat.entries.items S.tree
   shows h honest = record {
     honest = honest;
     kept = knows.kept;
@@ -62,15 +62,15 @@ module _ (capacity volume : ℕ) (J : List Event) (S : State) (store : Store) (k
   }
 
   -- the same of the entries as they are lent
-  pub shows_lent : (h : Bool) → IsTrue h → (entries : List (Option ℕ)) → entries ≡ store.vat.entries.items → Shows h J store.directories store.at entries S.tree
-  shows_lent h honest entries same = subst (λ (es : List (Option ℕ)). Shows h J store.directories store.at es S.tree) (sym same) (shows h honest)
+  pub shows_lent : (h : Bool) → IsTrue h → (entries : List (Option ℕ)) → entries ≡ store.vat.entries.items → HasNodesOf h J store.directories store.vat_icb_address entries S.tree
+  shows_lent h honest entries same = subst (λ (es : List (Option ℕ)). HasNodesOf h J store.directories store.vat_icb_address es S.tree) (sym same) (shows h honest)
 
   pub does_lent : (r : asking.Request) (change : Change) (entries : List (Option ℕ)) (moment : ℕ) → entries ≡ store.vat.entries.items → moment ≡ r.moment
-      → Does (graph_below store.at entries J) (free_address entries) S.tree (said_operation r.op) moment store.vat.sessions.next_unique change
-      → Does (graph_below store.at store.vat.entries.items J) (free_address store.vat.entries.items) S.tree (said_operation r.op) r.moment store.vat.sessions.next_unique change
+      → IsChangeOf (graph_below store.vat_icb_address entries J) (free_address entries) S.tree (model_operation r.op) moment store.vat.sessions.next_unique change
+      → IsChangeOf (graph_below store.vat_icb_address store.vat.entries.items J) (free_address store.vat.entries.items) S.tree (model_operation r.op) r.moment store.vat.sessions.next_unique change
   does_lent r change entries moment same at does =
-      subst (λ (m : ℕ). Does (graph_below store.at store.vat.entries.items J) (free_address store.vat.entries.items) S.tree (said_operation r.op) m store.vat.sessions.next_unique change) at
-      (subst (λ (es : List (Option ℕ)). Does (graph_below store.at es J) (free_address es) S.tree (said_operation r.op) moment store.vat.sessions.next_unique change) same does)
+      subst (λ (m : ℕ). IsChangeOf (graph_below store.vat_icb_address store.vat.entries.items J) (free_address store.vat.entries.items) S.tree (model_operation r.op) m store.vat.sessions.next_unique change) at
+      (subst (λ (es : List (Option ℕ)). IsChangeOf (graph_below store.vat_icb_address es J) (free_address es) S.tree (model_operation r.op) moment store.vat.sessions.next_unique change) same does)
 
   -- the nodes are counted
   pub nodes : store.vat.files + store.vat.directories ≡ len S.tree
@@ -85,50 +85,50 @@ module _ (capacity volume : ℕ) (J : List Event) (S : State) (store : Store) (k
   commits = ap (λ (t : Table_). t.commits) knows.table ∙ knows.stands.tells.commits
 
   -- the same store, but for the directories that it keeps
-  pub knows_again : (J' : List Event) (now : Store) → J' ≡ J → now.at ≡ store.at → now.vat ≡ store.vat → now.capacity ≡ store.capacity → AreKept J now.directories → Knows capacity volume J' S now
-  knows_again J' now journal at vat size kept = subst (λ (K : List Event). Knows capacity volume K S now) (sym journal) (record {
+  pub knows_again : (J' : List Event) (now : Store) → J' ≡ J → now.at ≡ store.vat_icb_address → now.vat ≡ store.vat → now.capacity ≡ store.capacity → AreKept J now.directories → IsOpenOn capacity volume J' S now
+  knows_again J' now journal at vat size kept = subst (λ (K : List Event). IsOpenOn capacity volume K S now) (sym journal) (record {
     once = knows.once;
     stands = knows.stands;
     at = at ∙ knows.at;
-    table = ap (λ v. said_table (view v)) vat ∙ knows.table;
+    table = ap (λ v. model_table (view v)) vat ∙ knows.table;
     capacity_is = size ∙ knows.capacity_is;
     kept = kept;
   })
 
-  module _ (r : asking.Request) (change : Change) (does : Does (graph_below store.at store.vat.entries.items J) (free_address store.vat.entries.items) S.tree (said_operation r.op) r.moment store.vat.sessions.next_unique change) where
+  module _ (r : asking.Request) (change : Change) (does : IsChangeOf (graph_below store.vat_icb_address store.vat.entries.items J) (free_address store.vat.entries.items) S.tree (model_operation r.op) r.moment store.vat.sessions.next_unique change) where
     abbrev request : model.Request
-    request = said_request r
+    request = model_request r
 
     abbrev nodes_written : List Writing
     nodes_written = change_writings r.moment change
 
     -- of the table that stands
-    does_there : Does (graph_below knows.stands.at knows.stands.tells.table.entries J) (free_address knows.stands.tells.table.entries) S.tree (said_operation r.op) r.moment S.next_identity change
+    does_there : IsChangeOf (graph_below knows.stands.at knows.stands.tells.table.entries J) (free_address knows.stands.tells.table.entries) S.tree (model_operation r.op) r.moment S.next_identity change
     does_there =
         let next : store.vat.sessions.next_unique ≡ S.next_identity = ap (λ (t : Table_). t.next_identity) knows.table ∙ knows.stands.tells.next_identity in
-        let one = subst (λ (a : ℕ). Does (graph_below a store.vat.entries.items J) (free_address store.vat.entries.items) S.tree (said_operation r.op) r.moment store.vat.sessions.next_unique change) knows.at does in
-        let two = subst (λ (es : List (Option ℕ)). Does (graph_below knows.stands.at es J) (free_address es) S.tree (said_operation r.op) r.moment store.vat.sessions.next_unique change) entries_are one in
-        subst (λ (n : ℕ). Does (graph_below knows.stands.at knows.stands.tells.table.entries J) (free_address knows.stands.tells.table.entries) S.tree (said_operation r.op) r.moment n change) next two
+        let one = subst (λ (a : ℕ). IsChangeOf (graph_below a store.vat.entries.items J) (free_address store.vat.entries.items) S.tree (model_operation r.op) r.moment store.vat.sessions.next_unique change) knows.at does in
+        let two = subst (λ (es : List (Option ℕ)). IsChangeOf (graph_below knows.stands.at es J) (free_address es) S.tree (model_operation r.op) r.moment store.vat.sessions.next_unique change) entries_are one in
+        subst (λ (n : ℕ). IsChangeOf (graph_below knows.stands.at knows.stands.tells.table.entries J) (free_address knows.stands.tells.table.entries) S.tree (model_operation r.op) r.moment n change) next two
 
     pub changes : (written : List Written) → map (λ (w : Written). w.address) written ≡ map (λ (n : Writing). n.address) nodes_written
-        → Changes capacity volume (held J) S knows.stands request nodes_written (gone_of change) written change.made change.removed
+        → ChangesVolume capacity volume (held J) S knows.stands request nodes_written (gone_of change) written change.made change.removed
     changes written addresses = record { done = does_there.done; refused = does_there.refused; addresses = addresses }
 
-    pub takes : IsTakenBy r.moment change (committed store.at r.client r.number (code_number change.code) (view store.vat))
+    pub takes : IsTakenBy r.moment change (committed store.vat_icb_address r.client r.number (code_number change.code) (view store.vat))
     takes written addresses =
         let there = changes_are_taken capacity volume (held J) S knows.stands request nodes_written (gone_of change) written change.made change.removed (view store.vat) knows.table (changes written addresses) in
         subst (λ (a : ℕ). AreTaken change.made written change.removed (committed a r.client r.number (code_number change.code) (view store.vat))) (sym knows.at)
         (subst (λ (n : ℕ). AreTaken change.made written change.removed (committed knows.stands.at r.client r.number n (view store.vat))) (sym does.code_is) there)
 
-    -- what is reckoned is what the request may need
-    pub need_is : change_need change (begun store.at r.client r.number (code_number change.code) change.made (view store.vat)) ≡ need spelled S request
+    -- what is computed is what the request may need
+    pub need_is : change_need change (begun store.vat_icb_address r.client r.number (code_number change.code) change.made (view store.vat)) ≡ need spelled S request
     need_is =
-        change_reckoned change (begun store.at r.client r.number (code_number change.code) change.made (view store.vat))
+        change_reckoned change (begun store.vat_icb_address r.client r.number (code_number change.code) change.made (view store.vat))
         ∙ (λ i. reckoned (bytes_of change.file) (all_names change.directories.items) (begun (knows.at i) r.client r.number (does.code_is i) change.made (view store.vat)))
         ∙ need_is_reckoned capacity volume (held J) S knows.stands request nodes_written (gone_of change) (bare nodes_written) change.made change.removed (view store.vat) (bytes_of change.file) (all_names change.directories.items) knows.table
         (changes (bare nodes_written) (bare_addresses nodes_written)) (change_is_of r.moment change)
 
-    module _ (plan : Plan) (makes : Makes store r change plan) (is : IsPlan (next_of J) capacity plan) where
+    module _ (plan : Plan) (makes : IsPlanOf store r change plan) (is : IsPlan (next_of J) capacity plan) where
       size_is : next_of J ≡ length (held J)
       size_is = next_is ∙ sym (length-held J knows.once)
 
@@ -137,7 +137,7 @@ module _ (capacity volume : ℕ) (J : List Event) (S : State) (store : Store) (k
           subst (λ (n : ℕ). WritesNodes udf nodes_written (n - 257) (node_list plan) (plan_written plan)) size_is
           (subst (λ (ns : List Writing). WritesNodes udf ns (next_of J - 257) (node_list plan) (plan_written plan)) makes.writings is.nodes)
 
-      pub planned_changes : Changes capacity volume (held J) S knows.stands request nodes_written (gone_of change) (plan_written plan) change.made change.removed
+      pub planned_changes : ChangesVolume capacity volume (held J) S knows.stands request nodes_written (gone_of change) (plan_written plan) change.made change.removed
       planned_changes = changes (plan_written plan) (nodes_are_written nodes_written (length (held J) - 257) (node_list plan) (plan_written plan) writes)
 
       abbrev pub planned_blocks : List (List ℕ)
@@ -146,17 +146,17 @@ module _ (capacity volume : ℕ) (J : List Event) (S : State) (store : Store) (k
       pub at_is : plan.table.at ≡ length (held J) + length planned_blocks
       at_is = omega (arith, is.low, size_is, is.table.number, length-append (node_list plan) (table_data plan.table))
 
-      pub table_is : view plan.table.vat ≡ next_table knows.stands.at r.client r.number (code_of (said_operation r.op) S.tree) change.made (plan_written plan) change.removed (view store.vat)
+      pub table_is : view plan.table.vat ≡ next_table knows.stands.at r.client r.number (code_of (model_operation r.op) S.tree) change.made (plan_written plan) change.removed (view store.vat)
       table_is = makes.table ∙ (λ i. next_table (knows.at i) r.client r.number (does.code_is i) change.made (plan_written plan) change.removed (view store.vat))
 
-      behind : IsTableBehind (held J) request (next_table knows.stands.at r.client r.number (code_of (said_operation r.op) S.tree) change.made (plan_written plan) change.removed (view store.vat)) (node_list plan) plan.table.bytes.items plan.table.first (table_data plan.table) plan.table.entry
+      behind : IsTableBehind (held J) request (next_table knows.stands.at r.client r.number (code_of (model_operation r.op) S.tree) change.made (plan_written plan) change.removed (view store.vat)) (node_list plan) plan.table.bytes.items plan.table.first (table_data plan.table) plan.table.entry
       behind =
           let number : plan.table.at - 257 ≡ length (held J) + length planned_blocks - 257 = omega (arith, at_is) in
           let spelled_there = subst (λ (t : Table). IsTableAt (plan.table.at - 257) t plan.table.bytes.items) table_is is.table.spelled in
           let entry_there = subst (λ (m : ℕ). udf.IsEntry (record { kind = TableEntry; moment = m; links = 0; identity = 0; size = length plan.table.bytes.items; place = Extent plan.table.first }) plan.table.entry (plan.table.at - 257)) makes.moment is.table.mark in
           record {
             placed = subst (λ (n : ℕ). IsPlaced udf plan.table.bytes.items (n - 257 + length (node_list plan)) plan.table.first (table_data plan.table)) size_is is.table.placed;
-            spelled = subst (λ (n : ℕ). IsTableAt n (next_table knows.stands.at r.client r.number (code_of (said_operation r.op) S.tree) change.made (plan_written plan) change.removed (view store.vat)) plan.table.bytes.items) number spelled_there;
+            spelled = subst (λ (n : ℕ). IsTableAt n (next_table knows.stands.at r.client r.number (code_of (model_operation r.op) S.tree) change.made (plan_written plan) change.removed (view store.vat)) plan.table.bytes.items) number spelled_there;
             entry = subst (λ (n : ℕ). udf.IsEntry (record { kind = TableEntry; moment = r.moment; links = 0; identity = 0; size = length plan.table.bytes.items; place = Extent plan.table.first }) plan.table.entry n) number entry_there;
           }
 
@@ -165,9 +165,9 @@ module _ (capacity volume : ℕ) (J : List Event) (S : State) (store : Store) (k
           pieces_are_planned capacity volume (held J) S knows.stands request nodes_written (gone_of change) (plan_written plan) change.made change.removed (view store.vat) knows.table planned_changes
           (node_list plan) writes plan.table.bytes.items plan.table.first (table_data plan.table) plan.table.entry behind
 
-      pub planned_table : planned.table ≡ said_table (view plan.table.vat)
+      pub planned_table : planned.table ≡ model_table (view plan.table.vat)
       unfolding planned
       planned_table =
           pieces_table capacity volume (held J) S knows.stands request nodes_written (gone_of change) (plan_written plan) change.made change.removed (view store.vat) knows.table planned_changes
           (node_list plan) writes plan.table.bytes.items plan.table.first (table_data plan.table) plan.table.entry behind
-          ∙ ap said_table (sym table_is)
+          ∙ ap model_table (sym table_is)

@@ -1,7 +1,7 @@
 -- What lies below an address stays where the journal goes on.
 use Rattle.std.proofs.Common.{◌≡◌, ℕ, ◌≤◌, List, length, take, sym, ap, subst, ◌∙◌, arith}
 use Rattle.std.proofs.lemmas.List.{length-take, take-take}
-use Rattle.drive.specs.Journal.{Event, Once, blocks_of, held, next_of}
+use Rattle.drive.specs.Journal.{Event, Once, event_blocks, held, next_of}
 use Rattle.drive.proofs.Once.{held_front, held_once, next_once, once-take}
 use Rattle.model.specs.Graph.{MakesTree}
 use Rattle.durability.specs.Volume.{graph_of}
@@ -21,8 +21,8 @@ module _ (J J' : List Event) (once : Once J') (front : take (length J) J' ≡ J)
   held_below : (at : ℕ) → at ≤ next_of J → take at (held J') ≡ take at (held J)
   held_below at le =
       let within : at ≤ length J = omega (arith, le, next_once J once_before) in
-      let before : held J ≡ take (length J) (blocks_of J') = ap held (sym front) ∙ held_front (length J) J' once in
-      ap (take at) (held_once J' once) ∙ sym (take-take at (length J) (blocks_of J') within) ∙ ap (take at) (sym before)
+      let before : held J ≡ take (length J) (event_blocks J') = ap held (sym front) ∙ held_front (length J) J' once in
+      ap (take at) (held_once J' once) ∙ sym (take-take at (length J) (event_blocks J') within) ∙ ap (take at) (sym before)
 
 pub snapshots_stay : SnapshotsStay
 snapshots_stay honest still J J' directories kept at entries t shows within once front is_still are_kept = (

@@ -7,7 +7,7 @@ use Rattle.recover.specs.declared.fault.StoreFault.{StoreFault}
 use Rattle.recover.specs.declared.fault.StoreFault.TheVariants.{Device, Memory, Damaged}
 use Rattle.recover.specs.Tables.{HasTableAt, IsAtRefused, IsBefore, IsLinkRefused}
 use Rattle.recover.proofs.Told.{is_read, one_read}
-use Rattle.store.specs.History.{IsWayRefused, Leads}
+use Rattle.store.specs.History.{IsWayRefused, ChainLeads}
 
 -- no table of one commit less is where a link leads that was refused
 pub link_refused : (M : List (List ℕ)) (there commits : ℕ) (b c : ℕ) → IsLinkRefused M there commits (Damaged b c) → (u : Table) → HasTableAt M there u → u.commits + 1 ≡ commits → ⊥
@@ -32,7 +32,7 @@ way_first M from commits (Damaged b c) r = λ t has le. absurd (is_read M from t
 way_first M from commits _ r = elim r [ inl entry ↦ absurd entry | inr table ↦ absurd table.3 ]
 
 -- nor a later one
-pub way_link : (M : List (List ℕ)) (from commits steps at number : ℕ) (t : Table) → Leads M from steps at → HasTableAt M at t → t.previous ≡ Some number
+pub way_link : (M : List (List ℕ)) (from commits steps at number : ℕ) (t : Table) → ChainLeads M from steps at → HasTableAt M at t → t.previous ≡ Some number
     → ((first : Table) → HasTableAt M from first → commits ≤ first.commits → commits < t.commits) → (fault : StoreFault) → IsLinkRefused M (number + 257) t.commits fault → IsWayRefused M from commits fault
 way_link M from commits steps at number t leads has link more Device r = tt
 way_link M from commits steps at number t leads has link more Memory r = tt

@@ -3,7 +3,7 @@ use Rattle.std.proofs.Common.{◌≡◌, ℕ, zero, suc, ◌+◌, ◌-◌, ◌<�
 use Rattle.std.proofs.lemmas.Option.{none-some, same_Some}
 use Rattle.drive.specs.Journal.{Event, held}
 use Rattle.durability.specs.Formats.{Table_}
-use Rattle.durability.specs.Volume.{Medium, StoodBefore}
+use Rattle.durability.specs.Volume.{Medium, RecoveredBefore}
 use Rattle.model.specs.Session as model
 use Rattle.udf.specs.Udf.{udf}
 use Rattle.vat.specs.Table.{Table}
@@ -15,9 +15,9 @@ use Rattle.recover.specs.Tables.{HasTableAt, IsAtRefused, IsLinkRefused}
 use Rattle.recover.proofs.Told.{is_read, one_read}
 use Rattle.store.specs.declared.history.Commit.{Commit}
 use Rattle.store.specs.declared.store.Store.{Store}
-use Rattle.store.specs.Calls.{Knows}
+use Rattle.store.specs.Calls.{IsOpenOn}
 use Rattle.store.specs.History.{AreShown, HasUntold, IsChain, IsHistory, IsHistoryRefused, told_of}
-use Rattle.store.specs.Past.{AllStood}
+use Rattle.store.specs.Past.{AllRecovered}
 use Rattle.store.proofs.Chains.{EndsAt, goes_back, shown_stood, step_back, step_on, stood_told}
 use Rattle.store.proofs.Chains as chains
 use Rattle.store.proofs.Histories.{one_before}
@@ -106,7 +106,7 @@ module _ (M : Medium) where
     -- ---- none stood where none is told
 
     not_in_chain : (at : ℕ) (t : Table) (earlier : List Commit) → HasTableAt M at t → IsChain M t.previous t.commits earlier → (i : ℕ) → i < length earlier → (S : model.State) (N : Medium) → EndsAt M at N
-        → StoodBefore udf (suc i) capacity volume N S → ((d : Commit) → IsUntold capacity M (slice_index_or earlier i d).at) → ⊥
+        → RecoveredBefore udf (suc i) capacity volume N S → ((d : Commit) → IsUntold capacity M (slice_index_or earlier i d).at) → ⊥
     not_in_chain at t [] has chain i less S N ends stood untold = absurd (omega (arith, less))
     not_in_chain at t (c ∷ earlier) has (n, is, v, there, fewer, says, chain) zero less S N ends stood untold =
         let on = step_on capacity volume M at (n + 257) 0 S N ends (one_before M at n t v has is there fewer) stood in
@@ -116,12 +116,12 @@ module _ (M : Medium) where
         let on = step_on capacity volume M at (n + 257) (suc i) S N ends (one_before M at n t v has is there fewer) stood in
         not_in_chain (n + 257) v earlier there chain i (omega (arith, less)) S on.0 on.1 on.2 untold
 
-    pub not_in : (at : ℕ) (all : List Commit) → IsHistory M at all → (i : ℕ) → i < length all → (S : model.State) (N : Medium) → EndsAt M at N → StoodBefore udf i capacity volume N S
+    pub not_in : (at : ℕ) (all : List Commit) → IsHistory M at all → (i : ℕ) → i < length all → (S : model.State) (N : Medium) → EndsAt M at N → RecoveredBefore udf i capacity volume N S
         → ((d : Commit) → IsUntold capacity M (slice_index_or all i d).at) → ⊥
     not_in at all (t, has, earlier, is, chain) i less S N ends stood untold =
         go i (subst (λ (cs : List Commit). i < length cs) is less) stood (subst (λ (cs : List Commit). (d : Commit) → IsUntold capacity M (slice_index_or cs i d).at) is untold)
       where
-        go : (j : ℕ) → j < length (told_of at t ∷ earlier) → StoodBefore udf j capacity volume N S → ((d : Commit) → IsUntold capacity M (slice_index_or (told_of at t ∷ earlier) j d).at) → ⊥
+        go : (j : ℕ) → j < length (told_of at t ∷ earlier) → RecoveredBefore udf j capacity volume N S → ((d : Commit) → IsUntold capacity M (slice_index_or (told_of at t ∷ earlier) j d).at) → ⊥
         go zero l s u = let told = stood_told capacity volume M at t S N has ends s in u (told_of at t) volume s.block S told.0 told.1
         go (suc j) l s u = not_in_chain at t earlier has chain j (omega (arith, l)) S N ends s u
 
@@ -131,7 +131,7 @@ module _ (M : Medium) where
     none_of None h = refl
     none_of (Some n) h = cc
 
-    chain_of : (steps at : ℕ) (t : Table) (S : model.State) (N : Medium) → HasTableAt M at t → t.commits ≡ steps → EndsAt M at N → StoodBefore udf steps capacity volume N S → Goes t
+    chain_of : (steps at : ℕ) (t : Table) (S : model.State) (N : Medium) → HasTableAt M at t → t.commits ≡ steps → EndsAt M at N → RecoveredBefore udf steps capacity volume N S → Goes t
     chain_of zero at t S N has count ends stood = ([], (none_of t.previous (has.is.table.fits.first.1 count), count))
     chain_of (suc steps) at t S N has count ends stood =
         let on = goes_back capacity volume M at steps S N ends t has stood in
@@ -143,32 +143,32 @@ module _ (M : Medium) where
         let rest = chain_of steps on.0 u S on.2 before (omega (arith, less, count)) on.3 on.4 in
         (told_of (n + 257) u ∷ rest.0, (n, link, u, there, less, refl, rest.1))
 
-module _ (capacity volume : ℕ) (J : List Event) (T : model.State) (store : Store) (knows : Knows capacity volume J T store) where
-  pub history_known : (all : List Commit) → IsHistory (held J) store.at all → length all ≡ T.commits + 1
+module _ (capacity volume : ℕ) (J : List Event) (T : model.State) (store : Store) (knows : IsOpenOn capacity volume J T store) where
+  pub history_known : (all : List Commit) → IsHistory (held J) store.vat_icb_address all → length all ≡ T.commits + 1
   history_known all is =
       let here = table_here capacity volume J T store knows in
-      let one = history_length (held J) store.at here.0 all here.1 is in
+      let one = history_length (held J) store.vat_icb_address here.0 all here.1 is in
       omega (arith, one, commits_here capacity volume J T store knows)
 
-  pub whole : (all : List Commit) → 257 ≤ store.at → IsHistory (held J) store.at all → AreShown capacity (held J) all → AllStood capacity volume (held J) T.commits
+  pub whole : (all : List Commit) → 257 ≤ store.vat_icb_address → IsHistory (held J) store.vat_icb_address all → AreShown capacity (held J) all → AllRecovered capacity volume (held J) T.commits
   whole all low is shown k le =
       let i : T.commits - k < length all = omega (arith, history_known all is) in
-      let stood = stood_in (held J) capacity volume (volume_told capacity volume J T store knows) store.at all low is shown (T.commits - k) i in
+      let stood = stood_in (held J) capacity volume (volume_told capacity volume J T store knows) store.vat_icb_address all low is shown (T.commits - k) i in
       (stood.0, past_of capacity volume J T store knows k (T.commits - k) stood.0 (omega (arith, le)) (stood.1 (held J) (ends_here capacity volume J T store knows)))
 
   -- where none is told of one of them, none stood after it
-  pub unshown : (all : List Commit) → IsHistory (held J) store.at all → HasUntold capacity (held J) all → AllStood capacity volume (held J) T.commits → ⊥
+  pub unshown : (all : List Commit) → IsHistory (held J) store.vat_icb_address all → HasUntold capacity (held J) all → AllRecovered capacity volume (held J) T.commits → ⊥
   unshown all is r stood =
       let few : r.0 ≤ T.commits = omega (arith, r.1, history_known all is) in
       let past = stood (T.commits - r.0) (omega arith) in
       let steps : past.1.1 ≡ r.0 = omega (arith, few, steps_past capacity volume J T store knows (T.commits - r.0) past.0 past.1) in
-      not_in (held J) capacity volume store.at all is r.0 r.1 past.0 (held J) (ends_here capacity volume J T store knows) (subst (λ (n : ℕ). StoodBefore udf n capacity volume (held J) past.0) steps past.1.3) r.2
+      not_in (held J) capacity volume store.vat_icb_address all is r.0 r.1 past.0 (held J) (ends_here capacity volume J T store knows) (subst (λ (n : ℕ). RecoveredBefore udf n capacity volume (held J) past.0) steps past.1.3) r.2
 
   -- a state stood after each commit only where a list is all of them
-  pub history_stood : AllStood capacity volume (held J) T.commits → (all : List Commit) × IsHistory (held J) store.at all
+  pub history_stood : AllRecovered capacity volume (held J) T.commits → (all : List Commit) × IsHistory (held J) store.vat_icb_address all
   history_stood stood =
       let here = table_here capacity volume J T store knows in
       let past = stood 0 (omega arith) in
       let count : here.0.commits ≡ past.1.1 = omega (arith, commits_here capacity volume J T store knows, steps_past capacity volume J T store knows 0 past.0 past.1) in
-      let rest = chain_of (held J) capacity volume past.1.1 store.at here.0 past.0 (held J) here.1 count (ends_here capacity volume J T store knows) past.1.3 in
-      (told_of store.at here.0 ∷ rest.0, (here.0, here.1, rest.0, refl, rest.1))
+      let rest = chain_of (held J) capacity volume past.1.1 store.vat_icb_address here.0 past.0 (held J) here.1 count (ends_here capacity volume J T store knows) past.1.3 in
+      (told_of store.vat_icb_address here.0 ∷ rest.0, (here.0, here.1, rest.0, refl, rest.1))

@@ -3,12 +3,12 @@ use Rattle.std.specs.Prelude.{◌≡◌, ℕ, ◌<◌, ◌≤◌, List}
 use Rattle.limits.specs.declared.TheConstants.{LEAST_CAPACITY, GREATEST_CAPACITY}
 use Rattle.drive.specs.Journal.{Event, next_of}
 use Rattle.store.specs.declared.store.Store.{Store}
-use Rattle.planning.specs.Last.{Keeps}
+use Rattle.planning.specs.Last.{HasTableBelow}
 
 -- the store's table stands on a drive with this journal and capacity
-pub record Agrees (journal : List Event) (capacity : ℕ) (store : Store) : Type 0 where
-  pub keeps : Keeps store.at store.vat
-  pub on : store.at < next_of journal
+pub record IsStoreOn (journal : List Event) (capacity : ℕ) (store : Store) : Type 0 where
+  pub keeps : HasTableBelow store.vat_icb_address store.vat
+  pub on : store.vat_icb_address < next_of journal
   pub least : LEAST_CAPACITY ≤ store.capacity
   pub most : store.capacity ≤ GREATEST_CAPACITY
   pub fits : store.capacity ≤ capacity

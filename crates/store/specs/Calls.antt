@@ -1,6 +1,6 @@
 -- What the calls of a store say on a drive that is honest, of the state that stands on its journal.
 use Rattle.std.specs.Prelude.{◌≡◌, ◌⊎◌, ℕ, ◌+◌, ◌<◌, ◌≤◌, false, List, [], ◌∷◌, ◌++◌, length, Result, Ok, Err}
-use Rattle.drive.specs.Journal.{AddsFront, Event, held, written, Once}
+use Rattle.drive.specs.Journal.{AddsPrefix, Event, held, written, Once}
 use Rattle.drive.specs.Writes.{IsLeft, joined}
 use Rattle.request.specs.declared.answer.Reply as told
 use Rattle.request.specs.declared.answer.Listed.{Listed}
@@ -10,85 +10,85 @@ use Rattle.recover.specs.declared.fault.StoreFault.TheVariants as fault
 use Rattle.recover.specs.Faults.{IsShortage}
 use Rattle.model.specs.Tree.{Path}
 use Rattle.model.specs.Session.{State, Request, reply_to, after_one, after}
-use Rattle.durability.specs.Volume.{Stands}
+use Rattle.durability.specs.Volume.{RecoversTo}
 use Rattle.durability.specs.Commit.{need}
 use Rattle.durability.specs.Journal.{Advances}
 use Rattle.durability.specs.Runs.{Answer, told as shows}
 use Rattle.durability.specs.Runs.Answer.{NotFound, IsDirectory, NotDirectory, Data, Names, NodeIs}
 use Rattle.durability.specs.Runs.Query.{Get, List_, Stat}
 use Rattle.udf.specs.Udf.{udf, spelled}
-use Rattle.udf.specs.Said.{said_table}
+use Rattle.udf.specs.Said.{model_table}
 use Rattle.vat.specs.Table.{view}
 use Rattle.store.specs.declared.store.Store.{Store}
-use Rattle.directories.specs.Cache.{AreKept}
-use Rattle.directories.specs.Asked.{is_directory, said_names}
+use Rattle.lookup.specs.Cache.{AreKept}
+use Rattle.lookup.specs.Asked.{is_directory, said_names}
 use Rattle.store.specs.Sessions.{reply_said}
 
 -- The state stands on the journal, in which each address is written once, and the store keeps what the last table says,
 -- and directories that lie there.
-pub record Knows (capacity volume : ℕ) (journal : List Event) (S : State) (store : Store) : Type 0 where
+pub record IsOpenOn (capacity volume : ℕ) (journal : List Event) (S : State) (store : Store) : Type 0 where
   pub once : Once journal
-  pub stands : Stands udf capacity volume (held journal) S
-  pub at : store.at ≡ stands.at
-  pub table : said_table (view store.vat) ≡ stands.tells.table
+  pub stands : RecoversTo udf capacity volume (held journal) S
+  pub at : store.vat_icb_address ≡ stands.at
+  pub table : model_table (view store.vat) ≡ stands.tells.table
   pub capacity_is : store.capacity ≡ volume
   pub kept : AreKept journal store.directories
 
 -- so it does as long as it is not stopped
-abbrev pub StillKnows : (capacity volume : ℕ) → List Event → State → Store → Type 0
-StillKnows capacity volume journal S store = store.is_stopped ≡ false → Knows capacity volume journal S store
+abbrev pub IsStillOpenOn : (capacity volume : ℕ) → List Event → State → Store → Type 0
+IsStillOpenOn capacity volume journal S store = store.is_stopped ≡ false → IsOpenOn capacity volume journal S store
 
 -- ---- opening
 
 -- the drive is opened, unless it fails or memory is short
 abbrev pub Opens : (capacity volume : ℕ) → List Event → State → Result Store StoreFault → Type 0
-Opens capacity volume journal S (Ok store) = Knows capacity volume journal S store × (store.is_stopped ≡ false)
+Opens capacity volume journal S (Ok store) = IsOpenOn capacity volume journal S store × (store.is_stopped ≡ false)
 Opens capacity volume journal S (Err refusal) = IsShortage refusal
 
 -- ---- a new request
 
 -- It was committed, with its own reply, in no more blocks than it may need, and there was room for as many.
-pub record IsDone (capacity volume : ℕ) (before : List Event) (S : State) (request : Request) (reply : told.Reply) (behind : List Event) (store : Store) : Type 0 where
+pub record IsCommitDone (capacity volume : ℕ) (before : List Event) (S : State) (request : Request) (reply : told.Reply) (behind : List Event) (store : Store) : Type 0 where
   pub reply_is : reply_said reply ≡ reply_to S request
   pub advances : Advances udf capacity volume before S behind (after_one S request)
   pub some : length before < length behind
   pub few : length behind ≤ length before + need spelled S request
   pub room : length before + need spelled S request ≤ volume
-  pub knows : StillKnows capacity volume behind (after_one S request) store
+  pub knows : IsStillOpenOn capacity volume behind (after_one S request) store
 
--- The drive failed: a front of its blocks may be written, and the request committed where all are.
+-- The drive failed: a prefix of its blocks may be written, and the request committed where all are.
 pub record IsFailed (capacity volume : ℕ) (before : List Event) (S : State) (request : Request) (behind : List Event) (store : Store) : Type 0 where
   pub done : List Request
   pub whether : (done ≡ []) ⊎ ((done ≡ request ∷ []) × (length before < length behind))
   pub advances : Advances udf capacity volume before S behind (after S done)
   pub few : length behind ≤ length before + need spelled S request
   pub room : length before < length behind → length before + need spelled S request ≤ volume
-  pub knows : StillKnows capacity volume behind (after S done) store
+  pub knows : IsStillOpenOn capacity volume behind (after S done) store
 
 -- Nothing was written.
-pub record IsLeftBehind (capacity volume : ℕ) (before : List Event) (S : State) (behind : List Event) (store : Store) : Type 0 where
+pub record IsLeftUnwritten (capacity volume : ℕ) (before : List Event) (S : State) (behind : List Event) (store : Store) : Type 0 where
   pub journal : behind ≡ before
-  pub knows : StillKnows capacity volume behind S store
+  pub knows : IsStillOpenOn capacity volume behind S store
 
-abbrev pub Refuses : (capacity volume : ℕ) → List Event → State → Request → StoreFault → List Event → Store → Type 0
-Refuses capacity volume before S request refusal behind store =
+abbrev pub RefusesRequest : (capacity volume : ℕ) → List Event → State → Request → StoreFault → List Event → Store → Type 0
+RefusesRequest capacity volume before S request refusal behind store =
     ((refusal ≡ fault.Device) × IsFailed capacity volume before S request behind store)
-    ⊎ (((refusal ≡ fault.Memory) × IsLeftBehind capacity volume before S behind store)
-    ⊎ ((refusal ≡ fault.Full) × IsLeftBehind capacity volume before S behind store × (volume < length before + need spelled S request)))
+    ⊎ (((refusal ≡ fault.Memory) × IsLeftUnwritten capacity volume before S behind store)
+    ⊎ ((refusal ≡ fault.Full) × IsLeftUnwritten capacity volume before S behind store × (volume < length before + need spelled S request)))
 
 -- what became of a new request at the state that stands
 abbrev pub Applies : (capacity volume : ℕ) → List Event → State → Request → Result told.Reply StoreFault → List Event → Store → Type 0
-Applies capacity volume before S request (Ok reply) behind store = IsDone capacity volume before S request reply behind store
-Applies capacity volume before S request (Err refusal) behind store = Refuses capacity volume before S request refusal behind store
+Applies capacity volume before S request (Ok reply) behind store = IsCommitDone capacity volume before S request reply behind store
+Applies capacity volume before S request (Err refusal) behind store = RefusesRequest capacity volume before S request refusal behind store
 
--- The writes that a call made, and those that it would still have made had none failed. The journal goes on by a front of
--- their blocks, and by all blocks of the writes that were made where none failed. Whatever a loss of power leaves of the
+-- The writes that a call made, and those that it would still have made had none failed. The journal goes on by a prefix of
+-- their blocks, and by all blocks of the writes that were made where none failed. Whatever a power loss leaves of the
 -- writes that were made, the state before the call stands, or the one after the request.
-pub record Withstands (capacity volume : ℕ) (before : List Event) (S : State) (request : Request) (writes : List (List (List ℕ))) (failed : ℕ) (behind : List Event) (later : List (List (List ℕ))) : Type 0 where
+pub record CommitSurvivesPowerLoss (capacity volume : ℕ) (before : List Event) (S : State) (request : Request) (writes : List (List (List ℕ))) (failed : ℕ) (behind : List Event) (later : List (List (List ℕ))) : Type 0 where
   pub added : List (List (List ℕ))
   pub others : List (List (List ℕ))
   pub writes_are : later ≡ writes ++ added
-  pub front : AddsFront before (length before) (joined (added ++ others)) behind
+  pub front : AddsPrefix before (length before) (joined (added ++ others)) behind
   pub whole : failed ≡ 0 → behind ≡ before ++ written (length before) (joined added)
   pub torn : (left : List (List ℕ)) (journal : List Event) → IsLeft added left → journal ≡ before ++ written (length before) left
       → Advances udf capacity volume before S journal S ⊎ Advances udf capacity volume before S journal (after_one S request)

@@ -10,7 +10,7 @@ use Rattle.recover.specs.declared.state.State.{State}
 use Rattle.recover.specs.Tables.{HasTableAt, IsBefore}
 use Rattle.store.specs.declared.history.Commit.{Commit}
 
--- what is told of the commit whose table's entry stands at an address
+-- what is told of the commit whose VAT ICB stands at an address
 abbrev pub told_of : ℕ → Table → Commit
 told_of at table = record { commit = table.commits; at = at; files = table.files; directories = table.directories }
 
@@ -21,20 +21,20 @@ IsChain medium link commits (c ∷ earlier) =
     (number : ℕ) × (link ≡ Some number) × (table : Table) × HasTableAt medium (number + PARTITION_START) table × (table.commits + 1 ≡ commits)
     × (c ≡ told_of (number + PARTITION_START) table) × IsChain medium table.previous table.commits earlier
 
--- all commits from the one whose table's entry stands at an address down to the format
+-- all commits from the one whose VAT ICB stands at an address down to the format
 abbrev pub IsHistory : List (List ℕ) → ℕ → List Commit → Type 0
 IsHistory medium at commits = (table : Table) × HasTableAt medium at table × (earlier : List Commit) × (commits ≡ told_of at table ∷ earlier)
     × IsChain medium table.previous table.commits earlier
 
 -- so many steps of the chain lead from one address to another
-abbrev pub Leads : List (List ℕ) → ℕ → ℕ → ℕ → Type 0
-Leads medium from zero to = from ≡ to
-Leads medium from (suc steps) to = (at : ℕ) × Leads medium from steps at × IsBefore medium at (Some to)
+abbrev pub ChainLeads : List (List ℕ) → ℕ → ℕ → ℕ → Type 0
+ChainLeads medium from zero to = from ≡ to
+ChainLeads medium from (suc steps) to = (at : ℕ) × ChainLeads medium from steps at × IsBefore medium at (Some to)
 
 -- the table whose entry stands at an address is that of so many commits, and the chain leads there
 pub record IsTableOf (medium : List (List ℕ)) (from commits at : ℕ) (vat : Vat) : Type 0 where
   pub steps : ℕ
-  pub leads : Leads medium from steps at
+  pub leads : ChainLeads medium from steps at
   pub table : HasTableAt medium at (view vat)
   pub commits_are : vat.sessions.commits ≡ commits
 
@@ -42,7 +42,7 @@ pub record IsTableOf (medium : List (List ℕ)) (from commits at : ℕ) (vat : V
 abbrev pub AreShown : ℕ → List (List ℕ) → List Commit → Type 0
 AreShown capacity medium commits = All (λ (c : Commit). (state : State) × IsShown capacity medium c.at state) commits
 
--- each commit from the one whose table's entry stands at an address, and the state after it
+-- each commit from the one whose VAT ICB stands at an address, and the state after it
 pub record IsChecked (capacity : ℕ) (medium : List (List ℕ)) (at : ℕ) : Type 0 where
   pub commits : List Commit
   pub history : IsHistory medium at commits
@@ -59,7 +59,7 @@ IsHistoryRefused medium at _ = ⊥
 pub record BreaksOff (medium : List (List ℕ)) (from commits : ℕ) : Type 0 where
   pub steps : ℕ
   pub at : ℕ
-  pub leads : Leads medium from steps at
+  pub leads : ChainLeads medium from steps at
   pub table : Table
   pub there : HasTableAt medium at table
   pub more : commits < table.commits

@@ -2,24 +2,24 @@
 use Rattle.std.specs.Prelude.{⊤, ℕ, ◌≤◌, List}
 use Rattle.limits.specs.declared.TheConstants.{PARTITION_START}
 use Rattle.model.specs.Session.{State}
-use Rattle.durability.specs.Volume.{Stands}
+use Rattle.durability.specs.Volume.{RecoversTo}
 use Rattle.recover.specs.declared.fault.StoreFault.{StoreFault}
 use Rattle.recover.specs.declared.fault.StoreFault.TheVariants.{Device, Memory, NotFormatted, Damaged}
-use Rattle.recover.specs.Tables.{HasEntry, HasNoneFrom}
+use Rattle.recover.specs.Tables.{HasVatIcb, HasNoneFrom}
 use Rattle.udf.specs.Udf.{udf}
 
 -- nothing stands on the medium, on a drive of this capacity
-abbrev pub NothingStands : ℕ → List (List ℕ) → Type 0
-NothingStands capacity medium = (volume : ℕ) (S : State) → Stands udf capacity volume medium S → ⊥
+abbrev pub RecoversToNothingHere : ℕ → List (List ℕ) → Type 0
+RecoversToNothingHere capacity medium = (volume : ℕ) (S : State) → RecoversTo udf capacity volume medium S → ⊥
 
--- the entry of a table is on the medium
+-- a VAT ICB is on the medium
 abbrev pub HasSomeEntry : List (List ℕ) → Type 0
-HasSomeEntry medium = (at : ℕ) × (PARTITION_START ≤ at) × HasEntry medium at
+HasSomeEntry medium = (at : ℕ) × (PARTITION_START ≤ at) × HasVatIcb medium at
 
--- the drive failed, memory was short, no table's entry is there, or one is and nothing stands
+-- the drive failed, memory was short, no VAT ICB is there, or one is and nothing stands
 abbrev pub IsOpenRefused : ℕ → List (List ℕ) → StoreFault → Type 0
 IsOpenRefused capacity medium Device = ⊤
 IsOpenRefused capacity medium Memory = ⊤
 IsOpenRefused capacity medium NotFormatted = HasNoneFrom medium PARTITION_START
-IsOpenRefused capacity medium (Damaged block cause) = HasSomeEntry medium × NothingStands capacity medium
+IsOpenRefused capacity medium (Damaged block cause) = HasSomeEntry medium × RecoversToNothingHere capacity medium
 IsOpenRefused capacity medium _ = ⊥

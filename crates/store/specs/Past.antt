@@ -4,25 +4,25 @@ use Rattle.drive.specs.Journal.{Event, Once, held, next_of}
 use Rattle.model.specs.Graph.{MakesTree}
 use Rattle.model.specs.Session.{State}
 use Rattle.model.specs.Tree.{IsTree, Tree, identity_at}
-use Rattle.durability.specs.Volume.{Past}
-use Rattle.udf.specs.Said.{said_table}
+use Rattle.durability.specs.Volume.{RecoveredTo}
+use Rattle.udf.specs.Said.{model_table}
 use Rattle.udf.specs.Udf.{udf}
 use Rattle.vat.specs.declared.table.Vat.{Vat}
 use Rattle.vat.specs.Table.{view}
 use Rattle.recover.specs.declared.fault.StoreFault.{StoreFault}
 use Rattle.recover.specs.declared.fault.StoreFault.TheVariants.{Device, Memory, Damaged, NoCommit}
-use Rattle.directories.specs.declared.directories.Directories.{Directories}
-use Rattle.directories.specs.Cache.{AreKept}
-use Rattle.directories.specs.Shows.{Shows, graph_below}
+use Rattle.lookup.specs.declared.directories.DirectoryCache.{DirectoryCache}
+use Rattle.lookup.specs.Cache.{AreKept}
+use Rattle.lookup.specs.Shows.{HasNodesOf, graph_below}
 
 -- the state after so many commits stood, and this table, whose entry stands at an address, leads to its nodes
 pub record IsPast (capacity volume : ℕ) (journal : List Event) (commits : ℕ) (S : State) (at : ℕ) (vat : Vat) : Type 0 where
-  pub past : Past udf capacity volume (held journal) commits S
+  pub past : RecoveredTo udf capacity volume (held journal) commits S
   pub tree : IsTree S.tree
   pub makes : MakesTree (graph_below at vat.entries.items journal) S.tree
   pub root : identity_at S.tree [] ≡ 0
   pub within : at < next_of journal
-  pub records : (said_table (view vat)).records ≡ S.records
+  pub records : (model_table (view vat)).records ≡ S.records
   pub next : vat.sessions.next_unique ≡ S.next_identity
   pub commits_are : vat.sessions.commits ≡ commits
 
@@ -32,23 +32,23 @@ abbrev pub IsPastRefused : ℕ → ℕ → List (List ℕ) → ℕ → ℕ → S
 IsPastRefused capacity volume medium now commits Device = ⊤
 IsPastRefused capacity volume medium now commits Memory = ⊤
 IsPastRefused capacity volume medium now commits NoCommit = now < commits
-IsPastRefused capacity volume medium now commits (Damaged block cause) = (S : State) → Past udf capacity volume medium commits S → ⊥
+IsPastRefused capacity volume medium now commits (Damaged block cause) = (S : State) → RecoveredTo udf capacity volume medium commits S → ⊥
 IsPastRefused capacity volume medium now commits _ = ⊥
 
 -- a state stood after each of so many commits
-abbrev pub AllStood : ℕ → ℕ → List (List ℕ) → ℕ → Type 0
-AllStood capacity volume medium commits = (k : ℕ) → k ≤ commits → (S : State) × Past udf capacity volume medium k S
+abbrev pub AllRecovered : ℕ → ℕ → List (List ℕ) → ℕ → Type 0
+AllRecovered capacity volume medium commits = (k : ℕ) → k ≤ commits → (S : State) × RecoveredTo udf capacity volume medium k S
 
 -- why so many commits are not told: the drive failed, memory was short, or after one of them no state stood
 abbrev pub IsCheckRefused : ℕ → ℕ → List (List ℕ) → ℕ → StoreFault → Type 0
 IsCheckRefused capacity volume medium commits Device = ⊤
 IsCheckRefused capacity volume medium commits Memory = ⊤
-IsCheckRefused capacity volume medium commits (Damaged block cause) = AllStood capacity volume medium commits → ⊥
+IsCheckRefused capacity volume medium commits (Damaged block cause) = AllRecovered capacity volume medium commits → ⊥
 IsCheckRefused capacity volume medium commits _ = ⊥
 
--- What a snapshot shows stays where the journal goes on, each address once, as behind any run: its nodes make the same tree,
--- with whatever directories lie there, and its table's entry is on the medium.
+-- What a snapshot shows stays where the journal goes on, each address once, as after any run: its nodes make the same tree,
+-- with whatever directories lie there, and its VAT ICB is on the medium.
 abbrev pub SnapshotsStay : Type 0
 SnapshotsStay =
-    (honest still : Bool) (J J' : List Event) (directories kept : Directories) (at : ℕ) (entries : List (Option ℕ)) (t : Tree) → Shows honest J directories at entries t → at ≤ next_of J
-    → Once J' → take (length J) J' ≡ J → IsTrue still → AreKept J' kept → Shows still J' kept at entries t × (at ≤ next_of J')
+    (honest still : Bool) (J J' : List Event) (directories kept : DirectoryCache) (at : ℕ) (entries : List (Option ℕ)) (t : Tree) → HasNodesOf honest J directories at entries t → at ≤ next_of J
+    → Once J' → take (length J) J' ≡ J → IsTrue still → AreKept J' kept → HasNodesOf still J' kept at entries t × (at ≤ next_of J')

@@ -1,25 +1,25 @@
 //! A commit: what is planned is written, and then kept.
 
 ghost use Rattle.std.specs.Prelude.{◌≡◌, ℕ, ◌+◌, ◌++◌, false, true, Err, is_err, IsTrue, IfOk, IfErr, OnOk, OnErr};
-ghost use Rattle.drive.specs.Journal.{Once, next_of, written, AddsFront};
-ghost use Rattle.drive.specs.Reads.{Follows};
+ghost use Rattle.drive.specs.Journal.{Once, next_of, written, AddsPrefix};
+ghost use Rattle.drive.specs.Reads.{ReadsAndWrites};
 ghost use Rattle.drive.specs.Sending.{SendsAlone};
 ghost use Rattle.recover.specs.Faults.{devices};
 ghost use Rattle.model.specs.Session.{State};
-ghost use Rattle.store.specs.Agrees.{Agrees};
-ghost use Rattle.directories.specs.Asked.{said_request};
-ghost use Rattle.store.specs.Calls.{Applies, Knows, Withstands};
-ghost use Rattle.directories.specs.Cache.{AreKept};
+ghost use Rattle.store.specs.Agrees.{IsStoreOn};
+ghost use Rattle.lookup.specs.Asked.{model_request};
+ghost use Rattle.store.specs.Calls.{Applies, IsOpenOn, CommitSurvivesPowerLoss};
+ghost use Rattle.lookup.specs.Cache.{AreKept};
 ghost use Rattle.planning.specs.Plan.{IsPlan, table_data, node_list, plan_blocks};
 ghost use Rattle.store.specs.Putting.{WritesPlan, IsCommitRefused};
-ghost use Rattle.next_vat.specs.TableChange.{IsNext};
+ghost use Rattle.table_update.specs.TableChange.{IsNext};
 ghost use Rattle.recover.specs.declared.fault.StoreFault.TheVariants.{Device, Stopped};
 
 use crate::store::Store;
-use directories::Nodes;
 use drive::Drive;
 use ecma::Timestamp;
-use planning::{Before, LastTable, Plan};
+use lookup::Nodes;
+use planning::{LastTable, Plan, StateBefore};
 use recover::StoreFault;
 use request::{Reply, Request};
 use std::alloc::Global;
@@ -33,39 +33,39 @@ impl Store {
         drive: &mut D,
         request: &Request<'_>,
     ) -> Result<Reply, StoreFault>
-        requires agrees { Agrees (D.journal drive.old) (D.capacity drive.old) self.old }
+        requires agrees { IsStoreOn (D.journal drive.old) (D.capacity drive.old) self.old }
         requires next { IsNext request.now.client request.now.number self.old.vat.sessions.records.items }
         // What becomes of the request on an honest drive, where a state stands that the store knows.
-        ensures applies { (volume : ℕ) (S : State) → IsTrue (D.honest drive.new) → Knows (D.capacity drive.old) volume (D.journal drive.old) S self.old → self.old.is_stopped ≡ false → Applies (D.capacity drive.old) volume (D.journal drive.old) S (said_request request.now) result (D.journal drive.new) self.new }
-        // What its writes leave on the journal; and what a loss of power leaves of them, where a disk keeps any choice of the blocks
+        ensures applies { (volume : ℕ) (S : State) → IsTrue (D.honest drive.new) → IsOpenOn (D.capacity drive.old) volume (D.journal drive.old) S self.old → self.old.is_stopped ≡ false → Applies (D.capacity drive.old) volume (D.journal drive.old) S (model_request request.now) result (D.journal drive.new) self.new }
+        // What its writes leave on the journal; and what a power loss leaves of them, where a disk keeps any choice of the blocks
         // of the last one that it was given.
-        ensures withstands { (volume : ℕ) (S : State) → IsTrue (D.honest drive.new) → Knows (D.capacity drive.old) volume (D.journal drive.old) S self.old → Withstands (D.capacity drive.old) volume (D.journal drive.old) S (said_request request.now) (D.writes drive.old) (devices result) (D.journal drive.new) (D.writes drive.new) }
-        ensures agrees { Agrees (D.journal drive.new) (D.capacity drive.new) self.new }
+        ensures withstands { (volume : ℕ) (S : State) → IsTrue (D.honest drive.new) → IsOpenOn (D.capacity drive.old) volume (D.journal drive.old) S self.old → CommitSurvivesPowerLoss (D.capacity drive.old) volume (D.journal drive.old) S (model_request request.now) (D.writes drive.old) (devices result) (D.journal drive.new) (D.writes drive.new) }
+        ensures agrees { IsStoreOn (D.journal drive.new) (D.capacity drive.new) self.new }
         ensures commit { IfOk result (λ reply. reply.commit ≡ self.old.vat.sessions.commits + 1) }
         ensures written { IfOk result (λ reply. WritesPlan self.old request.now (D.capacity drive.old) (D.journal drive.old) (D.journal drive.new) self.new reply) }
         // On any drive a refusal leaves store and journal as they were, unless a write failed: then the store is stopped.
         ensures refused { IfErr result (IsCommitRefused self.old request.now (D.capacity drive.old) (D.journal drive.old) (D.journal drive.new) self.new) }
-        // A store that a refusal leaves open gave the drive no write, so behind a failed write it is stopped, whatever that left.
+        // A store that a refusal leaves open gave the drive no write, so after a failed write it is stopped, whatever that left.
         ensures unwritten { OnErr result (self.new.is_stopped ≡ false → D.writes drive.new ≡ D.writes drive.old) }
         ensures stopped { self.old.is_stopped ≡ true → (result ≡ Err Stopped) × (self.new ≡ self.old) × (drive.new ≡ drive.old) }
         ensures goes_on { OnOk result (self.new.is_stopped ≡ false) }
-        ensures follows { Follows D.Drive (devices result) drive.old drive.new }
+        ensures follows { ReadsAndWrites D.Drive (devices result) drive.old drive.new }
     {
         if self.is_stopped {
             return Err(StoreFault::Stopped);
         }
         let moment = Timestamp::of(request.moment).unwrap();
-        let before = Before {
+        let before = StateBefore {
             nodes: Nodes {
-                at: self.at,
-                entries: &self.vat.entries,
+                vat_icb_address: self.vat_icb_address,
+                numbers: &self.vat.entries,
             },
             node_count: self.vat.files.saturating_add(self.vat.directories),
             next_unique: self.vat.sessions.next_unique,
         };
         let change = before.change(alloc, drive, &mut self.directories, request, moment)?;
         let last = LastTable {
-            at: self.at,
+            vat_icb_address: self.vat_icb_address,
             capacity: self.capacity,
             vat: &self.vat,
         };
@@ -75,21 +75,21 @@ impl Store {
 
     /// Writes what is planned, and keeps it.
     fn commit<D: Drive>(&mut self, drive: &mut D, plan: Plan<'_>) -> Result<Reply, StoreFault>
-        requires agrees { Agrees (D.journal drive.old) (D.capacity drive.old) self.old }
+        requires agrees { IsStoreOn (D.journal drive.old) (D.capacity drive.old) self.old }
         requires plan { IsPlan (next_of (D.journal drive.old)) (D.capacity drive.old) plan }
-        ensures agrees { Agrees (D.journal drive.new) (D.capacity drive.new) self.new }
+        ensures agrees { IsStoreOn (D.journal drive.new) (D.capacity drive.new) self.new }
         ensures reply { IfOk result (λ reply. reply ≡ plan.entry.reply) }
-        ensures at { OnOk result (self.new.at ≡ plan.entry.table.at) }
+        ensures at { OnOk result (self.new.vat_icb_address ≡ plan.entry.table.at) }
         ensures vat { OnOk result (self.new.vat ≡ plan.entry.table.vat) }
         ensures written { OnOk result (D.journal drive.new ≡ D.journal drive.old ++ written (next_of (D.journal drive.old)) (plan_blocks plan.entry)) }
-        ensures front { OnErr result (AddsFront (D.journal drive.old) (next_of (D.journal drive.old)) (plan_blocks plan.entry) (D.journal drive.new)) }
-        ensures as_before { OnErr result ((self.new.at ≡ self.old.at) × (self.new.vat ≡ self.old.vat)) }
+        ensures front { OnErr result (AddsPrefix (D.journal drive.old) (next_of (D.journal drive.old)) (plan_blocks plan.entry) (D.journal drive.new)) }
+        ensures as_before { OnErr result ((self.new.vat_icb_address ≡ self.old.vat_icb_address) × (self.new.vat ≡ self.old.vat)) }
         ensures alone { SendsAlone D.Drive (node_list plan.entry ++ table_data plan.entry.table) plan.entry.table.entry (is_err result) drive.old drive.new }
         ensures kept { Once (D.journal drive.old) → AreKept (D.journal drive.old) self.old.directories → AreKept (D.journal drive.new) self.new.directories }
         ensures stopped { self.new.is_stopped ≡ is_err result }
         ensures volume { self.new.capacity ≡ self.old.capacity }
         ensures device { IfErr result (λ fault. fault ≡ Device) }
-        ensures follows { Follows D.Drive (devices result) drive.old drive.new }
+        ensures follows { ReadsAndWrites D.Drive (devices result) drive.old drive.new }
     {
         let mut plan = plan;
         let written = plan.write(drive);
@@ -105,7 +105,7 @@ impl Store {
             ..
         } = plan;
         self.is_stopped = false;
-        self.at = table.at;
+        self.vat_icb_address = table.at;
         self.vat = table.vat;
         for placed in directories {
             let lies = placed.placed();

@@ -3,7 +3,7 @@
 ghost use Rattle.std.specs.Prelude.{◌≡◌, ◌<◌, All, length, map, Some, None};
 ghost use Rattle.model.specs.Session.{due_by, record_of};
 ghost use Rattle.store.specs.Sessions.{due_said, is_code, reply_said};
-ghost use Rattle.udf.specs.Said.{said_record, said_reply};
+ghost use Rattle.udf.specs.Said.{model_record, said_reply};
 ghost use Rattle.vat.specs.Table.{FitsTable, view};
 
 use crate::store::Store;
@@ -32,7 +32,7 @@ impl Store {
     pub fn due(&self, client: u64, number: u64) -> Due
         requires above_zero { 0 < number }
         requires fits { FitsTable (view self.now.vat) }
-        ensures { due_said result ≡ due_by number (length self.now.vat.sessions.records.items) (record_of client (map said_record self.now.vat.sessions.records.items)) }
+        ensures { due_said result ≡ due_by number (length self.now.vat.sessions.records.items) (record_of client (map model_record self.now.vat.sessions.records.items)) }
     {
         let records = &self.vat.sessions.records;
         for kept in records {
@@ -61,7 +61,7 @@ fn due_for_none(clients: usize, number: u64) -> Due
 /// What is due for a number of a client that has a record.
 fn due_for(kept: &Record, number: u64) -> Due
     requires { All is_code kept.now.replies }
-    ensures { due_said result ≡ due_by number 0 (Some (said_record kept.now)) }
+    ensures { due_said result ≡ due_by number 0 (Some (model_record kept.now)) }
 {
     if number > kept.latest {
         return if number - kept.latest == 1 {
@@ -76,7 +76,7 @@ fn due_for(kept: &Record, number: u64) -> Due
     }
 }
 
-/// A reply as it is told.
+/// A reply as it is reported.
 fn told(reply: vat::Reply) -> Reply
     requires { is_code reply }
     ensures { reply_said result ≡ said_reply reply }

@@ -3,7 +3,7 @@
 ghost use Rattle.limits.specs.declared.TheConstants.{ADDRESSES, PARTITION_START};
 ghost use Rattle.std.specs.Prelude.{◌≡◌, ◌+◌, ◌<◌, ◌≤◌, ℕ, All, Err, IsTrue, IfOk, IfErr, OnOk, false, length};
 ghost use Rattle.drive.specs.Journal.{held, next_of};
-ghost use Rattle.drive.specs.Reads.{Reads};
+ghost use Rattle.drive.specs.Reads.{ReadsOnly};
 ghost use Rattle.model.specs.Session as said;
 ghost use Rattle.vat.specs.Table.{view};
 ghost use Rattle.recover.specs.Faults.{devices};
@@ -11,17 +11,17 @@ ghost use Rattle.recover.specs.State.{IsShown};
 ghost use Rattle.recover.specs.declared.state.State.{State};
 ghost use Rattle.recover.specs.declared.fault.StoreFault.TheVariants.{NoCommit, Stopped};
 ghost use Rattle.std.proofs.Props.{props};
-ghost use Rattle.store.specs.Agrees.{Agrees};
-ghost use Rattle.next_vat.specs.Below.{AreBelow};
-ghost use Rattle.store.specs.Calls.{Knows};
+ghost use Rattle.store.specs.Agrees.{IsStoreOn};
+ghost use Rattle.table_update.specs.Below.{AreBelow};
+ghost use Rattle.store.specs.Calls.{IsOpenOn};
 ghost use Rattle.store.specs.History.{IsChecked, IsHistory, IsHistoryRefused, IsTableOf, IsUnchecked, IsWayRefused, told_of};
-ghost use Rattle.store.specs.Past.{AllStood, IsCheckRefused, IsPast, IsPastRefused};
+ghost use Rattle.store.specs.Past.{AllRecovered, IsCheckRefused, IsPast, IsPastRefused};
 
 use crate::queries::nodes_of;
 use crate::store::Store;
 use drive::Drive;
 use recover::{
-    Known, PARTITION_START, State, StoreFault, cause, damaged, linked, state_at, state_sharing,
+    PARTITION_START, ReadCache, State, StoreFault, cause, damaged, linked, state_at, state_sharing,
     table_at,
 };
 use request::{FileData, Listing, NodeStatus, Path};
@@ -33,9 +33,9 @@ use vat::{Sessions, Vat};
 pub struct Commit {
     /// How many commits there were with it: 0 for the format.
     pub commit: u32,
-    /// The address of its table's entry.
-    pub at: u32,
-    /// How many files the tree had behind it.
+    /// The address of its VAT ICB.
+    pub vat_icb_address: u32,
+    /// How many files the tree had after it.
     pub files: u32,
     /// How many directories, with the root.
     pub directories: u32,
@@ -51,7 +51,7 @@ impl Commit {
     {
         Commit {
             commit: vat.sessions.commits,
-            at,
+            vat_icb_address: at,
             files: vat.files,
             directories: vat.directories,
         }
@@ -61,8 +61,8 @@ impl Commit {
 /// The state after a commit. Its questions are lent the store, whose directories they use, and the drive.
 #[derive(Drop)]
 pub struct Snapshot {
-    /// The address of its table's entry.
-    at: u32,
+    /// The address of its VAT ICB.
+    vat_icb_address: u32,
     vat: Vat,
     ghost few: { length vat.entries.items ≤ ADDRESSES },
     ghost below: { AreBelow at vat.entries.items } by { Prim.hlevel props },
@@ -71,20 +71,20 @@ pub struct Snapshot {
 impl Snapshot {
     ghost use Rattle.std.specs.Prelude.{◌≡◌, ◌≤◌, IsTrue, IfOk, IfErr, Err, false};
     ghost use Rattle.drive.specs.Journal.{Once, next_of};
-    ghost use Rattle.drive.specs.Reads.{Reads};
+    ghost use Rattle.drive.specs.Reads.{ReadsOnly};
     ghost use Rattle.durability.specs.Runs as runs;
     ghost use Rattle.model.specs.Tree.{Tree};
     ghost use Rattle.vat.specs.Table.{view};
     ghost use Rattle.recover.specs.Faults.{devices};
     ghost use Rattle.recover.specs.declared.fault.StoreFault.TheVariants.{Stopped};
-    ghost use Rattle.store.specs.Agrees.{Agrees};
-    ghost use Rattle.directories.specs.Cache.{AreKept};
+    ghost use Rattle.store.specs.Agrees.{IsStoreOn};
+    ghost use Rattle.lookup.specs.Cache.{AreKept};
     ghost use Rattle.store.specs.History.{told_of};
-    ghost use Rattle.directories.specs.Asked.{said_names};
-    ghost use Rattle.directories.specs.Asked as asked;
-    ghost use Rattle.directories.specs.Queries.{IsQueryRefused};
+    ghost use Rattle.lookup.specs.Asked.{said_names};
+    ghost use Rattle.lookup.specs.Asked as asked;
+    ghost use Rattle.lookup.specs.Queries.{IsQueryRefused};
     ghost use Rattle.store.specs.Agrees.{SameVolume};
-    ghost use Rattle.directories.specs.Shows.{Shows};
+    ghost use Rattle.lookup.specs.Shows.{HasNodesOf};
 
     /// The sessions of the clients, as they were.
     pub fn sessions(&self) -> &Sessions
@@ -93,11 +93,11 @@ impl Snapshot {
         &self.vat.sessions
     }
 
-    /// The commit behind which the state was this one.
+    /// The commit after which the state was this one.
     pub fn commit(&self) -> Commit
-        ensures { result ≡ told_of self.now.at (view self.now.vat) }
+        ensures { result ≡ told_of self.now.vat_icb_address (view self.now.vat) }
     {
-        Commit::of(self.at, &self.vat)
+        Commit::of(self.vat_icb_address, &self.vat)
     }
 
     /// The bytes of a file, as they were.
@@ -108,17 +108,17 @@ impl Snapshot {
         drive: &mut D,
         path: &Path,
     ) -> Result<FileData, StoreFault>
-        requires agrees { Agrees (D.journal drive.old) (D.capacity drive.old) store.old }
-        requires within { self.now.at ≤ next_of (D.journal drive.old) }
-        ensures told { (tree : Tree) → Shows (D.honest drive.new) (D.journal drive.old) store.old.directories self.now.at self.now.vat.entries.items tree → IfOk result (λ bytes. runs.told tree (runs.Query.Get path.now) ≡ runs.Answer.Data bytes) }
-        ensures refused { (tree : Tree) → Shows (D.honest drive.new) (D.journal drive.old) store.old.directories self.now.at self.now.vat.entries.items tree → store.old.is_stopped ≡ false → IfErr result (IsQueryRefused (runs.told tree (runs.Query.Get path.now))) }
+        requires agrees { IsStoreOn (D.journal drive.old) (D.capacity drive.old) store.old }
+        requires within { self.now.vat_icb_address ≤ next_of (D.journal drive.old) }
+        ensures reported { (tree : Tree) → HasNodesOf (D.honest drive.new) (D.journal drive.old) store.old.directories self.now.vat_icb_address self.now.vat.entries.items tree → IfOk result (λ bytes. runs.told tree (runs.Query.Get path.now) ≡ runs.Answer.Data bytes) }
+        ensures refused { (tree : Tree) → HasNodesOf (D.honest drive.new) (D.journal drive.old) store.old.directories self.now.vat_icb_address self.now.vat.entries.items tree → store.old.is_stopped ≡ false → IfErr result (IsQueryRefused (runs.told tree (runs.Query.Get path.now))) }
         ensures kept { IsTrue (D.honest drive.new) → AreKept (D.journal drive.old) store.old.directories → AreKept (D.journal drive.old) store.new.directories }
         ensures stopped { IsTrue store.old.is_stopped → (result ≡ Err Stopped) × (store.new ≡ store.old) × (drive.new ≡ drive.old) }
         ensures same { SameVolume store.old store.new }
-        ensures agrees { Agrees (D.journal drive.new) (D.capacity drive.new) store.new }
-        ensures reads { Reads D.Drive (devices result) drive.old drive.new }
+        ensures agrees { IsStoreOn (D.journal drive.new) (D.capacity drive.new) store.new }
+        ensures reads { ReadsOnly D.Drive (devices result) drive.old drive.new }
     {
-        let nodes = nodes_of(store.is_stopped, self.at, &self.vat.entries)?;
+        let nodes = nodes_of(store.is_stopped, self.vat_icb_address, &self.vat.entries)?;
         nodes.get(alloc, drive, &mut store.directories, path)
     }
 
@@ -130,17 +130,17 @@ impl Snapshot {
         drive: &mut D,
         path: &Path,
     ) -> Result<Listing, StoreFault>
-        requires agrees { Agrees (D.journal drive.old) (D.capacity drive.old) store.old }
-        requires within { self.now.at ≤ next_of (D.journal drive.old) }
-        ensures told { (tree : Tree) → Shows (D.honest drive.new) (D.journal drive.old) store.old.directories self.now.at self.now.vat.entries.items tree → IfOk result (λ listing. runs.told tree (runs.Query.List_ path.now) ≡ runs.Answer.Names (said_names listing)) }
-        ensures refused { (tree : Tree) → Shows (D.honest drive.new) (D.journal drive.old) store.old.directories self.now.at self.now.vat.entries.items tree → store.old.is_stopped ≡ false → IfErr result (IsQueryRefused (runs.told tree (runs.Query.List_ path.now))) }
+        requires agrees { IsStoreOn (D.journal drive.old) (D.capacity drive.old) store.old }
+        requires within { self.now.vat_icb_address ≤ next_of (D.journal drive.old) }
+        ensures reported { (tree : Tree) → HasNodesOf (D.honest drive.new) (D.journal drive.old) store.old.directories self.now.vat_icb_address self.now.vat.entries.items tree → IfOk result (λ listing. runs.told tree (runs.Query.List_ path.now) ≡ runs.Answer.Names (said_names listing)) }
+        ensures refused { (tree : Tree) → HasNodesOf (D.honest drive.new) (D.journal drive.old) store.old.directories self.now.vat_icb_address self.now.vat.entries.items tree → store.old.is_stopped ≡ false → IfErr result (IsQueryRefused (runs.told tree (runs.Query.List_ path.now))) }
         ensures kept { IsTrue (D.honest drive.new) → AreKept (D.journal drive.old) store.old.directories → AreKept (D.journal drive.old) store.new.directories }
         ensures stopped { IsTrue store.old.is_stopped → (result ≡ Err Stopped) × (store.new ≡ store.old) × (drive.new ≡ drive.old) }
         ensures same { SameVolume store.old store.new }
-        ensures agrees { Agrees (D.journal drive.new) (D.capacity drive.new) store.new }
-        ensures reads { Reads D.Drive (devices result) drive.old drive.new }
+        ensures agrees { IsStoreOn (D.journal drive.new) (D.capacity drive.new) store.new }
+        ensures reads { ReadsOnly D.Drive (devices result) drive.old drive.new }
     {
-        let nodes = nodes_of(store.is_stopped, self.at, &self.vat.entries)?;
+        let nodes = nodes_of(store.is_stopped, self.vat_icb_address, &self.vat.entries)?;
         nodes.list(alloc, drive, &mut store.directories, path)
     }
 
@@ -152,17 +152,17 @@ impl Snapshot {
         drive: &mut D,
         path: &Path,
     ) -> Result<NodeStatus, StoreFault>
-        requires agrees { Agrees (D.journal drive.old) (D.capacity drive.old) store.old }
-        requires within { self.now.at ≤ next_of (D.journal drive.old) }
-        ensures told { (tree : Tree) → Once (D.journal drive.old) → Shows (D.honest drive.new) (D.journal drive.old) store.old.directories self.now.at self.now.vat.entries.items tree → IfOk result (λ status. runs.told tree (runs.Query.Stat path.now) ≡ runs.Answer.NodeIs (asked.is_directory status.kind) status.moment status.size) }
-        ensures refused { (tree : Tree) → Shows (D.honest drive.new) (D.journal drive.old) store.old.directories self.now.at self.now.vat.entries.items tree → store.old.is_stopped ≡ false → IfErr result (IsQueryRefused (runs.told tree (runs.Query.Stat path.now))) }
+        requires agrees { IsStoreOn (D.journal drive.old) (D.capacity drive.old) store.old }
+        requires within { self.now.vat_icb_address ≤ next_of (D.journal drive.old) }
+        ensures reported { (tree : Tree) → Once (D.journal drive.old) → HasNodesOf (D.honest drive.new) (D.journal drive.old) store.old.directories self.now.vat_icb_address self.now.vat.entries.items tree → IfOk result (λ status. runs.told tree (runs.Query.Stat path.now) ≡ runs.Answer.NodeIs (asked.is_directory status.kind) status.moment status.size) }
+        ensures refused { (tree : Tree) → HasNodesOf (D.honest drive.new) (D.journal drive.old) store.old.directories self.now.vat_icb_address self.now.vat.entries.items tree → store.old.is_stopped ≡ false → IfErr result (IsQueryRefused (runs.told tree (runs.Query.Stat path.now))) }
         ensures kept { IsTrue (D.honest drive.new) → AreKept (D.journal drive.old) store.old.directories → AreKept (D.journal drive.old) store.new.directories }
         ensures stopped { IsTrue store.old.is_stopped → (result ≡ Err Stopped) × (store.new ≡ store.old) × (drive.new ≡ drive.old) }
         ensures same { SameVolume store.old store.new }
-        ensures agrees { Agrees (D.journal drive.new) (D.capacity drive.new) store.new }
-        ensures reads { Reads D.Drive (devices result) drive.old drive.new }
+        ensures agrees { IsStoreOn (D.journal drive.new) (D.capacity drive.new) store.new }
+        ensures reads { ReadsOnly D.Drive (devices result) drive.old drive.new }
     {
-        let nodes = nodes_of(store.is_stopped, self.at, &self.vat.entries)?;
+        let nodes = nodes_of(store.is_stopped, self.vat_icb_address, &self.vat.entries)?;
         nodes.stat(alloc, drive, &mut store.directories, path)
     }
 }
@@ -170,22 +170,22 @@ impl Snapshot {
 impl Store {
     /// All commits, the newest first, from the entries and the data of the chain's tables alone.
     pub fn history<D: Drive>(&self, alloc: Global, drive: &mut D) -> Result<Vec<Commit>, StoreFault>
-        requires agrees { Agrees (D.journal drive.old) (D.capacity drive.old) self.now }
+        requires agrees { IsStoreOn (D.journal drive.old) (D.capacity drive.old) self.now }
         ensures stopped { IsTrue self.now.is_stopped → (result ≡ Err Stopped) × (drive.new ≡ drive.old) }
-        ensures history { IfOk result (λ commits. IsTrue (D.honest drive.new) → IsHistory (held (D.journal drive.old)) self.now.at commits.items) }
+        ensures history { IfOk result (λ commits. IsTrue (D.honest drive.new) → IsHistory (held (D.journal drive.old)) self.now.vat_icb_address commits.items) }
         // One of each commit, and one of the format.
-        ensures all { (volume : ℕ) (T : said.State) → IsTrue (D.honest drive.new) → Knows (D.capacity drive.old) volume (D.journal drive.old) T self.now → IfOk result (λ commits. length commits.items ≡ T.commits + 1) }
+        ensures all { (volume : ℕ) (T : said.State) → IsTrue (D.honest drive.new) → IsOpenOn (D.capacity drive.old) volume (D.journal drive.old) T self.now → IfOk result (λ commits. length commits.items ≡ T.commits + 1) }
         // Where it is refused no list is the history, or the drive failed or memory was short.
-        ensures refused { self.now.is_stopped ≡ false → IfErr result (λ fault. IsTrue (D.honest drive.new) → IsHistoryRefused (held (D.journal drive.old)) self.now.at fault) }
+        ensures refused { self.now.is_stopped ≡ false → IfErr result (λ fault. IsTrue (D.honest drive.new) → IsHistoryRefused (held (D.journal drive.old)) self.now.vat_icb_address fault) }
         ensures within { IfOk result (λ commits. All (λ c. (PARTITION_START ≤ c.at) × (c.at < next_of (D.journal drive.old))) commits.items) }
-        ensures reads { Reads D.Drive (devices result) drive.old drive.new }
+        ensures reads { ReadsOnly D.Drive (devices result) drive.old drive.new }
     {
         if self.is_stopped {
             return Err(StoreFault::Stopped);
         }
         let mut commits = Vec::new(alloc);
-        let mut vat = table_at(alloc, drive, self.at)?;
-        commits.push(Commit::of(self.at, &vat))?;
+        let mut vat = table_at(alloc, drive, self.vat_icb_address)?;
+        commits.push(Commit::of(self.vat_icb_address, &vat))?;
         while let Some(number) = vat.previous {
             vat = linked(alloc, drive, number, vat.sessions.commits)?;
             commits.push(Commit::of(number + PARTITION_START, &vat))?;
@@ -200,17 +200,17 @@ impl Store {
         drive: &mut D,
         commit: u32,
     ) -> Result<Snapshot, StoreFault>
-        requires agrees { Agrees (D.journal drive.old) (D.capacity drive.old) self.now }
+        requires agrees { IsStoreOn (D.journal drive.old) (D.capacity drive.old) self.now }
         ensures stopped { IsTrue self.now.is_stopped → (result ≡ Err Stopped) × (drive.new ≡ drive.old) }
         ensures none { self.now.is_stopped ≡ false → self.now.vat.sessions.commits < commit → result ≡ Err NoCommit }
-        // The state that stood behind so many commits.
-        ensures past { (volume : ℕ) (T : said.State) → IsTrue (D.honest drive.new) → Knows (D.capacity drive.old) volume (D.journal drive.old) T self.now → IfOk result (λ s. (S : said.State) × IsPast (D.capacity drive.old) volume (D.journal drive.old) commit S s.at s.vat) }
+        // The state that stood after so many commits.
+        ensures past { (volume : ℕ) (T : said.State) → IsTrue (D.honest drive.new) → IsOpenOn (D.capacity drive.old) volume (D.journal drive.old) T self.now → IfOk result (λ s. (S : said.State) × IsPast (D.capacity drive.old) volume (D.journal drive.old) commit S s.at s.vat) }
         // Where it is refused none stood, or the drive failed or memory was short.
-        ensures refused { (volume : ℕ) (T : said.State) → IsTrue (D.honest drive.new) → Knows (D.capacity drive.old) volume (D.journal drive.old) T self.now → self.now.is_stopped ≡ false → IfErr result (IsPastRefused (D.capacity drive.old) volume (held (D.journal drive.old)) T.commits commit) }
-        ensures table { IfOk result (λ s. IsTrue (D.honest drive.new) → IsTableOf (held (D.journal drive.old)) self.now.at commit s.at s.vat) }
+        ensures refused { (volume : ℕ) (T : said.State) → IsTrue (D.honest drive.new) → IsOpenOn (D.capacity drive.old) volume (D.journal drive.old) T self.now → self.now.is_stopped ≡ false → IfErr result (IsPastRefused (D.capacity drive.old) volume (held (D.journal drive.old)) T.commits commit) }
+        ensures table { IfOk result (λ s. IsTrue (D.honest drive.new) → IsTableOf (held (D.journal drive.old)) self.now.vat_icb_address commit s.at s.vat) }
         ensures shown { IfOk result (λ s. IsTrue (D.honest drive.new) → (state : State) × IsShown (D.capacity drive.old) (held (D.journal drive.old)) s.at state × (state.vat ≡ s.vat)) }
         ensures within { IfOk result (λ s. s.at < next_of (D.journal drive.new)) }
-        ensures reads { Reads D.Drive (devices result) drive.old drive.new }
+        ensures reads { ReadsOnly D.Drive (devices result) drive.old drive.new }
     {
         if self.is_stopped {
             return Err(StoreFault::Stopped);
@@ -220,7 +220,10 @@ impl Store {
         }
         let (at, _) = self.table_of(alloc, drive, commit)?;
         let State { vat, .. } = state_at(alloc, drive, at)?;
-        Ok(Snapshot { at, vat })
+        Ok(Snapshot {
+            vat_icb_address: at,
+            vat,
+        })
     }
 
     /// The table of so many commits, along the chain, and the address of its entry.
@@ -230,13 +233,13 @@ impl Store {
         drive: &mut D,
         commit: u32,
     ) -> Result<(u32, Vat), StoreFault>
-        requires agrees { Agrees (D.journal drive.old) (D.capacity drive.old) self.now }
-        ensures table { IfOk result (λ found. IsTrue (D.honest drive.new) → IsTableOf (held (D.journal drive.old)) self.now.at commit found.0 found.1) }
-        ensures refused { IfErr result (λ fault. IsTrue (D.honest drive.new) → IsWayRefused (held (D.journal drive.old)) self.now.at commit fault) }
+        requires agrees { IsStoreOn (D.journal drive.old) (D.capacity drive.old) self.now }
+        ensures table { IfOk result (λ found. IsTrue (D.honest drive.new) → IsTableOf (held (D.journal drive.old)) self.now.vat_icb_address commit found.0 found.1) }
+        ensures refused { IfErr result (λ fault. IsTrue (D.honest drive.new) → IsWayRefused (held (D.journal drive.old)) self.now.vat_icb_address commit fault) }
         ensures within { IfOk result (λ found. (PARTITION_START ≤ found.0) × (found.0 < next_of (D.journal drive.old))) }
-        ensures reads { Reads D.Drive (devices result) drive.old drive.new }
+        ensures reads { ReadsOnly D.Drive (devices result) drive.old drive.new }
     {
-        let mut at = self.at;
+        let mut at = self.vat_icb_address;
         let mut vat = table_at(alloc, drive, at)?;
         while vat.sessions.commits != commit {
             let Some(number) = vat.previous else {
@@ -250,29 +253,29 @@ impl Store {
 
     /// How many commits there are, where the state after each of them stands.
     pub fn check<D: Drive>(&self, alloc: Global, drive: &mut D) -> Result<u32, StoreFault>
-        requires agrees { Agrees (D.journal drive.old) (D.capacity drive.old) self.now }
+        requires agrees { IsStoreOn (D.journal drive.old) (D.capacity drive.old) self.now }
         ensures stopped { IsTrue self.now.is_stopped → (result ≡ Err Stopped) × (drive.new ≡ drive.old) }
         ensures count { IfOk result (λ n. n ≡ self.now.vat.sessions.commits) }
         // A state stood after each.
-        ensures whole { (volume : ℕ) (T : said.State) → IsTrue (D.honest drive.new) → Knows (D.capacity drive.old) volume (D.journal drive.old) T self.now → IfOk result (λ n. (n ≡ T.commits) × AllStood (D.capacity drive.old) volume (held (D.journal drive.old)) n) }
+        ensures whole { (volume : ℕ) (T : said.State) → IsTrue (D.honest drive.new) → IsOpenOn (D.capacity drive.old) volume (D.journal drive.old) T self.now → IfOk result (λ n. (n ≡ T.commits) × AllRecovered (D.capacity drive.old) volume (held (D.journal drive.old)) n) }
         // Where it is refused none stood after one of them, or the drive failed or memory was short.
-        ensures refused { (volume : ℕ) (T : said.State) → IsTrue (D.honest drive.new) → Knows (D.capacity drive.old) volume (D.journal drive.old) T self.now → self.now.is_stopped ≡ false → IfErr result (IsCheckRefused (D.capacity drive.old) volume (held (D.journal drive.old)) T.commits) }
-        ensures history { OnOk result (IsTrue (D.honest drive.new) → IsChecked (D.capacity drive.old) (held (D.journal drive.old)) self.now.at) }
-        ensures reads { Reads D.Drive (devices result) drive.old drive.new }
+        ensures refused { (volume : ℕ) (T : said.State) → IsTrue (D.honest drive.new) → IsOpenOn (D.capacity drive.old) volume (D.journal drive.old) T self.now → self.now.is_stopped ≡ false → IfErr result (IsCheckRefused (D.capacity drive.old) volume (held (D.journal drive.old)) T.commits) }
+        ensures history { OnOk result (IsTrue (D.honest drive.new) → IsChecked (D.capacity drive.old) (held (D.journal drive.old)) self.now.vat_icb_address) }
+        ensures reads { ReadsOnly D.Drive (devices result) drive.old drive.new }
     {
         if self.is_stopped {
             return Err(StoreFault::Stopped);
         }
-        check_states(alloc, drive, self.at)?;
+        check_states(alloc, drive, self.vat_icb_address)?;
         Ok(self.vat.sessions.commits)
     }
 }
 
-/// How many blocks below a table's entry the drive is told of. A commit's directories and tables lie right below its table's entry, and
+/// How many blocks below a VAT ICB the drive is told of. A commit's directories and tables lie right below its VAT ICB, and
 /// the commit before it below those; one of a small file has some ten blocks.
 const AHEAD: u32 = 64;
 
-/// The state after each commit stands, from the one whose table's entry stands at `at` back to the format. The chain is walked
+/// The state after each commit stands, from the one whose VAT ICB stands at `at` back to the format. The chain is walked
 /// once: each table is that of a state, and what two states that follow one another have alike is read once.
 fn check_states<D: Drive>(alloc: Global, drive: &mut D, at: u32) -> Result<(), StoreFault>
     requires low { PARTITION_START ≤ at }
@@ -280,9 +283,9 @@ fn check_states<D: Drive>(alloc: Global, drive: &mut D, at: u32) -> Result<(), S
     ensures checked { OnOk result (IsTrue (D.honest drive.new) → IsChecked (D.capacity drive.old) (held (D.journal drive.old)) at) }
     // Where it is refused no list is the history, or of one of its commits no state is told, or the drive failed or memory was short.
     ensures refused { IfErr result (λ fault. IsTrue (D.honest drive.new) → IsUnchecked (D.capacity drive.old) (held (D.journal drive.old)) at fault) }
-    ensures reads { Reads D.Drive (devices result) drive.old drive.new }
+    ensures reads { ReadsOnly D.Drive (devices result) drive.old drive.new }
 {
-    let mut known = Known::new(alloc);
+    let mut known = ReadCache::new(alloc);
     let State { vat: newest, .. } = state_sharing(alloc, drive, &mut known, at)?;
     let mut vat = newest;
     while let Some(number) = vat.previous {

@@ -2,9 +2,9 @@
 //! commit.
 //!
 //! Promised: opening, queries and history write nothing. A request that is committed is on the medium, with all that it leads
-//! to. Where a write failed a front of the plan's blocks was written, and the store is stopped; after any other refusal the
+//! to. Where a write failed a prefix of the plan's blocks was written, and the store is stopped; after any other refusal the
 //! medium is as it was. On a drive whose reads are honest the store knows the state that stands (UDF 2.01 2.2.10), and its
-//! answers are those of that state, or of the one that stood behind an earlier commit. A store keeps the table, the sessions
+//! answers are those of that state, or of the one that stood after an earlier commit. A store keeps the table, the sessions
 //! and a few directories, and no drive: each call is lent the one drive that nobody else writes.
 //!
 //! Left to others: the new volume that is opened first (`formatting`), what a request changes and where it is written
@@ -22,6 +22,8 @@ pub use due::Due;
 pub use formatting::{format, one_format};
 pub use history::{Commit, Snapshot};
 pub use laws::snapshots_stay;
-pub use next_vat::{commits_are_planned, need_is_reckoned, next_tables_follow, pieces_are_planned};
 pub use recover::StoreFault;
 pub use store::Store;
+pub use table_update::{
+    commits_are_planned, need_is_reckoned, next_tables_follow, pieces_are_planned,
+};

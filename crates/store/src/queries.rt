@@ -3,22 +3,22 @@
 ghost use Rattle.limits.specs.declared.TheConstants.{ADDRESSES};
 ghost use Rattle.std.specs.Prelude.{◌≡◌, ◌≤◌, IsTrue, IfOk, IfErr, OnOk, Err, false, length};
 ghost use Rattle.drive.specs.Journal.{Once};
-ghost use Rattle.drive.specs.Reads.{Reads};
+ghost use Rattle.drive.specs.Reads.{ReadsOnly};
 ghost use Rattle.durability.specs.Runs as runs;
 ghost use Rattle.model.specs.Tree.{Tree};
 ghost use Rattle.recover.specs.Faults.{devices};
 ghost use Rattle.recover.specs.declared.fault.StoreFault.TheVariants.{Stopped};
-ghost use Rattle.store.specs.Agrees.{Agrees};
-ghost use Rattle.directories.specs.Cache.{AreKept};
-ghost use Rattle.directories.specs.Asked.{said_names};
-ghost use Rattle.directories.specs.Asked as asked;
-ghost use Rattle.directories.specs.Queries.{IsQueryRefused};
+ghost use Rattle.store.specs.Agrees.{IsStoreOn};
+ghost use Rattle.lookup.specs.Cache.{AreKept};
+ghost use Rattle.lookup.specs.Asked.{said_names};
+ghost use Rattle.lookup.specs.Asked as asked;
+ghost use Rattle.lookup.specs.Queries.{IsQueryRefused};
 ghost use Rattle.store.specs.Agrees.{SameVolume};
-ghost use Rattle.directories.specs.Shows.{Shows};
+ghost use Rattle.lookup.specs.Shows.{HasNodesOf};
 
 use crate::store::Store;
-use directories::Nodes;
 use drive::Drive;
+use lookup::Nodes;
 use recover::StoreFault;
 use request::{FileData, Listing, NodeStatus, Path};
 use std::alloc::Global;
@@ -31,16 +31,16 @@ impl Store {
         drive: &mut D,
         path: &Path,
     ) -> Result<FileData, StoreFault>
-        requires agrees { Agrees (D.journal drive.old) (D.capacity drive.old) self.old }
-        ensures told { (tree : Tree) → Shows (D.honest drive.new) (D.journal drive.old) self.old.directories self.old.at self.old.vat.entries.items tree → IfOk result (λ bytes. runs.told tree (runs.Query.Get path.now) ≡ runs.Answer.Data bytes) }
-        ensures refused { (tree : Tree) → Shows (D.honest drive.new) (D.journal drive.old) self.old.directories self.old.at self.old.vat.entries.items tree → self.old.is_stopped ≡ false → IfErr result (IsQueryRefused (runs.told tree (runs.Query.Get path.now))) }
+        requires agrees { IsStoreOn (D.journal drive.old) (D.capacity drive.old) self.old }
+        ensures reported { (tree : Tree) → HasNodesOf (D.honest drive.new) (D.journal drive.old) self.old.directories self.old.vat_icb_address self.old.vat.entries.items tree → IfOk result (λ bytes. runs.told tree (runs.Query.Get path.now) ≡ runs.Answer.Data bytes) }
+        ensures refused { (tree : Tree) → HasNodesOf (D.honest drive.new) (D.journal drive.old) self.old.directories self.old.vat_icb_address self.old.vat.entries.items tree → self.old.is_stopped ≡ false → IfErr result (IsQueryRefused (runs.told tree (runs.Query.Get path.now))) }
         ensures kept { IsTrue (D.honest drive.new) → AreKept (D.journal drive.old) self.old.directories → AreKept (D.journal drive.old) self.new.directories }
         ensures stopped { IsTrue self.old.is_stopped → (result ≡ Err Stopped) × (self.new ≡ self.old) × (drive.new ≡ drive.old) }
         ensures same { SameVolume self.old self.new }
-        ensures agrees { Agrees (D.journal drive.new) (D.capacity drive.new) self.new }
-        ensures reads { Reads D.Drive (devices result) drive.old drive.new }
+        ensures agrees { IsStoreOn (D.journal drive.new) (D.capacity drive.new) self.new }
+        ensures reads { ReadsOnly D.Drive (devices result) drive.old drive.new }
     {
-        let nodes = nodes_of(self.is_stopped, self.at, &self.vat.entries)?;
+        let nodes = nodes_of(self.is_stopped, self.vat_icb_address, &self.vat.entries)?;
         nodes.get(alloc, drive, &mut self.directories, path)
     }
 
@@ -51,16 +51,16 @@ impl Store {
         drive: &mut D,
         path: &Path,
     ) -> Result<Listing, StoreFault>
-        requires agrees { Agrees (D.journal drive.old) (D.capacity drive.old) self.old }
-        ensures told { (tree : Tree) → Shows (D.honest drive.new) (D.journal drive.old) self.old.directories self.old.at self.old.vat.entries.items tree → IfOk result (λ listing. runs.told tree (runs.Query.List_ path.now) ≡ runs.Answer.Names (said_names listing)) }
-        ensures refused { (tree : Tree) → Shows (D.honest drive.new) (D.journal drive.old) self.old.directories self.old.at self.old.vat.entries.items tree → self.old.is_stopped ≡ false → IfErr result (IsQueryRefused (runs.told tree (runs.Query.List_ path.now))) }
+        requires agrees { IsStoreOn (D.journal drive.old) (D.capacity drive.old) self.old }
+        ensures reported { (tree : Tree) → HasNodesOf (D.honest drive.new) (D.journal drive.old) self.old.directories self.old.vat_icb_address self.old.vat.entries.items tree → IfOk result (λ listing. runs.told tree (runs.Query.List_ path.now) ≡ runs.Answer.Names (said_names listing)) }
+        ensures refused { (tree : Tree) → HasNodesOf (D.honest drive.new) (D.journal drive.old) self.old.directories self.old.vat_icb_address self.old.vat.entries.items tree → self.old.is_stopped ≡ false → IfErr result (IsQueryRefused (runs.told tree (runs.Query.List_ path.now))) }
         ensures kept { IsTrue (D.honest drive.new) → AreKept (D.journal drive.old) self.old.directories → AreKept (D.journal drive.old) self.new.directories }
         ensures stopped { IsTrue self.old.is_stopped → (result ≡ Err Stopped) × (self.new ≡ self.old) × (drive.new ≡ drive.old) }
         ensures same { SameVolume self.old self.new }
-        ensures agrees { Agrees (D.journal drive.new) (D.capacity drive.new) self.new }
-        ensures reads { Reads D.Drive (devices result) drive.old drive.new }
+        ensures agrees { IsStoreOn (D.journal drive.new) (D.capacity drive.new) self.new }
+        ensures reads { ReadsOnly D.Drive (devices result) drive.old drive.new }
     {
-        let nodes = nodes_of(self.is_stopped, self.at, &self.vat.entries)?;
+        let nodes = nodes_of(self.is_stopped, self.vat_icb_address, &self.vat.entries)?;
         nodes.list(alloc, drive, &mut self.directories, path)
     }
 
@@ -71,16 +71,16 @@ impl Store {
         drive: &mut D,
         path: &Path,
     ) -> Result<NodeStatus, StoreFault>
-        requires agrees { Agrees (D.journal drive.old) (D.capacity drive.old) self.old }
-        ensures told { (tree : Tree) → Once (D.journal drive.old) → Shows (D.honest drive.new) (D.journal drive.old) self.old.directories self.old.at self.old.vat.entries.items tree → IfOk result (λ status. runs.told tree (runs.Query.Stat path.now) ≡ runs.Answer.NodeIs (asked.is_directory status.kind) status.moment status.size) }
-        ensures refused { (tree : Tree) → Shows (D.honest drive.new) (D.journal drive.old) self.old.directories self.old.at self.old.vat.entries.items tree → self.old.is_stopped ≡ false → IfErr result (IsQueryRefused (runs.told tree (runs.Query.Stat path.now))) }
+        requires agrees { IsStoreOn (D.journal drive.old) (D.capacity drive.old) self.old }
+        ensures reported { (tree : Tree) → Once (D.journal drive.old) → HasNodesOf (D.honest drive.new) (D.journal drive.old) self.old.directories self.old.vat_icb_address self.old.vat.entries.items tree → IfOk result (λ status. runs.told tree (runs.Query.Stat path.now) ≡ runs.Answer.NodeIs (asked.is_directory status.kind) status.moment status.size) }
+        ensures refused { (tree : Tree) → HasNodesOf (D.honest drive.new) (D.journal drive.old) self.old.directories self.old.vat_icb_address self.old.vat.entries.items tree → self.old.is_stopped ≡ false → IfErr result (IsQueryRefused (runs.told tree (runs.Query.Stat path.now))) }
         ensures kept { IsTrue (D.honest drive.new) → AreKept (D.journal drive.old) self.old.directories → AreKept (D.journal drive.old) self.new.directories }
         ensures stopped { IsTrue self.old.is_stopped → (result ≡ Err Stopped) × (self.new ≡ self.old) × (drive.new ≡ drive.old) }
         ensures same { SameVolume self.old self.new }
-        ensures agrees { Agrees (D.journal drive.new) (D.capacity drive.new) self.new }
-        ensures reads { Reads D.Drive (devices result) drive.old drive.new }
+        ensures agrees { IsStoreOn (D.journal drive.new) (D.capacity drive.new) self.new }
+        ensures reads { ReadsOnly D.Drive (devices result) drive.old drive.new }
     {
-        let nodes = nodes_of(self.is_stopped, self.at, &self.vat.entries)?;
+        let nodes = nodes_of(self.is_stopped, self.vat_icb_address, &self.vat.entries)?;
         nodes.stat(alloc, drive, &mut self.directories, path)
     }
 }
@@ -92,12 +92,15 @@ pub(crate) fn nodes_of(
     entries: &[Option<u32>],
 ) -> Result<Nodes<'_>, StoreFault>
     requires few { length entries.now ≤ ADDRESSES }
-    ensures nodes { IfOk result (λ nodes. (nodes.at ≡ at) × (nodes.entries.now ≡ entries.now)) }
+    ensures nodes { IfOk result (λ nodes. (nodes.vat_icb_address ≡ at) × (nodes.numbers.now ≡ entries.now)) }
     ensures goes_on { OnOk result (is_stopped ≡ false) }
     ensures stopped { IfErr result (λ fault. IsTrue is_stopped × (fault ≡ Stopped)) }
 {
     if is_stopped {
         return Err(StoreFault::Stopped);
     }
-    Ok(Nodes { at, entries })
+    Ok(Nodes {
+        vat_icb_address: at,
+        numbers: entries,
+    })
 }

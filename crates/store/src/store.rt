@@ -3,17 +3,17 @@
 ghost use Rattle.std.specs.Prelude.{◌≡◌, ℕ, IsTrue, IfOk, IfErr, false};
 ghost use Rattle.recover.specs.Faults.{devices};
 ghost use Rattle.drive.specs.Journal.{held, Once};
-ghost use Rattle.drive.specs.Reads.{Reads};
-ghost use Rattle.durability.specs.Volume.{Stands};
+ghost use Rattle.drive.specs.Reads.{ReadsOnly};
+ghost use Rattle.durability.specs.Volume.{RecoversTo};
 ghost use Rattle.model.specs.Session as said;
-ghost use Rattle.store.specs.Agrees.{Agrees};
-ghost use Rattle.store.specs.Calls.{Knows, Opens};
+ghost use Rattle.store.specs.Agrees.{IsStoreOn};
+ghost use Rattle.store.specs.Calls.{IsOpenOn, Opens};
 ghost use Rattle.store.specs.Opened.{IsOpenRefused};
 ghost use Rattle.udf.specs.Udf.{udf};
-ghost use Rattle.directories.specs.Cache.{AreKept};
+ghost use Rattle.lookup.specs.Cache.{AreKept};
 
-use directories::Directories;
 use drive::Drive;
+use lookup::DirectoryCache;
 use recover::{State, StoreFault, last, state_at};
 use std::alloc::Global;
 use vat::Vat;
@@ -21,12 +21,12 @@ use vat::Vat;
 /// What is kept of the volume on a drive.
 #[derive(Drop)]
 pub struct Store {
-    /// The address of the last table's entry.
-    pub(crate) at: u32,
+    /// The address of the last VAT ICB.
+    pub(crate) vat_icb_address: u32,
     /// Of the volume, in blocks.
     pub(crate) capacity: u32,
     pub(crate) vat: Vat,
-    pub(crate) directories: Directories,
+    pub(crate) directories: DirectoryCache,
     pub(crate) is_stopped: bool,
     pub(crate) most_held: usize,
 }
@@ -35,15 +35,15 @@ impl Store {
     /// The volume on a drive, as its last table says. Nothing is written.
     pub fn open<D: Drive>(alloc: Global, drive: &mut D) -> Result<Store, StoreFault>
         // It is opened where a state stands on an honest drive, and keeps that.
-        ensures opens { (volume : ℕ) (S : said.State) → IsTrue (D.honest drive.new) → Once (D.journal drive.old) → Stands udf (D.capacity drive.old) volume (held (D.journal drive.old)) S → Opens (D.capacity drive.old) volume (D.journal drive.old) S result }
+        ensures opens { (volume : ℕ) (S : said.State) → IsTrue (D.honest drive.new) → Once (D.journal drive.old) → RecoversTo udf (D.capacity drive.old) volume (held (D.journal drive.old)) S → Opens (D.capacity drive.old) volume (D.journal drive.old) S result }
         // Nothing else is opened on one.
-        ensures stands { IfOk result (λ store. IsTrue (D.honest drive.new) → Once (D.journal drive.old) → (S : said.State) × Knows (D.capacity drive.old) store.capacity (D.journal drive.old) S store) }
-        // Where it is not opened, no table's entry is on the medium, or one is and nothing stands there.
+        ensures recovers { IfOk result (λ store. IsTrue (D.honest drive.new) → Once (D.journal drive.old) → (S : said.State) × IsOpenOn (D.capacity drive.old) store.capacity (D.journal drive.old) S store) }
+        // Where it is not opened, no VAT ICB is on the medium, or one is and nothing stands there.
         ensures refused { IfErr result (λ fault. IsTrue (D.honest drive.new) → IsOpenRefused (D.capacity drive.old) (held (D.journal drive.old)) fault) }
-        ensures agrees { IfOk result (Agrees (D.journal drive.old) (D.capacity drive.old)) }
+        ensures agrees { IfOk result (IsStoreOn (D.journal drive.old) (D.capacity drive.old)) }
         ensures kept { IfOk result (λ store. AreKept (D.journal drive.new) store.directories) }
         ensures stopped { IfOk result (λ store. store.is_stopped ≡ false) }
-        ensures reads { Reads D.Drive (devices result) drive.old drive.new }
+        ensures reads { ReadsOnly D.Drive (devices result) drive.old drive.new }
     {
         let at = match last(drive)? {
             Some(at) => at,
@@ -51,10 +51,10 @@ impl Store {
         };
         let State { capacity, vat, .. } = state_at(alloc, drive, at)?;
         Ok(Store {
-            at,
+            vat_icb_address: at,
             capacity,
             vat,
-            directories: Directories::new(alloc)?,
+            directories: DirectoryCache::new(alloc)?,
             is_stopped: false,
             most_held: 0,
         })
@@ -67,11 +67,11 @@ impl Store {
         self.is_stopped
     }
 
-    /// The address of the newest table's entry.
+    /// The address of the newest VAT ICB.
     pub fn table(&self) -> u32
-        ensures { result ≡ self.now.at }
+        ensures { result ≡ self.now.vat_icb_address }
     {
-        self.at
+        self.vat_icb_address
     }
 
     /// Of the volume, in blocks.

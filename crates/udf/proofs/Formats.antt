@@ -21,7 +21,7 @@ use Rattle.dir.proofs.Begins.{blocks_begin}
 use Rattle.dir.proofs.Once.{directory_once}
 use Rattle.dir.proofs.Short.{directories_short}
 use Rattle.vat.proofs.TableReads.{one_table, nodes_have_entries}
-use Rattle.udf.specs.Words.{fields_of, entry_of, entries_of, table_of}
+use Rattle.udf.specs.Words.{icb_fields, directory_entry, directory_entries, table_of}
 use Rattle.udf.specs.Udf.{IsBlock, HoldsDirectory, udf, spelled}
 use Rattle.udf.proofs.Words.{kind_one, fields_one, entries_one, table_one}
 
@@ -44,12 +44,12 @@ sized blocks all k d lt = (all k d lt).size
 
 directory_one : (first size : ℕ) (blocks : List Block) (p q : ℕ) (es fs : List Entry) → HoldsDirectory p es first size blocks → HoldsDirectory q fs first size blocks → (p ≡ q) × (es ≡ fs)
 directory_one first size blocks p q es fs a b =
-    let one = directory_once first size p q (entries_of es) (entries_of fs) blocks a.low (bytes_joined blocks a.blocks_are) a.is b.is in
+    let one = directory_once first size p q (directory_entries es) (directory_entries fs) blocks a.low (bytes_joined blocks a.blocks_are) a.is b.is in
     (one.0, entries_one es fs one.1)
 
 pub exact : AreExact udf
 exact = record {
-  entry = λ block location f g a b. fields_one f g (one_entry (fields_of f) (fields_of g) location location block a b).0;
+  entry = λ block location f g a b. fields_one f g (one_entry (icb_fields f) (icb_fields g) location location block a b).0;
   directory = λ first size blocks p q es fs a b. directory_one first size blocks p q es fs a b;
   table = λ icb bytes t u a b. table_one a.0 b.0 t u (one_table icb icb (table_of a.0 t) (table_of b.0 u) bytes a.1 b.1);
 }
@@ -58,7 +58,7 @@ exact = record {
 
 pub bounded : AreBounded udf
 bounded = record {
-  names = λ parent first size entries blocks h. omega (arith, h.is.few, length-map entries entry_of);
+  names = λ parent first size entries blocks h. omega (arith, h.is.few, length-map entries directory_entry);
   nodes = λ table icb bytes h. nodes_have_entries (table_of h.0 table) h.1.table.fits;
   used = λ table icb bytes h. h.1.table.fits.used;
 }
@@ -77,21 +77,21 @@ zeros_none : (n location : ℕ) (e : IcbFields) → IsEntry e location (replicat
 zeros_none n location e is = omega (arith, zeros_begin n, entry_begins e location (replicate n 0) is)
 
 directory_none : (parent first size : ℕ) (entries : List Entry) (blocks : List Block) → HoldsDirectory parent entries first size blocks → All (λ block. u16_at 0 block ≡ 257) blocks
-directory_none parent first size entries blocks h = (blocks_begin parent first size (entries_of entries) blocks (sized blocks h.blocks_are) h.is).1
+directory_none parent first size entries blocks h = (blocks_begin parent first size (directory_entries entries) blocks (sized blocks h.blocks_are) h.is).1
 
 pub distinct : AreDistinct udf
 distinct = record {
-  kind = λ block location other f g a b. kind_one f.kind g.kind (ap (λ (x : IcbFields). x.kind) (one_entry (fields_of f) (fields_of g) location other block a b).0);
-  zeros = λ location fields is. zeros_none 2048 location (fields_of fields) is;
+  kind = λ block location other f g a b. kind_one f.kind g.kind (ap (λ (x : IcbFields). x.kind) (one_entry (icb_fields f) (icb_fields g) location other block a b).0);
+  zeros = λ location fields is. zeros_none 2048 location (icb_fields fields) is;
   directory = λ parent first size entries blocks h block there location fields is.
       let tag : u16_at 0 block ≡ 257 = All-contains (λ (b : Block). u16_at 0 b ≡ 257) blocks block (directory_none parent first size entries blocks h) there in
-      omega (arith, tag, entry_begins (fields_of fields) location block is);
-  set = λ label moment block h location fields is. omega (arith, begins 256 0 h.fields block h.whole, entry_begins (fields_of fields) location block is);
+      omega (arith, tag, entry_begins (icb_fields fields) location block is);
+  set = λ label moment block h location fields is. omega (arith, begins 256 0 h.fields block h.whole, entry_begins (icb_fields fields) location block is);
 }
 
 -- ---- short
 
-sizes_sum : (entries : List Entry) → plain_sizes (name_sizes (entries_of entries)) ≡ sum (map (λ (name : Name). identifier_size (spelled name)) (map (λ (e : Entry). e.name) entries))
+sizes_sum : (entries : List Entry) → plain_sizes (name_sizes (directory_entries entries)) ≡ sum (map (λ (name : Name). identifier_size (spelled name)) (map (λ (e : Entry). e.name) entries))
 sizes_sum [] = refl
 sizes_sum (e ∷ entries) =
     ap (λ (n : ℕ). plain_size (length (compressed e.name)) + n) (sizes_sum entries)
@@ -100,4 +100,4 @@ sizes_sum (e ∷ entries) =
 pub short : AreShort udf spelled
 short parent first size entries blocks h =
     subst (λ (n : ℕ). length blocks ≤ 1 + (40 + n) / 1720) (sizes_sum entries)
-    (directories_short parent first size (entries_of entries) blocks (sized blocks h.blocks_are) h.is)
+    (directories_short parent first size (directory_entries entries) blocks (sized blocks h.blocks_are) h.is)

@@ -5,19 +5,19 @@ use Rattle.std.proofs.lemmas.List.{drop-drop, drop_at, take_at, take-append-le, 
 use Rattle.std.proofs.lemmas.Option.{slice_get_within}
 use Rattle.ecma.specs.Descriptor.{padded}
 use Rattle.ecma.specs.Numbers.{u16_at}
-use Rattle.model.specs.Graph.{whole}
+use Rattle.model.specs.Graph.{as_stored}
 use Rattle.model.specs.Graph.Body.{Entries}
 use Rattle.durability.specs.Formats.{Block}
 use Rattle.durability.specs.Formats.Kind.{Directory, Table}
-use Rattle.durability.specs.Volume.{partition_start, extent, bytes_in, IsTableEntry, NoneImitates, IsStoredAt, HasTable}
+use Rattle.durability.specs.Volume.{partition_start, extent, bytes_in, IsVatIcbAt, NoneImitates, IsStoredAt, HasTable}
 use Rattle.durability.specs.Step.{IsFormat}
 use Rattle.durability.proofs.Lists.{get_past}
 use Rattle.durability.proofs.Mediums.{none_from, none-append}
 use Rattle.vat.proofs.TableReads.{takes_so_many}
 use Rattle.udf.specs.Udf.{IsBlock, udf, HoldsDirectory}
-use Rattle.udf.specs.Words.{fields_of}
-use Rattle.udf.specs.Said.{said_fields, said_table}
-use Rattle.udf.specs.NewVolume.{root_fields, first_table, table_fields, IsNewVolume, NewVolumesAreFormats}
+use Rattle.udf.specs.Words.{icb_fields}
+use Rattle.udf.specs.Said.{said_fields, model_table}
+use Rattle.udf.specs.NewVolume.{root_fields, first_table, new_table_fields, IsNewVolume, NewVolumesAreFormats}
 use Rattle.udf.proofs.Formats.{entry_begins, distinct}
 use Rattle.udf.proofs.Said.{entries_agree, tables_agree}
 
@@ -54,8 +54,8 @@ module _ (capacity volume : ℕ) (label : List ℕ) (moment : ℕ) (front : List
   root_entry : udf.IsEntry (said_fields (root_fields moment)) root 1
   root_entry = (entries_agree (root_fields moment) root 1).0 is.root_is
 
-  mark_entry : udf.IsEntry (said_fields (table_fields moment)) mark 4
-  mark_entry = (entries_agree (table_fields moment) mark 4).0 is.mark_is
+  mark_entry : udf.IsEntry (said_fields (new_table_fields moment)) mark 4
+  mark_entry = (entries_agree (new_table_fields moment) mark 4).0 is.mark_is
 
   apart : Directory ≡ Table → ⊥
   apart e = absurd (cc)
@@ -63,17 +63,17 @@ module _ (capacity volume : ℕ) (label : List ℕ) (moment : ℕ) (front : List
   table_begins : u16_at 0 table ≡ 196
   table_begins = ap (λ (b : Block). u16_at 0 b) (is.table_is ∙ ap padded is.bytes_are.whole) ∙ refl
 
-  set_none : (at : ℕ) → IsTableEntry udf set at → ⊥
+  set_none : (at : ℕ) → IsVatIcbAt udf set at → ⊥
   set_none at (low, fields, kind, entry) = distinct.set label moment set is.set_is (at - partition_start) fields entry
 
-  names_none : (at : ℕ) → IsTableEntry udf names at → ⊥
+  names_none : (at : ℕ) → IsVatIcbAt udf names at → ⊥
   names_none at (low, fields, kind, entry) = distinct.directory 1 1 40 [] (names ∷ []) holds names (0, omega arith, refl) (at - partition_start) fields entry
 
-  root_none : (at : ℕ) → IsTableEntry udf root at → ⊥
+  root_none : (at : ℕ) → IsVatIcbAt udf root at → ⊥
   root_none at (low, fields, kind, entry) = apart (distinct.kind root 1 (at - partition_start) (said_fields (root_fields moment)) fields root_entry entry ∙ kind)
 
-  table_none : (at : ℕ) → IsTableEntry udf table at → ⊥
-  table_none at (low, fields, kind, entry) = omega (arith, table_begins, entry_begins (fields_of fields) (at - partition_start) table entry)
+  table_none : (at : ℕ) → IsVatIcbAt udf table at → ⊥
+  table_none at (low, fields, kind, entry) = omega (arith, table_begins, entry_begins (icb_fields fields) (at - partition_start) table entry)
 
   behind_none : (at : ℕ) → NoneImitates udf at behind
   behind_none at = (set_none at, (names_none (suc at), (root_none (suc (suc at)), (table_none (suc (suc (suc at))), tt))))
@@ -94,14 +94,14 @@ module _ (capacity volume : ℕ) (label : List ℕ) (moment : ℕ) (front : List
   entries_low (suc zero) d lt = let h : 2 < 4 = omega arith in h
   entries_low (suc (suc k)) d lt = absurd (omega arith)
 
-  table_there : udf.IsTable (said_table (first_table label)) 4 (bytes_in 204 (extent blocks 3 204))
+  table_there : udf.IsTable (model_table (first_table label)) 4 (bytes_in 204 (extent blocks 3 204))
   table_there =
-      subst (λ (bytes : List ℕ). udf.IsTable (said_table (first_table label)) 4 bytes) (sym table_bytes_are)
+      subst (λ (bytes : List ℕ). udf.IsTable (model_table (first_table label)) 4 bytes) (sym table_bytes_are)
       (tables_agree (first_table label) 4 is.bytes (record { table = is.bytes_are; previous = tt; entries = entries_low }))
 
-  has : HasTable udf blocks 261 mark (said_table (first_table label)) moment
+  has : HasTable udf blocks 261 mark (model_table (first_table label)) moment
   has = record {
-    fields = said_fields (table_fields moment);
+    fields = said_fields (new_table_fields moment);
     kind = refl;
     entry = mark_entry;
     moment_is = refl;
@@ -114,7 +114,7 @@ module _ (capacity volume : ℕ) (label : List ℕ) (moment : ℕ) (front : List
   names_there : extent blocks 1 40 ≡ names ∷ []
   names_there = ap (λ (bs : List Block). take 1 bs) (from_block 1)
 
-  root_there : IsStoredAt udf blocks (Some 0 ∷ Some 2 ∷ []) 1 (whole 0 moment (Entries 1 []))
+  root_there : IsStoredAt udf blocks (Some 0 ∷ Some 2 ∷ []) 1 (as_stored 0 moment (Entries 1 []))
   root_there = record {
     number = 2;
     used = refl;
@@ -134,7 +134,7 @@ module _ (capacity volume : ℕ) (label : List ℕ) (moment : ℕ) (front : List
     none = none-append udf 0 front behind low_none (behind_none (0 + length front));
     front = subst (λ (bs : List Block). udf.IsFront label moment volume bs) (sym (take_at front behind 257 is.front_is.count)) is.front_is;
     fits = fits;
-    table = said_table (first_table label);
+    table = model_table (first_table label);
     has = has;
     label_is = refl;
     commits = refl;

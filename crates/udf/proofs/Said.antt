@@ -4,13 +4,13 @@ use Rattle.std.proofs.lemmas.List.{drop-drop, take_all}
 use Rattle.std.proofs.lemmas.Option.{same_Some, slice_get_within}
 use Rattle.ecma.specs.Descriptor.{padded}
 use Rattle.durability.specs.Formats.{Block}
-use Rattle.durability.specs.Volume.{blocks_for, partition_start, IsTableEntry, NoneImitates}
+use Rattle.durability.specs.Volume.{blocks_for, partition_start, IsVatIcbAt, NoneImitates}
 use Rattle.durability.specs.Plan.{blocks_from, packed}
 use Rattle.durability.proofs.Mediums.{none_from, none_take_at}
 use Rattle.durability.proofs.Packed.{length-packed}
 use Rattle.icb.specs.declared.entry.Kind.{Kind as IcbKind}
 use Rattle.icb.specs.declared.entry.Kind.TheVariants as icb_kinds
-use Rattle.icb.specs.Entry.{Place as IcbPlace, Fields as IcbFields, IsEntry, blocks_of}
+use Rattle.icb.specs.Entry.{Place as IcbPlace, Fields as IcbFields, IsEntry, block_count}
 use Rattle.icb.specs.Entry.Place.{Nowhere as IcbNowhere, Extent as IcbExtent, Inside as IcbInside}
 use Rattle.icb.specs.VatIcb.{IsVatIcb}
 use Rattle.icb.proofs.EntryLaws.{same_fields}
@@ -22,9 +22,9 @@ use Rattle.vat.specs.declared.record.Record.{Record as VatRecord}
 use Rattle.vat.specs.declared.record.Reply.{Reply as VatReply}
 use Rattle.vat.specs.Imitation.{data_block, Imitates}
 use Rattle.vat.specs.Table.{Table as VatTable, IsTableAt}
-use Rattle.udf.specs.Words.{kind_of, place_of, fields_of, name_kind, entry_of, entries_of, reply_of, record_of, table_of}
+use Rattle.udf.specs.Words.{icb_kind_of, icb_place, icb_fields, name_kind, directory_entry, directory_entries, reply_of, vat_record, table_of}
 use Rattle.udf.specs.Udf.{udf}
-use Rattle.udf.specs.Said.{said_kind, said_place, said_fields, names_directory, said_entry, said_entries, said_reply, said_record, said_table, EntriesAgree, DirectoriesAgree, TablesAgree, SizesAgree, ImitationAgrees, DataAgrees, ClearStartsAgree}
+use Rattle.udf.specs.Said.{said_kind, said_place, said_fields, names_directory, said_entry, said_entries, said_reply, model_record, model_table, EntriesAgree, DirectoriesAgree, TablesAgree, SizesAgree, ImitationAgrees, DataAgrees, ClearStartsAgree}
 
 map_back : {A B : Type 0} (f : A → B) (g : B → A) → ((y : B) → f (g y) ≡ y) → (ys : List B) → map f (map g ys) ≡ ys
 map_back f g back [] = refl
@@ -35,18 +35,18 @@ map_back f g back (y ∷ ys) =
 
 -- ---- file entries
 
-kind_back : (k : IcbKind) → kind_of (said_kind k) ≡ k
+kind_back : (k : IcbKind) → icb_kind_of (said_kind k) ≡ k
 kind_back icb_kinds.Directory = refl
 kind_back icb_kinds.File = refl
 kind_back icb_kinds.Vat = refl
 
-place_back : (p : IcbPlace) → place_of (said_place p) ≡ p
+place_back : (p : IcbPlace) → icb_place (said_place p) ≡ p
 place_back IcbNowhere = refl
 place_back (IcbExtent first) = refl
 place_back (IcbInside bytes) = refl
 
-fields_back : (f : IcbFields) → fields_of (said_fields f) ≡ f
-fields_back f = same_fields (fields_of (said_fields f)) f (kind_back f.kind) refl refl refl refl (place_back f.place)
+fields_back : (f : IcbFields) → icb_fields (said_fields f) ≡ f
+fields_back f = same_fields (icb_fields (said_fields f)) f (kind_back f.kind) refl refl refl refl (place_back f.place)
 
 pub entries_agree : EntriesAgree
 entries_agree fields block location = (
@@ -60,13 +60,13 @@ name_kind_back : (k : DirKind) → name_kind (names_directory k) ≡ k
 name_kind_back dir_kinds.Directory = refl
 name_kind_back dir_kinds.File = refl
 
-entry_back : (e : List ℕ × DirEntry) → entry_of (said_entry e) ≡ e
+entry_back : (e : List ℕ × DirEntry) → directory_entry (said_entry e) ≡ e
 entry_back e =
     let of : DirKind → List ℕ × DirEntry = λ k. (e.0, record { kind = k; icb = e.1.icb; unique = e.1.unique }) in
     ap of (name_kind_back e.1.kind)
 
-entries_back : (es : List (List ℕ × DirEntry)) → entries_of (said_entries es) ≡ es
-entries_back es = map_back entry_of said_entry entry_back es
+entries_back : (es : List (List ℕ × DirEntry)) → directory_entries (said_entries es) ≡ es
+entries_back es = map_back directory_entry said_entry entry_back es
 
 pub directories_agree : DirectoriesAgree
 directories_agree parent first size entries blocks are low = (
@@ -79,12 +79,12 @@ directories_agree parent first size entries blocks are low = (
 reply_back : (r : VatReply) → reply_of (said_reply r) ≡ r
 reply_back r = refl
 
-record_back : (r : VatRecord) → record_of (said_record r) ≡ r
+record_back : (r : VatRecord) → vat_record (model_record r) ≡ r
 record_back r =
     let of : List VatReply → VatRecord = λ replies. record { client = r.client; latest = r.latest; replies = replies } in
     ap of (map_back reply_of said_reply reply_back r.replies)
 
-table_back : (t : VatTable) → table_of t.version (said_table t) ≡ t
+table_back : (t : VatTable) → table_of t.version (model_table t) ≡ t
 table_back t =
     let of : List VatRecord → VatTable = λ records. record {
       label = t.label;
@@ -97,7 +97,7 @@ table_back t =
       records = records;
       entries = t.entries;
     } in
-    ap of (map_back record_of said_record record_back t.records)
+    ap of (map_back vat_record model_record record_back t.records)
 
 pub tables_agree : TablesAgree
 tables_agree table icb bytes is = (table.version, subst (λ (t : VatTable). IsTableAt icb t bytes) (sym (table_back table)) is)
@@ -111,7 +111,7 @@ sizes_agree size = omega arith
 
 pub imitation_agrees : ImitationAgrees
 imitation_agrees block address = (
-  (λ (low, fields, kind, is). (low, record { fields = fields_of fields; kind = ap kind_of kind; entry = is })),
+  (λ (low, fields, kind, is). (low, record { fields = icb_fields fields; kind = ap icb_kind_of kind; entry = is })),
   (λ (low, v). (low, said_fields v.fields, ap said_kind v.kind, (entries_agree v.fields block (address - partition_start)).0 v.entry)),
 )
 
@@ -129,9 +129,9 @@ data_agrees bytes j lt = block_at (blocks_for (length bytes)) j bytes (omega (ar
 clear_none : (bytes : List ℕ) (start : ℕ) → (Imitates bytes start → ⊥) → NoneImitates udf (start + partition_start) (packed bytes)
 clear_none bytes start clear = none_from udf (start + partition_start) (packed bytes) each
   where
-    each : (j : ℕ) (block : Block) → slice_get (packed bytes) j ≡ Some block → IsTableEntry udf block (start + partition_start + j) → ⊥
+    each : (j : ℕ) (block : Block) → slice_get (packed bytes) j ≡ Some block → IsVatIcbAt udf block (start + partition_start + j) → ⊥
     each j block e is =
-        let there : j < blocks_of (length bytes) = omega (arith, slice_get_within (packed bytes) j block e, length-packed bytes, sizes_agree (length bytes)) in
+        let there : j < block_count (length bytes) = omega (arith, slice_get_within (packed bytes) j block e, length-packed bytes, sizes_agree (length bytes)) in
         let same : block ≡ data_block bytes j = same_Some block (data_block bytes j) (sym e ∙ data_agrees bytes j there) in
         let number : start + partition_start + j - partition_start ≡ start + j = omega arith in
         let v = ((imitation_agrees block (start + partition_start + j)).0 is).1 in

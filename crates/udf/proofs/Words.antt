@@ -11,7 +11,7 @@ use Rattle.vat.specs.declared.record.Record.{Record as VatRecord}
 use Rattle.vat.specs.declared.record.Reply.{Reply as VatReply}
 use Rattle.vat.specs.declared.table.Version.{Version}
 use Rattle.vat.specs.Table.{Table as VatTable}
-use Rattle.udf.specs.Words.{kind_of, place_of, fields_of, name_kind, entry_of, entries_of, reply_of, record_of, table_of}
+use Rattle.udf.specs.Words.{icb_kind_of, icb_place, icb_fields, name_kind, directory_entry, directory_entries, reply_of, vat_record, table_of}
 
 -- lists of which each item says one thing
 map_one : {A B : Type 0} (f : A → B) → ((a b : A) → f a ≡ f b → a ≡ b) → (xs ys : List A) → map f xs ≡ map f ys → xs ≡ ys
@@ -27,7 +27,7 @@ map_one f one (x ∷ xs) (y ∷ ys) e =
 
 -- ---- file entries
 
-pub kind_one : (a b : Kind) → kind_of a ≡ kind_of b → a ≡ b
+pub kind_one : (a b : Kind) → icb_kind_of a ≡ icb_kind_of b → a ≡ b
 kind_one Directory Directory e = refl
 kind_one Directory File e = absurd (cc)
 kind_one Directory Table e = absurd (cc)
@@ -38,7 +38,7 @@ kind_one Table Directory e = absurd (cc)
 kind_one Table File e = absurd (cc)
 kind_one Table Table e = refl
 
-place_one : (a b : NodePlace) → place_of a ≡ place_of b → a ≡ b
+place_one : (a b : NodePlace) → icb_place a ≡ icb_place b → a ≡ b
 place_one Nowhere Nowhere e = refl
 place_one Nowhere (Extent m) e = absurd (cc)
 place_one Nowhere (Inside ys) e = absurd (cc)
@@ -55,7 +55,7 @@ same_fields f g kind moment links identity size place =
     let from : f ≡ made = rw (← kind, ← moment, ← links, ← identity, ← size, ← place) refl in
     from
 
-pub fields_one : (f g : NodeFields) → fields_of f ≡ fields_of g → f ≡ g
+pub fields_one : (f g : NodeFields) → icb_fields f ≡ icb_fields g → f ≡ g
 fields_one f g e =
     same_fields f g (kind_one f.kind g.kind (ap (λ (x : IcbFields). x.kind) e)) (ap (λ (x : IcbFields). x.moment) e) (ap (λ (x : IcbFields). x.links) e)
     (ap (λ (x : IcbFields). x.unique) e) (ap (λ (x : IcbFields). x.size) e) (place_one f.place g.place (ap (λ (x : IcbFields). x.place) e))
@@ -74,13 +74,13 @@ same_entry a b name kind address identity =
     let from : a ≡ made = rw (← name, ← kind, ← address, ← identity) refl in
     from
 
-entry_one : (a b : Entry) → entry_of a ≡ entry_of b → a ≡ b
+entry_one : (a b : Entry) → directory_entry a ≡ directory_entry b → a ≡ b
 entry_one a b e =
     same_entry a b (ap (λ (x : List ℕ × DirEntry). x.0) e) (name_kind_one a.is_directory b.is_directory (ap (λ (x : List ℕ × DirEntry). x.1.kind) e))
     (ap (λ (x : List ℕ × DirEntry). x.1.icb) e) (ap (λ (x : List ℕ × DirEntry). x.1.unique) e)
 
-pub entries_one : (es fs : List Entry) → entries_of es ≡ entries_of fs → es ≡ fs
-entries_one es fs e = map_one entry_of entry_one es fs e
+pub entries_one : (es fs : List Entry) → directory_entries es ≡ directory_entries fs → es ≡ fs
+entries_one es fs e = map_one directory_entry entry_one es fs e
 
 -- ---- tables
 
@@ -92,7 +92,7 @@ reply_one a b e =
     let from : a ≡ made = rw (← code, ← commit) refl in
     from
 
-record_one : (a b : ClientRecord) → record_of a ≡ record_of b → a ≡ b
+record_one : (a b : ClientRecord) → vat_record a ≡ vat_record b → a ≡ b
 record_one a b e =
     let client : a.client ≡ b.client = ap (λ (x : VatRecord). x.client) e in
     let latest : a.latest ≡ b.latest = ap (λ (x : VatRecord). x.latest) e in
@@ -110,7 +110,7 @@ table_one v w t u e =
     let directories : t.directories ≡ u.directories = ap (λ (x : VatTable). x.directories) e in
     let next : t.next_identity ≡ u.next_identity = ap (λ (x : VatTable). x.next_unique) e in
     let commits : t.commits ≡ u.commits = ap (λ (x : VatTable). x.commits) e in
-    let records : t.records ≡ u.records = map_one record_of record_one t.records u.records (ap (λ (x : VatTable). x.records) e) in
+    let records : t.records ≡ u.records = map_one vat_record record_one t.records u.records (ap (λ (x : VatTable). x.records) e) in
     let entries : t.entries ≡ u.entries = ap (λ (x : VatTable). x.entries) e in
     let made : Table_ = record {
       label = u.label;

@@ -1,11 +1,11 @@
 -- What the laws of the medium say by these formats, each the contract of a public function.
 use Rattle.std.specs.Prelude.{◌≡◌, ◌↔◌, ◌⊎◌, ℕ, ◌+◌, ◌-◌, ◌≤◌, List, [], ◌∷◌, ◌++◌, length, take}
 use Rattle.limits.specs.declared.TheConstants.{FORMAT_BLOCKS}
-use Rattle.drive.specs.Journal.{Event, held, Once, AddsFront}
+use Rattle.drive.specs.Journal.{Event, held, Once, AddsPrefix}
 use Rattle.model.specs.Session.{State, Request, after_one, formatted}
 use Rattle.model.specs.Laws.{IsSound}
 use Rattle.durability.specs.Formats.{Block}
-use Rattle.durability.specs.Volume.{Medium, NoneImitates, Stands, Past}
+use Rattle.durability.specs.Volume.{Medium, NoneImitates, RecoversTo, RecoveredTo}
 use Rattle.durability.specs.Step.{CarriesOut, IsFormat}
 use Rattle.durability.specs.Plan.{IsPlanned}
 use Rattle.durability.specs.Commit.{need}
@@ -16,57 +16,57 @@ use Rattle.udf.specs.Udf.{udf, spelled}
 -- ---- what stands
 
 -- at most one state stands on a medium, whatever drive and volume it is read in
-abbrev pub OneStands : Type 0
-OneStands = (capacity volume other_capacity other_volume : ℕ) (medium : Medium) (S T : State) → Stands udf capacity volume medium S → Stands udf other_capacity other_volume medium T → S ≡ T
+abbrev pub OneStateIsRecovered : Type 0
+OneStateIsRecovered = (capacity volume other_capacity other_volume : ℕ) (medium : Medium) (S T : State) → RecoversTo udf capacity volume medium S → RecoversTo udf other_capacity other_volume medium T → S ≡ T
 
 -- it is sound
-abbrev pub StandingIsSound : Type 0
-StandingIsSound = (capacity volume : ℕ) (medium : Medium) (S : State) → Stands udf capacity volume medium S → IsSound S
+abbrev pub RecoveredIsSound : Type 0
+RecoveredIsSound = (capacity volume : ℕ) (medium : Medium) (S : State) → RecoversTo udf capacity volume medium S → IsSound S
 
 -- at most one state stood after a number of commits
 abbrev pub OnePast : Type 0
-OnePast = (capacity volume other_capacity other_volume : ℕ) (medium : Medium) (commits : ℕ) (S T : State) → Past udf capacity volume medium commits S → Past udf other_capacity other_volume medium commits T → S ≡ T
+OnePast = (capacity volume other_capacity other_volume : ℕ) (medium : Medium) (commits : ℕ) (S T : State) → RecoveredTo udf capacity volume medium commits S → RecoveredTo udf other_capacity other_volume medium commits T → S ≡ T
 
 -- and there is none above the count of the one that stands, which is itself the last
 abbrev pub PastIsWithin : Type 0
-PastIsWithin = (capacity volume : ℕ) (medium : Medium) (commits : ℕ) (S T : State) → Past udf capacity volume medium commits S → Stands udf capacity volume medium T → commits ≤ T.commits
+PastIsWithin = (capacity volume : ℕ) (medium : Medium) (commits : ℕ) (S T : State) → RecoveredTo udf capacity volume medium commits S → RecoversTo udf capacity volume medium T → commits ≤ T.commits
 
-abbrev pub StandingIsLast : Type 0
-StandingIsLast = (capacity volume : ℕ) (medium : Medium) (S : State) → Stands udf capacity volume medium S → Past udf capacity volume medium S.commits S
+abbrev pub RecoveredIsLast : Type 0
+RecoveredIsLast = (capacity volume : ℕ) (medium : Medium) (S : State) → RecoversTo udf capacity volume medium S → RecoveredTo udf capacity volume medium S.commits S
 
--- ---- blocks that imitate no table's entry
+-- ---- blocks that imitate no VAT ICB
 
 -- what stands on a medium stands on the longer one, and nothing else does
-abbrev pub StandsAppended : Type 0
-StandsAppended =
+abbrev pub RecoversAppended : Type 0
+RecoversAppended =
     (capacity volume : ℕ) (S : State) (medium blocks : Medium) → NoneImitates udf (length medium) blocks
-    → Stands udf capacity volume medium S ↔ Stands udf capacity volume (medium ++ blocks) S
+    → RecoversTo udf capacity volume medium S ↔ RecoversTo udf capacity volume (medium ++ blocks) S
 
 abbrev pub PastAppended : Type 0
 PastAppended =
     (capacity volume : ℕ) (S : State) (medium blocks : Medium) → NoneImitates udf (length medium) blocks → (commits : ℕ)
-    → Past udf capacity volume medium commits S ↔ Past udf capacity volume (medium ++ blocks) commits S
+    → RecoveredTo udf capacity volume medium commits S ↔ RecoveredTo udf capacity volume (medium ++ blocks) commits S
 
 -- ---- commits
 
 -- the planned blocks of a request carry it out
 abbrev pub PlannedCarries : Type 0
 PlannedCarries =
-    (capacity volume : ℕ) (medium : Medium) (S : State) (stands : Stands udf capacity volume medium S) (request : Request) (blocks : List Block) (mark : Block)
+    (capacity volume : ℕ) (medium : Medium) (S : State) (stands : RecoversTo udf capacity volume medium S) (request : Request) (blocks : List Block) (mark : Block)
     → IsPlanned udf capacity volume medium S stands request blocks mark → CarriesOut udf capacity volume medium S stands request blocks mark
 
 -- they are no more than it may need
 abbrev pub PlannedShort : Type 0
 PlannedShort =
-    (capacity volume : ℕ) (medium : Medium) (S : State) (stands : Stands udf capacity volume medium S) (request : Request) (blocks : List Block) (mark : Block)
+    (capacity volume : ℕ) (medium : Medium) (S : State) (stands : RecoversTo udf capacity volume medium S) (request : Request) (blocks : List Block) (mark : Block)
     → IsPlanned udf capacity volume medium S stands request blocks mark → length (blocks ++ mark ∷ []) ≤ need spelled S request
 
 -- Whichever front of them was written: what stood stands on the journal, or all of them are there and the state after the request does.
 abbrev pub CommitAdvances : Type 0
 CommitAdvances =
     (capacity volume : ℕ) (before behind : List Event) (S : State) (request : Request) (blocks : List Block) (mark : Block) → Once before
-    → (stands : Stands udf capacity volume (held before) S) → IsPlanned udf capacity volume (held before) S stands request blocks mark
-    → AddsFront before (length before) (blocks ++ mark ∷ []) behind
+    → (stands : RecoversTo udf capacity volume (held before) S) → IsPlanned udf capacity volume (held before) S stands request blocks mark
+    → AddsPrefix before (length before) (blocks ++ mark ∷ []) behind
     → Advances udf capacity volume before S behind S
     ⊎ ((length behind ≡ length before + length (blocks ++ mark ∷ [])) × Advances udf capacity volume before S behind (after_one S request))
 
@@ -76,12 +76,12 @@ CommitAdvances =
 abbrev pub NothingBefore : Type 0
 NothingBefore =
     (capacity volume : ℕ) (label : List ℕ) (moment : ℕ) (blocks : List Block) (mark : Block) → IsFormat udf capacity volume label moment blocks mark
-    → (k : ℕ) (S : State) → k ≤ FORMAT_BLOCKS - 1 → Stands udf capacity volume (take k (blocks ++ mark ∷ [])) S → ⊥
+    → (k : ℕ) (S : State) → k ≤ FORMAT_BLOCKS - 1 → RecoversTo udf capacity volume (take k (blocks ++ mark ∷ [])) S → ⊥
 
-abbrev pub FormatStands : Type 0
-FormatStands =
+abbrev pub FormatRecovers : Type 0
+FormatRecovers =
     (capacity volume : ℕ) (label : List ℕ) (moment : ℕ) (blocks : List Block) (mark : Block) → IsFormat udf capacity volume label moment blocks mark
-    → Stands udf capacity volume (blocks ++ mark ∷ []) (formatted moment)
+    → RecoversTo udf capacity volume (blocks ++ mark ∷ []) (formatted moment)
 
 -- ---- runs
 
@@ -89,7 +89,7 @@ FormatStands =
 abbrev pub RunsHold : Type 0
 RunsHold =
     (drive volume : ℕ) (S : State) (before behind : Medium) (deliveries : List Delivery) (answers : List Answer) (committed : List Request) (S' : State)
-    → Stands udf drive volume before S → Runs udf (need spelled) drive volume before S deliveries answers committed behind S'
+    → RecoversTo udf drive volume before S → Runs udf (need spelled) drive volume before S deliveries answers committed behind S'
     → Holds udf (need spelled) drive volume S before behind deliveries answers
 
 -- and so on a drive's journal, each address once

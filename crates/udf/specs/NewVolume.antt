@@ -33,10 +33,10 @@ first_table label = record {
 }
 
 -- its entry, with its data of 204 bytes in block 3
-abbrev pub table_fields : ℕ → Fields
-table_fields moment = record { kind = Vat; moment = moment; links = 0; unique = 0; size = 204; place = Extent 3 }
+abbrev pub new_table_fields : ℕ → Fields
+new_table_fields moment = record { kind = Vat; moment = moment; links = 0; unique = 0; size = 204; place = Extent 3 }
 
--- the front, and the five blocks behind it
+-- the front, and the five blocks after it
 pub record IsNewVolume (volume : ℕ) (label : List ℕ) (moment : ℕ) (front : List Block) (set names root table mark : Block) : Type 0 where
   pub front_is : IsFront label moment volume front
   pub set_is : IsFileSet (record { label = label; moment = moment }) set
@@ -46,7 +46,7 @@ pub record IsNewVolume (volume : ℕ) (label : List ℕ) (moment : ℕ) (front :
   pub bytes : List ℕ
   pub bytes_are : IsTable (first_table label) bytes
   pub table_is : table ≡ padded bytes
-  pub mark_is : IsEntry (table_fields moment) 4 mark
+  pub mark_is : IsEntry (new_table_fields moment) 4 mark
 
 -- they are a format on a drive that is no smaller
 abbrev pub NewVolumesAreFormats : Type 0

@@ -6,11 +6,11 @@ use Rattle.model.specs.Session.{Reply, ClientRecord}
 use Rattle.durability.specs.Formats.{Block, Kind, NodePlace, NodeFields, Table_}
 use Rattle.durability.specs.Formats.Kind.{Directory, File, Table}
 use Rattle.durability.specs.Formats.NodePlace.{Nowhere, Extent, Inside}
-use Rattle.durability.specs.Volume.{partition_start, blocks_for, IsTableEntry}
+use Rattle.durability.specs.Volume.{partition_start, blocks_for, IsVatIcbAt}
 use Rattle.durability.specs.Plan.{packed, IsClearStart}
 use Rattle.icb.specs.declared.entry.Kind.{Kind as IcbKind}
 use Rattle.icb.specs.declared.entry.Kind.TheVariants as icb_kinds
-use Rattle.icb.specs.Entry.{Place as IcbPlace, Fields as IcbFields, IsEntry, blocks_of}
+use Rattle.icb.specs.Entry.{Place as IcbPlace, Fields as IcbFields, IsEntry, block_count}
 use Rattle.icb.specs.Entry.Place.{Nowhere as IcbNowhere, Extent as IcbExtent, Inside as IcbInside}
 use Rattle.icb.specs.VatIcb.{IsVatIcb}
 use Rattle.dir.specs.declared.entry.Entry.{Entry as DirEntry}
@@ -55,18 +55,18 @@ said_entries entries = map said_entry entries
 abbrev pub said_reply : VatReply → Reply
 said_reply reply = record { code = reply.code; commit = reply.commit }
 
-abbrev pub said_record : VatRecord → ClientRecord
-said_record kept = record { client = kept.client; latest = kept.latest; replies = map said_reply kept.replies }
+abbrev pub model_record : VatRecord → ClientRecord
+model_record kept = record { client = kept.client; latest = kept.latest; replies = map said_reply kept.replies }
 
-abbrev pub said_table : VatTable → Table_
-said_table t = record {
+abbrev pub model_table : VatTable → Table_
+model_table t = record {
   label = t.label;
   previous = t.previous;
   files = t.files;
   directories = t.directories;
   next_identity = t.next_unique;
   commits = t.commits;
-  records = map said_record t.records;
+  records = map model_record t.records;
   entries = t.entries;
 }
 
@@ -81,24 +81,24 @@ DirectoriesAgree =
     → IsDirectory parent entries first size blocks ↔ udf.IsDirectory parent (said_entries entries) first size blocks
 
 abbrev pub TablesAgree : Type 0
-TablesAgree = (table : VatTable) (icb : ℕ) (bytes : List ℕ) → IsTableAt icb table bytes → udf.IsTable (said_table table) icb bytes
+TablesAgree = (table : VatTable) (icb : ℕ) (bytes : List ℕ) → IsTableAt icb table bytes → udf.IsTable (model_table table) icb bytes
 
 -- how many blocks bytes take
 abbrev pub SizesAgree : Type 0
-SizesAgree = (size : ℕ) → blocks_for size ≡ blocks_of size
+SizesAgree = (size : ℕ) → blocks_for size ≡ block_count size
 
 -- ---- imitation
 
--- a block imitates where it is the entry of a table at its block number
+-- a block imitates where it is a VAT ICB at its block number
 abbrev pub ImitationAgrees : Type 0
-ImitationAgrees = (block : Block) (address : ℕ) → IsTableEntry udf block address ↔ ((partition_start ≤ address) × IsVatIcb block (address - partition_start))
+ImitationAgrees = (block : Block) (address : ℕ) → IsVatIcbAt udf block address ↔ ((partition_start ≤ address) × IsVatIcb block (address - partition_start))
 
 -- the blocks of data are those that are looked at
 abbrev pub DataAgrees : Type 0
-DataAgrees = (bytes : List ℕ) (i : ℕ) → i < blocks_of (length bytes) → slice_get (packed bytes) i ≡ Some (data_block bytes i)
+DataAgrees = (bytes : List ℕ) (i : ℕ) → i < block_count (length bytes) → slice_get (packed bytes) i ≡ Some (data_block bytes i)
 
 -- the least start at which data does not imitate is clear
 abbrev pub ClearStartsAgree : Type 0
 ClearStartsAgree =
-    (bytes : List ℕ) (from start : ℕ) → from ≤ start → start ≤ from + blocks_of (length bytes) → (Imitates bytes start → ⊥)
+    (bytes : List ℕ) (from start : ℕ) → from ≤ start → start ≤ from + block_count (length bytes) → (Imitates bytes start → ⊥)
     → ((earlier : ℕ) → from ≤ earlier → earlier < start → Imitates bytes earlier) → IsClearStart udf (packed bytes) from start

@@ -11,7 +11,7 @@ use Rattle.dir.specs.Directory.{IsDirectory}
 use Rattle.vat.specs.Table.{IsTableAt}
 use Rattle.vat.specs.declared.table.Version.{Version}
 use Rattle.volume.specs.Front.{IsFront}
-use Rattle.udf.specs.Words.{fields_of, entries_of, table_of}
+use Rattle.udf.specs.Words.{icb_fields, directory_entries, table_of}
 
 -- what a medium has at each address: 2,048 bytes
 pub record IsBlock (block : Block) : Type 0 where
@@ -22,12 +22,12 @@ pub record IsBlock (block : Block) : Type 0 where
 pub record HoldsDirectory (parent : ℕ) (entries : List Entry) (first size : ℕ) (blocks : List Block) : Type 0 where
   pub blocks_are : All IsBlock blocks
   pub low : first ≤ PARTITION_BLOCKS
-  pub is : IsDirectory parent (entries_of entries) first size blocks
+  pub is : IsDirectory parent (directory_entries entries) first size blocks
 
 -- A table may have its sessions in either version: what it says is the same.
 abbrev pub udf : Formats
 udf = record {
-  IsEntry = λ fields block location. IsEntry (fields_of fields) location block;
+  IsEntry = λ fields block location. IsEntry (icb_fields fields) location block;
   IsFileSet = λ label moment block. IsFileSet (record { label = label; moment = moment }) block;
   IsDirectory = HoldsDirectory;
   IsTable = λ table icb bytes. (version : Version) × IsTableAt icb (table_of version table) bytes;

@@ -19,18 +19,18 @@ use Rattle.vat.specs.Table.{Table as VatTable}
 
 -- ---- file entries
 
-abbrev pub kind_of : Kind → IcbKind
-kind_of Directory = icb_kinds.Directory
-kind_of File = icb_kinds.File
-kind_of Table = icb_kinds.Vat
+abbrev pub icb_kind_of : Kind → IcbKind
+icb_kind_of Directory = icb_kinds.Directory
+icb_kind_of File = icb_kinds.File
+icb_kind_of Table = icb_kinds.Vat
 
-abbrev pub place_of : NodePlace → IcbPlace
-place_of Nowhere = IcbNowhere
-place_of (Extent first) = IcbExtent first
-place_of (Inside bytes) = IcbInside bytes
+abbrev pub icb_place : NodePlace → IcbPlace
+icb_place Nowhere = IcbNowhere
+icb_place (Extent first) = IcbExtent first
+icb_place (Inside bytes) = IcbInside bytes
 
-abbrev pub fields_of : NodeFields → IcbFields
-fields_of f = record { kind = kind_of f.kind; moment = f.moment; links = f.links; unique = f.identity; size = f.size; place = place_of f.place }
+abbrev pub icb_fields : NodeFields → IcbFields
+icb_fields f = record { kind = icb_kind_of f.kind; moment = f.moment; links = f.links; unique = f.identity; size = f.size; place = icb_place f.place }
 
 -- ---- directories
 
@@ -40,19 +40,19 @@ name_kind true = dir_kinds.Directory
 name_kind false = dir_kinds.File
 
 -- a name, and what its identifier says of it
-abbrev pub entry_of : Entry → List ℕ × DirEntry
-entry_of e = (e.name, record { kind = name_kind e.is_directory; icb = e.address; unique = e.identity })
+abbrev pub directory_entry : Entry → List ℕ × DirEntry
+directory_entry e = (e.name, record { kind = name_kind e.is_directory; icb = e.address; unique = e.identity })
 
-abbrev pub entries_of : List Entry → List (List ℕ × DirEntry)
-entries_of entries = map entry_of entries
+abbrev pub directory_entries : List Entry → List (List ℕ × DirEntry)
+directory_entries entries = map directory_entry entries
 
 -- ---- tables
 
 abbrev pub reply_of : Reply → VatReply
 reply_of reply = record { code = reply.code; commit = reply.commit }
 
-abbrev pub record_of : ClientRecord → VatRecord
-record_of kept = record { client = kept.client; latest = kept.latest; replies = map reply_of kept.replies }
+abbrev pub vat_record : ClientRecord → VatRecord
+vat_record kept = record { client = kept.client; latest = kept.latest; replies = map reply_of kept.replies }
 
 -- a table with its sessions in a version
 abbrev pub table_of : Version → Table_ → VatTable
@@ -64,6 +64,6 @@ table_of version t = record {
   version = version;
   next_unique = t.next_identity;
   commits = t.commits;
-  records = map record_of t.records;
+  records = map vat_record t.records;
   entries = t.entries;
 }

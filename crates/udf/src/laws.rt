@@ -5,8 +5,8 @@ ghost use Rattle.durability.specs.Formats.{AreExact, AreBounded, AreDistinct, Ar
 ghost use Rattle.udf.specs.Udf.{udf, spelled, IsBlock};
 ghost use Rattle.udf.specs.Said.{EntriesAgree, DirectoriesAgree, TablesAgree, SizesAgree, ImitationAgrees, DataAgrees, ClearStartsAgree};
 ghost use Rattle.udf.specs.NewVolume.{NewVolumesAreFormats};
-ghost use Rattle.udf.specs.Laws.{OneStands, StandingIsSound, OnePast, PastIsWithin, StandingIsLast, StandsAppended, PastAppended, PlannedCarries, PlannedShort, CommitAdvances, NothingBefore, FormatStands, RunsHold, RunsHoldOnJournal};
-ghost use Rattle.udf.specs.Torn.{FrontsAreLeft, FewerAreLeft, ChoicesAreLeft, TornPartIsAlike, LastBlockDecides, TornCommitMoves, TornCommitShort, TornCommitAdvances, AnsweredEndure, CommitsEndure, TornCommitRuns, TornFormatIsNothing, TornFormatStands};
+ghost use Rattle.udf.specs.Laws.{OneStateIsRecovered, RecoveredIsSound, OnePast, PastIsWithin, RecoveredIsLast, RecoversAppended, PastAppended, PlannedCarries, PlannedShort, CommitAdvances, NothingBefore, FormatRecovers, RunsHold, RunsHoldOnJournal};
+ghost use Rattle.udf.specs.Torn.{PrefixesAreLeft, FewerAreLeft, ChoicesAreLeft, TornPartIsAlike, LastBlockDecides, TornCommitMoves, TornCommitShort, TornCommitAdvances, AnsweredEndure, CommitsEndure, TornCommitRuns, TornFormatIsNothing, TornFormatRecovers};
 
 use limits::Block;
 
@@ -59,20 +59,20 @@ pub fn imitation_agrees()
 
 /// At most one state stands on a medium, and it is sound.
 pub fn one_state_stands()
-    ensures one { OneStands }
-    ensures sound { StandingIsSound }
+    ensures one { OneStateIsRecovered }
+    ensures sound { RecoveredIsSound }
 {}
 
 /// At most one state stood after a number of commits; the one that stands is the last of them.
 pub fn one_state_stood()
     ensures one { OnePast }
     ensures within { PastIsWithin }
-    ensures last { StandingIsLast }
+    ensures last { RecoveredIsLast }
 {}
 
-/// Blocks of which none imitates a table's entry change neither what stands nor what stood.
+/// Blocks of which none imitates a VAT ICB change neither what stands nor what stood.
 pub fn blocks_are_appended()
-    ensures stands { StandsAppended }
+    ensures recovers { RecoversAppended }
     ensures past { PastAppended }
 {}
 
@@ -82,7 +82,7 @@ pub fn planned_blocks_carry()
     ensures short { PlannedShort }
 {}
 
-/// At each front of a commit on a drive's journal the old state stands, and the state after the request with its last
+/// At each prefix of a commit on a drive's journal the old state stands, and the state after the request with its last
 /// block alone.
 pub fn commits_advance()
     ensures { CommitAdvances }
@@ -91,7 +91,7 @@ pub fn commits_advance()
 /// The new volume stands with the last block of a format, and nothing does before.
 pub fn formats_stand()
     ensures before { NothingBefore }
-    ensures stands { FormatStands }
+    ensures recovers { FormatRecovers }
 {}
 
 /// What the encoders give of a label, a moment and a capacity is a format.
@@ -105,15 +105,15 @@ pub fn runs_hold()
     ensures journal { RunsHoldOnJournal }
 {}
 
-/// Of writes, each synced before the next begins, a loss of power may leave the whole ones and of the next any choice of
-/// its blocks, or of a front of it, with zeros in place of the others. A front of all of them is a case.
+/// Of writes, each synced before the next begins, a power loss may leave the whole ones and of the next any choice of
+/// its blocks, or of a prefix of it, with zeros in place of the others. A prefix of all of them is a case.
 pub fn torn_images_are_left()
-    ensures fronts { FrontsAreLeft }
+    ensures fronts { PrefixesAreLeft }
     ensures fewer { FewerAreLeft }
     ensures choices { ChoicesAreLeft }
 {}
 
-/// Where a commit's last block goes out alone behind all others, the old state stands whatever is left of the others, and
+/// Where a commit's last block goes out alone after all others, the old state stands whatever is left of the others, and
 /// the state after the request with the last block alone.
 pub fn torn_commits_move()
     ensures part { TornPartIsAlike }
@@ -123,8 +123,8 @@ pub fn torn_commits_move()
     ensures journal { TornCommitAdvances }
 {}
 
-/// At any moment of commits in turn those that were answered are there. Behind any number of losses of power, with
-/// commits between them, the state after the whole ones stands, and no other. A run's laws hold with losses of power in it.
+/// At any moment of commits in turn those that were answered are there. After any number of power losses, with
+/// commits between them, the state after the whole ones stands, and no other. A run's laws hold with power losses in it.
 pub fn commits_endure()
     ensures answered { AnsweredEndure }
     ensures turns { CommitsEndure }
@@ -134,5 +134,5 @@ pub fn commits_endure()
 /// So of a format whose last block goes out alone: nothing stands, or the new volume does.
 pub fn torn_formats_stand()
     ensures part { TornFormatIsNothing }
-    ensures stands { TornFormatStands }
+    ensures recovers { TornFormatRecovers }
 {}

@@ -1,7 +1,7 @@
 //! The byte formats of this profile of UDF as those that `durability`'s laws ask for, and the laws by them.
 //!
 //! Nothing here runs. `specs/Udf` puts the codecs' relations together: a file entry and the file set of `icb`, a directory
-//! of `dir`, a table of `vat`, a front of `volume`, each in the words of `model` and `durability`. The laws say that these
+//! of `dir`, a table of `vat`, a prefix of `volume`, each in the words of `model` and `durability`. The laws say that these
 //! formats are exact, bounded, distinct and short, and what then holds of every medium and of every commit. `specs/Said`
 //! says what the codecs read in the same words.
 //!

@@ -8,7 +8,7 @@ use Rattle.ecma.specs.Numbers.{u16_at, u32_at}
 use Rattle.ecma.proofs.Pieces.{onto, IsBytes, cut, u16_stands, u32_stands}
 use Rattle.vat.specs.declared.table.Version.{Version}
 use Rattle.vat.specs.Version.{version_number, record_size}
-use Rattle.vat.specs.Table.{middle_parts, head_parts, use_size}
+use Rattle.vat.specs.Table.{middle_parts, head_parts, sessions_size}
 use Rattle.vat.proofs.Words.{cell}
 
 pub length-head : (size previous files directories version count next commits : ℕ) (label : List ℕ) → length label ≡ 128
@@ -21,7 +21,7 @@ pub head_written : (version : Version) (room number count clients previous entry
     → count ≡ clients → room ≡ record_size version → previous ≡ entry → number ≡ version_number version
     → written ≡ concat (head_parts (44 + room * count) label (middle_parts previous files directories number count next commits))
     ++ drop (length (concat (head_parts (44 + room * count) label (middle_parts previous files directories number count next commits)))) (replicate 196 0)
-    → written ≡ concat (head_parts (use_size version clients) field (middle_parts entry files directories (version_number version) clients next commits))
+    → written ≡ concat (head_parts (sessions_size version clients) field (middle_parts entry files directories (version_number version) clients next commits))
 head_written version room number count clients previous entry files directories next commits label field written len label-is count-is room-is previous-is number-is put =
     let whole = concat (head_parts (44 + room * count) label (middle_parts previous files directories number count next commits)) in
     let size : length whole ≡ 196 = length-head (44 + room * count) previous files directories number count next commits label len in

@@ -1,4 +1,4 @@
--- At how many places data looks like the entry of a table.
+-- At how many places data looks like a VAT ICB.
 use Rattle.std.proofs.Common.{◌≡◌, ◌≢◌, ℕ, zero, suc, ◌+◌, ◌-◌, ◌<◌, ◌≤◌, min, List, ◌++◌, length, take, drop, replicate, refl, sym, ap, subst, ◌∙◌, inl, inr, arith}
 use Rattle.std.specs.Prelude.{◌⊎◌}
 use Rattle.std.proofs.lemmas.Bool.{cases_lt, cases_eq}
@@ -6,7 +6,7 @@ use Rattle.std.proofs.lemmas.List.{get_or_append_left, drop-replicate, take_all}
 use Rattle.ecma.specs.Numbers.{u32_at}
 use Rattle.ecma.specs.Descriptor.{padded}
 use Rattle.ecma.proofs.Seals.{located}
-use Rattle.icb.specs.Entry.{blocks_of}
+use Rattle.icb.specs.Entry.{block_count}
 use Rattle.icb.specs.VatIcb.{IsVatIcb}
 use Rattle.vat.specs.Imitation.{Imitates, data_block}
 
@@ -23,7 +23,7 @@ u32_at-append n xs ys room = omega (
 pub icb_located : (block : List ℕ) (number : ℕ) → IsVatIcb block number → u32_at 12 block ≡ number
 icb_located block number is = located 261 number _ block is.entry.laid.whole
 
--- a text whose location is another is no entry, whatever zeros stand behind it
+-- a text whose location is another is no entry, whatever zeros stand after it
 pub elsewhere : (text : List ℕ) (number : ℕ) → 16 ≤ length text → u32_at 12 text ≢ number → IsVatIcb (padded text) number → ⊥
 elsewhere text number long other is =
     other (sym (u32_at-append 12 text (replicate (2048 - length text) 0) long) ∙ icb_located (padded text) number is)
@@ -58,10 +58,10 @@ pigeonhole (suc n) At has one =
     now_one n m At one j k i (inr a) (inr b) = one j k i a.1 b.1
 
 -- where data imitates at as many places in a row as it has blocks, it does not at the next
-pub one_free : (bytes : List ℕ) (from : ℕ) → ((start : ℕ) → from ≤ start → start < from + blocks_of (length bytes) → Imitates bytes start)
-    → Imitates bytes (from + blocks_of (length bytes)) → ⊥
+pub one_free : (bytes : List ℕ) (from : ℕ) → ((start : ℕ) → from ≤ start → start < from + block_count (length bytes) → Imitates bytes start)
+    → Imitates bytes (from + block_count (length bytes)) → ⊥
 one_free bytes from all here =
-    let n = blocks_of (length bytes) in
+    let n = block_count (length bytes) in
     let every : (k : ℕ) → k ≤ n → Imitates bytes (from + k) =
     λ k le. elim (cases_lt k n) [
       | inl lt ↦ all (from + k) (omega arith) (omega arith)

@@ -190,7 +190,7 @@ read_record_is version text client latest replies places c l r p =
 pub read_is : (version : Version) (commits : ℕ) (text : List ℕ) (s : SpellsRecord version commits text) → commits < 2 ^ 32 → parsed version text ≡ s.kept
 read_is version commits text s small = ap (parsed version) s.whole ∙ parsed_again version commits s.kept small s.is_kept
 
--- ---- records one behind the other
+-- ---- records one after the other
 
 -- records with the same bytes are the same
 pub same_records : (version : Version) (commits : ℕ) (rs ss : List Record) → commits < 2 ^ 32 → AllByRecursion (IsKept version commits) rs → AllByRecursion (IsKept version commits) ss

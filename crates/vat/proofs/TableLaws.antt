@@ -13,9 +13,9 @@ use Rattle.vat.specs.declared.table.Version.{Version}
 use Rattle.vat.specs.declared.table.Version.TheVariants.{One, Two}
 use Rattle.vat.specs.Version.{version_number, version_of, record_size}
 use Rattle.vat.specs.Record.{record_bytes, IsKept}
-use Rattle.vat.specs.Entry.{unused, entry_number, entry_of, entry_bytes}
-use Rattle.vat.specs.Table.{Table, FitsTable, IsTableAt, table_bytes, head_parts, middle_parts, use_size}
-use Rattle.vat.specs.Rules.{version_at, count_at, commits_at, record_size_at, numbers_at, label_field, record_place, record_text, HasHeader, HasRevisions, HasRecords, HasClients, AreEntries, HasCounts, Says}
+use Rattle.vat.specs.Entry.{unused, entry_number, number_entry, entry_bytes}
+use Rattle.vat.specs.Table.{Table, FitsTable, IsTableAt, table_bytes, head_parts, middle_parts, sessions_size}
+use Rattle.vat.specs.Rules.{version_at, count_at, commits_at, record_size_at, numbers_at, label_field, record_place, record_text, HasHeader, HasRevisions, HasRecords, HasClients, AreNumbers, HasCounts, DescribesTable}
 use Rattle.vat.proofs.Labels.{length-label, field_is}
 use Rattle.vat.proofs.Areas.{piece_at}
 use Rattle.vat.proofs.Words.{u64_at-drop, u64_at-take, u32_at-fits}
@@ -37,14 +37,14 @@ version_known : (n : ℕ) → IsSome (version_of n) → n ≡ version_number (un
 version_known n known = numbered n (eqb n 1) (eqb n 2) (eqb-true n 1) (eqb-true n 2) known
 
 -- the bytes from numbers that are the table's
-assembled : (t : Table) (size previous version count : ℕ) (bytes : List ℕ) → size ≡ use_size t.version (length t.records) → previous ≡ entry_number t.previous → version ≡ version_number t.version → count ≡ length t.records
+assembled : (t : Table) (size previous version count : ℕ) (bytes : List ℕ) → size ≡ sessions_size t.version (length t.records) → previous ≡ entry_number t.previous → version ≡ version_number t.version → count ≡ length t.records
     → bytes ≡ concat (head_parts size (dstring 128 t.label) (middle_parts previous t.files t.directories version count t.next_unique t.commits)) ++ (flat_map (record_bytes t.version) t.records ++ flat_map entry_bytes t.entries)
     → bytes ≡ table_bytes t
 assembled t size previous version count bytes size-is previous-is version-is count-is all = rw (← size-is, ← previous-is, ← version-is, ← count-is) all
 
--- what stands behind the head
+-- what stands after the head
 rest_is : (t : Table) (bytes : List ℕ) (size : ℕ) → IsBytes bytes → u16_at 0 bytes ≡ 196 + size → u16_at 0 bytes ≤ length bytes → (length bytes - u16_at 0 bytes) % 4 ≡ 0
-    → flat_map (record_bytes t.version) t.records ≡ take size (drop 196 bytes) → t.entries ≡ map entry_of (numbers_at bytes)
+    → flat_map (record_bytes t.version) t.records ≡ take size (drop 196 bytes) → t.entries ≡ map number_entry (numbers_at bytes)
     → drop 196 bytes ≡ flat_map (record_bytes t.version) t.records ++ flat_map entry_bytes t.entries
 rest_is t bytes size fits header long fourth records entries =
     let place : 196 + size ≡ u16_at 0 bytes = omega arith in
@@ -76,11 +76,11 @@ client_is t bytes rest i d version sized behind fits lt =
     ∙ ap (u64_at 0) (text_is t bytes rest i d version sized behind lt) ∙ client_again t.version (get_or t.records i d) fits
 
 module _ (icb : ℕ) (t : Table) (bytes : List ℕ) (small : icb < 2 ^ 32) (fits : IsBytes bytes) (header : HasHeader icb bytes) (revisions : HasRevisions bytes) (kept : HasRecords bytes) (clients : HasClients bytes)
-    (entries : AreEntries icb (numbers_at bytes)) (counts : HasCounts bytes) (says : Says t bytes) where
+    (entries : AreNumbers icb (numbers_at bytes)) (counts : HasCounts bytes) (says : DescribesTable t bytes) where
   version_is : u16_at 184 bytes ≡ version_number t.version
   version_is = version_known (u16_at 184 bytes) kept.version ∙ sym (ap version_number says.version)
 
-  size_is : u16_at 2 bytes ≡ use_size t.version (length t.records)
+  size_is : u16_at 2 bytes ≡ sessions_size t.version (length t.records)
   size_is = rw (says.version, says.records.count) header.records
 
   previous_is : u32_at 132 bytes ≡ entry_number t.previous
@@ -139,13 +139,13 @@ module _ (icb : ℕ) (t : Table) (bytes : List ℕ) (small : icb < 2 ^ 32) (fits
       clients i j lt (omega (arith, end, says.records.count)) (here i low ∙ same ∙ sym (here j end))
 
   same_length : length t.entries ≡ length (numbers_at bytes)
-  same_length = ap length says.entries ∙ length-map (numbers_at bytes) entry_of
+  same_length = ap length says.entries ∙ length-map (numbers_at bytes) number_entry
 
   -- each number below a limit unless it is that of an unused entry
   all_below : (limit : ℕ) → ((i : ℕ) → i < length (numbers_at bytes) → get_or (numbers_at bytes) i 0 ≢ unused → get_or (numbers_at bytes) i 0 < limit) → All (λ e. IfSome e (λ n. n < limit)) t.entries
   all_below limit below k d lt =
       let low : k < length (numbers_at bytes) = omega (arith, lt, same_length) in
-      let at : get_or t.entries k d ≡ entry_of (get_or (numbers_at bytes) k 0) = ap (λ (es : List (Option ℕ)). get_or es k d) says.entries ∙ get_or-map entry_of (numbers_at bytes) k 0 d low in
+      let at : get_or t.entries k d ≡ number_entry (get_or (numbers_at bytes) k 0) = ap (λ (es : List (Option ℕ)). get_or es k d) says.entries ∙ get_or-map number_entry (numbers_at bytes) k 0 d low in
       subst (λ (e : Option ℕ). IfSome e (λ n. n < limit)) (sym at) (entry_of-below (get_or (numbers_at bytes) k 0) limit (below k low))
 
   below_icb : (i : ℕ) → i < length (numbers_at bytes) → get_or (numbers_at bytes) i 0 ≢ unused → get_or (numbers_at bytes) i 0 < icb
@@ -170,7 +170,7 @@ module _ (icb : ℕ) (t : Table) (bytes : List ℕ) (small : icb < 2 ^ 32) (fits
           let some : t.previous ≡ Some (u32_at 132 bytes) = says.previous ∙ entry_of-used (u32_at 132 bytes) (λ e. omega (arith, below, e)) in
           absurd (let yes = ap is_some some in cc)
     ],
-    λ none_yet. ap is_some (says.previous ∙ ap entry_of (header.first (sym says.commits ∙ none_yet))),
+    λ none_yet. ap is_some (says.previous ∙ ap number_entry (header.first (sym says.commits ∙ none_yet))),
   )
 
   pub fits_are : FitsTable t

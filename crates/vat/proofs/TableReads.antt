@@ -14,9 +14,9 @@ use Rattle.vat.specs.declared.table.Version.{Version}
 use Rattle.vat.specs.declared.table.Version.TheVariants.{One, Two}
 use Rattle.vat.specs.Version.{version_number, version_of, record_size}
 use Rattle.vat.specs.Record.{record_bytes, IsKept}
-use Rattle.vat.specs.Entry.{unused, entry_number, entry_of, entry_bytes, words}
-use Rattle.vat.specs.Table.{Table, FitsTable, IsTable, IsTableAt, head_bytes, head_parts, middle_of, use_size}
-use Rattle.vat.specs.Rules.{table_rules, version_at, count_at, commits_at, record_size_at, numbers_at, label_field, record_place, used_of, HasHeader, HasRecords, HasClients, HasEntries, HasCounts, Says, SaysRecords}
+use Rattle.vat.specs.Entry.{unused, entry_number, number_entry, entry_bytes, words}
+use Rattle.vat.specs.Table.{Table, FitsTable, IsTable, IsTableAt, head_bytes, head_parts, middle_of, sessions_size}
+use Rattle.vat.specs.Rules.{table_rules, version_at, count_at, commits_at, record_size_at, numbers_at, label_field, record_place, used_of, HasHeader, HasRecords, HasClients, HasEntries, HasCounts, DescribesTable, SaysRecords}
 use Rattle.vat.proofs.Labels.{length-label, field_told, one_label}
 use Rattle.vat.proofs.Areas.{length-pieces}
 use Rattle.vat.proofs.Records.{records_sized, same_records}
@@ -24,7 +24,7 @@ use Rattle.vat.proofs.Entries.{entry_of-entry_number, entry_number-fits, entry_n
 use Rattle.vat.proofs.Head.{ReadsHead, reads_head, length-head}
 use Rattle.vat.proofs.TableLaws.{text_is, client_is}
 
-use_small : (version : Version) (n : ℕ) → n ≤ 64 → 152 + use_size version n < 2 ^ 16
+use_small : (version : Version) (n : ℕ) → n ≤ 64 → 152 + sessions_size version n < 2 ^ 16
 use_small One n le = omega arith
 use_small Two n le = omega arith
 
@@ -85,11 +85,11 @@ module _ (icb : ℕ) (t : Table) (bytes : List ℕ) (stands : IsTableAt icb t by
   few_nodes : 1 + (t.files + t.directories) ≤ 4097
   few_nodes = omega (arith, fits.used, fits.many, count_by-le-length is_some t.entries)
 
-  pub head : ReadsHead (use_size t.version (length t.records)) (dstring 128 t.label) (entry_number t.previous) t.files t.directories (version_number t.version) (length t.records) t.next_unique t.commits (records ++ entries) bytes
+  pub head : ReadsHead (sessions_size t.version (length t.records)) (dstring 128 t.label) (entry_number t.previous) t.files t.directories (version_number t.version) (length t.records) t.next_unique t.commits (records ++ entries) bytes
   head =
-      reads_head (use_size t.version (length t.records)) (dstring 128 t.label) (entry_number t.previous) t.files t.directories (version_number t.version) (length t.records) t.next_unique t.commits (records ++ entries) bytes
+      reads_head (sessions_size t.version (length t.records)) (dstring 128 t.label) (entry_number t.previous) t.files t.directories (version_number t.version) (length t.records) t.next_unique t.commits (records ++ entries) bytes
       (length-label t.label fits.label) (use_small t.version (length t.records) fits.clients) (entry_number-fits t.previous fits.previous) (omega (arith, few_nodes)) (omega (arith, few_nodes)) (number_small t.version) (omega (arith, fits.clients)) fits.next_unique_fits fits.commits
-      (stands.table.whole ∙ concat_onto (head_parts (use_size t.version (length t.records)) (dstring 128 t.label) (middle_of t)) (records ++ entries))
+      (stands.table.whole ∙ concat_onto (head_parts (sessions_size t.version (length t.records)) (dstring 128 t.label) (middle_of t)) (records ++ entries))
 
   version : version_at bytes ≡ t.version
   version = ap (λ (n : ℕ). unwrap_or (version_of n) One) head.version_is ∙ version_again t.version
@@ -127,17 +127,17 @@ module _ (icb : ℕ) (t : Table) (bytes : List ℕ) (stands : IsTableAt icb t by
         ∙ ap (λ (n : ℕ). take n (drop 196 bytes)) (sym product);
   }
 
-  pub says : Says t bytes
+  pub says : DescribesTable t bytes
   says = record {
     label = field_told t.label (label_field bytes) fits.label head.label_is;
-    previous = sym (entry_of-entry_number t.previous fits.previous) ∙ ap entry_of (sym head.previous_is);
+    previous = sym (entry_of-entry_number t.previous fits.previous) ∙ ap number_entry (sym head.previous_is);
     files = sym head.files_are;
     directories = sym head.directories_are;
     version = sym version;
     next_unique = sym head.next_is;
     commits = sym head.commits_are;
     records = says_records;
-    entries = sym (entries_again t.entries below_unused) ∙ ap (map entry_of) (sym numbers);
+    entries = sym (entries_again t.entries below_unused) ∙ ap (map number_entry) (sym numbers);
   }
 
   has_header : HasHeader icb bytes
@@ -229,7 +229,7 @@ abbrev tabled : List ℕ → Option ℕ → ℕ → ℕ → Version → ℕ → 
 tabled label previous files directories version next commits records entries =
     record { label = label; previous = previous; files = files; directories = directories; version = version; next_unique = next; commits = commits; records = records; entries = entries }
 
-pub one_said : (t u : Table) (bytes : List ℕ) → commits_at bytes < 2 ^ 32 → Says t bytes → Says u bytes → t ≡ u
+pub one_said : (t u : Table) (bytes : List ℕ) → commits_at bytes < 2 ^ 32 → DescribesTable t bytes → DescribesTable u bytes → t ≡ u
 one_said t u bytes small a b =
     let same = same_records (version_at bytes) (commits_at bytes) t.records u.records small a.records.kept b.records.kept (a.records.count ∙ sym b.records.count) (a.records.whole ∙ sym b.records.whole) in
     ap (λ (x : List ℕ). tabled x t.previous t.files t.directories t.version t.next_unique t.commits t.records t.entries) (one_label t.label u.label (label_field bytes) a.label b.label)
@@ -256,7 +256,7 @@ takes_so_many t bytes is =
     let rs = flat_map (record_bytes t.version) t.records in
     let es = flat_map entry_bytes t.entries in
     let front : length (head_bytes t) ≡ 196 =
-    length-head (use_size t.version (length t.records)) (entry_number t.previous) t.files t.directories (version_number t.version) (length t.records) t.next_unique t.commits (dstring 128 t.label) (length-label t.label is.fits.label) in
+    length-head (sessions_size t.version (length t.records)) (entry_number t.previous) t.files t.directories (version_number t.version) (length t.records) t.next_unique t.commits (dstring 128 t.label) (length-label t.label is.fits.label) in
     let kept = recursion_from_All (IsKept t.version t.commits) t.records is.fits.records in
     let records : length rs ≡ record_size t.version * length t.records = length-pieces (record_bytes t.version) (record_size t.version) t.records (records_sized t.version t.commits t.records kept) in
     let entries : length es ≡ 4 * length t.entries = length-pieces entry_bytes 4 t.entries (entries_sized t.entries) in

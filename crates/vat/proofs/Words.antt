@@ -1,4 +1,4 @@
--- Numbers of four bytes each, one behind the other.
+-- Numbers of four bytes each, one after the other.
 use Rattle.std.proofs.Common.{◌≡◌, ◌≢◌, ℕ, zero, suc, ◌+◌, ◌*◌, ◌/◌, ◌^◌, ◌<◌, ◌≤◌, true, false, List, [], ◌∷◌, length, take, drop, get_or, refl, sym, ap, ◌∙◌, arith}
 use Rattle.std.specs.Prelude.{◌==◌, not}
 use Rattle.std.proofs.lemmas.Bool.{ne_eqb, eq-eqb}
@@ -14,11 +14,11 @@ length-words (a ∷ b ∷ []) = refl
 length-words (a ∷ b ∷ c ∷ []) = refl
 length-words (a ∷ b ∷ c ∷ d ∷ rest) = omega (arith, length-words rest)
 
--- a byte behind a place
+-- a byte after a place
 pub cell : (k i j : ℕ) (xs : List ℕ) → j ≡ k + i → get_or (drop k xs) i 0 ≡ get_or xs j 0
 cell k i j xs e = get_or-drop k xs i 0 ∙ ap (λ (n : ℕ). get_or xs n 0) (sym e)
 
--- a number behind a place
+-- a number after a place
 pub u32_at-drop : (k n : ℕ) (xs : List ℕ) → u32_at n (drop k xs) ≡ u32_at (k + n) xs
 u32_at-drop k n xs = omega (
   arith,
@@ -45,7 +45,7 @@ counts n other = ap not (ne_eqb n unused other)
 pub counts_not : (n : ℕ) → n ≡ unused → not (n == unused) ≡ false
 counts_not n same = ap not (eq-eqb n unused same)
 
--- eight bytes behind a place, and within a front
+-- eight bytes after a place, and within a front
 pub u64_at-drop : (k : ℕ) (xs : List ℕ) → u64_at 0 (drop k xs) ≡ u64_at k xs
 u64_at-drop k xs = omega (
   arith,

@@ -1,16 +1,16 @@
--- Blocks that look like the entry of a table where they stand.
+-- Blocks that look like a VAT ICB where they stand.
 use Rattle.std.specs.Prelude.{ℕ, ◌+◌, ◌*◌, ◌<◌, List, length, take, drop}
 use Rattle.limits.specs.declared.TheConstants.{BLOCK_BYTES}
 use Rattle.ecma.specs.Descriptor.{padded}
-use Rattle.icb.specs.Entry.{blocks_of}
+use Rattle.icb.specs.Entry.{block_count}
 use Rattle.icb.specs.VatIcb.{IsVatIcb}
 
--- a block of the data, the last one with zeros behind
+-- a block of the data, the last one with zeros after it
 abbrev pub data_block : List ℕ → ℕ → List ℕ
 data_block bytes i = padded (take BLOCK_BYTES (drop (BLOCK_BYTES * i) bytes))
 
--- some block of data that begins at this block number is the entry of a table where it would stand
+-- some block of data that begins at this block number is a VAT ICB where it would stand
 pub record Imitates (bytes : List ℕ) (start : ℕ) : Type 0 where
   pub index : ℕ
-  pub there : index < blocks_of (length bytes)
+  pub there : index < block_count (length bytes)
   pub entry : IsVatIcb (data_block bytes index) (start + index)

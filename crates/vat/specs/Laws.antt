@@ -17,5 +17,5 @@ abbrev pub TakesSoMany : Type 0
 TakesSoMany = (t : Table) (bytes : List ℕ) → IsTable t bytes → length bytes ≡ 196 + (record_size t.version * length t.records + 4 * length t.entries)
 
 -- a table that stands stands for every later entry too
-abbrev pub StandsLater : Type 0
-StandsLater = (icb later : ℕ) (t : Table) (bytes : List ℕ) → icb ≤ later → IsTableAt icb t bytes → IsTableAt later t bytes
+abbrev pub IsValidLater : Type 0
+IsValidLater = (icb later : ℕ) (t : Table) (bytes : List ℕ) → icb ≤ later → IsTableAt icb t bytes → IsTableAt later t bytes

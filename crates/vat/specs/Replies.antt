@@ -9,8 +9,8 @@ use Rattle.vat.specs.Reply.{filled}
 abbrev pub shown : Inside → List Reply
 shown r = take r.count r.kept
 
--- one to four, and nothing behind them
-pub record IsFilled (r : Inside) : Type 0 where
+-- one to four, and nothing after them
+pub record IsReplyArray (r : Inside) : Type 0 where
   pub some : 0 < r.count
   pub bound : r.count ≤ KEPT_REPLIES
   pub whole : r.kept ≡ filled KEPT_REPLIES (take r.count r.kept)
@@ -19,7 +19,7 @@ pub record IsFilled (r : Inside) : Type 0 where
 abbrev pub filled_again : List Reply → Inside
 filled_again replies = record { kept = filled KEPT_REPLIES replies; count = length replies }
 
-pub inverse_again : (r : Inside) → IsFilled r → filled_again (shown r) ≡ r
+pub inverse_again : (r : Inside) → IsReplyArray r → filled_again (shown r) ≡ r
 inverse_again r h =
     let count : length (take r.count r.kept) ≡ r.count = omega (arith, length-take r.count r.kept, h.bound, h.places) in
     ap (λ (kept : List Reply). same kept (length (shown r))) (sym h.whole) ∙ ap (same r.kept) count

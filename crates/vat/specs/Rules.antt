@@ -1,4 +1,4 @@
--- What makes bytes a table, in the order in which the faults are told.
+-- What makes bytes a table, in the order in which the faults are reported.
 use Rattle.std.specs.Prelude.{◌≡◌, ◌≢◌, ℕ, ◌+◌, ◌-◌, ◌*◌, ◌%◌, ◌<◌, ◌≤◌, ◌==◌, ◌⊎◌, not, List, [], ◌∷◌, length, take, drop, map, codes, replicate, slice_index, IsSome, unwrap_or, count_by}
 use Rattle.std.specs.Int.{w16, to_le_bytes}
 use Rattle.std.specs.List.{concat, flat_map, AllByRecursion}
@@ -15,7 +15,7 @@ use Rattle.vat.specs.declared.record.Record.{Record}
 use Rattle.vat.specs.Reply.{nothing}
 use Rattle.vat.specs.Version.{version_of, record_size}
 use Rattle.vat.specs.Record.{SpellsRecord, IsKept, record_bytes}
-use Rattle.vat.specs.Entry.{unused, words, entry_of}
+use Rattle.vat.specs.Entry.{unused, words, number_entry}
 use Rattle.vat.specs.Table.{Table}
 
 abbrev pub number_of_fault : VatFault → ℕ
@@ -28,7 +28,7 @@ number_of_fault faults.Entry = 46
 number_of_fault faults.Count = 47
 number_of_fault faults.Memory = 65
 
--- the version of the sessions; lengths of a version that is unknown are reckoned as those of the first
+-- the version of the sessions; lengths of a version that is unknown are computed as those of the first
 abbrev pub version_at : List ℕ → Version
 version_at bytes = unwrap_or (version_of (u16_at 184 bytes)) One
 
@@ -41,7 +41,7 @@ commits_at bytes = u32_at 192 bytes
 abbrev pub record_size_at : List ℕ → ℕ
 record_size_at bytes = record_size (version_at bytes)
 
--- the numbers behind the header
+-- the numbers after the header
 abbrev pub numbers_at : List ℕ → List ℕ
 numbers_at bytes = words (drop (u16_at 0 bytes) bytes)
 
@@ -90,12 +90,12 @@ places_in Two text = reply_at 16 text ∷ reply_at 24 text ∷ reply_at 32 text 
 abbrev pub HasClients : List ℕ → Type 0
 HasClients bytes = (i j : ℕ) → i < j → j < count_at bytes → u64_at (record_place bytes i) bytes ≢ u64_at (record_place bytes j) bytes
 
--- each number is below the table's own entry, or unused behind those of the file set and the root
-abbrev pub AreEntries : ℕ → List ℕ → Type 0
-AreEntries icb numbers = (i : ℕ) → i < length numbers → (slice_index numbers i < icb) ⊎ ((slice_index numbers i ≡ unused) × (2 ≤ i))
+-- each number is below the VAT ICB, or unused after those of the file set and the root
+abbrev pub AreNumbers : ℕ → List ℕ → Type 0
+AreNumbers icb numbers = (i : ℕ) → i < length numbers → (slice_index numbers i < icb) ⊎ ((slice_index numbers i ≡ unused) × (2 ≤ i))
 
 abbrev pub HasEntries : ℕ → List ℕ → Type 0
-HasEntries icb bytes = AreEntries icb (numbers_at bytes)
+HasEntries icb bytes = AreNumbers icb (numbers_at bytes)
 
 abbrev pub used_of : List ℕ → ℕ
 used_of numbers = count_by (λ n. not (n == unused)) numbers
@@ -124,13 +124,13 @@ pub record SaysRecords (records : List Record) (bytes : List ℕ) : Type 0 where
   pub whole : flat_map (record_bytes (version_at bytes)) records ≡ take (record_size_at bytes * count_at bytes) (drop 196 bytes)
 
 -- what the bytes say
-pub record Says (t : Table) (bytes : List ℕ) : Type 0 where
+pub record DescribesTable (t : Table) (bytes : List ℕ) : Type 0 where
   pub label : IsLabelDstring t.label (label_field bytes)
-  pub previous : t.previous ≡ entry_of (u32_at 132 bytes)
+  pub previous : t.previous ≡ number_entry (u32_at 132 bytes)
   pub files : t.files ≡ u32_at 136 bytes
   pub directories : t.directories ≡ u32_at 140 bytes
   pub version : t.version ≡ version_at bytes
   pub next_unique : t.next_unique ≡ u32_at 188 bytes
   pub commits : t.commits ≡ commits_at bytes
   pub records : SaysRecords t.records bytes
-  pub entries : t.entries ≡ map entry_of (numbers_at bytes)
+  pub entries : t.entries ≡ map number_entry (numbers_at bytes)

@@ -38,8 +38,8 @@ view vat = record {
 }
 
 -- how many bytes the implementation use takes
-abbrev pub use_size : Version → ℕ → ℕ
-use_size version count = 44 + record_size version * count
+abbrev pub sessions_size : Version → ℕ → ℕ
+sessions_size version count = 44 + record_size version * count
 
 -- what stands between the label and the records, piece by piece
 abbrev pub middle_parts : ℕ → ℕ → ℕ → ℕ → ℕ → ℕ → ℕ → List (List ℕ)
@@ -70,7 +70,7 @@ abbrev pub middle_of : Table → List (List ℕ)
 middle_of t = middle_parts (entry_number t.previous) t.files t.directories (version_number t.version) (length t.records) t.next_unique t.commits
 
 abbrev pub head_bytes : Table → List ℕ
-head_bytes t = concat (head_parts (use_size t.version (length t.records)) (dstring 128 t.label) (middle_of t))
+head_bytes t = concat (head_parts (sessions_size t.version (length t.records)) (dstring 128 t.label) (middle_of t))
 
 abbrev pub table_bytes : Table → List ℕ
 table_bytes t = head_bytes t ++ (flat_map (record_bytes t.version) t.records ++ flat_map entry_bytes t.entries)

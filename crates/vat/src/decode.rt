@@ -1,10 +1,10 @@
 ghost use Rattle.std.specs.Prelude.{◌≡◌, ◌≤◌, ◌+◌, ◌*◌, ◌/◌, ◌⊎◌, ℕ, IfErr, IfOk, OnOk, MatchResult, length, map};
 ghost use Rattle.ecma.specs.FirstFault.{IsFirst, AllHold};
 ghost use Rattle.ecma.specs.Numbers as numbers;
-ghost use Rattle.vat.specs.Entry.{entry_of, words};
+ghost use Rattle.vat.specs.Entry.{number_entry, words};
 ghost use Rattle.vat.specs.Table.{Table, IsTableAt, view};
 ghost use Rattle.vat.specs.Rules as rule;
-ghost use Rattle.vat.specs.Rules.{table_rules, HasLabel, HasRecords, Says, SaysRecords};
+ghost use Rattle.vat.specs.Rules.{table_rules, HasLabel, HasRecords, DescribesTable, SaysRecords};
 
 use crate::encode::UNUSED;
 use crate::fault::VatFault;
@@ -24,7 +24,7 @@ pub fn decode_vat(alloc: Global, bytes: &[u8], icb: u32) -> Result<Vat, VatFault
     ensures found { IfOk result (λ vat. IsTableAt icb (view vat) bytes.now) }
     // What stands there is read, where there is memory for it.
     ensures only { (t : Table) → IsTableAt icb t bytes.now → MatchResult result (λ vat. view vat ≡ t) (λ e. e ≡ VatFault.Memory) }
-    // A fault is the first, and want of memory is told only where there is none.
+    // A fault is the first, and lack of memory is told only where there is none.
     ensures fault { IfErr result (λ e. IsFirst (table_rules icb bytes.now) e ⊎ ((e ≡ VatFault.Memory) × AllHold (table_rules icb bytes.now))) }
 {
     examine(bytes, icb)?;
@@ -67,7 +67,7 @@ fn read(alloc: Global, bytes: &[u8]) -> Result<Vat, AllocError>
     requires whole { 196 + rule.record_size_at bytes.now * rule.count_at bytes.now ≤ length bytes.now }
     requires label { HasLabel bytes.now }
     requires kept { HasRecords bytes.now }
-    ensures { IfOk result (λ vat. Says (view vat) bytes.now) }
+    ensures { IfOk result (λ vat. DescribesTable (view vat) bytes.now) }
 {
     let label = Label::of(label_field(bytes)).unwrap();
     let records = read_records(alloc, bytes)?;
@@ -89,7 +89,7 @@ fn read(alloc: Global, bytes: &[u8]) -> Result<Vat, AllocError>
 
 /// The block number that a number stands for.
 fn entry(number: u32) -> Option<u32>
-    ensures { result ≡ entry_of number }
+    ensures { result ≡ number_entry number }
 {
     if number == UNUSED { None } else { Some(number) }
 }
@@ -114,7 +114,7 @@ fn read_records(alloc: Global, bytes: &[u8]) -> Result<Vec<Record>, AllocError>
 
 /// What the table has for each virtual address.
 fn read_entries(alloc: Global, text: &[u8]) -> Result<Vec<Option<u32>>, AllocError>
-    ensures { IfOk result (λ entries. entries.items ≡ map entry_of (words text.now)) }
+    ensures { IfOk result (λ entries. entries.items ≡ map number_entry (words text.now)) }
 {
     let mut entries = Vec::from_elem(alloc, None, text.len() / 4)?;
     fill_entries(&mut entries, text);
@@ -124,7 +124,7 @@ fn read_entries(alloc: Global, text: &[u8]) -> Result<Vec<Option<u32>>, AllocErr
 /// Puts them in their places.
 fn fill_entries(entries: &mut [Option<u32>], text: &[u8])
     requires { length entries.old ≡ length text.now / 4 }
-    ensures { entries.new ≡ map entry_of (words text.now) }
+    ensures { entries.new ≡ map number_entry (words text.now) }
 {
     for i in 0..entries.len() {
         entries[i] = entry(u32_at(text, 4 * i));

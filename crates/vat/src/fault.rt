@@ -5,7 +5,7 @@ ghost use Rattle.vat.specs.declared.fault.VatFault.TheVariants.{Memory};
 
 use std::alloc::AllocError;
 
-/// Why bytes are no virtual allocation table, in the order in which the faults are told.
+/// Why bytes are no virtual allocation table, in the order in which the faults are reported.
 #[derive(Clone, Copy, Debug, PartialEq, Eq)]
 pub enum VatFault {
     /// A length, the reserved field, or the number of the entry before.
@@ -18,7 +18,7 @@ pub enum VatFault {
     Record,
     /// A client has two records.
     ClientTwice,
-    /// An entry is neither unused nor below the table's own entry, or that of the file set or the root is unused.
+    /// An entry is neither unused nor below the VAT ICB, or that of the file set or the root is unused.
     Entry,
     /// The count of entries or of used ones, or the next unique ID.
     Count,
@@ -30,7 +30,7 @@ impl VatFault {
     ghost use Rattle.std.specs.Prelude.{◌≡◌};
     ghost use Rattle.vat.specs.Rules.{number_of_fault};
 
-    /// The number that a listing of damages shows, from 41 to 47; 65 for want of memory.
+    /// The number that a listing of damages shows, from 41 to 47; 65 for lack of memory.
     pub fn number(self) -> u8
         ensures { result ≡ number_of_fault self }
     {

@@ -2,7 +2,7 @@
 //! its implementation use, and places for data.
 //!
 //! Promised: a table has one spelling, `encode_vat` writes it and `decode_vat` reads exactly it, else it
-//! tells the first fault; `is_vat_icb` knows the entry of a table by its whole descriptor, its location
+//! tells the first fault; `is_vat_icb` knows a VAT ICB by its whole descriptor, its location
 //! and its check among it; `clear_start` gives the least start from which data shows no such entry.
 //!
 //! Left to others: that a table agrees with the tree that it leads to, the chain of earlier tables, and

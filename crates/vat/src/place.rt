@@ -1,9 +1,9 @@
-//! Where data may stand: where none of its blocks looks like the entry of a table.
+//! Where data may stand: where none of its blocks looks like a VAT ICB.
 
 ghost use Rattle.limits.specs.declared.TheConstants.{BLOCK_BYTES, PARTITION_BLOCKS};
 ghost use Rattle.std.specs.Prelude.{◌≡◌, ℕ, ◌+◌, ◌*◌, ◌<◌, ◌≤◌, ◌↔◌, length, take, drop, IsTrue};
 ghost use Rattle.ecma.specs.Descriptor.{padded};
-ghost use Rattle.icb.specs.Entry.{blocks_of};
+ghost use Rattle.icb.specs.Entry.{block_count};
 ghost use Rattle.icb.specs.VatIcb.{IsVatIcb};
 ghost use Rattle.vat.specs.Imitation.{Imitates};
 
@@ -31,7 +31,7 @@ pub fn clear_start(bytes: &[u8], from: u32) -> u32
     requires size { length bytes.now ≤ 1_048_576 }
     requires place { from ≤ PARTITION_BLOCKS }
     ensures low { from ≤ result }
-    ensures high { result ≤ from + blocks_of (length bytes.now) }
+    ensures high { result ≤ from + block_count (length bytes.now) }
     ensures clear { Imitates bytes.now result → ⊥ }
     ensures least { (start : ℕ) → from ≤ start → start < result → Imitates bytes.now start }
 {
@@ -44,7 +44,7 @@ pub fn clear_start(bytes: &[u8], from: u32) -> u32
     from + blocks
 }
 
-/// Whether some block of data that begins there is the entry of a table.
+/// Whether some block of data that begins there is a VAT ICB.
 fn imitates(bytes: &[u8], start: u32) -> bool
     requires size { length bytes.now ≤ 1_048_576 }
     requires place { start ≤ 1_000_000 }
@@ -69,7 +69,7 @@ fn block_text(bytes: &[u8], i: usize) -> &[u8]
     text
 }
 
-/// Whether a block with this text and zeros behind it is the entry of a table.
+/// Whether a block with this text and zeros after it is a VAT ICB.
 fn is_entry(text: &[u8], number: u32) -> bool
     requires { length text.now ≤ BLOCK_BYTES }
     ensures { IsTrue result ↔ IsVatIcb (padded text.now) number }

@@ -33,11 +33,11 @@ impl Model for Replies {
 
     ghost Value = { List Reply };
 
-    ghost use Rattle.vat.specs.Replies.{shown, IsFilled, filled_again, inverse_again};
+    ghost use Rattle.vat.specs.Replies.{shown, IsReplyArray, filled_again, inverse_again};
 
     ghost view = { shown };
 
-    ghost invariant = { IsFilled };
+    ghost invariant = { IsReplyArray };
 
     ghost inverse = { filled_again };
 

@@ -15,7 +15,7 @@ ghost use Rattle.vat.specs.Rules.{HasHeader, HasLabel, HasRevisions, HasRecords,
 use crate::encode::{RECORDS_AT, REVISION, SESSIONS, UNUSED, record_bytes};
 use crate::record::{Record, Replies, Reply};
 use crate::table::Version;
-use ecma::{Field, stands_at, u16_at, u32_at, u64_at};
+use ecma::{Field, are_fields_at, u16_at, u32_at, u64_at};
 use osta::Label;
 
 /// How many clients are kept at most.
@@ -27,7 +27,7 @@ const ENTRIES: usize = limits::ADDRESSES as usize;
 /// The first unique ID of a node that is not the root.
 const FIRST_UNIQUE: u32 = limits::FIRST_UNIQUE;
 
-/// The version of the sessions. Lengths of a version that is unknown are reckoned as those of the first.
+/// The version of the sessions. Lengths of a version that is unknown are computed as those of the first.
 pub(crate) fn version(bytes: &[u8]) -> Version
     requires { 196 ≤ length bytes.now }
     ensures { result ≡ rule.version_at bytes.now }
@@ -99,7 +99,7 @@ pub(crate) fn has_revisions(bytes: &[u8]) -> bool
         Field::U16(REVISION),
         Field::U16(REVISION),
     ];
-    stands_at(&revisions, bytes, 144)
+    are_fields_at(&revisions, bytes, 144)
 }
 
 /// The bytes of a record.
@@ -221,7 +221,7 @@ pub(crate) fn has_records(bytes: &[u8]) -> bool
     requires whole { 196 + rule.record_size_at bytes.now * rule.count_at bytes.now ≤ length bytes.now }
     ensures { IsTrue result ↔ HasRecords bytes.now }
 {
-    if !stands_at(&[Field::Bytes(SESSIONS), Field::Zeros(14)], bytes, 152) {
+    if !are_fields_at(&[Field::Bytes(SESSIONS), Field::Zeros(14)], bytes, 152) {
         return false;
     }
     let Some(version) = Version::read(u16_at(bytes, 184)) else {
@@ -295,7 +295,7 @@ pub(crate) fn has_entries(bytes: &[u8], icb: u32) -> bool
 }
 
 fn are_entries(text: &[u8], icb: u32) -> bool
-    ensures { IsTrue result ↔ rule.AreEntries icb (words text.now) }
+    ensures { IsTrue result ↔ rule.AreNumbers icb (words text.now) }
 {
     for i in 0..text.len() / 4 {
         let number = u32_at(text, 4 * i);

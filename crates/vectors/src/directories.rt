@@ -26,7 +26,7 @@ pub fn directory(alloc: Global, bytes: &[u8], first: u32, size: u32) -> Result<S
             Kind::File => "file",
             Kind::Directory => "directory",
         };
-        write!(text, " {kind} {} {} ", entry.icb, entry.unique)?;
+        write!(text, " {kind} {} {} ", entry.virtual_address, entry.unique)?;
         show_text(name.as_str(), &mut text)?;
     }
     Ok(text)
@@ -104,7 +104,7 @@ fn files(alloc: Global, count: u32, letters: usize) -> Result<Dir, Trouble> {
     };
     let entry = Entry {
         kind: Kind::File,
-        icb: 2,
+        virtual_address: 2,
         unique: 16,
     };
     for number in 0..count.min(512) {

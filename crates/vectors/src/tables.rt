@@ -84,7 +84,7 @@ fn tell_unused(count: usize, out: &mut String) -> Result<(), Trouble> {
     Ok(())
 }
 
-/// Whether a table's entry stands at a block number.
+/// Whether a VAT ICB stands at a block number.
 pub fn is_entry(alloc: Global, bytes: &[u8], number: u32) -> Result<String, Trouble> {
     let answer = if is_vat_icb(&block_of(bytes), number) {
         "yes"
@@ -94,7 +94,7 @@ pub fn is_entry(alloc: Global, bytes: &[u8], number: u32) -> Result<String, Trou
     words_of(alloc, answer)
 }
 
-/// The least block number from one on at which none of the blocks would be a table's entry.
+/// The least block number from one on at which none of the blocks would be a VAT ICB.
 pub fn start(alloc: Global, bytes: &[u8], from: u32) -> Result<String, Trouble> {
     if bytes.len() > 1_048_576 || from > 449_743 {
         return Err(Trouble::Line("no file is so long"));

@@ -2,7 +2,7 @@
 
 use crate::compare::words_of;
 use crate::trouble::Trouble;
-use osta::{Label, Name, NameFault, check_spelling, compress, dstring_read, dstring_write, expand};
+use osta::{Label, Name, NameFault, check_encoding, compress, dstring_read, dstring_write, expand};
 use std::alloc::Global;
 use std::str;
 use words::{number, read_bytes, show_bytes};
@@ -67,7 +67,7 @@ fn fault(alloc: Global, number: u8) -> Result<String, Trouble> {
 fn spelling(alloc: Global, bytes: &[u8]) -> Result<String, Trouble> {
     let text = match expand(alloc, bytes) {
         Ok(text) => text,
-        Err(found) if check_spelling(bytes) == Err(found) => return fault(alloc, found.number()),
+        Err(found) if check_encoding(bytes) == Err(found) => return fault(alloc, found.number()),
         Err(_) => return words_of(alloc, "two faults"),
     };
     let mut again = Vec::new(alloc);
@@ -180,7 +180,7 @@ fn set_identifier(alloc: Global, bytes: &[u8]) -> Result<String, Trouble> {
         return words_of(alloc, "other digits");
     }
     match Label::read(text) {
-        Ok(label) if label.dstring_128_behind(b"0123456789abcdef").as_slice() == bytes => {
+        Ok(label) if label.dstring_128_after(b"0123456789abcdef").as_slice() == bytes => {
             told(alloc, text)
         }
         _ => words_of(alloc, "written otherwise"),

@@ -2,14 +2,16 @@
 
 ghost use Rattle.drive.specs.Journal.{held};
 ghost use Rattle.drive.specs.MemDrive.{journal_of};
-ghost use Rattle.recover.specs.Known.{IsKnown};
+ghost use Rattle.recover.specs.ReadCache.{IsKnown};
 
 use crate::compare::{Medium, blocks_of, words_of};
 use crate::tables::tell_table;
 use crate::trouble::Trouble;
 use drive::{Drive, MemDrive};
 use ecma::Block;
-use recover::{Known, PARTITION_START, State, StoreFault, before, last, state_at, state_sharing};
+use recover::{
+    PARTITION_START, ReadCache, State, StoreFault, before, last, state_at, state_sharing,
+};
 use std::alloc::Global;
 use std::fmt::Write;
 use words::number;
@@ -33,7 +35,7 @@ fn add(drive: &mut MemDrive, block: &Block) -> Result<(), Trouble> {
     Ok(())
 }
 
-/// The address of the last table's entry.
+/// The address of the last VAT ICB.
 pub fn last_table(alloc: Global, medium: &Medium) -> Result<String, Trouble> {
     let mut drive = drive_of(alloc, medium)?;
     let found = last(&mut drive);
@@ -77,7 +79,7 @@ fn refusal(alloc: Global, fault: StoreFault) -> Result<String, Trouble> {
     }
 }
 
-/// What stands where a table's entry does.
+/// What stands where a VAT ICB does.
 pub fn state(alloc: Global, medium: &Medium, at: u32) -> Result<String, Trouble> {
     let mut drive = drive_of(alloc, medium)?;
     let state = match state_of(alloc, &mut drive, at)? {
@@ -142,7 +144,7 @@ pub fn states(alloc: Global, medium: &Medium, words: &[&str]) -> Result<String, 
 
 /// What is told of three states, looked at in turn with what is known of those before.
 fn shared(alloc: Global, drive: &mut MemDrive, ats: [u32; 3]) -> Result<[Told; 3], Trouble> {
-    let mut known = Known::new(alloc);
+    let mut known = ReadCache::new(alloc);
     let first = shared_state(alloc, drive, &mut known, ats[0])?;
     let second = shared_state(alloc, drive, &mut known, ats[1])?;
     let third = shared_state(alloc, drive, &mut known, ats[2])?;
@@ -168,7 +170,7 @@ fn commits(looked: &Result<State, StoreFault>) -> Told {
 fn shared_state(
     alloc: Global,
     drive: &mut MemDrive,
-    known: &mut Known,
+    known: &mut ReadCache,
     at: u32,
 ) -> Result<Told, Trouble>
     requires { IsKnown (held (journal_of drive.old)) known.old }

@@ -3,7 +3,7 @@ use Rattle.std.proofs.Common.{◌≡◌, ◌≢◌, ℕ, ◌%◌, ◌<◌, ◌==
 use Rattle.std.specs.Prelude.{nat_lt, if◌then◌else◌}
 use Rattle.ecma.specs.Numbers.{u16_at}
 use Rattle.ecma.proofs.Seals.{begins}
-use Rattle.volume.specs.Front.{Content, Holds, FrontIsNoEntry, front_content, recognition_content, sequence_content, later_content}
+use Rattle.volume.specs.Front.{Content, HasContent, FrontIsNoEntry, front_content, recognition_content, sequence_content, later_content}
 use Rattle.volume.specs.Front.Content.{Nothing, Recognition, Descriptor}
 
 -- the identifier of a descriptor
@@ -45,7 +45,7 @@ front_low : (label : List ℕ) (moment : ℕ) (stamp : List ℕ) (capacity n : �
 front_low label moment stamp capacity n =
     either (nat_lt n 32) _ _ (recognition_low n) (either (nat_lt n 64) _ _ (sequence_low label moment stamp capacity (n % 16)) (later_low stamp capacity n))
 
-holds_other : (n : ℕ) (content : Content) (block : List ℕ) → tag_of content < 10 → Holds n content block → u16_at 0 block ≢ 261
+holds_other : (n : ℕ) (content : Content) (block : List ℕ) → tag_of content < 10 → HasContent n content block → u16_at 0 block ≢ 261
 holds_other n Nothing block low there = λ (e : u16_at 0 block ≡ 261). omega (arith, e, ap (u16_at 0) there)
 holds_other n (Recognition identifier) block low there =
     λ (e : u16_at 0 block ≡ 261).

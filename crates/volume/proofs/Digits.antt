@@ -32,7 +32,7 @@ digit_ascii m low = digit_low (ltb m 10) m low
 pub digits_ascii : (n : ℕ) → IsAscii (digits n)
 digits_ascii n = ascii_from (digits n) (digit_ascii (n / 16 ^ 15 % 16) (omega arith), (digit_ascii (n / 16 ^ 14 % 16) (omega arith), (digit_ascii (n / 16 ^ 13 % 16) (omega arith), (digit_ascii (n / 16 ^ 12 % 16) (omega arith), (digit_ascii (n / 16 ^ 11 % 16) (omega arith), (digit_ascii (n / 16 ^ 10 % 16) (omega arith), (digit_ascii (n / 16 ^ 9 % 16) (omega arith), (digit_ascii (n / 16 ^ 8 % 16) (omega arith), (digit_ascii (n / 16 ^ 7 % 16) (omega arith), (digit_ascii (n / 16 ^ 6 % 16) (omega arith), (digit_ascii (n / 16 ^ 5 % 16) (omega arith), (digit_ascii (n / 16 ^ 4 % 16) (omega arith), (digit_ascii (n / 16 ^ 3 % 16) (omega arith), (digit_ascii (n / 16 ^ 2 % 16) (omega arith), (digit_ascii (n / 16 % 16) (omega arith), (digit_ascii (n % 16) (omega arith), tt))))))))))))))))
 
--- a label's dstring of 32 bytes, and one of 128 bytes behind 16 characters
+-- a label's dstring of 32 bytes, and one of 128 bytes after 16 characters
 pub length-label : (n : ℕ) (text : List ℕ) → IsLabel text → 32 ≤ n → length (dstring n text) ≡ n
 length-label n text label room = length-field_of n (compressed text) (omega (arith, label_few text label))
 

@@ -19,7 +19,7 @@ use Rattle.osta.proofs.Names.{label_Dstring}
 use Rattle.volume.specs.declared.front.Front.{Front}
 use Rattle.volume.specs.Descriptors.{digits, partition_fields}
 use Rattle.volume.specs.Front.{IsFront, IsFrontBlock}
-use Rattle.volume.specs.Reading.{DiffersAt, DiffersFirst, DescriptorsTell, label_field, stamp_field}
+use Rattle.volume.specs.Reading.{DiffersAt, DiffersFirst, DescriptorsTell, primary_label_field, stamp_field}
 use Rattle.volume.proofs.Digits.{length-label, length-set}
 use Rattle.volume.proofs.FrontLaws.{one_front_block}
 
@@ -30,7 +30,7 @@ sealed_front id loc size body block d len =
     let front : take size block ≡ d.descriptor = ap (take size) d.whole ∙ take_at d.descriptor (replicate (2048 - length d.descriptor) 0) size whole in
     subst (λ (x : List ℕ). Sealed id loc x) (sym front) d.sealed
 
--- the fields of the primary volume descriptor behind its timestamp, behind its volume set, and behind its volume identifier
+-- the fields of the primary volume descriptor after its timestamp, after its volume set, and after its volume identifier
 abbrev pub last_parts : List (List ℕ)
 last_parts = developer ∷ replicate 92 0 ∷ []
 
@@ -49,7 +49,7 @@ primary_length volume set stamp a b c =
     omega (arith, a, b, c, length-append volume (concat (later_parts set stamp)), length-append set (concat (late_parts stamp)), length-append stamp (concat last_parts))
 
 primary_places : (volume set stamp rest block : List ℕ) → length volume ≡ 32 → length set ≡ 128 → length stamp ≡ 12 → drop 16 block ≡ onto (primary_parts volume set stamp) rest
-    → (label_field block ≡ volume) × (stamp_field block ≡ stamp)
+    → (primary_label_field block ≡ volume) × (stamp_field block ≡ stamp)
 primary_places volume set stamp rest block a b c body =
     let later = onto (later_parts set stamp) rest in
     let late = onto (late_parts stamp) rest in
@@ -64,7 +64,7 @@ primary_places volume set stamp rest block a b c body =
 -- what block 32 tells
 pub record TellsPrimary (label : List ℕ) (moment : ℕ) (block : List ℕ) : Type 0 where
   pub tag : Sealed 1 32 (take 512 block)
-  pub label_is : IsLabelDstring label (label_field block)
+  pub label_is : IsLabelDstring label (primary_label_field block)
   pub moment_is : IsMoment moment (stamp_field block)
 
 pub primary_tells : (label : List ℕ) (moment capacity : ℕ) (block : List ℕ) → IsFrontBlock label moment capacity 32 block → TellsPrimary label moment block
@@ -77,11 +77,11 @@ primary_tells label moment capacity block is =
     let b : length set ≡ 128 = length-set moment label is.label_is in
     let c : length is.stamp ≡ 12 = ap length is.moment_is.spelled in
     let places = primary_places volume set is.stamp body.0 block a b c body.1 in
-    let size : length (label_field block) ≡ 32 = ap length places.0 ∙ a in
-    let field : Dstring label 32 (label_field block) = subst (λ (x : List ℕ). Dstring label 32 x) (sym places.0) (label_Dstring label 32 is.label_is (omega arith)) in
+    let size : length (primary_label_field block) ≡ 32 = ap length places.0 ∙ a in
+    let field : Dstring label 32 (primary_label_field block) = subst (λ (x : List ℕ). Dstring label 32 x) (sym places.0) (label_Dstring label 32 is.label_is (omega arith)) in
     record {
       tag = sealed_front 1 32 512 (concat (primary_parts volume set is.stamp)) block d (primary_length volume set is.stamp a b c);
-      label_is = record { label = is.label_is; field = subst (λ (n : ℕ). Dstring label n (label_field block)) (sym size) field; size = inl size };
+      label_is = record { label = is.label_is; field = subst (λ (n : ℕ). Dstring label n (primary_label_field block)) (sym size) field; size = inl size };
       moment_is = subst (λ (x : List ℕ). IsMoment moment x) (sym places.1) is.moment_is;
     }
 
@@ -117,7 +117,7 @@ same_front d e label moment capacity =
 -- two blocks tell one front
 pub one_told : (d e : Front) (primary partition : List ℕ) → DescriptorsTell d primary partition → DescriptorsTell e primary partition → d ≡ e
 one_told d e primary partition x y =
-    let field = label_field primary in
+    let field = primary_label_field primary in
     let label = sym (text_from_Dstring d.label field (length field) x.label.field) ∙ text_from_Dstring e.label field (length field) y.label.field in
     same_front d e label (one_moment d.moment e.moment (stamp_field primary) x.moment y.moment) (x.capacity ∙ sym y.capacity)
 

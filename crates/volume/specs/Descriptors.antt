@@ -1,4 +1,4 @@
--- The fields of each descriptor of the volume, behind its tag, in the standard's order and beside their places.
+-- The fields of each descriptor of the volume, after its tag, in the standard's order and beside their places.
 use Rattle.std.specs.Prelude.{ℕ, ◌+◌, ◌-◌, ◌/◌, ◌%◌, ◌^◌, nat_lt, if◌then◌else◌, List, [], ◌∷◌, codes, replicate}
 use Rattle.std.specs.Int.{w16, w32, w64, to_le_bytes}
 use Rattle.std.specs.List.{concat}

@@ -31,7 +31,7 @@ sequence_content label moment stamp capacity place =
     else (if place == 4 then Descriptor 7 unallocated_fields
     else (if place == 5 then Descriptor 8 terminating_fields else Nothing)))))
 
--- what stands behind both copies of the sequence: the integrity sequence and the anchor
+-- what stands after both copies of the sequence: the integrity sequence and the anchor
 abbrev pub later_content : List ℕ → ℕ → ℕ → Content
 later_content stamp capacity n =
     if n == 64 then Descriptor 9 (integrity_fields stamp capacity)
@@ -45,17 +45,17 @@ front_content label moment stamp capacity n =
     else (if nat_lt n 64 then sequence_content label moment stamp capacity (n % 16) else later_content stamp capacity n)
 
 -- the block at an address holds this
-abbrev pub Holds : ℕ → Content → List ℕ → Type 0
-Holds n Nothing block = block ≡ replicate BLOCK_BYTES 0
-Holds n (Recognition identifier) block = block ≡ padded (0 ∷ (identifier ++ (1 ∷ [])))
-Holds n (Descriptor identifier fields) block = IsDescriptor identifier n fields block
+abbrev pub HasContent : ℕ → Content → List ℕ → Type 0
+HasContent n Nothing block = block ≡ replicate BLOCK_BYTES 0
+HasContent n (Recognition identifier) block = block ≡ padded (0 ∷ (identifier ++ (1 ∷ [])))
+HasContent n (Descriptor identifier fields) block = IsDescriptor identifier n fields block
 
 -- the block is the one at an address of the front of a volume with this label, moment and capacity
 pub record IsFrontBlock (label : List ℕ) (moment capacity n : ℕ) (block : List ℕ) : Type 0 where
   pub label_is : IsLabel label
   pub stamp : List ℕ
   pub moment_is : IsMoment moment stamp
-  pub holds : Holds n (front_content label moment stamp capacity n) block
+  pub holds : HasContent n (front_content label moment stamp capacity n) block
 
 -- the blocks are the front
 pub record IsFront (label : List ℕ) (moment capacity : ℕ) (blocks : List (List ℕ)) : Type 0 where

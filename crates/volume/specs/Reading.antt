@@ -12,8 +12,8 @@ use Rattle.volume.specs.declared.read.VolumeFault.TheVariants.{Field}
 use Rattle.volume.specs.Front.{IsFrontBlock}
 
 -- the field of a text, and the field of a moment
-abbrev pub label_field : List ℕ → List ℕ
-label_field primary = take 32 (drop 24 primary)
+abbrev pub primary_label_field : List ℕ → List ℕ
+primary_label_field primary = take 32 (drop 24 primary)
 
 abbrev pub stamp_field : List ℕ → List ℕ
 stamp_field primary = take 12 (drop 376 primary)
@@ -22,7 +22,7 @@ stamp_field primary = take 12 (drop 376 primary)
 abbrev pub word_rules : List ℕ → List ℕ → List (VolumeFault × Type 0)
 word_rules primary partition =
     (Field 32 0, Sealed 1 32 (take 512 primary))
-    ∷ (Field 32 24, (label : List ℕ) × IsLabelDstring label (label_field primary))
+    ∷ (Field 32 24, (label : List ℕ) × IsLabelDstring label (primary_label_field primary))
     ∷ (Field 32 376, (m : ℕ) × IsMoment m (stamp_field primary))
     ∷ (Field 34 0, Sealed 5 34 (take 512 partition))
     ∷ (Field 34 192, (LEAST_CAPACITY - PARTITION_START ≤ u32_at 192 partition) × (u32_at 192 partition ≤ PARTITION_BLOCKS))
@@ -31,7 +31,7 @@ word_rules primary partition =
 -- what the two descriptors tell
 pub record DescriptorsTell (front : Front) (primary partition : List ℕ) : Type 0 where
   pub rules : AllHold (word_rules primary partition)
-  pub label : IsLabelDstring front.label (label_field primary)
+  pub label : IsLabelDstring front.label (primary_label_field primary)
   pub moment : IsMoment front.moment (stamp_field primary)
   pub capacity : front.capacity ≡ u32_at 192 partition + PARTITION_START
 

@@ -74,7 +74,7 @@ pub(crate) fn primary(
 ) -> Block
     ensures { IsDescriptor 1 n (spec.primary_fields volume (dstring 128 (spec.digits moment ++ label.now)) stamp) result }
 {
-    let set = label.dstring_128_behind(&digits(moment));
+    let set = label.dstring_128_after(&digits(moment));
     descriptor_block(
         PRIMARY_VOLUME_TAG,
         n,

@@ -1,7 +1,7 @@
 ghost use Rattle.limits.specs.declared.TheConstants.{GREATEST_CAPACITY, LEAST_CAPACITY, PARTITION_START};
 ghost use Rattle.std.specs.Prelude.{◌≡◌, ◌≤◌, ◌%◌, IfOk};
 ghost use Rattle.osta.specs.Dstring.{dstring};
-ghost use Rattle.volume.specs.Front.{Holds, IsFront, IsFrontBlock, recognition_content, sequence_content};
+ghost use Rattle.volume.specs.Front.{HasContent, IsFront, IsFrontBlock, recognition_content, sequence_content};
 ghost use Rattle.volume.specs.Front.Content.{Recognition};
 
 use crate::descriptors::{
@@ -64,7 +64,7 @@ pub fn front_blocks(
 
 /// A block of the recognition sequence, or of the zeros around it.
 fn recognition_block(n: u32) -> Block
-    ensures { Holds n (recognition_content n) result }
+    ensures { HasContent n (recognition_content n) result }
 {
     match n {
         16 => recognition(b"BEA01"),
@@ -76,7 +76,7 @@ fn recognition_block(n: u32) -> Block
 
 /// A structure of the recognition sequence (ECMA-167 2/9.1), of version 1.
 fn recognition(identifier: &[u8; 5]) -> Block
-    ensures { Holds 0 (Recognition identifier.now) result }
+    ensures { HasContent 0 (Recognition identifier.now) result }
 {
     let mut block = [0; 2048];
     let structure = [Field::U8(0), Field::Bytes(identifier), Field::U8(1)];
@@ -95,7 +95,7 @@ fn sequence_block(
 ) -> Block
     requires volume { volume ≡ dstring 32 label.now }
     requires capacity { PARTITION_START ≤ capacity }
-    ensures { Holds n (sequence_content label.now moment stamp capacity (n % 16)) result }
+    ensures { HasContent n (sequence_content label.now moment stamp capacity (n % 16)) result }
 {
     match n % 16 {
         0 => primary(label, volume, moment, stamp, n),

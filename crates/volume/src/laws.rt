@@ -1,8 +1,8 @@
-//! What holds of each front. Nothing here runs: each contract is a law about the definitions.
+//! What holds of each prefix. Nothing here runs: each contract is a law about the definitions.
 
 ghost use Rattle.volume.specs.Front.{FrontIsNoEntry, OneFront};
 
-/// No block of a front begins as a file entry does, so that none is taken for the entry of a table.
+/// No block of a front begins as a file entry does, so that none is taken for a VAT ICB.
 pub fn front_is_no_entry()
     ensures { FrontIsNoEntry }
 {}

@@ -48,7 +48,7 @@ pub fn read_front(blocks: &[Block]) -> Result<Front, VolumeFault>
 
 /// The front that its primary volume descriptor, block 32, and its partition descriptor, block 34, tell.
 pub fn front_words(primary: &Block, partition: &Block) -> Result<Front, VolumeFault>
-    ensures tells { IfOk result (λ f. DescriptorsTell f primary.now partition.now) }
+    ensures reports { IfOk result (λ f. DescriptorsTell f primary.now partition.now) }
     ensures capacity { IfOk result (λ f. (LEAST_CAPACITY ≤ f.capacity) × (f.capacity ≤ GREATEST_CAPACITY)) }
     ensures fault { IfErr result (IsFirst (word_rules primary.now partition.now)) }
 {

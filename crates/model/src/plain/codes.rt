@@ -3,7 +3,7 @@
 ghost use Rattle.std.specs.Prelude.{◌≡◌, ◌==◌};
 ghost use Rattle.std.specs.List.{list_any};
 ghost use Rattle.model.specs.Operation.{code_of, code_of_addition, code_of_replacement, code_of_removal, code_of_move, is_too_deep, moves_too_deep};
-ghost use Rattle.model.specs.Plain.{names_in, path_in, tree_in, code_in, operation_in, AreApart};
+ghost use Rattle.model.specs.Plain.{texts_in, path_in, tree_in, code_in, operation_in, AreApart};
 
 use super::Operation;
 use super::nodes::{Entry, find, is_directory_at, names_at};
@@ -59,7 +59,7 @@ pub fn code_of(nodes: &[Entry], operation: &Operation) -> Code
 
 fn code_of_addition(nodes: &[Entry], path: &[String]) -> Code
     requires { AreApart nodes.now }
-    ensures { code_in result ≡ code_of_addition (names_in path.now) (tree_in nodes.now) }
+    ensures { code_in result ≡ code_of_addition (texts_in path.now) (tree_in nodes.now) }
 {
     if path.is_empty() {
         Code::Root
@@ -79,7 +79,7 @@ fn code_of_addition(nodes: &[Entry], path: &[String]) -> Code
 }
 
 fn code_of_replacement(nodes: &[Entry], path: &[String]) -> Code
-    ensures { code_in result ≡ code_of_replacement (names_in path.now) (tree_in nodes.now) }
+    ensures { code_in result ≡ code_of_replacement (texts_in path.now) (tree_in nodes.now) }
 {
     if path.is_empty() {
         Code::Root
@@ -93,7 +93,7 @@ fn code_of_replacement(nodes: &[Entry], path: &[String]) -> Code
 }
 
 fn code_of_removal(nodes: &[Entry], path: &[String]) -> Code
-    ensures { code_in result ≡ code_of_removal (names_in path.now) (tree_in nodes.now) }
+    ensures { code_in result ≡ code_of_removal (texts_in path.now) (tree_in nodes.now) }
 {
     if path.is_empty() {
         Code::Root
@@ -107,7 +107,7 @@ fn code_of_removal(nodes: &[Entry], path: &[String]) -> Code
 }
 
 fn code_of_move(nodes: &[Entry], from: &[String], to: &[String]) -> Code
-    ensures { code_in result ≡ code_of_move (names_in from.now) (names_in to.now) (tree_in nodes.now) }
+    ensures { code_in result ≡ code_of_move (texts_in from.now) (texts_in to.now) (tree_in nodes.now) }
 {
     if from.is_empty() || to.is_empty() {
         Code::Root
@@ -128,21 +128,21 @@ fn code_of_move(nodes: &[Entry], from: &[String], to: &[String]) -> Code
     }
 }
 
-/// Whether a path that begins with `from` would have too many names behind `to`.
+/// Whether a path that begins with `from` would have too many names after `to`.
 fn moves_too_deep(nodes: &[Entry], from: &[String], to: &[String]) -> bool
-    ensures { result ≡ moves_too_deep (names_in from.now) (names_in to.now) (tree_in nodes.now) }
+    ensures { result ≡ moves_too_deep (texts_in from.now) (texts_in to.now) (tree_in nodes.now) }
 {
     any_too_deep(nodes, from, to)
 }
 
 fn any_too_deep(nodes: &[Entry], from: &[String], to: &[String]) -> bool
-    ensures { result ≡ list_any (λ e. is_too_deep (names_in from.now) (names_in to.now) (path_in e)) nodes.now }
+    ensures { result ≡ list_any (λ e. is_too_deep (texts_in from.now) (texts_in to.now) (path_in e)) nodes.now }
 {
     nodes.iter().any(|e| is_too_deep(&e.path, from, to))
 }
 
 fn is_too_deep(path: &[String], from: &[String], to: &[String]) -> bool
-    ensures { result ≡ is_too_deep (names_in from.now) (names_in to.now) (names_in path.now) }
+    ensures { result ≡ is_too_deep (texts_in from.now) (texts_in to.now) (texts_in path.now) }
 {
     begins_with(path, from) && MOST_NAMES_IN_A_PATH + from.len() < to.len() + path.len()
 }

@@ -5,7 +5,7 @@ ghost use Rattle.std.specs.List.{list_any};
 ghost use Rattle.std.specs.FinMap.{get, remove};
 ghost use Rattle.model.specs.Operation.{with_names, with_bytes, is_other, name_added, name_taken_out, added, all_moved, changed_at, code_of, code_of_move, done};
 ghost use Rattle.model.specs.Tree.{IsTree};
-ghost use Rattle.model.specs.Plain.{names_in, node_in, content_in, entry_in, tree_in, operation_in, AreApart, HasTree, paths_moved};
+ghost use Rattle.model.specs.Plain.{texts_in, node_in, plain_content, entry_in, tree_in, operation_in, AreApart, ListsTree, paths_moved};
 
 use super::Operation;
 use super::nodes::{Content, Entry, Node, position};
@@ -15,7 +15,7 @@ use std::alloc::{AllocError, Global};
 impl Node {
     /// Puts names at the end of a directory's list; a file keeps its bytes.
     pub fn add_names(&mut self, mut names: Vec<String>, moment: u64) -> Result<(), AllocError>
-        ensures { OnOk result (node_in self.new ≡ with_names (λ list. list ++ names_in names.items) moment (node_in self.old)) }
+        ensures { OnOk result (node_in self.new ≡ with_names (λ list. list ++ texts_in names.items) moment (node_in self.old)) }
     {
         self.moment = moment;
         if let Content::Directory(list) = &mut self.content {
@@ -26,7 +26,7 @@ impl Node {
 
     /// Takes names out of a directory's list, in which the others keep their order.
     pub fn take_out(&mut self, names: &[String], moment: u64)
-        ensures { node_in self.new ≡ with_names (filter (is_other (names_in names.now))) moment (node_in self.old) }
+        ensures { node_in self.new ≡ with_names (filter (is_other (texts_in names.now))) moment (node_in self.old) }
     {
         self.moment = moment;
         if let Content::Directory(list) = &mut self.content {
@@ -45,17 +45,17 @@ impl Node {
 
 /// Keeps the names that are none of these.
 fn keep_others(list: &mut Vec<String>, names: &[String])
-    ensures { names_in list.new.items ≡ filter (is_other (names_in names.now)) (names_in list.old.items) }
+    ensures { texts_in list.new.items ≡ filter (is_other (texts_in names.now)) (texts_in list.old.items) }
 {
     list.retain(
         |name: &String| -> bool
-            ensures { result ≡ is_other (names_in names.entry.now) (string_bytes name.now) }
+            ensures { result ≡ is_other (texts_in names.entry.now) (string_bytes name.now) }
         { is_other(names, name.as_str()) },
     );
 }
 
 fn is_other(names: &[String], name: &str) -> bool
-    ensures { result ≡ is_other (names_in names.now) name.now }
+    ensures { result ≡ is_other (texts_in names.now) name.now }
 {
     !is_among(names, name)
 }
@@ -74,7 +74,7 @@ pub fn name_added(
     moment: u64,
 ) -> Result<Vec<Entry>, AllocError>
     requires { AreApart nodes.items }
-    ensures { IfOk result (λ new. HasTree new.items (name_added (names_in path.now) moment (tree_in nodes.items))) }
+    ensures { IfOk result (λ new. ListsTree new.items (name_added (texts_in path.now) moment (tree_in nodes.items))) }
 {
     let Some(i) = position(&nodes, parent(path)) else {
         return Ok(nodes);
@@ -87,7 +87,7 @@ pub fn name_added(
 /// Takes the last name of a path out of its parent's list.
 pub fn name_taken_out(mut nodes: Vec<Entry>, path: &[String], moment: u64) -> Vec<Entry>
     requires { AreApart nodes.items }
-    ensures { HasTree result.items (name_taken_out (names_in path.now) moment (tree_in nodes.items)) }
+    ensures { ListsTree result.items (name_taken_out (texts_in path.now) moment (tree_in nodes.items)) }
 {
     let Some(i) = position(&nodes, parent(path)) else {
         return nodes;
@@ -106,8 +106,8 @@ pub fn added(
     identity: u64,
 ) -> Result<Vec<Entry>, AllocError>
     requires apart { AreApart nodes.items }
-    requires new { get (tree_in nodes.items) (names_in path.items) ≡ None }
-    ensures { IfOk result (λ new. HasTree new.items (added (names_in path.items) (content_in content) moment identity (tree_in nodes.items))) }
+    requires new { get (tree_in nodes.items) (texts_in path.items) ≡ None }
+    ensures { IfOk result (λ new. ListsTree new.items (added (texts_in path.items) (plain_content content) moment identity (tree_in nodes.items))) }
 {
     let mut nodes = name_added(alloc, nodes, &path, moment)?;
     let node = Node {
@@ -122,7 +122,7 @@ pub fn added(
 /// Takes a node out, and its name out of its parent.
 pub fn removed(mut nodes: Vec<Entry>, path: &[String], moment: u64) -> Vec<Entry>
     requires { AreApart nodes.items }
-    ensures { HasTree result.items (name_taken_out (names_in path.now) moment (remove (tree_in nodes.items) (names_in path.now))) }
+    ensures { ListsTree result.items (name_taken_out (texts_in path.now) moment (remove (tree_in nodes.items) (texts_in path.now))) }
 {
     let Some(i) = position(&nodes, path) else {
         return name_taken_out(nodes, path, moment);
@@ -134,7 +134,7 @@ pub fn removed(mut nodes: Vec<Entry>, path: &[String], moment: u64) -> Vec<Entry
 /// Replaces a file's bytes.
 pub fn replaced(mut nodes: Vec<Entry>, path: &[String], bytes: Vec<u8>, moment: u64) -> Vec<Entry>
     requires { AreApart nodes.items }
-    ensures { HasTree result.items (changed_at (names_in path.now) (with_bytes bytes.items moment) (tree_in nodes.items)) }
+    ensures { ListsTree result.items (changed_at (texts_in path.now) (with_bytes bytes.items moment) (tree_in nodes.items)) }
 {
     let Some(i) = position(&nodes, path) else {
         return nodes;
@@ -150,7 +150,7 @@ fn paths_moved(
     from: &[String],
     to: &[String],
 ) -> Result<Vec<Entry>, AllocError>
-    ensures { IfOk result (λ new. map entry_in new.items ≡ paths_moved (names_in from.now) (names_in to.now) (map entry_in nodes.items)) }
+    ensures { IfOk result (λ new. map entry_in new.items ≡ paths_moved (texts_in from.now) (texts_in to.now) (map entry_in nodes.items)) }
 {
     for i in 0..nodes.len() {
         let path = moved(alloc, &nodes[i].path, from, to)?;
@@ -169,8 +169,8 @@ fn renamed(
 ) -> Result<Vec<Entry>, AllocError>
     requires apart { AreApart nodes.items }
     requires tree { IsTree (tree_in nodes.items) }
-    requires code { code_of_move (names_in from.now) (names_in to.now) (tree_in nodes.items) ≡ 0 }
-    ensures { IfOk result (λ new. HasTree new.items (name_added (names_in to.now) moment (name_taken_out (names_in from.now) moment (all_moved (names_in from.now) (names_in to.now) (tree_in nodes.items))))) }
+    requires code { code_of_move (texts_in from.now) (texts_in to.now) (tree_in nodes.items) ≡ 0 }
+    ensures { IfOk result (λ new. ListsTree new.items (name_added (texts_in to.now) moment (name_taken_out (texts_in from.now) moment (all_moved (texts_in from.now) (texts_in to.now) (tree_in nodes.items))))) }
 {
     let nodes = paths_moved(alloc, nodes, from, to)?;
     let nodes = name_taken_out(nodes, from, moment);
@@ -188,7 +188,7 @@ pub fn done(
     requires apart { AreApart nodes.items }
     requires tree { IsTree (tree_in nodes.items) }
     requires code { code_of (operation_in operation) (tree_in nodes.items) ≡ 0 }
-    ensures { IfOk result (λ new. HasTree new.items (done (operation_in operation) moment identity (tree_in nodes.items))) }
+    ensures { IfOk result (λ new. ListsTree new.items (done (operation_in operation) moment identity (tree_in nodes.items))) }
 {
     match operation {
         Operation::Create { path, bytes } => added(

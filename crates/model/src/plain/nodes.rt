@@ -4,7 +4,7 @@ ghost use Rattle.std.specs.Prelude.{◌≡◌, position, length};
 ghost use Rattle.std.specs.Option.{option_copied, option_map};
 ghost use Rattle.std.specs.FinMap.{get};
 ghost use Rattle.model.specs.Tree.{paths_eq, is_directory, is_directory_at, names_at, names_of};
-ghost use Rattle.model.specs.Plain.{names_in, path_in, node_in, tree_in};
+ghost use Rattle.model.specs.Plain.{texts_in, path_in, node_in, tree_in};
 
 use super::paths::same_path;
 
@@ -51,14 +51,14 @@ impl Node {
 
 /// Which entry is that of a path.
 pub fn position(nodes: &[Entry], path: &[String]) -> Option<usize>
-    ensures { result ≡ position (λ e. paths_eq (names_in path.now) (path_in e)) nodes.now }
+    ensures { result ≡ position (λ e. paths_eq (texts_in path.now) (path_in e)) nodes.now }
 {
     nodes.iter().position(|e| same_path(path, &e.path))
 }
 
 /// The node at a path.
 pub fn find<'a>(nodes: &'a [Entry], path: &[String]) -> Option<&'a Node>
-    ensures { option_map node_in (option_copied result) ≡ get (tree_in nodes.now) (names_in path.now) }
+    ensures { option_map node_in (option_copied result) ≡ get (tree_in nodes.now) (texts_in path.now) }
 {
     match position(nodes, path) {
         None => None,
@@ -68,7 +68,7 @@ pub fn find<'a>(nodes: &'a [Entry], path: &[String]) -> Option<&'a Node>
 
 /// Whether a directory is at the path.
 pub fn is_directory_at(nodes: &[Entry], path: &[String]) -> bool
-    ensures { result ≡ is_directory_at (tree_in nodes.now) (names_in path.now) }
+    ensures { result ≡ is_directory_at (tree_in nodes.now) (texts_in path.now) }
 {
     match find(nodes, path) {
         None => false,
@@ -78,7 +78,7 @@ pub fn is_directory_at(nodes: &[Entry], path: &[String]) -> bool
 
 /// How many names the directory at the path has; none where there is no directory.
 pub fn names_at(nodes: &[Entry], path: &[String]) -> usize
-    ensures { result ≡ length (names_at (tree_in nodes.now) (names_in path.now)) }
+    ensures { result ≡ length (names_at (tree_in nodes.now) (texts_in path.now)) }
 {
     match find(nodes, path) {
         None => 0,

@@ -3,13 +3,13 @@
 ghost use Rattle.std.specs.Prelude.{◌≡◌, ◌≤◌, IfOk, length, true};
 ghost use Rattle.model.specs.Tree.{paths_eq, begins_with, parent_of, last_of};
 ghost use Rattle.model.specs.Operation.{moved};
-ghost use Rattle.model.specs.Plain.{names_in};
+ghost use Rattle.model.specs.Plain.{texts_in};
 
 use std::alloc::{AllocError, Global};
 
 /// Whether two paths are the same, byte by byte.
 pub fn same_path(a: &[String], b: &[String]) -> bool
-    ensures { result ≡ paths_eq (names_in a.now) (names_in b.now) }
+    ensures { result ≡ paths_eq (texts_in a.now) (texts_in b.now) }
 {
     match a {
         [] => b.is_empty(),
@@ -23,14 +23,14 @@ pub fn same_path(a: &[String], b: &[String]) -> bool
 /// Whether the path begins with another, which then is not longer.
 pub fn begins_with(path: &[String], front: &[String]) -> bool
     ensures not_longer { result ≡ true → length front.now ≤ length path.now }
-    ensures begins { result ≡ begins_with (names_in path.now) (names_in front.now) }
+    ensures begins { result ≡ begins_with (texts_in path.now) (texts_in front.now) }
 {
     front.len() <= path.len() && same_path(front, &path[..front.len()])
 }
 
 /// A copy of the names.
 pub fn copied(alloc: Global, names: &[String]) -> Result<Vec<String>, AllocError>
-    ensures { IfOk result (λ copy. names_in copy.items ≡ names_in names.now) }
+    ensures { IfOk result (λ copy. texts_in copy.items ≡ texts_in names.now) }
 {
     let mut copy = Vec::new(alloc);
     for name in names {
@@ -41,14 +41,14 @@ pub fn copied(alloc: Global, names: &[String]) -> Result<Vec<String>, AllocError
 
 /// All names but the last.
 pub fn parent(path: &[String]) -> &[String]
-    ensures { names_in result.now ≡ parent_of (names_in path.now) }
+    ensures { texts_in result.now ≡ parent_of (texts_in path.now) }
 {
     &path[..path.len().saturating_sub(1)]
 }
 
 /// The last name, in a list of at most one.
 pub fn last(path: &[String]) -> &[String]
-    ensures { names_in result.now ≡ last_of (names_in path.now) }
+    ensures { texts_in result.now ≡ last_of (texts_in path.now) }
 {
     &path[path.len().saturating_sub(1)..]
 }
@@ -60,7 +60,7 @@ pub fn moved(
     from: &[String],
     to: &[String],
 ) -> Result<Vec<String>, AllocError>
-    ensures { IfOk result (λ new. names_in new.items ≡ moved (names_in from.now) (names_in to.now) (names_in path.now)) }
+    ensures { IfOk result (λ new. texts_in new.items ≡ moved (texts_in from.now) (texts_in to.now) (texts_in path.now)) }
 {
     if !begins_with(path, from) {
         return copied(alloc, path);

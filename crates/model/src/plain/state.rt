@@ -6,7 +6,7 @@ ghost use Rattle.std.specs.FinMap.{get};
 ghost use Rattle.model.specs.Tree.{IsTree};
 ghost use Rattle.model.specs.Operation.{code_of, tree_after};
 ghost use Rattle.model.specs.Session.{draws_identity, due, formatted, reply_to, after_one};
-ghost use Rattle.model.specs.Plain.{names_in, node_in, code_in, operation_in, tree_in, reply_in, due_in, AreApart};
+ghost use Rattle.model.specs.Plain.{texts_in, node_in, code_in, operation_in, tree_in, reply_in, due_in, AreApart};
 ghost use Rattle.model.specs.PlainState.{request_in, state_in, IsWholeState};
 
 use super::codes::code_of;
@@ -91,7 +91,7 @@ impl State {
 
     /// The node at a path.
     pub fn node(&self, path: &[String]) -> Option<&Node>
-        ensures { option_map node_in (option_copied result) ≡ get (state_in self.now).tree (names_in path.now) }
+        ensures { option_map node_in (option_copied result) ≡ get (state_in self.now).tree (texts_in path.now) }
     {
         find(&self.nodes, path)
     }
@@ -144,7 +144,7 @@ impl State {
     }
 }
 
-/// The entries and the next unique ID behind an operation with this code.
+/// The entries and the next unique ID after an operation with this code.
 fn carried_out(
     alloc: Global,
     nodes: Vec<Entry>,

@@ -8,8 +8,8 @@ use Rattle.capi.specs.Statuses.{TellsStatus}
 use Rattle.capi.proofs.Asking.{holds_same, if_ok}
 use Rattle.capi.proofs.questions.opened_status.Goals as goal
 
-pub returns-in-Ok-clause-told : goal.returns-in-Ok-clause-told
-returns-in-Ok-clause-told g c =
+pub returns-in-Ok-clause-reported : goal.returns-in-Ok-clause-reported
+returns-in-Ok-clause-reported g c =
     let lent = c.unwrap.result.now in let opened = c.in-Ok.ensures.open in
     let is : c.open.new.self.store ≡ Some lent = search rules in
     let same : opened.0 ≡ lent = ap (λ (o : Option Kept). unwrap_or o lent) (sym opened.1.0 ∙ is) in
@@ -19,7 +19,7 @@ returns-in-Ok-clause-told g c =
       (is, subst (λ (s : Kept). s.is_stopped ≡ false) same opened.1.1),
       subst (λ (J : List Event). TellsStatus J (g.D.Drive.honest c.status_on.new.drive) lent told) (sym c.status_on.ensures.journal) h,
     ))
-    c.status_on.ensures.told
+    c.status_on.ensures.reported
 
 pub returns-in-Ok-clause-holds : goal.returns-in-Ok-clause-holds
 returns-in-Ok-clause-holds g c volume S honest at =

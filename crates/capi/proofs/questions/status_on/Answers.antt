@@ -4,8 +4,8 @@ use Rattle.recover.specs.Tables.{IsEntryAt}
 use Rattle.vat.specs.declared.table.Vat.{Vat}
 use Rattle.capi.proofs.questions.status_on.Goals as goal
 
-pub returns-clause-told : goal.returns-clause-told
-returns-clause-told g c =
+pub returns-clause-reported : goal.returns-clause-reported
+returns-clause-reported g c =
     let entry = c.in-Ok-table_entry.entry in
     let counted : c.len.result ≡ length c.newest-vat.result.now.sessions.records.items = search rules in
     record {

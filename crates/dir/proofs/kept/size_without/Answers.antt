@@ -3,7 +3,7 @@ use Rattle.std.specs.Prelude.{slice_get}
 use Rattle.std.specs.List.{remove}
 use Rattle.osta.specs.Compressed.{compressed}
 use Rattle.dir.specs.declared.entry.Entry.{Entry}
-use Rattle.dir.specs.Size.{End, end_of, next_end, name_sizes}
+use Rattle.dir.specs.Size.{End, end_of_data, next_end, name_sizes}
 use Rattle.dir.proofs.Fronts.{without_before, without_behind}
 use Rattle.dir.proofs.Sized.{end_more, full_more}
 use Rattle.dir.proofs.kept.size_without.Goals as goal
@@ -26,8 +26,8 @@ loop-left-preserved c =
     ] in
     let long = ap length c.compressed.ensures.value in
     let few : length (compressed e.0) ≤ 255 = omega (arith, c.compressed.ensures.few, long) in
-    let end = c.add.ensures ∙ ap (next_end (end_of c.loop-left.size)) long in
-    let full = full_more (end_of c.loop-left.size) (name_sizes rest) left (length (compressed e.0)) few c.loop-left.invariant.end c.loop-left.invariant.full in
+    let end = c.add.ensures ∙ ap (next_end (end_of_data c.loop-left.size)) long in
+    let full = full_more (end_of_data c.loop-left.size) (name_sizes rest) left (length (compressed e.0)) few c.loop-left.invariant.end c.loop-left.invariant.full in
     record {
       end = end ∙ ap (λ (n : End). next_end n (length (compressed e.0))) c.loop-left.invariant.end ∙ sym (end_more rest left e found);
       full = omega (arith, ap (λ (n : End). n.full) end, full);

@@ -7,7 +7,7 @@ use Rattle.std.proofs.lemmas.Result.{err_from_is_err_and}
 use Rattle.indexmap.proofs.CallerLemmas.{insert_entry-new}
 use Rattle.ecma.specs.Numbers.{u32_at}
 use Rattle.dir.specs.declared.entry.Entry.{Entry}
-use Rattle.dir.specs.Directory.{of_parent, of_name, identifiers, IsEntry}
+use Rattle.dir.specs.Directory.{of_parent, of_name, identifiers, IsDirectoryEntry}
 use Rattle.dir.specs.Identifier.{Identifier}
 use Rattle.dir.specs.Split.{size_of}
 use Rattle.dir.proofs.Directories.{IsRead, read_start, read_more}
@@ -33,7 +33,7 @@ loop-fids-init c =
     let none : c.new-entries.result.entries ≡ [] = c.new-entries.ensures.empty in (
       subst (λ (es : List (List ℕ × Entry)). IsRead whole c.args.first (identifiers parent es) c.read_parent.new.self) (sym none) next,
       low,
-      subst (λ (es : List (List ℕ × Entry)). All IsEntry es) (sym none) (λ k d lt. absurd (omega arith)),
+      subst (λ (es : List (List ℕ × Entry)). All IsDirectoryEntry es) (sym none) (λ k d lt. absurd (omega arith)),
     )
 
 pub loop-fids-preserved : goal.loop-fids-preserved
@@ -57,7 +57,7 @@ loop-fids-preserved c =
     c.in_ok-insert.ensures.entries ∙ insert_entry-new (pointwise nat_eq) c.loop-fids.entries text e (sym c.in_ok-insert.ensures.old ∙ absent) in (
       entries_pushed whole c.args.first parent entries c.insert.new.self.entries c.read_name.new.self text e pushed next,
       inv.1,
-      subst (λ (es : List (List ℕ × Entry)). All IsEntry es) (sym pushed) (all_push IsEntry entries (text, e) inv.2 entry),
+      subst (λ (es : List (List ℕ × Entry)). All IsDirectoryEntry es) (sym pushed) (all_push IsDirectoryEntry entries (text, e) inv.2 entry),
     )
 
 pub returns-in_err-parent-clause-only : goal.returns-in_err-parent-clause-only

@@ -1,5 +1,5 @@
 use Rattle.std.proofs.Common.{◌++◌, ◌+◌, ◌≤◌, length, sym, subst, ap, ◌∙◌, arith, append-nil, length-append, take_all, refl}
-use Rattle.drive.specs.Journal.{AddsFront, written}
+use Rattle.drive.specs.Journal.{AddsPrefix, written}
 use Rattle.drive.proofs.Fronts.{front_whole}
 use Rattle.drive.proofs.Packing.{packet_begins}
 use Rattle.drive.proofs.Running.{runs_none, runs_one, runs_as, runs_front, packet_runs, packet_broken, packet_written}
@@ -21,7 +21,7 @@ loop-done-preserved g c =
       in_range = c.packet_of-packet.ensures.within;
       journal = packet_written c.args.at c.loop-done.done all packet le c.packet_of-packet.ensures.blocks (g.Self.Drive.journal c.args.self.now) J1 (g.Self.Drive.journal c.write.new.self) c.loop-done.invariant.journal c.in-Ok.ensures.ok;
       runs = packet_runs c.args.at c.loop-done.done all packet le c.packet_of-packet.ensures.blocks c.loop-done.invariant.journal c.loop-done.invariant.runs
-          (runs_one packet (subst (λ J. AddsFront J1 at packet J) (sym c.in-Ok.ensures.ok) (front_whole J1 at packet)) c.write.ensures.writes);
+          (runs_one packet (subst (λ J. AddsPrefix J1 at packet J) (sym c.in-Ok.ensures.ok) (front_whole J1 at packet)) c.write.ensures.writes);
       capacity = c.write.ensures.capacity ∙ c.loop-done.invariant.capacity;
       failures = c.in-Ok.ensures.failures ∙ c.loop-done.invariant.failures;
       misreads = c.write.ensures.misreads ∙ c.loop-done.invariant.misreads;

@@ -2,7 +2,7 @@ use Rattle.std.proofs.Common.{◌≡◌, ◌+◌, ◌-◌, ◌++◌, [], ◌∷�
 use Rattle.std.proofs.lemmas.Bool.Decides.{nat_tests}
 use Rattle.std.proofs.lemmas.List.{take-append-drop}
 use Rattle.std.proofs.lemmas.Result.{err_from_is_err_and}
-use Rattle.drive.specs.Journal.{written, next_of, AddsFront}
+use Rattle.drive.specs.Journal.{written, next_of, AddsPrefix}
 use Rattle.drive.proofs.Fronts.{front_longer, front_after, written_after, begins_after}
 use Rattle.drive.proofs.Running.{runs_as, runs_front, runs_send}
 use Rattle.drive.proofs.Sending.{sends_as, alone_stopped, alone_sent, front_split, last_split}
@@ -21,7 +21,7 @@ returns-in_err-write_run-clause-err g c =
     let last = c.split_at.result.1.now in
     let all : before ++ last ≡ c.args.blocks.now =
     rw (c.split_at.ensures.front, c.split_at.ensures.back) (take-append-drop (length c.args.blocks.now - 1) c.args.blocks.now) in
-    rw p.1 (subst (λ (blocks : List (List ℕ)). AddsFront J c.args.at blocks J1) all
+    rw p.1 (subst (λ (blocks : List (List ℕ)). AddsPrefix J c.args.at blocks J1) all
     (front_longer J J1 c.args.at before last (runs_front (runs_as (append-nil before) c.in_err-write_run.ensures.runs))))
 
 pub returns-in_err-write_run-clause-alone : goal.returns-in_err-write_run-clause-alone
@@ -45,7 +45,7 @@ returns-in_err-write-clause-err g c =
     let last = c.split_at.result.1.now in
     let all : before ++ last ≡ c.args.blocks.now =
     rw (c.split_at.ensures.front, c.split_at.ensures.back) (take-append-drop (length c.args.blocks.now - 1) c.args.blocks.now) in
-    rw p.1 (subst (λ (blocks : List (List ℕ)). AddsFront J c.args.at blocks J2) all
+    rw p.1 (subst (λ (blocks : List (List ℕ)). AddsPrefix J c.args.at blocks J2) all
     (front_after J J1 J2 c.args.at (c.args.at + length before) before last (c.in_ok-write_run.ensures.ok ∙ ap (λ (bs : List (List ℕ)). J ++ written c.args.at bs) (append-nil before)) (omega arith) c.in_err-write.ensures.err))
 
 pub returns-in_err-write-clause-alone : goal.returns-in_err-write-clause-alone

@@ -1,5 +1,5 @@
 use Rattle.std.specs.Prelude.{Some}
-use Rattle.drive.specs.Reads.{Follows}
+use Rattle.drive.specs.Reads.{ReadsAndWrites}
 use Rattle.engine.specs.Situation.{IsReady, seen_on}
 use Rattle.engine.specs.Served.{Answering}
 use Rattle.engine.proofs.Messages.{left_of}
@@ -12,7 +12,7 @@ invariant-loop-message g l = record {
       (seen_on g.D.Drive l.engine l.drive)
       (Some l.fn.answers.items) (Some l.answers.items);
   ready : IsReady (seen_on g.D.Drive l.engine l.drive);
-  lent : Follows g.D.Drive 0 l.fn.drive l.drive;
+  lent : ReadsAndWrites g.D.Drive 0 l.fn.drive l.drive;
 }
 
 abbrev pub decreases-loop-message : goal.decreases-loop-message

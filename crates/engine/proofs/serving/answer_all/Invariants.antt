@@ -1,4 +1,4 @@
-use Rattle.drive.specs.Reads.{Follows}
+use Rattle.drive.specs.Reads.{ReadsAndWrites}
 use Rattle.engine.specs.Situation.{IsReady, seen_on}
 use Rattle.engine.specs.Served.{Answering}
 use Rattle.engine.proofs.Messages.{left_of}
@@ -11,7 +11,7 @@ invariant-loop-message g l = record {
       (seen_on g.D.Drive l.engine l.drive)
       (g.W.Write.contents l.fn.writer) (g.W.Write.contents l.writer);
   ready : IsReady (seen_on g.D.Drive l.engine l.drive);
-  lent : Follows g.D.Drive 0 l.fn.drive l.drive;
+  lent : ReadsAndWrites g.D.Drive 0 l.fn.drive l.drive;
 }
 
 abbrev pub decreases-loop-message : goal.decreases-loop-message

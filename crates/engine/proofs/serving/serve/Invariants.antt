@@ -1,6 +1,6 @@
 use Rattle.std.proofs.Common.{◌≡◌, ℕ, List, Some}
 use Rattle.request.specs.Frames.{IsIdle}
-use Rattle.drive.specs.Reads.{Follows}
+use Rattle.drive.specs.Reads.{ReadsAndWrites}
 use Rattle.engine.specs.Situation.{IsReady, seen_on}
 use Rattle.engine.specs.Served.{Serving}
 use Rattle.engine.proofs.serving.serve.Given as goal
@@ -14,5 +14,5 @@ invariant-loop g l = record {
   idle : IsIdle l.frames;
   goes : (waiting : List ℕ) × (l.frames ≡ Some waiting);
   ready : IsReady (seen_on g.D.Drive l.engine l.drive);
-  lent : Follows g.D.Drive 0 l.fn.drive l.drive;
+  lent : ReadsAndWrites g.D.Drive 0 l.fn.drive l.drive;
 }

@@ -1,7 +1,7 @@
 use Rattle.std.proofs.Common.{◌≡◌, ◌≤◌, ◌++◌, min, IsTrue, List, ◌∙◌, subst, ap, inr, arith, rules}
-use Rattle.drive.specs.Journal.{written, AddsFront}
+use Rattle.drive.specs.Journal.{written, AddsPrefix}
 use Rattle.durability.specs.Formats.{Block}
-use Rattle.formatting.specs.NewVolume.{Words, words_of, IsFormatted, IsCut, Withstands}
+use Rattle.formatting.specs.NewVolume.{Words, words_of, IsFormatted, IsFormatCutShort, FormatSurvivesPowerLoss}
 use Rattle.formatting.proofs.FormatJournals.{cut_is, formatted_is, withstands_is, same_words}
 use Rattle.formatting.proofs.formatting.format.Goals as goal
 
@@ -38,8 +38,8 @@ returns-clause-err g c =
     let moment : c.unwrap-moment.result ≡ c.args.moment = search rules in
     let words = same_words (words_of parts) _ _ _ _ _ _ c.in-Ok-parts_of.ensures volume c.in-Ok.ensures.label.0 moment in
     let room : parts.capacity ≤ capacity = omega (arith, ap (λ (w : Words). w.volume) words) in
-    let adds : AddsFront between c.in-Ok-Some.count c.in-Ok-rest.blocks.items behind = subst (λ (bs : List Block). AddsFront between c.in-Ok-Some.count bs behind) c.deref.ensures.value c.in-Err-write_last_alone.ensures.err in
-    inr (subst (λ w. IsCut capacity w before behind now) words
+    let adds : AddsPrefix between c.in-Ok-Some.count c.in-Ok-rest.blocks.items behind = subst (λ (bs : List Block). AddsPrefix between c.in-Ok-Some.count bs behind) c.deref.ensures.value c.in-Err-write_last_alone.ensures.err in
+    inr (subst (λ w. IsFormatCutShort capacity w before behind now) words
     (cut_is capacity (words_of parts) parts.low parts.high room before between behind (g.D.Drive.honest c.begun.new.drive) now c.in-Ok-Some.count c.in-Ok-rest.blocks.items
     c.in-Ok-Some.ensures.reads.journal next.0 next.1 seen c.in-Ok-rest.ensures (subst IsTrue c.in-Err-write_last_alone.ensures.writes.honest) adds))
 
@@ -56,7 +56,7 @@ returns-in-Ok-write_last_alone-clause-withstands g c =
     let moment : c.unwrap-moment.result ≡ c.args.moment = search rules in
     let words = same_words (words_of parts) _ _ _ _ _ _ c.in-Ok-parts_of.ensures volume c.in-Ok.ensures.label.0 moment in
     let room : parts.capacity ≤ capacity = omega (arith, ap (λ (w : Words). w.volume) words) in
-    subst (λ w. Withstands capacity w before (g.D.Drive.writes c.args.drive.now) (g.D.Drive.writes c.write_last_alone.new.drive) now) words
+    subst (λ w. FormatSurvivesPowerLoss capacity w before (g.D.Drive.writes c.args.drive.now) (g.D.Drive.writes c.write_last_alone.new.drive) now) words
     (withstands_is capacity (words_of parts) parts.low parts.high room before between (g.D.Drive.journal c.write_last_alone.new.drive) (g.D.Drive.honest c.begun.new.drive) now c.in-Ok-Some.count c.in-Ok-rest.blocks.items
     c.in-Ok-Some.ensures.reads.journal next.0 next.1 seen c.in-Ok-rest.ensures (subst IsTrue c.in-Ok-write_last_alone.ensures.writes.honest) (g.D.Drive.writes c.args.drive.now) c.in-Ok-Some.ensures.reads.writes
     (λ none. c.in-Ok-write_last_alone.ensures.none (c.deref.ensures.value ∙ none))
@@ -75,7 +75,7 @@ returns-clause-withstands g c =
     let moment : c.unwrap-moment.result ≡ c.args.moment = search rules in
     let words = same_words (words_of parts) _ _ _ _ _ _ c.in-Ok-parts_of.ensures volume c.in-Ok.ensures.label.0 moment in
     let room : parts.capacity ≤ capacity = omega (arith, ap (λ (w : Words). w.volume) words) in
-    subst (λ w. Withstands capacity w before (g.D.Drive.writes c.args.drive.now) (g.D.Drive.writes c.write_last_alone.new.drive) now) words
+    subst (λ w. FormatSurvivesPowerLoss capacity w before (g.D.Drive.writes c.args.drive.now) (g.D.Drive.writes c.write_last_alone.new.drive) now) words
     (withstands_is capacity (words_of parts) parts.low parts.high room before between (g.D.Drive.journal c.write_last_alone.new.drive) (g.D.Drive.honest c.begun.new.drive) now c.in-Ok-Some.count c.in-Ok-rest.blocks.items
     c.in-Ok-Some.ensures.reads.journal next.0 next.1 seen c.in-Ok-rest.ensures (subst IsTrue c.in-Err-write_last_alone.ensures.writes.honest) (g.D.Drive.writes c.args.drive.now) c.in-Ok-Some.ensures.reads.writes
     (λ none. c.in-Err-write_last_alone.ensures.none (c.deref.ensures.value ∙ none))

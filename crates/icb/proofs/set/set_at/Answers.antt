@@ -3,7 +3,7 @@ use Rattle.std.proofs.lemmas.Bool.{both_ways}
 use Rattle.std.proofs.lemmas.Slice.Eq.{bytes_eq-Decides}
 use Rattle.ecma.proofs.Timestamps.{one_moment}
 use Rattle.icb.specs.declared.set.FileSet.{FileSet}
-use Rattle.icb.specs.FileSet.{HasFields}
+use Rattle.icb.specs.FileSet.{HasFileSetFields}
 use Rattle.icb.proofs.FileSets.{fields_stand, label_stands, moment_stands, no_some, same_spelled, some_same}
 use Rattle.icb.proofs.set.set_at.Goals as goal
 
@@ -18,7 +18,7 @@ returns-then-eq-clause-some c =
     let made : FileSet = record { label = c.in-Some.label; moment = c.in-Some-read.moment } in
     let is = c.encode_fsd-again.ensures in
     let same : take 496 (drop 16 c.encode_fsd-again.result) ≡ take 496 (drop 16 c.args.block.now) = (bytes_eq-Decides _ _).0 (sym c.eq.ensures ∙ c.if-eq.true) in
-    subst (λ (x : List ℕ). HasFields made x) (sym (fields_stand made c.encode_fsd-again.result is) ∙ same) is.has
+    subst (λ (x : List ℕ). HasFileSetFields made x) (sym (fields_stand made c.encode_fsd-again.result is) ∙ same) is.has
 
 pub returns-else-eq-clause-none : goal.returns-else-eq-clause-none
 returns-else-eq-clause-none c = λ set has.

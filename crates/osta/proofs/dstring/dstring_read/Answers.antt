@@ -1,5 +1,5 @@
 use Rattle.std.proofs.Common.{List, ℕ, length, sym, ap, ◌∙◌, subst, arith}
-use Rattle.osta.specs.FirstFault.{first_fault}
+use Rattle.osta.specs.FirstFault.{first_text_fault}
 use Rattle.osta.specs.Compressed.{expanded, spelling_faults}
 use Rattle.osta.specs.Dstring.{Dstring}
 use Rattle.osta.proofs.Rows.{some_none}
@@ -11,7 +11,7 @@ returns-in_err-check_dstring-clause-only c = λ text told. absurd (some_none c.i
 
 pub expand_checked-requires : goal.expand_checked-requires
 expand_checked-requires c =
-    ap (λ (xs : List ℕ). first_fault (spelling_faults xs)) c.spelling_of.ensures ∙ (field_from_faultless c.args.field.now (omega (arith, c.requires.some)) (sym c.in_ok-check_dstring.ensures.fault)).2
+    ap (λ (xs : List ℕ). first_text_fault (spelling_faults xs)) c.spelling_of.ensures ∙ (field_from_faultless c.args.field.now (omega (arith, c.requires.some)) (sym c.in_ok-check_dstring.ensures.fault)).2
 
 pub returns-clause-found : goal.returns-clause-found
 returns-clause-found c =

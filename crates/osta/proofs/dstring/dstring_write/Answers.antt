@@ -11,7 +11,7 @@ returns-clause-ok c =
     let s = compressed c.args.text.now in
     let hold = all_hold (writing_faults (n - 1) c.args.text.now) (sym c.in_ok-count.ensures.fault) in
     let room : length s ≤ n - 1 = leb-true _ _ hold.1.0 in
-    written_over n (n - 1) c.in_ok-count.count s c.write_spelling.new.into c.fill.new.self c.write_spelling.ensures (c.fill.ensures.after (λ y h. h)) c.in_ok-count.ensures.count (omega (arith, c.requires.some)) (omega (arith, c.requires.some))
+    written_over n (n - 1) c.in_ok-count.count s c.write_encoding.new.into c.fill.new.self c.write_encoding.ensures (c.fill.ensures.after (λ y h. h)) c.in_ok-count.ensures.count (omega (arith, c.requires.some)) (omega (arith, c.requires.some))
 
 pub returns-clause-dstring : goal.returns-clause-dstring
 returns-clause-dstring c =

@@ -8,8 +8,8 @@ use Rattle.udf.specs.Udf.{udf}
 use Rattle.planning.proofs.Writings.{links_agree, holds_directory}
 use Rattle.planning.proofs.places.directory_entry.Goals as goal
 
-pub returns-clause-says : goal.returns-clause-says
-returns-clause-says c = record {
+pub returns-clause-describes : goal.returns-clause-describes
+returns-clause-describes c = record {
   fields = record { kind = entry.Directory; moment = c.args.directory.now.moment; links = 1 + c.directory_count.result; unique = c.from.result; size = c.args.extent.size; place = icb.Place.Extent c.args.extent.first };
   is = c.new.ensures;
   place = refl;

@@ -6,7 +6,7 @@ use Rattle.durability.specs.Plan.{IsPlaced, PlacesFile}
 use Rattle.udf.specs.Said.{said_place}
 use Rattle.udf.specs.Udf.{udf}
 use Rattle.udf.proofs.Said.{entries_agree}
-use Rattle.next_vat.specs.Outside.{outside}
+use Rattle.table_update.specs.Outside.{outside}
 use Rattle.planning.proofs.places.file_entry.Goals as goal
 
 pub returns : goal.returns

@@ -4,7 +4,7 @@ use Rattle.std.proofs.lemmas.Bool.{lt-ltb}
 use Rattle.durability.specs.Plan.{IsPlaced}
 use Rattle.durability.specs.Plan.PlacesFile.{outside as beyond}
 use Rattle.udf.specs.Udf.{udf}
-use Rattle.next_vat.specs.Outside.{outside}
+use Rattle.table_update.specs.Outside.{outside}
 use Rattle.planning.proofs.places.place_of_bytes.Goals as goal
 
 pub returns-else-bytes-le-INSIDE_BYTES-clause-places : goal.returns-else-bytes-le-INSIDE_BYTES-clause-places

@@ -7,13 +7,13 @@ use Rattle.udf.specs.Udf.{udf}
 use Rattle.planning.specs.declared.change.NewDirectory.{NewDirectory}
 use Rattle.planning.specs.declared.layout.PlacedDirectory.{PlacedDirectory}
 use Rattle.vat.specs.Table.{Table, view}
-use Rattle.next_vat.specs.Below.{IsUsed}
+use Rattle.table_update.specs.Below.{IsUsed}
 use Rattle.planning.specs.Needs.{directories_need}
-use Rattle.next_vat.specs.NextTable.{all_placed}
-use Rattle.next_vat.specs.TableChange.{placed}
+use Rattle.table_update.specs.NextTable.{all_placed}
+use Rattle.table_update.specs.TableChange.{placed}
 use Rattle.planning.specs.Plan.{AreLaid, directory_list, directories_list, directories_writings, directories_written}
 use Rattle.planning.specs.Writings.{IsProper, directory_writing, new_directories}
-use Rattle.next_vat.proofs.BelowLemmas.{below_later}
+use Rattle.table_update.proofs.BelowLemmas.{below_later}
 use Rattle.planning.proofs.Names.{all_next, nothing}
 use Rattle.planning.proofs.Plans.{list_push, writings_push, written_push, laid_push, table_push}
 use Rattle.planning.proofs.Taking.{still_all}

@@ -4,10 +4,10 @@ use Rattle.std.specs.Vec.Iter.{into_iter_items, into_iter_len}
 use Rattle.durability.specs.Plan.{WritesNodes}
 use Rattle.udf.specs.Udf.{udf}
 use Rattle.vat.specs.Table.{FitsTable, view}
-use Rattle.next_vat.specs.Below.{AreBelow, IsUsed}
+use Rattle.table_update.specs.Below.{AreBelow, IsUsed}
 use Rattle.planning.specs.Plan.{AreLaid, directories_list, directories_writings, directories_written}
 use Rattle.planning.specs.Needs.{table_need, directories_need}
-use Rattle.next_vat.specs.NextTable.{all_placed}
+use Rattle.table_update.specs.NextTable.{all_placed}
 use Rattle.planning.specs.Writings.{IsProper, new_directories}
 use Rattle.planning.proofs.plan.enter_directories.Given as goal
 

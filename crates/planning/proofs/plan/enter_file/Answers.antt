@@ -1,10 +1,10 @@
 use Rattle.std.proofs.Common.{◌+◌, ◌≤◌, ◌++◌, ◌∷◌, ◌∙◌, [], ℕ, List, sym, ap, arith}
-use Rattle.model.specs.Graph.{whole}
+use Rattle.model.specs.Graph.{as_stored}
 use Rattle.model.specs.Graph.Body.{Bytes}
 use Rattle.durability.specs.Plan.{Writing}
 use Rattle.planning.specs.Needs.{file_need}
 use Rattle.planning.specs.Plan.{file_data}
-use Rattle.next_vat.proofs.BelowLemmas.{below_later}
+use Rattle.table_update.proofs.BelowLemmas.{below_later}
 use Rattle.planning.proofs.Writings.{node_ends}
 use Rattle.planning.specs.Writings.{file_writing, new_file}
 use Rattle.planning.proofs.plan.enter_file.Goals as goal
@@ -22,7 +22,7 @@ returns-clause-writings c =
     let m = c.args.moment in
     let p = c.place_file-placed.result.file in
     let f = c.in-Some.file in
-    let of : ℕ → ℕ → List ℕ → List Writing = λ a u bs. record { address = a; stored = whole u m (Bytes bs) } ∷ [] in
+    let of : ℕ → ℕ → List ℕ → List Writing = λ a u bs. record { address = a; stored = as_stored u m (Bytes bs) } ∷ [] in
     ap (λ a. of a p.unique p.bytes.now) c.place_file-placed.ensures.address
     ∙ ap (λ u. of f.address u p.bytes.now) c.place_file-placed.ensures.unique
     ∙ ap (λ (bs : List ℕ). of f.address f.unique bs) c.place_file-placed.ensures.bytes

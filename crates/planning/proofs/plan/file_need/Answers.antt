@@ -1,6 +1,6 @@
 use Rattle.std.proofs.Common.{List, ℕ, length, ap, ◌∙◌, arith}
 use Rattle.std.specs.Int.{div_ceil}
-use Rattle.next_vat.specs.Outside.{outside}
+use Rattle.table_update.specs.Outside.{outside}
 use Rattle.planning.specs.Needs.{file_need}
 use Rattle.planning.proofs.plan.file_need.Goals as goal
 

@@ -5,7 +5,7 @@ use Rattle.durability.specs.Formats.Kind.{Table}
 use Rattle.durability.specs.Formats.NodePlace.{Extent}
 use Rattle.durability.specs.Plan.{zeros, packed, IsClearStart, IsPlaced}
 use Rattle.udf.specs.Udf.{udf}
-use Rattle.next_vat.proofs.Tables.{table_few, table_long, table_some, table_at}
+use Rattle.table_update.proofs.Tables.{table_few, table_long, table_some, table_at}
 use Rattle.planning.proofs.Writings.{placed_at, length-placed}
 use Rattle.planning.proofs.plan.place_table.Goals as goal
 

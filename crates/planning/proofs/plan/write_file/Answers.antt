@@ -2,7 +2,7 @@ use Rattle.std.proofs.Common.{◌≡◌, ◌++◌, ◌∷◌, ◌∙◌, [], len
 use Rattle.std.proofs.lemmas.Result.{err_from_is_err_and}
 use Rattle.drive.proofs.Packing.{stops_before}
 use Rattle.durability.specs.Plan.{zeros, packed}
-use Rattle.next_vat.specs.Outside.{outside}
+use Rattle.table_update.specs.Outside.{outside}
 use Rattle.planning.specs.Plan.{file_list}
 use Rattle.planning.proofs.Plans.{length-padded}
 use Rattle.planning.proofs.Puttings.{takes_both, stops_first, stops_second}

@@ -8,9 +8,9 @@ returns-clause-status g c = subst (λ (n : ℕ). n ≤ 2) (sym c.report.ensures.
 pub returns-clause-run : goal.returns-clause-run
 returns-clause-run g c done = done_with c.serve_words-outcome.result _ _ c.serve_words-outcome.ensures.run c.report.ensures.status done
 
-pub returns-clause-tells : goal.returns-clause-tells
-returns-clause-tells g c least =
-    tells_refusal _ c.serve_words-outcome.result _ _ _ _ _ _ c.serve_words-outcome.ensures.refused c.serve_words-outcome.ensures.unsaid c.report.ensures.status c.report.ensures.says least
+pub returns-clause-reports : goal.returns-clause-reports
+returns-clause-reports g c least =
+    tells_refusal _ c.serve_words-outcome.result _ _ _ _ _ _ c.serve_words-outcome.ensures.refused c.serve_words-outcome.ensures.unreported c.report.ensures.status c.report.ensures.describes least
 
-pub returns-clause-said : goal.returns-clause-said
-returns-clause-said g c done = said_done c.serve_words-outcome.result _ _ _ _ c.serve_words-outcome.ensures.said c.report.ensures.status c.report.ensures.says done
+pub returns-clause-described : goal.returns-clause-described
+returns-clause-described g c done = said_done c.serve_words-outcome.result _ _ _ _ c.serve_words-outcome.ensures.described c.report.ensures.status c.report.ensures.describes done

@@ -21,5 +21,5 @@ loop-left-preserved g c = record {
   goes = goes_more _ _ _ c.loop-left.invariant.goes c.serve_one-served.ensures.goes;
   hears = hearing_more c.serve_one-served.result _ _ _ _ _ _ _ _ _ _ _ _ c.loop-left.invariant.hears c.in-Ok.ensures.given c.in-Ok.ensures.ended c.in-Ok.ensures.found (c.serve_one-served.ensures.ends c.in-Ok.ensures.blank) (search rules);
   ready = c.serve_one-served.ensures.ready;
-  said = says_left c.serve_one-served.result _ _ _ (g.E.Write.contents c.loop-left.errors) _ c.serve_one-served.ensures.left c.loop-left.invariant.said c.report.ensures.says;
+  said = says_left c.serve_one-served.result _ _ _ (g.E.Write.contents c.loop-left.errors) _ c.serve_one-served.ensures.left c.loop-left.invariant.said c.report.ensures.describes;
 }

@@ -5,4 +5,4 @@ pub returns-then-is_told : goal.returns-then-is_told
 returns-then-is_told g c = says_none _
 
 pub returns : goal.returns
-returns g c = says_unconnected _ _ c.report.ensures.says
+returns g c = says_unconnected _ _ c.report.ensures.describes

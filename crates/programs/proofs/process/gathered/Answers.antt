@@ -40,11 +40,11 @@ pub returns-clause-front : goal.returns-clause-front
 returns-clause-front g c asked asks =
     gathered_failed (task_of asked) c.command_on-status.result _ _ _ _ _ _ g.O.Write.contents c.args.output _ _ c.into_parts-output.result.0 _ _ c.into_parts-output.result.1.items c.deref.result.now
     c.in-Ok.ensures.inner c.in-Ok.ensures.empty c.into_parts-output.ensures.inner c.into_parts-output.ensures.buffer c.deref.ensures.value (c.command_on-status.ensures.does asked asks)
-    _ c.in-Err-put_all.field-0 c.report-in-Err-2.result _ c.in-Err-2.ensures.err (search rules) c.in-Err-put_all.ensures.fault c.report-in-Err-2.ensures.status c.report-in-Err-2.ensures.says
+    _ c.in-Err-put_all.field-0 c.report-in-Err-2.result _ c.in-Err-2.ensures.err (search rules) c.in-Err-put_all.ensures.fault c.report-in-Err-2.ensures.status c.report-in-Err-2.ensures.describes
 
-pub returns-clause-tells : goal.returns-clause-tells
-returns-clause-tells g c =
-    told_then (codes "udfburn") c.command_on-status.result c.report-in-Err-2.result (Err (Stream c.in-Err-put_all.field-0)) _ _ _ c.command_on-status.ensures.tells (search rules) c.report-in-Err-2.ensures.status c.report-in-Err-2.ensures.says
+pub returns-clause-reports : goal.returns-clause-reports
+returns-clause-reports g c =
+    told_then (codes "udfburn") c.command_on-status.result c.report-in-Err-2.result (Err (Stream c.in-Err-put_all.field-0)) _ _ _ c.command_on-status.ensures.reports (search rules) c.report-in-Err-2.ensures.status c.report-in-Err-2.ensures.describes
 
 pub returns-in-Err-clause-early : goal.returns-in-Err-clause-early
-returns-in-Err-clause-early g c = record { fault = Store stores.Memory; early = inr (inl refl); status_is = c.report.ensures.status; line = c.report.ensures.says }
+returns-in-Err-clause-early g c = record { fault = Store stores.Memory; early = inr (inl refl); status_is = c.report.ensures.status; line = c.report.ensures.describes }

@@ -1,5 +1,5 @@
 use Rattle.programs.proofs.Telling.{told_refusal}
 use Rattle.programs.proofs.process.try_daemon.Goals as goal
 
-pub returns-clause-tells : goal.returns-clause-tells
-returns-clause-tells g c least = told_refusal _ _ _ _ _ _ (c.daemon_on.ensures.tells least)
+pub returns-clause-reports : goal.returns-clause-reports
+returns-clause-reports g c least = told_refusal _ _ _ _ _ _ (c.daemon_on.ensures.reports least)

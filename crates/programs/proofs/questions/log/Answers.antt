@@ -4,22 +4,22 @@ use Rattle.programs.specs.Questions.Question.{Commits}
 use Rattle.programs.proofs.Printing.{shows_put, shows_refused, commits_said, commits_refused, commits_short}
 use Rattle.programs.proofs.questions.log.Goals as goal
 
-pub returns-in_err-store-clause-shows : goal.returns-in_err-store-clause-shows
-returns-in_err-store-clause-shows g c =
+pub returns-in_err-store-clause-prints : goal.returns-in_err-store-clause-prints
+returns-in_err-store-clause-prints g c =
     shows_refused Commits c.from_residual.result _ _ _ _ _ c.from_residual.ensures.1 (λ honest once. inl (c.in_err-store.ensures.refused honest))
 
-pub returns-in_err-commits-clause-shows : goal.returns-in_err-commits-clause-shows
-returns-in_err-commits-clause-shows g c =
+pub returns-in_err-commits-clause-prints : goal.returns-in_err-commits-clause-prints
+returns-in_err-commits-clause-prints g c =
     shows_refused Commits c.from_residual-in_err-commits.result _ _ _ _ _ c.from_residual-in_err-commits.ensures.1
-    (commits_refused _ _ c.in_ok-store.store _ _ _ c.in_ok-store.ensures.reads.journal c.in_err-commits.ensures.reads.honest c.in_ok-store.ensures.stands _ (c.in_err-commits.ensures.refused c.in_ok-store.ensures.stopped))
+    (commits_refused _ _ c.in_ok-store.store _ _ _ c.in_ok-store.ensures.reads.journal c.in_err-commits.ensures.reads.honest c.in_ok-store.ensures.recovers _ (c.in_err-commits.ensures.refused c.in_ok-store.ensures.stopped))
 
-pub returns-in_err-lines-clause-shows : goal.returns-in_err-lines-clause-shows
-returns-in_err-lines-clause-shows g c =
+pub returns-in_err-lines-clause-prints : goal.returns-in_err-lines-clause-prints
+returns-in_err-lines-clause-prints g c =
     shows_refused Commits c.from_residual-in_err-lines.result _ _ _ _ _ c.from_residual-in_err-lines.ensures.1
-    (commits_short _ _ c.in_ok-store.store _ _ _ c.in_ok-store.ensures.reads.journal c.in_ok-commits.ensures.reads.honest c.in_ok-store.ensures.stands)
+    (commits_short _ _ c.in_ok-store.store _ _ _ c.in_ok-store.ensures.reads.journal c.in_ok-commits.ensures.reads.honest c.in_ok-store.ensures.recovers)
 
-pub returns-clause-shows : goal.returns-clause-shows
-returns-clause-shows g c =
+pub returns-clause-prints : goal.returns-clause-prints
+returns-clause-prints g c =
     shows_put Commits c.put.result _ _ _ _ _ _ c.put.ensures.puts
-    (commits_said _ _ c.in_ok-store.store _ _ _ c.in_ok-store.ensures.reads.journal c.in_ok-commits.ensures.reads.honest c.in_ok-store.ensures.stands _ _ _ c.in_ok-store.ensures.reads.capacity c.in_ok-commits.ensures.history c.in_ok-commits.ensures.all
+    (commits_said _ _ c.in_ok-store.store _ _ _ c.in_ok-store.ensures.reads.journal c.in_ok-commits.ensures.reads.honest c.in_ok-store.ensures.recovers _ _ _ c.in_ok-store.ensures.reads.capacity c.in_ok-commits.ensures.history c.in_ok-commits.ensures.all
     (c.as_bytes.ensures.value ∙ (c.in_ok-lines.ensures ∙ ap commits_text c.deref.ensures.value)))

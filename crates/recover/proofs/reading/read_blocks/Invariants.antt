@@ -3,7 +3,7 @@ use Rattle.std.specs.Prelude.{All}
 use Rattle.udf.specs.Udf.{IsBlock}
 use Rattle.drive.specs.Journal.{held}
 use Rattle.recover.specs.Blocks.{blocks_at}
-use Rattle.drive.specs.Reads.{Reads}
+use Rattle.drive.specs.Reads.{ReadsOnly}
 use Rattle.recover.proofs.reading.read_blocks.Given as goal
 
 abbrev pub invariant-loop-i : goal.invariant-loop-i
@@ -11,5 +11,5 @@ invariant-loop-i g l = record {
   blocks : All IsBlock l.blocks.items;
   count : vec_len l.blocks ≡ l.i;
   read : IsTrue (g.D.Drive.honest l.drive) → l.blocks.items ≡ blocks_at (held (g.D.Drive.journal l.fn.drive)) l.at l.i;
-  reads : Reads g.D.Drive 0 l.fn.drive l.drive;
+  reads : ReadsOnly g.D.Drive 0 l.fn.drive l.drive;
 }

@@ -3,9 +3,9 @@ use Rattle.std.proofs.lemmas.Result.{err_from_is_err_and}
 use Rattle.drive.proofs.Reading.{reads_then}
 use Rattle.drive.specs.Journal.{Event, held}
 use Rattle.vat.specs.Table.{IsTableAt, view}
-use Rattle.recover.specs.Known.{IsKnown}
+use Rattle.recover.specs.ReadCache.{IsKnown}
 use Rattle.recover.specs.State.{HasFileSet}
-use Rattle.recover.specs.Tables.{IsEntryAt, data_of}
+use Rattle.recover.specs.Tables.{IsEntryAt, table_data_of}
 use Rattle.recover.proofs.Held.{length-held}
 use Rattle.recover.proofs.Refusals.{entry_refused, front_refused, no_table, other_label, set_refused, too_large}
 use Rattle.recover.proofs.States.{same_label}
@@ -55,7 +55,7 @@ returns-then-ne-clause-refused g c = rw c.damaged-then-ne.ensures (λ h.
     let front = c.in_ok-front.ensures.front after_front in
     let entry = subst (λ (K : List Event). IsEntryAt (held K) c.args.at c.in_ok-entry.entry) one (c.in_ok-entry.ensures.found after_entry) in
     let read = c.in_ok-vat.ensures.table in
-    let same = subst (λ (K : List Event). read.0 ≡ data_of (held K) c.in_ok-entry.entry) two (read.1 h) in
+    let same = subst (λ (K : List Event). read.0 ≡ table_data_of (held K) c.in_ok-entry.entry) two (read.1 h) in
     other_label (held J) c.args.at c.requires.low long c.in_ok-entry.entry entry c.in_ok-vat.vat (subst (IsTableAt (c.args.at - 257) (view c.in_ok-vat.vat)) same read.2)
     c.in_ok-front.front.label c.in_ok-front.front.moment c.in_ok-front.front.capacity front (g.D.Drive.capacity c.args.drive.now) _ c.ne.ensures c.if-ne.true)
 
@@ -74,7 +74,7 @@ returns-in_err-check_file_set-clause-refused g c =
     let front = c.in_ok-front.ensures.front after_front in
     let entry = subst (λ (K : List Event). IsEntryAt (held K) c.args.at c.in_ok-entry.entry) one (c.in_ok-entry.ensures.found after_entry) in
     let read = c.in_ok-vat.ensures.table in
-    let same = subst (λ (K : List Event). read.0 ≡ data_of (held K) c.in_ok-entry.entry) two (read.1 after_table) in
+    let same = subst (λ (K : List Event). read.0 ≡ table_data_of (held K) c.in_ok-entry.entry) two (read.1 after_table) in
     set_refused (held J) c.args.at c.requires.low long c.in_ok-entry.entry entry c.in_ok-vat.vat (subst (IsTableAt (c.args.at - 257) (view c.in_ok-vat.vat)) same read.2)
     c.in_ok-front.front.label c.in_ok-front.front.moment c.in_ok-front.front.capacity front (g.D.Drive.capacity c.args.drive.now) _ (rw three at (c.in_err-check_file_set.ensures.refused h)))
 
@@ -90,7 +90,7 @@ returns-clause-described g c = λ h.
     let front = c.in_ok-front.ensures.front after_front in
     let entry = subst (λ (K : List Event). IsEntryAt (held K) c.args.at c.in_ok-entry.entry) one (c.in_ok-entry.ensures.found after_entry) in
     let read = c.in_ok-vat.ensures.table in
-    let same = subst (λ (K : List Event). read.0 ≡ data_of (held K) c.in_ok-entry.entry) two (read.1 after_table) in
+    let same = subst (λ (K : List Event). read.0 ≡ table_data_of (held K) c.in_ok-entry.entry) two (read.1 after_table) in
     let fits : c.in_ok-front.front.capacity ≤ g.D.Drive.capacity c.args.drive.now = omega (arith, c.if-front-capacity.false, c.capacity.ensures, c.front.ensures.reads.capacity) in
     record {
       entry = c.in_ok-entry.entry;

@@ -14,7 +14,7 @@ loop-n-init g c = record {
     c.in_ok-partition.partition,
     c.in_ok-primary.ensures.read (c.read_block-2.ensures.reads.honest h),
     rw c.read_block.ensures.reads.journal at (c.in_ok-partition.ensures.read h),
-    c.in-Ok.ensures.tells,
+    c.in-Ok.ensures.reports,
   );
   reads = reads_then c.in_ok-primary.ensures.reads c.in_ok-partition.ensures.reads;
 }

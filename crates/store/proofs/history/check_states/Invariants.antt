@@ -1,8 +1,8 @@
 use Rattle.std.proofs.Common.{◌≡◌, ◌+◌, ◌<◌, ◌^◌, ◌↔◌, IsTrue, IsNone, IfSome}
 use Rattle.drive.specs.Journal.{held}
-use Rattle.drive.specs.Reads.{Reads}
+use Rattle.drive.specs.Reads.{ReadsOnly}
 use Rattle.vat.specs.Table.{view}
-use Rattle.recover.specs.Known.{IsKnown}
+use Rattle.recover.specs.ReadCache.{IsKnown}
 use Rattle.store.proofs.Checks.{Seen}
 use Rattle.store.proofs.history.check_states.Given as goal
 
@@ -13,7 +13,7 @@ invariant-loop-vat g l = record {
   fits : l.fn.at < 2 ^ 32;
   link : IfSome l.vat.previous (λ number. number + 257 < l.fn.at);
   first : IsNone l.vat.previous ↔ (l.vat.sessions.commits ≡ 0);
-  reads : Reads g.D.Drive 0 l.fn.drive l.drive;
+  reads : ReadsOnly g.D.Drive 0 l.fn.drive l.drive;
 }
 
 abbrev pub decreases-loop-vat : goal.decreases-loop-vat

@@ -6,5 +6,5 @@ use Rattle.udf.proofs.laws.formats_stand.Goals as goal
 pub returns-clause-before : goal.returns-clause-before
 returns-clause-before c = λ capacity volume label moment blocks mark is. none_before udf capacity volume label moment blocks mark is
 
-pub returns-clause-stands : goal.returns-clause-stands
-returns-clause-stands c = λ capacity volume label moment blocks mark is. format_stands udf capacity volume label moment blocks mark is exact
+pub returns-clause-recovers : goal.returns-clause-recovers
+returns-clause-recovers c = λ capacity volume label moment blocks mark is. format_stands udf capacity volume label moment blocks mark is exact

@@ -1,6 +1,6 @@
 use Rattle.std.proofs.Common.{◌≡◌, ◌+◌, length, subst, inl, inr, arith}
 use Rattle.std.proofs.lemmas.Bool.{cases_lt}
-use Rattle.icb.specs.Entry.{blocks_of}
+use Rattle.icb.specs.Entry.{block_count}
 use Rattle.vat.specs.Imitation.{Imitates}
 use Rattle.vat.proofs.Places.{one_free}
 use Rattle.vat.proofs.place.clear_start.Goals as goal
@@ -13,5 +13,5 @@ loop-start-preserved c k low high = elim (cases_lt k c.loop-start.start) [
 
 pub returns-clause-clear : goal.returns-clause-clear
 returns-clause-clear c here =
-    let e : c.args.from + c.div_ceil-blocks.result ≡ c.args.from + blocks_of (length c.args.bytes.now) = omega (arith, c.div_ceil-blocks.ensures) in
+    let e : c.args.from + c.div_ceil-blocks.result ≡ c.args.from + block_count (length c.args.bytes.now) = omega (arith, c.div_ceil-blocks.ensures) in
     one_free c.args.bytes.now c.args.from (λ k low high. c.loop-start.invariant k low (omega (arith, c.loop-start-test.false, e))) (subst (Imitates c.args.bytes.now) e here)

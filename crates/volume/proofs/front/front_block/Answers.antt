@@ -1,5 +1,5 @@
 use Rattle.std.proofs.Common.{ℕ, sym, subst, arith}
-use Rattle.volume.specs.Front.{Content, Holds, front_content}
+use Rattle.volume.specs.Front.{Content, HasContent, front_content}
 use Rattle.volume.proofs.FrontLaws.{content_between}
 use Rattle.volume.proofs.front.front_block.Goals as goal
 
@@ -10,7 +10,7 @@ returns-in-64 c =
       label_is = c.dstring_32-volume.ensures.label;
       stamp = stamp;
       moment_is = c.to_bytes-stamp.ensures;
-      holds = subst (λ (n : ℕ). Holds n (front_content c.args.label.now c.args.moment stamp c.args.capacity n) c.integrity.result) (sym c.in-64.is) (subst (λ (n : ℕ). Holds n (front_content c.args.label.now c.args.moment stamp c.args.capacity 64) c.integrity.result) c.in-64.is c.integrity.ensures);
+      holds = subst (λ (n : ℕ). HasContent n (front_content c.args.label.now c.args.moment stamp c.args.capacity n) c.integrity.result) (sym c.in-64.is) (subst (λ (n : ℕ). HasContent n (front_content c.args.label.now c.args.moment stamp c.args.capacity 64) c.integrity.result) c.in-64.is c.integrity.ensures);
     }
 
 pub returns-in-32-to-63 : goal.returns-in-32-to-63
@@ -22,5 +22,5 @@ returns-in-32-to-63 c =
       label_is = c.dstring_32-volume.ensures.label;
       stamp = stamp;
       moment_is = c.to_bytes-stamp.ensures;
-      holds = subst (λ (x : Content). Holds c.args.n x c.sequence_block.result) (sym content) (rw c.moment.ensures.value at c.sequence_block.ensures);
+      holds = subst (λ (x : Content). HasContent c.args.n x c.sequence_block.result) (sym content) (rw c.moment.ensures.value at c.sequence_block.ensures);
     }

@@ -22,8 +22,8 @@ returns-then-not-is_partition_length-clause-fault c =
     let length = c.u32_at-length.ensures in
     inr (tag, inr ((c.in-Some.label, c.in-Some.ensures.some), inr ((c.in-Some-read.moment, moment), inr (other, inl ((λ range. both_ways _ c.if-not-is_partition_length.true (c.is_partition_length.ensures.1 (omega (arith, length, range.0), omega (arith, length, range.1)))), c.fault-then-not-is_partition_length.ensures)))))
 
-pub returns-clause-tells : goal.returns-clause-tells
-returns-clause-tells c =
+pub returns-clause-reports : goal.returns-clause-reports
+returns-clause-reports c =
     let tag = c.has_tag.ensures.0 c.if-not-has_tag.false in
     let moment = subst (λ (x : List ℕ). IsMoment c.in-Some-read.moment x) c.stamp.ensures c.in-Some-read.ensures.some in
     let other = c.has_tag-2.ensures.0 c.if-not-has_tag-2.false in

@@ -17,7 +17,7 @@ returns-in-Err-clause-fault c = inl c.in-Err.ensures.fault
 pub returns-in-Some-clause-only : goal.returns-in-Some-clause-only
 returns-in-Some-clause-only c = λ f is.
     let blocks = c.args.blocks.now in
-    let same = one_told f c.in-Ok.front (get_or blocks 32 []) (get_or blocks 34 []) (front_tells f blocks is) c.in-Ok.ensures.tells in
+    let same = one_told f c.in-Ok.front (get_or blocks 32 []) (get_or blocks 34 []) (front_tells f blocks is) c.in-Ok.ensures.reports in
     let there = subst (λ (x : Front). IsFrontBlock x.label x.moment x.capacity c.loop-n.n (get_or blocks c.loop-n.n [])) same (is.each c.loop-n.n (omega (arith, c.loop-n-test.true, c.requires))) in
     absurd (some_none c.in-Some.at (c.in-Some.ensures.only there))
 
@@ -25,7 +25,7 @@ pub returns-in-Some-clause-fault : goal.returns-in-Some-clause-fault
 returns-in-Some-clause-fault c =
     inr record {
       front = c.in-Ok.front;
-      tells = c.in-Ok.ensures.tells;
+      tells = c.in-Ok.ensures.reports;
       n = c.loop-n.n;
       at = c.in-Some.at;
       told = refl;
@@ -48,4 +48,4 @@ returns-clause-found c = record {
 pub returns-clause-only : goal.returns-clause-only
 returns-clause-only c = λ f is.
     let blocks = c.args.blocks.now in
-    ap (λ (x : Front). Ok x) (one_told c.in-Ok.front f (get_or blocks 32 []) (get_or blocks 34 []) c.in-Ok.ensures.tells (front_tells f blocks is))
+    ap (λ (x : Front). Ok x) (one_told c.in-Ok.front f (get_or blocks 32 []) (get_or blocks 34 []) c.in-Ok.ensures.reports (front_tells f blocks is))

@@ -5,8 +5,8 @@ use Rattle.capi.specs.Questions.{last_kept}
 use Rattle.capi.proofs.Asking.{is_last}
 use Rattle.capi.proofs.session.Session.last_number.Goals as goal
 
-pub returns-clause-tells : goal.returns-clause-tells
-returns-clause-tells c =
+pub returns-clause-reports : goal.returns-clause-reports
+returns-clause-reports c =
     let lent = c.unwrap-store.result.now in
     let is : c.look.new.self.engine.store ≡ Some lent = search rules in
     is_last c.args.client c.last_of.result c.args.self.now c.look.new.self lent is c.in_default.ensures.kept

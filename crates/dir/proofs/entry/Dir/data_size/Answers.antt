@@ -1,7 +1,7 @@
 use Rattle.std.proofs.Common.{◌≡◌, ◌≤◌, length, Some, sym, ap, ◌∙◌, arith, rules}
 use Rattle.std.specs.Prelude.{slice_get}
 use Rattle.osta.specs.Compressed.{compressed}
-use Rattle.dir.specs.Size.{End, end_of, end_bytes, next_end, name_sizes}
+use Rattle.dir.specs.Size.{End, end_of_data, end_bytes, next_end, name_sizes}
 use Rattle.dir.proofs.Sized.{end_more, short_more, size_is, blocks_are, full_more}
 use Rattle.dir.proofs.entry.Dir.data_size.Goals as goal
 
@@ -11,10 +11,10 @@ loop-i-preserved c =
     let found : slice_get es c.loop-i.i ≡ Some (c.unwrap.result.0.now, c.unwrap.result.1.now) = search rules in
     let few : length (compressed c.unwrap.result.0.now) ≤ 255 = omega (arith, c.compressed.ensures.few, ap length c.compressed.ensures.value) in
     record {
-      end = c.add.ensures ∙ ap (next_end (end_of c.loop-i.size)) (ap length c.compressed.ensures.value)
+      end = c.add.ensures ∙ ap (next_end (end_of_data c.loop-i.size)) (ap length c.compressed.ensures.value)
           ∙ ap (λ (e : End). next_end e (length (compressed c.unwrap.result.0.now))) c.loop-i.invariant.end
           ∙ sym (end_more es c.loop-i.i (c.unwrap.result.0.now, c.unwrap.result.1.now) found);
-      full = omega (arith, ap (λ (e : End). e.full) c.add.ensures, ap (λ n. (next_end (end_of c.loop-i.size) n).full) (ap length c.compressed.ensures.value), full_more (end_of c.loop-i.size) (name_sizes es) c.loop-i.i (length (compressed c.unwrap.result.0.now)) few c.loop-i.invariant.end c.loop-i.invariant.full);
+      full = omega (arith, ap (λ (e : End). e.full) c.add.ensures, ap (λ n. (next_end (end_of_data c.loop-i.size) n).full) (ap length c.compressed.ensures.value), full_more (end_of_data c.loop-i.size) (name_sizes es) c.loop-i.i (length (compressed c.unwrap.result.0.now)) few c.loop-i.invariant.end c.loop-i.invariant.full);
       short = short_more es c.loop-i.i (c.unwrap.result.0.now, c.unwrap.result.1.now) found few c.loop-i.invariant.short;
     }
 

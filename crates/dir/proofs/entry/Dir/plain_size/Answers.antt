@@ -3,7 +3,7 @@ use Rattle.std.specs.Prelude.{slice_get}
 use Rattle.std.specs.List.{All}
 use Rattle.std.proofs.lemmas.List.{take_all}
 use Rattle.dir.specs.declared.entry.Entry.{Entry}
-use Rattle.dir.specs.Directory.{IsEntry}
+use Rattle.dir.specs.Directory.{IsDirectoryEntry}
 use Rattle.dir.specs.Identifier.{Identifier, plain_size}
 use Rattle.dir.specs.Size.{name_sizes, plain_sizes}
 use Rattle.dir.proofs.Fronts.{all_more}
@@ -20,7 +20,7 @@ loop-i-preserved c =
     let bounds = plain_bounds (length c.of_name-item.result.name.now) in
     record {
       size = omega (arith, c.loop-i.invariant.size, plain_more es c.loop-i.i e found, long, c.plain_size-size.ensures);
-      proper = all_more IsEntry es c.loop-i.i e found c.of_name-item.ensures.entry c.loop-i.invariant.proper;
+      proper = all_more IsDirectoryEntry es c.loop-i.i e found c.of_name-item.ensures.entry c.loop-i.invariant.proper;
       small = omega (arith, c.loop-i.invariant.small, c.of_name-item.ensures.short, c.plain_size-size.ensures, bounds);
     }
 
@@ -32,4 +32,4 @@ returns-clause-size c =
 pub returns-clause-proper : goal.returns-clause-proper
 returns-clause-proper c =
     let es = c.args.self.now.entries.entries in
-    subst (λ (xs : List (List ℕ × Entry)). All IsEntry xs) (take_all c.loop-i.i es (omega (arith, c.loop-i-test.false, c.len-i-end.ensures.len))) c.loop-i.invariant.proper
+    subst (λ (xs : List (List ℕ × Entry)). All IsDirectoryEntry xs) (take_all c.loop-i.i es (omega (arith, c.loop-i-test.false, c.len-i-end.ensures.len))) c.loop-i.invariant.proper

@@ -5,7 +5,7 @@ use Rattle.dir.specs.Directory.{identifiers_of}
 use Rattle.dir.specs.Identifier.{Identifier}
 use Rattle.dir.specs.Item.{said}
 use Rattle.dir.specs.Laying.{identifiers_left}
-use Rattle.dir.specs.Layout.{Stands, identifier_blocks}
+use Rattle.dir.specs.Layout.{FitsInBlock, identifier_blocks}
 use Rattle.dir.proofs.Placing.{plain_bounds, stands_within}
 use Rattle.dir.proofs.Filling.{IsOver, drop_some, drop_none, no_blocks, cleared_block, cleared_tag, said_past, begun, filled_put}
 use Rattle.dir.proofs.laying.Lay.next_into.Goals as goal
@@ -32,7 +32,7 @@ put-at-requires-clause-room c =
     let filled = c.put_kept-at.ensures.filled c.args.self.now c.loop-at.invariant in
     let left = drop_some ids here.next x (sym here.said ∙ ap (option_map said) c.in-Some.is) in
     stands_within c.put_kept-at.result x (drop (suc here.next) ids) (here.short c.in-Some.item c.in-Some.is) filled.within
-    (subst (λ (t : List Identifier). Stands c.put_kept-at.result t) left (filled.stood c.put_kept-at.ensures.within))
+    (subst (λ (t : List Identifier). FitsInBlock c.put_kept-at.result t) left (filled.stood c.put_kept-at.ensures.within))
 
 pub loop-at-preserved : goal.loop-at-preserved
 loop-at-preserved c =

@@ -1,6 +1,6 @@
 use Rattle.std.proofs.Common.{◌++◌, ◌+◌, List, length, refl, sym, subst, ap, ◌∙◌, arith, append-nil}
 use Rattle.drive.specs.FileDrive.{journal_of, writes_of}
-use Rattle.drive.specs.Journal.{AddsFront, Event, written}
+use Rattle.drive.specs.Journal.{AddsPrefix, Event, written}
 use Rattle.drive.specs.Note.{longer}
 use Rattle.drive.proofs.Fronts.{front_whole, written_after}
 use Rattle.drive.proofs.Running.{longer_last, runs_one}
@@ -27,4 +27,4 @@ pub returns-clause-runs : goal.returns-clause-runs
 returns-clause-runs c =
     let J = journal_of c.args.self.now in
     let blocks = c.args.first.now ++ c.args.second.now in
-    runs_one blocks (subst (λ (K : List Event). AddsFront J c.args.at blocks K) (sym (returns-clause-ok c)) (front_whole J c.args.at blocks)) (returns-clause-one c)
+    runs_one blocks (subst (λ (K : List Event). AddsPrefix J c.args.at blocks K) (sym (returns-clause-ok c)) (front_whole J c.args.at blocks)) (returns-clause-one c)

@@ -15,4 +15,4 @@ pub returns-in-Some-clause-nothing : goal.returns-in-Some-clause-nothing
 returns-in-Some-clause-nothing g c honest holds = holds.closed c.in-Some.store (search rules, search rules)
 
 pub returns-in_default-clause-nothing : goal.returns-in_default-clause-nothing
-returns-in_default-clause-nothing g c honest holds = nothing_opened _ _ _ (c.open.ensures.stands) honest holds.once holds.nothing
+returns-in_default-clause-nothing g c honest holds = nothing_opened _ _ _ (c.open.ensures.recovers) honest holds.once holds.nothing

@@ -2,7 +2,7 @@ use Rattle.std.proofs.Common.{◌≡◌, sym, ap, ◌∙◌, arith}
 use Rattle.ecma.specs.LongAd.{long_ad}
 use Rattle.ecma.specs.declared.field.LongAd.{LongAd}
 use Rattle.icb.specs.declared.entry.Place.TheVariants as places
-use Rattle.icb.specs.Entry.{blocks_of, extent}
+use Rattle.icb.specs.Entry.{block_count, extent}
 use Rattle.icb.proofs.EntryBlocks.{block_there, block_extended}
 use Rattle.icb.proofs.planned.PlannedEntry.write.Goals as goal
 
@@ -12,7 +12,7 @@ returns-in-None c = c.write_entry.ensures ∙ sym (block_there c.self.inside pla
 pub returns-in-Extent : goal.returns-in-Extent
 returns-in-Extent c =
     let size = c.self.inside.entry.size in
-    let blocks : c.div_ceil-blocks.result ≡ blocks_of size = omega (arith, c.div_ceil-blocks.ensures, c.from.ensures) in
+    let blocks : c.div_ceil-blocks.result ≡ block_count size = omega (arith, c.div_ceil-blocks.ensures, c.from.ensures) in
     let behind : c.to_bytes-extent.result ≡ extent size c.in-Extent.first = c.to_bytes-extent.ensures ∙ ap (λ (l : LongAd). long_ad l) c.extent.ensures in
     c.write_entry-in-Extent.ensures ∙ block_extended c.self.inside c.in-Extent.first c.div_ceil-blocks.result c.to_bytes-extent.result c.in-Extent.is blocks behind ∙ c.self.view_is
 

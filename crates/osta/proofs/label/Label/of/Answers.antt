@@ -1,6 +1,6 @@
 use Rattle.std.proofs.Common.{◌≡◌, ◌<◌, ℕ, List, Some, length, get_or, sym, ap, ◌∙◌, subst, inl, inr, arith}
 use Rattle.std.proofs.lemmas.Bool.{eqb-true, eqb-false, both_ways}
-use Rattle.osta.specs.FirstFault.{first_fault}
+use Rattle.osta.specs.FirstFault.{first_text_fault}
 use Rattle.osta.specs.Compressed.{spelling_faults}
 use Rattle.osta.specs.Dstring.{field_of}
 use Rattle.osta.specs.Label.{IsLabelField, IsLabelDstring, dstring_text}
@@ -18,7 +18,7 @@ pub has_zero-requires : goal.has_zero-requires
 has_zero-requires c =
     let some : 0 < length c.args.field.now = elim c.else-field-ne32.either [ inl h ↦ omega (arith, h.1) | inr h ↦ omega (arith, h) ] in
     let none = sym c.check_dstring.ensures.fault ∙ accepted c.check_dstring.result (sym c.is_err.ensures.value ∙ c.if-is_err.false) in
-    ap (λ (xs : List ℕ). first_fault (spelling_faults xs)) c.spelling_of-spelling.ensures ∙ (field_from_faultless c.args.field.now some none).2
+    ap (λ (xs : List ℕ). first_text_fault (spelling_faults xs)) c.spelling_of-spelling.ensures ∙ (field_from_faultless c.args.field.now some none).2
 
 pub returns-then-is_empty-clause-only : goal.returns-then-is_empty-clause-only
 returns-then-is_empty-clause-only c = λ text told.

@@ -2,7 +2,7 @@ use Rattle.std.proofs.Common.{◌≡◌, List, ℕ, ◌+◌, ◌-◌, ◌++◌, 
 use Rattle.std.specs.Int.{div_ceil}
 use Rattle.durability.specs.Plan.{zeros, packed, IsClearStart, WritesNode}
 use Rattle.udf.specs.Udf.{udf}
-use Rattle.next_vat.specs.Outside.{outside}
+use Rattle.table_update.specs.Outside.{outside}
 use Rattle.planning.specs.Writings.{file_writing}
 use Rattle.planning.proofs.Writings.{placed_at, length-placed}
 use Rattle.planning.proofs.places.Numbers.place_file.Goals as goal

@@ -3,20 +3,20 @@ use Rattle.std.specs.Prelude.{All, Option, IfSome}
 use Rattle.std.proofs.lemmas.Bool.{false≢true}
 use Rattle.std.proofs.lemmas.Result.{err_from_is_err_and}
 use Rattle.drive.specs.Journal.{next_of}
-use Rattle.drive.specs.Reads.{Reads}
+use Rattle.drive.specs.Reads.{ReadsOnly}
 use Rattle.durability.specs.Plan.{Writing, WritesNodes}
 use Rattle.request.specs.Numbers.{code_number}
 use Rattle.udf.specs.Udf.{udf}
 use Rattle.vat.specs.declared.table.Vat.{Vat}
 use Rattle.vat.specs.Table.{Table, FitsTable, view}
-use Rattle.next_vat.specs.Below.{AreBelow, IsUsed}
+use Rattle.table_update.specs.Below.{AreBelow, IsUsed}
 use Rattle.planning.specs.Plan.{AreLaid, IsTablePlaced, file_list, file_writings, file_written, directories_list, directories_writings, directories_written}
 use Rattle.planning.specs.Needs.{change_need}
-use Rattle.next_vat.specs.NextTable.{all_placed, without_gone}
-use Rattle.next_vat.specs.TableChange.{IsRemovable, committed}
+use Rattle.table_update.specs.NextTable.{all_placed, without_gone}
+use Rattle.table_update.specs.TableChange.{IsRemovable, committed}
 use Rattle.planning.specs.Writings.{new_file}
 use Rattle.planning.specs.declared.change.NewDirectory.{NewDirectory}
-use Rattle.next_vat.proofs.BelowLemmas.{below_later}
+use Rattle.table_update.proofs.BelowLemmas.{below_later}
 use Rattle.planning.proofs.Plans.{length-padded, placed_append}
 use Rattle.planning.proofs.Taking.{directories_used, file_used, gone_there, made_free}
 use Rattle.planning.proofs.Writings.{writes-append}
@@ -26,15 +26,15 @@ pub place_table-requires-clause-below : goal.place_table-requires-clause-below
 place_table-requires-clause-below g c =
     let start = c.new-numbers.result.next in
     let begins : start + 257 ≡ next_of (g.D.Drive.journal c.args.drive.now) = omega (arith, c.in-Ok.ensures.next, c.new-numbers.ensures.next, c.requires.agrees.on, c.requires.agrees.keeps.low) in
-    let first = below_later c.args.self.now.at (start + 257) c.in_ok-vat.vat.entries.items (omega (arith, begins, c.requires.agrees.on)) c.in_ok-vat.ensures.below in
+    let first = below_later c.args.self.now.vat_icb_address (start + 257) c.in_ok-vat.vat.entries.items (omega (arith, begins, c.requires.agrees.on)) c.in_ok-vat.ensures.below in
     c.in_ok-take_away.ensures.below (c.enter_directories.new.numbers.next + 257) (c.in_ok-directories.ensures.below (c.in_ok-file.ensures.below first))
 
 pub place_table-requires-clause-previous : goal.place_table-requires-clause-previous
 place_table-requires-clause-previous g c =
-    let previous : c.take_away.new.vat.previous ≡ Some (c.args.self.now.at - 257) =
+    let previous : c.take_away.new.vat.previous ≡ Some (c.args.self.now.vat_icb_address - 257) =
     c.in_ok-take_away.ensures.previous ∙ c.in_ok-directories.ensures.previous ∙ c.in_ok-file.ensures.previous ∙ c.in_ok-vat.ensures.previous in
     let end = c.enter_directories.new.numbers.next in
-    let low : c.args.self.now.at - 257 < end =
+    let low : c.args.self.now.vat_icb_address - 257 < end =
     omega (arith, c.in-Ok.ensures.next, c.new-numbers.ensures.next, c.in_ok-file.ensures.next, c.in_ok-directories.ensures.next, c.requires.agrees.on, c.requires.agrees.keeps.low) in
     subst (λ (p : Option ℕ). IfSome p (λ n. n < end)) (sym previous) low
 
@@ -64,7 +64,7 @@ returns-clause-plan g c =
     ap (λ (v : Vat). v.sessions.commits) c.in_ok-table.ensures.vat ∙ c.in_ok-take_away.ensures.commits ∙ c.in_ok-directories.ensures.commits ∙ c.in_ok-file.ensures.commits ∙ c.in_ok-vat.ensures.commits in
     let unique : vat.sessions.next_unique ≡ c.in_ok-vat.vat.sessions.next_unique =
     ap (λ (v : Vat). v.sessions.next_unique) c.in_ok-table.ensures.vat ∙ c.in_ok-take_away.ensures.unique ∙ c.in_ok-directories.ensures.unique ∙ c.in_ok-file.ensures.unique in
-    let first = below_later c.args.self.now.at (start + 257) c.in_ok-vat.vat.entries.items (omega (arith, begins, c.requires.agrees.on)) c.in_ok-vat.ensures.below in
+    let first = below_later c.args.self.now.vat_icb_address (start + 257) c.in_ok-vat.vat.entries.items (omega (arith, begins, c.requires.agrees.on)) c.in_ok-vat.ensures.below in
     let gone = c.in_ok-take_away.ensures.below (node_end + 257) (c.in_ok-directories.ensures.below (c.in_ok-file.ensures.below first)) in
     let all : AreBelow at c.take_away.new.vat.entries.items = below_later (node_end + 257) at c.take_away.new.vat.entries.items (omega (arith, c.in_ok-table.ensures.placed.number)) gone in
     let second = subst (λ n. WritesNodes udf (directories_writings directories) n (directories_list directories) (directories_written directories)) c.in_ok-file.ensures.next c.in_ok-directories.ensures.written in
@@ -113,25 +113,25 @@ returns-clause-room g c =
 pub returns-in_err-vat-clause-refused : goal.returns-in_err-vat-clause-refused
 returns-in_err-vat-clause-refused g c takes =
     let p = err_from_is_err_and c.from_residual.result c.from_residual.ensures.1 in
-    rw p.1 (inl (inr (p.2 ∙ c.in_err-vat.ensures.free (made_free c.args.moment c.args.change (committed c.args.self.now.at c.args.request.now.client c.args.request.now.number (code_number c.args.change.code) (view c.args.self.now.vat.now)) takes))))
+    rw p.1 (inl (inr (p.2 ∙ c.in_err-vat.ensures.free (made_free c.args.moment c.args.change (committed c.args.self.now.vat_icb_address c.args.request.now.client c.args.request.now.number (code_number c.args.change.code) (view c.args.self.now.vat.now)) takes))))
 
 pub returns-in_err-file-clause-refused : goal.returns-in_err-file-clause-refused
 returns-in_err-file-clause-refused g c takes =
-    let used = file_used c.args.moment c.args.change (committed c.args.self.now.at c.args.request.now.client c.args.request.now.number (code_number c.args.change.code) (view c.args.self.now.vat.now)) takes in
+    let used = file_used c.args.moment c.args.change (committed c.args.self.now.vat_icb_address c.args.request.now.client c.args.request.now.number (code_number c.args.change.code) (view c.args.self.now.vat.now)) takes in
     let there = subst (λ (t : Table). IfSome c.args.change.file (λ f. IsUsed f.address t.entries)) (sym c.in_ok-vat.ensures.table) used in
     absurd (false≢true (sym (c.in_err-file.ensures.used there)))
 
 pub returns-in_err-directories-clause-refused : goal.returns-in_err-directories-clause-refused
 returns-in_err-directories-clause-refused g c takes =
     let p = err_from_is_err_and c.from_residual-in_err-directories.result c.from_residual-in_err-directories.ensures.1 in
-    let used = directories_used c.args.moment c.args.change (committed c.args.self.now.at c.args.request.now.client c.args.request.now.number (code_number c.args.change.code) (view c.args.self.now.vat.now)) takes c.in_ok-file.file c.in_ok-file.ensures.writings in
+    let used = directories_used c.args.moment c.args.change (committed c.args.self.now.vat_icb_address c.args.request.now.client c.args.request.now.number (code_number c.args.change.code) (view c.args.self.now.vat.now)) takes c.in_ok-file.file c.in_ok-file.ensures.writings in
     let table = c.in_ok-file.ensures.table ∙ ap (all_placed (file_written c.in_ok-file.file)) c.in_ok-vat.ensures.table in
     let there = subst (λ (t : Table). All (λ (d : NewDirectory). IsUsed d.address t.entries) c.args.change.directories.items) (sym table) used in
     rw p.1 (inl (inr (p.2 ∙ c.in_err-directories.ensures.used there)))
 
 pub returns-in_err-take_away-clause-refused : goal.returns-in_err-take_away-clause-refused
 returns-in_err-take_away-clause-refused g c takes =
-    let gone = gone_there c.args.moment c.args.change (committed c.args.self.now.at c.args.request.now.client c.args.request.now.number (code_number c.args.change.code) (view c.args.self.now.vat.now)) takes c.in_ok-file.file c.in_ok-file.ensures.writings c.in_ok-directories.directories.items c.in_ok-directories.ensures.writings in
+    let gone = gone_there c.args.moment c.args.change (committed c.args.self.now.vat_icb_address c.args.request.now.client c.args.request.now.number (code_number c.args.change.code) (view c.args.self.now.vat.now)) takes c.in_ok-file.file c.in_ok-file.ensures.writings c.in_ok-directories.directories.items c.in_ok-directories.ensures.writings in
     let table = c.in_ok-directories.ensures.table ∙ ap (all_placed (directories_written c.in_ok-directories.directories.items)) (c.in_ok-file.ensures.table ∙ ap (all_placed (file_written c.in_ok-file.file)) c.in_ok-vat.ensures.table) in
     let there = subst (λ (t : Table). IfSome c.args.change.removed (λ node. IsRemovable node.kind node.address t)) (sym table) gone in
     absurd (false≢true (sym (c.in_err-take_away.ensures.there there)))
@@ -144,7 +144,7 @@ returns-in_err-new-clause-refused g c takes =
 pub returns-in_err-new-clause-reads : goal.returns-in_err-new-clause-reads
 returns-in_err-new-clause-reads g c =
     let p = err_from_is_err_and c.from_residual-in_err-new.result c.from_residual-in_err-new.ensures.1 in
-    let reads : Reads g.D.Drive 0 c.args.drive.now c.next.new.self = record {
+    let reads : ReadsOnly g.D.Drive 0 c.args.drive.now c.next.new.self = record {
       journal = c.next.ensures.journal;
       writes = c.next.ensures.writes;
       capacity = c.next.ensures.capacity;
@@ -157,7 +157,7 @@ returns-in_err-new-clause-reads g c =
 
 pub returns-clause-reads : goal.returns-clause-reads
 returns-clause-reads g c =
-    let reads : Reads g.D.Drive 0 c.args.drive.now c.next.new.self = record {
+    let reads : ReadsOnly g.D.Drive 0 c.args.drive.now c.next.new.self = record {
       journal = c.next.ensures.journal;
       writes = c.next.ensures.writes;
       capacity = c.next.ensures.capacity;

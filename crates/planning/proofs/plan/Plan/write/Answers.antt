@@ -1,7 +1,7 @@
 use Rattle.std.proofs.Common.{◌++◌, ◌∷◌, ◌∙◌, [], List, length, refl, sym, ap, arith, length-append, append_assoc}
 use Rattle.std.proofs.lemmas.Result.{err_from_is_err_and}
 use Rattle.drive.specs.Journal.{next_of}
-use Rattle.drive.specs.Waiting.{Waiting, end_of}
+use Rattle.drive.specs.Waiting.{Waiting, next_address}
 use Rattle.planning.specs.declared.layout.PlacedDirectory.{PlacedDirectory}
 use Rattle.planning.specs.Plan.{file_list, directories_list, table_data, node_list, plan_blocks}
 use Rattle.drive.proofs.Packing.{stops_longer}
@@ -19,7 +19,7 @@ write_file-requires-clause-fits g c =
     let table = table_data p.table ++ p.table.entry ∷ [] in
     omega (
       arith,
-      ap end_of (c.hold.ensures ∙ c.requires.plan.begins),
+      ap next_address (c.hold.ensures ∙ c.requires.plan.begins),
       plan_ends next (g.D.Drive.capacity c.args.drive.now) p c.requires.plan,
       c.requires.plan.fits,
       length-append (node_list p) table,
@@ -36,7 +36,7 @@ write_directories-requires-clause-fits g c =
     let table = table_data p.table ++ p.table.entry ∷ [] in
     omega (
       arith,
-      ap end_of (c.hold.ensures ∙ c.requires.plan.begins),
+      ap next_address (c.hold.ensures ∙ c.requires.plan.begins),
       plan_ends next (g.D.Drive.capacity c.args.drive.now) p c.requires.plan,
       c.requires.plan.fits,
       length-append (node_list p) table,
@@ -57,7 +57,7 @@ write_table-requires-clause-fits g c =
     let table = table_data p.table ++ p.table.entry ∷ [] in
     omega (
       arith,
-      ap end_of (c.hold.ensures ∙ c.requires.plan.begins),
+      ap next_address (c.hold.ensures ∙ c.requires.plan.begins),
       plan_ends next (g.D.Drive.capacity c.args.drive.now) p c.requires.plan,
       c.requires.plan.fits,
       length-append (node_list p) table,
@@ -83,7 +83,7 @@ finish_alone-requires-clause-fits g c =
     let table = table_data p.table ++ p.table.entry ∷ [] in
     omega (
       arith,
-      ap end_of (c.hold.ensures ∙ c.requires.plan.begins),
+      ap next_address (c.hold.ensures ∙ c.requires.plan.begins),
       plan_ends next (g.D.Drive.capacity c.args.drive.now) p c.requires.plan,
       c.requires.plan.fits,
       length-append (node_list p) table,

@@ -1,7 +1,7 @@
 use Rattle.std.proofs.Common.{◌≡◌, ◌<◌, ◌∙◌, ℕ, List, [], ◌∷◌, length, ap, subst, sym, arith}
 use Rattle.std.specs.Prelude.{OnErr, OnOk}
 use Rattle.std.proofs.lemmas.Bool.Decides.{nat_tests}
-use Rattle.drive.specs.Waiting.{Stops, Takes}
+use Rattle.drive.specs.Waiting.{Stops, TakesBlocks}
 use Rattle.drive.proofs.Packing.{stops_before}
 use Rattle.durability.specs.Plan.{packed}
 use Rattle.planning.proofs.Packing.{packed_short}
@@ -13,7 +13,7 @@ returns-clause-ok g c =
     let some : 0 < length c.args.text.now = grind (arith, nat_tests, c.is_empty.ensures, c.if-is_empty.false) in
     let one : c.block_of.result ∷ [] ≡ packed c.args.text.now =
     ap (λ (b : List ℕ). b ∷ []) c.block_of.ensures ∙ sym (packed_short c.args.text.now some c.requires.size) in
-    subst (λ (bs : List (List ℕ)). OnOk c.put.result (Takes g.D.Drive c.args.drive.now c.args.self.now.packets bs c.put.new.drive c.put.new.self.packets)) one
+    subst (λ (bs : List (List ℕ)). OnOk c.put.result (TakesBlocks g.D.Drive c.args.drive.now c.args.self.now.packets bs c.put.new.drive c.put.new.self.packets)) one
     c.put.ensures.ok
 
 pub returns-clause-err : goal.returns-clause-err

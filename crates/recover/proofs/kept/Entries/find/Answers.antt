@@ -1,7 +1,7 @@
 use Rattle.std.proofs.Common.{◌≡◌, Some, None, sym, subst, ◌∙◌, arith}
 use Rattle.std.specs.Prelude.{IfSome, get_or}
 use Rattle.recover.specs.declared.kept.KeptEntry.{KeptEntry}
-use Rattle.recover.specs.Known.{IsEntrySaid}
+use Rattle.recover.specs.ReadCache.{IsEntrySaid}
 use Rattle.recover.proofs.Written.{same_below}
 use Rattle.recover.proofs.kept.Entries.find.Goals as goal
 

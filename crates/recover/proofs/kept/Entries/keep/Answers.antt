@@ -1,7 +1,7 @@
 use Rattle.std.proofs.Common.{ℕ, Option, None, subst, sym, arith}
 use Rattle.std.specs.Prelude.{IfSome}
 use Rattle.recover.specs.declared.kept.KeptEntry.{KeptEntry}
-use Rattle.recover.specs.Known.{IsEntrySaid}
+use Rattle.recover.specs.ReadCache.{IsEntrySaid}
 use Rattle.recover.proofs.Written.{holds_written}
 use Rattle.recover.proofs.kept.Entries.keep.Goals as goal
 

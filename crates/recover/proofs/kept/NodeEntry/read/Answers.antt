@@ -10,8 +10,8 @@ use Rattle.recover.proofs.kept.NodeEntry.read.Goals as goal
 pub invariant_of-result : goal.invariant_of-result
 invariant_of-result g c = record { fits = subst (λ (o : Option Extent). IfSome o (λ (e : Extent). (0 < e.size) × (e.first ≤ 449_743))) (sym c.extent_of.ensures) (extent_fits _ _ _ c.in-Ok.ensures.found.fits.place) }
 
-pub returns-in-Ok-clause-said : goal.returns-in-Ok-clause-said
-returns-in-Ok-clause-said g c = λ h. record {
+pub returns-in-Ok-clause-described : goal.returns-in-Ok-clause-described
+returns-in-Ok-clause-described g c = λ h. record {
   block = c.read_into.new.block;
   there = held_at _ _ _ c.requires (c.in_ok-read_into.ensures.read h);
   fields = fields_of c.in-Ok.entry;

@@ -9,14 +9,14 @@ use Rattle.dir.specs.declared.entry.Entry.{Entry as DirEntry}
 use Rattle.dir.specs.Directory.{IsDirectory}
 use Rattle.udf.specs.Udf.{IsBlock}
 use Rattle.recover.specs.declared.directory.Extent.{Extent}
-use Rattle.recover.specs.Forest.{IsDrawn, Puts}
+use Rattle.recover.specs.Forest.{IsAssigned, InsertsNumber}
 use Rattle.recover.specs.declared.walk.Walk.{Walk}
-use Rattle.recover.specs.Known.{IsKnown}
+use Rattle.recover.specs.ReadCache.{IsKnown}
 use Rattle.recover.specs.Refused.{IsBodyRefused, IsNamesRefused}
-use Rattle.recover.specs.Marks.{marked}
+use Rattle.recover.specs.IdSet.{marked}
 use Rattle.recover.specs.Nodes.{data_of}
 use Rattle.recover.specs.Seen.{AreSeen}
-use Rattle.recover.specs.Walk.{HasEntry, HasNames, LiesBelow, Tallied, nodes_of, reached_in, uniques_in}
+use Rattle.recover.specs.Walk.{HasFileEntry, HasListing, LiesBelow, Tallied, nodes_of, reached_in, uniques_in}
 use Rattle.recover.proofs.Found.{goes_on_same}
 use Rattle.recover.proofs.Held.{length-held}
 use Rattle.recover.proofs.Refused.{body_refused, child_refused, names_refused, reach_refused, refused_same}
@@ -27,7 +27,7 @@ pub returns-in-File-clause-visits : goal.returns-in-File-clause-visits
 returns-in-File-clause-visits g t c = λ h.
     let J : List Event = g.D.Drive.journal c.args.drive.now in
     let long : c.args.self.now.at ≤ length (take c.args.self.now.at (held J)) = omega (arith, length-take c.args.self.now.at (held J), length-held J, c.requires.within) in
-    let entry = subst (λ (n : ℕ). HasEntry (take n (held J)) c.in_ok-entry_at.entry_at c.args.node.now c.in_ok-body.body) c.reach.ensures.at (c.in_ok-body.ensures.entry h) in
+    let entry = subst (λ (n : ℕ). HasFileEntry (take n (held J)) c.in_ok-entry_at.entry_at c.args.node.now c.in_ok-body.body) c.reach.ensures.at (c.in_ok-body.ensures.entry h) in
     let below = subst (λ (n : ℕ). IfSome c.in_ok-body.body.extent (LiesBelow n)) c.reach.ensures.at c.in_ok-body.ensures.extent in
     let seen = file_seen (take c.args.self.now.at (held J)) c.args.self.now.entries.now c.args.node.now c.in_ok-body.body c.in_ok-entry_at.entry_at c.in_ok-entry_at.ensures.leads entry c.args.self.now.at long c.in-File.is below in
     let files : Tallied c.args.self.now.files 1 c.saturating_add-self.result = (
@@ -38,9 +38,9 @@ returns-in-File-clause-visits g t c = λ h.
     let directories : Tallied c.args.self.now.directories 0 c.read_entry.new.self.directories =
     (let same = c.read_entry.ensures.directories ∙ c.reach.ensures.directories in (omega (arith, same), (λ lt. omega (arith, same)), omega (arith, same))) in
     file_visits (nodes_of J c.args.self.now) c.args.self.now _ c.args.node.now (reached_in c.reach.new.self) (uniques_in c.read_entry.new.self) seen c.in-File.is
-    c.in_ok-entry_at.ensures.depth (subst (λ (n : ℕ). IsDrawn n c.args.node.now.address c.args.node.now.unique) c.reach.ensures.next_unique c.in_ok-body.ensures.drawn)
+    c.in_ok-entry_at.ensures.depth (subst (λ (n : ℕ). IsAssigned n c.args.node.now.address c.args.node.now.unique) c.reach.ensures.next_unique c.in_ok-body.ensures.drawn)
     c.in_ok-entry_at.ensures.reached (λ x. ap (λ r. marked r x) c.read_entry.ensures.reached)
-    (subst (λ u. Puts (marked u) c.args.node.now.unique (uniques_in c.read_entry.new.self)) c.reach.ensures.uniques c.in_ok-body.ensures.uniques) (λ x. refl)
+    (subst (λ u. InsertsNumber (marked u) c.args.node.now.unique (uniques_in c.read_entry.new.self)) c.reach.ensures.uniques c.in_ok-body.ensures.uniques) (λ x. refl)
     files directories
 
 pub loop-index-init : goal.loop-index-init
@@ -60,14 +60,14 @@ loop-index-init g t c =
     let table : now.entries.now ≡ c.args.self.now.entries.now = ap (λ e. e.now) (c.read_entry.ensures.entries ∙ c.reach.ensures.entries) in
     let next : now.next_unique ≡ c.args.self.now.next_unique = c.read_entry.ensures.next_unique ∙ c.reach.ensures.next_unique in
     let es : List (List ℕ × DirEntry) = c.in_ok-names.names.dir.entries.entries in
-    let names : IsTrue (g.D.Drive.honest c.read_names.new.drive) → HasNames (held J) c.args.node.now.above c.in_ok-body.body.links c.in-Some.extent c.in_ok-names.names.dir = λ h.
-    subst (λ (K : List Event). HasNames (held K) c.args.node.now.above c.in_ok-body.body.links c.in-Some.extent c.in_ok-names.names.dir) c.read_entry.ensures.reads.journal (c.in_ok-names.ensures.names h) in
+    let names : IsTrue (g.D.Drive.honest c.read_names.new.drive) → HasListing (held J) c.args.node.now.above c.in_ok-body.body.links c.in-Some.extent c.in_ok-names.names.dir = λ h.
+    subst (λ (K : List Event). HasListing (held K) c.args.node.now.above c.in_ok-body.body.links c.in-Some.extent c.in_ok-names.names.dir) c.read_entry.ensures.reads.journal (c.in_ok-names.ensures.names h) in
     let are : IsTrue (g.D.Drive.honest c.read_names.new.drive) → AreSeen (held J) es c.in_ok-names.names.files = λ h.
     subst (λ (K : List Event). AreSeen (held K) es c.in_ok-names.names.files) c.read_entry.ensures.reads.journal (c.in_ok-names.ensures.seen h) in
     record {
       begun = λ h.
           let long : c.args.self.now.at ≤ length (take c.args.self.now.at (held J)) = omega (arith, length-take c.args.self.now.at (held J), length-held J, c.requires.within) in
-          let entry = subst (λ (n : ℕ). HasEntry (take n (held J)) c.in_ok-entry_at.entry_at c.args.node.now c.in_ok-body.body) c.reach.ensures.at (c.in_ok-body.ensures.entry (c.read_names.ensures.reads.honest h)) in
+          let entry = subst (λ (n : ℕ). HasFileEntry (take n (held J)) c.in_ok-entry_at.entry_at c.args.node.now c.in_ok-body.body) c.reach.ensures.at (c.in_ok-body.ensures.entry (c.read_names.ensures.reads.honest h)) in
           let below = subst (λ (n : ℕ). IfSome c.in_ok-body.body.extent (LiesBelow n)) c.reach.ensures.at c.in_ok-body.ensures.extent in
           let here = subst (λ (o : Option Extent). IfSome o (LiesBelow c.args.self.now.at)) c.in-Some.is below in
           let seen = directory_seen (held J) c.args.self.now.entries.now c.args.node.now c.in_ok-body.body c.in_ok-entry_at.entry_at c.args.self.now.at c.in_ok-entry_at.ensures.leads entry long c.in-Directory.is c.in-Some.extent c.in-Some.is here
@@ -79,17 +79,17 @@ loop-index-init g t c =
             (λ lt. (let e : c.saturating_add-self-2.result ≡ c.args.self.now.directories + 1 = omega (arith, c.saturating_add-self-2.ensures, c.read_entry.ensures.directories, c.reach.ensures.directories, lt) in e)),
             (let e : c.saturating_add-self-2.result ≤ c.args.self.now.directories + 1 = omega (arith, c.saturating_add-self-2.ensures, c.read_entry.ensures.directories, c.reach.ensures.directories) in e),
           ) in
-          goes_on_same J now c.args.self.now c.visit_seen-index.new.self c.in_ok-names.names.files 0 c.visit_seen-index.result c.args.node.now c.in_ok-names.names.dir.entries.entries at table next (omega (arith, c.requires.within)) (are h) c.visit_seen-index.ensures.visits
+          goes_on_same J now c.args.self.now c.visit_checked-index.new.self c.in_ok-names.names.files 0 c.visit_checked-index.result c.args.node.now c.in_ok-names.names.dir.entries.entries at table next (omega (arith, c.requires.within)) (are h) c.visit_checked-index.ensures.visits
           (begun_none (nodes_of J c.args.self.now) c.args.self.now now c.args.node.now c.in_ok-names.names.dir.entries.entries (reached_in c.reach.new.self) (uniques_in c.read_entry.new.self) seen
-          c.in_ok-entry_at.ensures.depth (subst (λ (n : ℕ). IsDrawn n c.args.node.now.address c.args.node.now.unique) c.reach.ensures.next_unique c.in_ok-body.ensures.drawn)
+          c.in_ok-entry_at.ensures.depth (subst (λ (n : ℕ). IsAssigned n c.args.node.now.address c.args.node.now.unique) c.reach.ensures.next_unique c.in_ok-body.ensures.drawn)
           c.in_ok-entry_at.ensures.reached (λ x. ap (λ r. marked r x) c.read_entry.ensures.reached)
-          (subst (λ u. Puts (marked u) c.args.node.now.unique (uniques_in c.read_entry.new.self)) c.reach.ensures.uniques c.in_ok-body.ensures.uniques) (λ x. refl)
+          (subst (λ u. InsertsNumber (marked u) c.args.node.now.unique (uniques_in c.read_entry.new.self)) c.reach.ensures.uniques c.in_ok-body.ensures.uniques) (λ x. refl)
           files directories);
-      at = c.visit_seen-index.ensures.at ∙ at;
-      entries = ap (λ e. e.now) c.visit_seen-index.ensures.entries ∙ table;
-      next_unique = c.visit_seen-index.ensures.next_unique ∙ next;
-      more = omega (arith, c.visit_seen-index.ensures.directories, c.saturating_add-self-2.ensures, c.read_entry.ensures.directories, c.reach.ensures.directories);
-      counted = omega (arith, c.visit_seen-index.ensures.directories, c.saturating_add-self-2.ensures);
+      at = c.visit_checked-index.ensures.at ∙ at;
+      entries = ap (λ e. e.now) c.visit_checked-index.ensures.entries ∙ table;
+      next_unique = c.visit_checked-index.ensures.next_unique ∙ next;
+      more = omega (arith, c.visit_checked-index.ensures.directories, c.saturating_add-self-2.ensures, c.read_entry.ensures.directories, c.reach.ensures.directories);
+      counted = omega (arith, c.visit_checked-index.ensures.directories, c.saturating_add-self-2.ensures);
       known = c.read_names.ensures.known;
       are = λ h. (names h).are;
       is = λ h. (names h).is;
@@ -114,15 +114,15 @@ loop-index-preserved g t c =
     record {
       begun = λ h.
           let visits = visits_same _ _ c.loop-index.self c.args.self.now _ _ _ c.loop-index.invariant.reads.journal c.loop-index.invariant.at c.loop-index.invariant.entries (c.in_ok-visit.ensures.visits h) in
-          goes_on_same J c.visit.new.self c.args.self.now c.visit_seen-index-in-loop-index.new.self c.keep_seen.new.files (c.loop-index.index + 1) c.visit_seen-index-in-loop-index.result c.args.node.now es at entries next (omega (arith, c.requires.within)) (seen h) c.visit_seen-index-in-loop-index.ensures.visits
+          goes_on_same J c.visit.new.self c.args.self.now c.visit_checked-index-in-loop-index.new.self c.keep_seen.new.files (c.loop-index.index + 1) c.visit_checked-index-in-loop-index.result c.args.node.now es at entries next (omega (arith, c.requires.within)) (seen h) c.visit_checked-index-in-loop-index.ensures.visits
           (begun_more (nodes_of J c.args.self.now) c.args.self.now c.loop-index.self c.visit.new.self c.args.node.now c.child-child.result es c.loop-index.index
           c.unwrap.result.0.now c.unwrap.result.1.now there c.child-child.ensures.kind c.child-child.ensures.address c.child-child.ensures.unique c.child-child.ensures.above c.child-child.ensures.depth
           c.loop-index.invariant.next_unique (c.loop-index.invariant.begun (c.visit.ensures.reads.honest h)) visits);
-      at = c.visit_seen-index-in-loop-index.ensures.at ∙ at;
-      entries = ap (λ e. e.now) c.visit_seen-index-in-loop-index.ensures.entries ∙ entries;
-      next_unique = c.visit_seen-index-in-loop-index.ensures.next_unique ∙ next;
-      more = omega (arith, c.visit_seen-index-in-loop-index.ensures.directories, c.visit.ensures.more, c.loop-index.invariant.more);
-      counted = omega (arith, c.visit_seen-index-in-loop-index.ensures.directories, c.visit.ensures.more, c.loop-index.invariant.counted);
+      at = c.visit_checked-index-in-loop-index.ensures.at ∙ at;
+      entries = ap (λ e. e.now) c.visit_checked-index-in-loop-index.ensures.entries ∙ entries;
+      next_unique = c.visit_checked-index-in-loop-index.ensures.next_unique ∙ next;
+      more = omega (arith, c.visit_checked-index-in-loop-index.ensures.directories, c.visit.ensures.more, c.loop-index.invariant.more);
+      counted = omega (arith, c.visit_checked-index-in-loop-index.ensures.directories, c.visit.ensures.more, c.loop-index.invariant.counted);
       known = c.visit.ensures.known;
       are = λ h. c.loop-index.invariant.are (c.visit.ensures.reads.honest h);
       is = λ h. c.loop-index.invariant.is (c.visit.ensures.reads.honest h);
@@ -168,7 +168,7 @@ returns-in_err-names-clause-refused g t c =
     let J : List Event = g.D.Drive.journal c.args.drive.now in
     let q = err_from_is_err_and c.from_residual-in_err-names.result c.from_residual-in_err-names.ensures.1 in
     rw (q.1, q.2) (λ h.
-    let entry = subst (λ (n : ℕ). HasEntry (take n (held J)) c.in_ok-entry_at.entry_at c.args.node.now c.in_ok-body.body) c.reach.ensures.at (c.in_ok-body.ensures.entry (c.read_names.ensures.reads.honest h)) in
+    let entry = subst (λ (n : ℕ). HasFileEntry (take n (held J)) c.in_ok-entry_at.entry_at c.args.node.now c.in_ok-body.body) c.reach.ensures.at (c.in_ok-body.ensures.entry (c.read_names.ensures.reads.honest h)) in
     let below = subst (λ (o : Option Extent). IfSome o (LiesBelow c.args.self.now.at)) c.in-Some.is (subst (λ (n : ℕ). IfSome c.in_ok-body.body.extent (LiesBelow n)) c.reach.ensures.at c.in_ok-body.ensures.extent) in
     names_refused (held J) c.args.self.now c.args.node.now c.in_ok-entry_at.entry_at c.in_ok-entry_at.ensures.leads c.in_ok-body.body entry c.in-Directory.is c.in-Some.extent c.in-Some.is below _
     (subst (λ (K : List Event). IsNamesRefused (held K) c.args.node.now.above c.in_ok-body.body.links c.in-Some.extent c.in_err-names.field-0.0) c.read_entry.ensures.reads.journal (c.in_err-names.ensures.refused h)))

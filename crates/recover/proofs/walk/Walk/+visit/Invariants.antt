@@ -1,10 +1,10 @@
 use Rattle.std.proofs.Common.{◌≡◌, ◌-◌, ◌≤◌, IsTrue}
 use Rattle.std.specs.Prelude.{All}
 use Rattle.drive.specs.Journal.{held}
-use Rattle.drive.specs.Reads.{Reads}
+use Rattle.drive.specs.Reads.{ReadsOnly}
 use Rattle.dir.specs.Directory.{IsDirectory}
 use Rattle.udf.specs.Udf.{IsBlock}
-use Rattle.recover.specs.Known.{IsKnown}
+use Rattle.recover.specs.ReadCache.{IsKnown}
 use Rattle.recover.specs.Nodes.{data_of}
 use Rattle.recover.specs.Seen.{AreSeen}
 use Rattle.recover.specs.Walk.{Begun, nodes_of}
@@ -22,7 +22,7 @@ invariant-loop-index g l = record {
   are : IsTrue (g.D.Drive.honest l.drive) → All IsBlock (data_of (held (g.D.Drive.journal l.fn.drive)) l.extent);
   is : IsTrue (g.D.Drive.honest l.drive) → IsDirectory l.dir.parent l.dir.entries.entries l.extent.first l.extent.size (data_of (held (g.D.Drive.journal l.fn.drive)) l.extent);
   seen : IsTrue (g.D.Drive.honest l.drive) → AreSeen (held (g.D.Drive.journal l.fn.drive)) l.dir.entries.entries l.files;
-  reads : Reads g.D.Drive 0 l.fn.drive l.drive;
+  reads : ReadsOnly g.D.Drive 0 l.fn.drive l.drive;
 }
 
 abbrev pub decreases-loop-index : goal.decreases-loop-index

@@ -14,7 +14,7 @@ use Rattle.recover.proofs.walk.Walk.read_entry.Goals as goal
 
 pub returns-clause-entry : goal.returns-clause-entry
 returns-clause-entry g c = λ h.
-    let said = c.in_ok-entry.ensures.said h in
+    let said = c.in_ok-entry.ensures.described h in
     let wide = said.unique in
     record {
       block = said.block;
@@ -46,7 +46,7 @@ returns-in_err-entry-clause-refused g c =
 
 pub returns-then-not-is_kind-clause-refused : goal.returns-then-not-is_kind-clause-refused
 returns-then-not-is_kind-clause-refused g c = rw c.damaged.ensures (λ h.
-    let said = c.in_ok-entry.ensures.said h in
+    let said = c.in_ok-entry.ensures.described h in
     let have = said.unique in
     other_entry (take c.args.self.now.at (held (g.D.Drive.journal c.args.drive.now))) c.args.self.now c.args.entry_at c.args.node.now said.block
     (lies_there _ c.args.self.now.at c.args.entry_at said.block c.requires.below said.there) said.fields said.is
@@ -58,7 +58,7 @@ returns-then-not-is_kind-clause-refused g c = rw c.damaged.ensures (λ h.
 
 pub returns-then-not-is_new-clause-refused : goal.returns-then-not-is_new-clause-refused
 returns-then-not-is_new-clause-refused g c = rw c.damaged-then-not-is_new.ensures (λ h.
-    let said = c.in_ok-entry.ensures.said h in
+    let said = c.in_ok-entry.ensures.described h in
     other_entry (take c.args.self.now.at (held (g.D.Drive.journal c.args.drive.now))) c.args.self.now c.args.entry_at c.args.node.now said.block
     (lies_there _ c.args.self.now.at c.args.entry_at said.block c.requires.below said.there) said.fields said.is
     (λ (kind, unique, file, below, drawn, fresh).
@@ -69,7 +69,7 @@ returns-then-not-is_new-clause-refused g c = rw c.damaged-then-not-is_new.ensure
 
 pub returns-then-not-is_below-clause-refused : goal.returns-then-not-is_below-clause-refused
 returns-then-not-is_below-clause-refused g c = rw c.damaged-then-not-is_below.ensures (λ h.
-    let said = c.in_ok-entry.ensures.said h in
+    let said = c.in_ok-entry.ensures.described h in
     other_entry (take c.args.self.now.at (held (g.D.Drive.journal c.args.drive.now))) c.args.self.now c.args.entry_at c.args.node.now said.block
     (lies_there _ c.args.self.now.at c.args.entry_at said.block c.requires.below said.there) said.fields said.is
     (λ (kind, unique, file, below, drawn, fresh).

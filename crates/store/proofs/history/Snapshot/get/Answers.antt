@@ -1,11 +1,11 @@
 use Rattle.std.proofs.Common.{◌∙◌, sym, subst₂, List, Option, ℕ}
-use Rattle.directories.specs.Shows.{Shows}
+use Rattle.lookup.specs.Shows.{HasNodesOf}
 use Rattle.store.proofs.history.Snapshot.get.Goals as goal
 
-pub returns-clause-told : goal.returns-clause-told
-returns-clause-told g c tree s =
-    c.get.ensures.told tree (subst₂ (λ (at : ℕ) (entries : List (Option ℕ)). Shows (g.D.Drive.honest c.get.new.drive) (g.D.Drive.journal c.args.drive.now) c.args.store.now.directories at entries tree) (sym c.in_ok-nodes.ensures.nodes.0) (sym (c.in_ok-nodes.ensures.nodes.1 ∙ c.deref.ensures.value)) s)
+pub returns-clause-reported : goal.returns-clause-reported
+returns-clause-reported g c tree s =
+    c.get.ensures.reported tree (subst₂ (λ (at : ℕ) (entries : List (Option ℕ)). HasNodesOf (g.D.Drive.honest c.get.new.drive) (g.D.Drive.journal c.args.drive.now) c.args.store.now.directories at entries tree) (sym c.in_ok-nodes.ensures.nodes.0) (sym (c.in_ok-nodes.ensures.nodes.1 ∙ c.deref.ensures.value)) s)
 
 pub returns-clause-refused : goal.returns-clause-refused
 returns-clause-refused g c tree s going =
-    c.get.ensures.refused tree (subst₂ (λ (at : ℕ) (entries : List (Option ℕ)). Shows (g.D.Drive.honest c.get.new.drive) (g.D.Drive.journal c.args.drive.now) c.args.store.now.directories at entries tree) (sym c.in_ok-nodes.ensures.nodes.0) (sym (c.in_ok-nodes.ensures.nodes.1 ∙ c.deref.ensures.value)) s)
+    c.get.ensures.refused tree (subst₂ (λ (at : ℕ) (entries : List (Option ℕ)). HasNodesOf (g.D.Drive.honest c.get.new.drive) (g.D.Drive.journal c.args.drive.now) c.args.store.now.directories at entries tree) (sym c.in_ok-nodes.ensures.nodes.0) (sym (c.in_ok-nodes.ensures.nodes.1 ∙ c.deref.ensures.value)) s)

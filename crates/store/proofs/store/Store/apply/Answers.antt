@@ -12,12 +12,12 @@ use Rattle.request.specs.Numbers.{code_number}
 use Rattle.request.specs.declared.answer.Reply.{Reply}
 use Rattle.vat.specs.Table.{view}
 use Rattle.store.specs.declared.store.Store.{Store}
-use Rattle.directories.specs.Cache.{AreKept}
+use Rattle.lookup.specs.Cache.{AreKept}
 use Rattle.planning.specs.Needs.{change_need}
-use Rattle.next_vat.specs.NextTable.{begun}
+use Rattle.table_update.specs.NextTable.{begun}
 use Rattle.planning.specs.Plan.{IsPlan}
-use Rattle.store.specs.Putting.{Makes}
-use Rattle.next_vat.specs.TableChange.{committed}
+use Rattle.store.specs.Putting.{IsPlanOf}
+use Rattle.table_update.specs.TableChange.{committed}
 use Rattle.store.proofs.Commits.{if_ok, makes_plan, plan_is, writes_plan, has_failed, goes_on, open_is_ok, some_is}
 use Rattle.store.proofs.Applying.{applies, full, short, unwritten, withstands}
 use Rattle.store.proofs.Knowing.{does_lent, few, knows_again, nodes, shows_lent, takes}
@@ -59,7 +59,7 @@ returns-clause-written g c =
     let is : IsPlan (next_of J) capacity plan = plan_is J (g.D.Drive.journal c.change.new.drive) capacity (g.D.Drive.capacity c.change.new.drive) plan c.change.ensures.reads.journal c.change.ensures.reads.capacity c.in_ok-plan.ensures.plan in
     let change = c.in_ok-change.change in
     let of_moment : c.unwrap-moment.result ≡ c.args.request.now.moment = some_is c.of.result c.unwrap-moment.result c.args.request.now.moment _ (search rules) c.of.ensures in
-    let makes : Makes c.args.self.now c.args.request.now change plan = makes_plan c.args.self.now c.args.request.now change plan c.unwrap-moment.result of_moment c.in_ok-plan.ensures.moment c.in_ok-plan.ensures.code c.in_ok-plan.ensures.commit c.in_ok-plan.ensures.writings c.in_ok-plan.ensures.table in
+    let makes : IsPlanOf c.args.self.now c.args.request.now change plan = makes_plan c.args.self.now c.args.request.now change plan c.unwrap-moment.result of_moment c.in_ok-plan.ensures.moment c.in_ok-plan.ensures.code c.in_ok-plan.ensures.commit c.in_ok-plan.ensures.writings c.in_ok-plan.ensures.table in
     writes_plan c.commit.result K J (g.D.Drive.journal c.commit.new.drive) c.args.self.now c.args.request.now capacity change plan c.commit.new.self (c.plan.ensures.reads.journal ∙ c.change.ensures.reads.journal) makes is c.commit.ensures.reply c.commit.ensures.at c.commit.ensures.vat c.commit.ensures.written
 
 pub returns-then-self-clause-stopped : goal.returns-then-self-clause-stopped
@@ -87,7 +87,7 @@ returns-clause-refused g c =
     let is : IsPlan (next_of J) capacity plan = plan_is J (g.D.Drive.journal c.change.new.drive) capacity (g.D.Drive.capacity c.change.new.drive) plan c.change.ensures.reads.journal c.change.ensures.reads.capacity c.in_ok-plan.ensures.plan in
     let change = c.in_ok-change.change in
     let of_moment : c.unwrap-moment.result ≡ c.args.request.now.moment = some_is c.of.result c.unwrap-moment.result c.args.request.now.moment _ (search rules) c.of.ensures in
-    let makes : Makes c.args.self.now c.args.request.now change plan = makes_plan c.args.self.now c.args.request.now change plan c.unwrap-moment.result of_moment c.in_ok-plan.ensures.moment c.in_ok-plan.ensures.code c.in_ok-plan.ensures.commit c.in_ok-plan.ensures.writings c.in_ok-plan.ensures.table in
+    let makes : IsPlanOf c.args.self.now c.args.request.now change plan = makes_plan c.args.self.now c.args.request.now change plan c.unwrap-moment.result of_moment c.in_ok-plan.ensures.moment c.in_ok-plan.ensures.code c.in_ok-plan.ensures.commit c.in_ok-plan.ensures.writings c.in_ok-plan.ensures.table in
     has_failed c.commit.result K J (g.D.Drive.journal c.commit.new.drive) c.args.self.now c.args.request.now capacity change plan c.commit.new.self (c.plan.ensures.reads.journal ∙ c.change.ensures.reads.journal) makes is c.commit.ensures.front c.commit.ensures.device c.commit.ensures.stopped c.commit.ensures.as_before c.commit.ensures.volume
 
 pub returns-clause-unwritten : goal.returns-clause-unwritten
@@ -111,7 +111,7 @@ returns-in_err-change-clause-applies g c volume S honest knows going =
     let r = c.args.request.now in
     let J = g.D.Drive.journal c.args.drive.now in
     let capacity = g.D.Drive.capacity c.args.drive.now in
-    let now : Store = record { at = c.args.self.now.at; capacity = c.args.self.now.capacity; vat = c.args.self.now.vat; directories = c.change.new.directories; is_stopped = c.args.self.now.is_stopped; most_held = c.args.self.now.most_held } in
+    let now : Store = record { at = c.args.self.now.vat_icb_address; capacity = c.args.self.now.capacity; vat = c.args.self.now.vat; directories = c.change.new.directories; is_stopped = c.args.self.now.is_stopped; most_held = c.args.self.now.most_held } in
     let p = err_from_is_err_and c.from_residual.result c.from_residual.ensures.1 in
     let going_on = shows_lent capacity volume J S store knows (g.D.Drive.honest c.change.new.drive) honest c.deref.result.now c.deref.ensures.value in
     let shortage : IsShortage p.0 = subst (λ (f : StoreFault). IsShortage f) (sym p.2) (c.in_err-change.ensures.short S.tree going_on) in
@@ -125,18 +125,18 @@ returns-in_err-plan-clause-applies g c volume S honest knows going =
     let J = g.D.Drive.journal c.args.drive.now in
     let capacity = g.D.Drive.capacity c.args.drive.now in
     let change = c.in_ok-change.change in
-    let now : Store = record { at = c.args.self.now.at; capacity = c.args.self.now.capacity; vat = c.args.self.now.vat; directories = c.change.new.directories; is_stopped = c.args.self.now.is_stopped; most_held = c.args.self.now.most_held } in
+    let now : Store = record { at = c.args.self.now.vat_icb_address; capacity = c.args.self.now.capacity; vat = c.args.self.now.vat; directories = c.change.new.directories; is_stopped = c.args.self.now.is_stopped; most_held = c.args.self.now.most_held } in
     let p = err_from_is_err_and c.from_residual-in_err-plan.result c.from_residual-in_err-plan.ensures.1 in
     let after_change = c.plan.ensures.reads.honest honest in
     let of_moment : c.unwrap-moment.result ≡ c.args.request.now.moment = some_is c.of.result c.unwrap-moment.result c.args.request.now.moment _ (search rules) c.of.ensures in
     let counted : c.saturating_add.result ≡ len S.tree = omega (arith, c.saturating_add.ensures, nodes capacity volume J S store knows, few capacity volume J S store knows) in
     let going_on = shows_lent capacity volume J S store knows (g.D.Drive.honest c.change.new.drive) after_change c.deref.result.now c.deref.ensures.value in
     let does = does_lent capacity volume J S store knows r change c.deref.result.now c.unwrap-moment.result c.deref.ensures.value of_moment (c.in_ok-change.ensures.does S.tree going_on counted) in
-    let taken = subst (λ (m : ℕ). IsTakenBy m c.in_ok-change.change (committed c.args.self.now.at c.args.request.now.client c.args.request.now.number (code_number c.in_ok-change.change.code) (view c.args.self.now.vat))) (sym of_moment) (takes capacity volume J S store knows r change does) in
+    let taken = subst (λ (m : ℕ). IsTakenBy m c.in_ok-change.change (committed c.args.self.now.vat_icb_address c.args.request.now.client c.args.request.now.number (code_number c.in_ok-change.change.code) (view c.args.self.now.vat))) (sym of_moment) (takes capacity volume J S store knows r change does) in
     let refused : IsShortage p.0 ⊎ (p.0 ≡ Full) = subst (λ (f : StoreFault). IsShortage f ⊎ (f ≡ Full)) (sym p.2) (c.in_err-plan.ensures.refused taken) in
     let same = c.plan.ensures.reads.journal ∙ c.change.ensures.reads.journal in
     let again = knows_again capacity volume J S store knows (g.D.Drive.journal c.plan.new.drive) now same refl refl refl (c.change.ensures.kept after_change knows.kept) in
-    let over = λ (e : p.0 ≡ Full). subst (λ (L : List Event). c.args.self.now.capacity < next_of L + change_need c.in_ok-change.change (begun c.args.self.now.at c.args.request.now.client c.args.request.now.number (code_number c.in_ok-change.change.code) c.in_ok-change.change.made (view c.args.self.now.vat))) c.change.ensures.reads.journal
+    let over = λ (e : p.0 ≡ Full). subst (λ (L : List Event). c.args.self.now.capacity < next_of L + change_need c.in_ok-change.change (begun c.args.self.now.vat_icb_address c.args.request.now.client c.args.request.now.number (code_number c.in_ok-change.change.code) c.in_ok-change.change.made (view c.args.self.now.vat))) c.change.ensures.reads.journal
     (c.in_err-plan.ensures.full (ap (λ (f : StoreFault). Err f) (sym p.2 ∙ e))) in
     rw p.1 (full capacity volume J S store knows r change does p.0 (g.D.Drive.journal c.plan.new.drive) now refused over same again)
 
@@ -156,8 +156,8 @@ returns-clause-applies g c volume S honest knows going =
     let going_on = shows_lent capacity volume J S store knows (g.D.Drive.honest c.change.new.drive) after_change c.deref.result.now c.deref.ensures.value in
     let does = does_lent capacity volume J S store knows r change c.deref.result.now c.unwrap-moment.result c.deref.ensures.value of_moment (c.in_ok-change.ensures.does S.tree going_on counted) in
     let is : IsPlan (next_of J) capacity plan = plan_is J (g.D.Drive.journal c.change.new.drive) capacity (g.D.Drive.capacity c.change.new.drive) plan c.change.ensures.reads.journal c.change.ensures.reads.capacity c.in_ok-plan.ensures.plan in
-    let makes : Makes c.args.self.now c.args.request.now change plan = makes_plan c.args.self.now c.args.request.now change plan c.unwrap-moment.result of_moment c.in_ok-plan.ensures.moment c.in_ok-plan.ensures.code c.in_ok-plan.ensures.commit c.in_ok-plan.ensures.writings c.in_ok-plan.ensures.table in
-    let room = subst (λ (L : List Event). next_of L + change_need c.in_ok-change.change (begun c.args.self.now.at c.args.request.now.client c.args.request.now.number (code_number c.in_ok-change.change.code) c.in_ok-change.change.made (view c.args.self.now.vat)) ≤ c.args.self.now.capacity) c.change.ensures.reads.journal c.in_ok-plan.ensures.room in
+    let makes : IsPlanOf c.args.self.now c.args.request.now change plan = makes_plan c.args.self.now c.args.request.now change plan c.unwrap-moment.result of_moment c.in_ok-plan.ensures.moment c.in_ok-plan.ensures.code c.in_ok-plan.ensures.commit c.in_ok-plan.ensures.writings c.in_ok-plan.ensures.table in
+    let room = subst (λ (L : List Event). next_of L + change_need c.in_ok-change.change (begun c.args.self.now.vat_icb_address c.args.request.now.client c.args.request.now.number (code_number c.in_ok-change.change.code) c.in_ok-change.change.made (view c.args.self.now.vat)) ≤ c.args.self.now.capacity) c.change.ensures.reads.journal c.in_ok-plan.ensures.room in
     let same : K ≡ J = c.plan.ensures.reads.journal ∙ c.change.ensures.reads.journal in
     let once = subst (λ (L : List Event). Once L) (sym same) knows.once in
     let kept = subst (λ (L : List Event). AreKept L c.change.new.directories) (sym same) (c.change.ensures.kept after_change knows.kept) in
@@ -179,8 +179,8 @@ returns-clause-withstands g c volume S honest knows =
     let going_on = shows_lent capacity volume J S store knows (g.D.Drive.honest c.change.new.drive) after_change c.deref.result.now c.deref.ensures.value in
     let does = does_lent capacity volume J S store knows r change c.deref.result.now c.unwrap-moment.result c.deref.ensures.value of_moment (c.in_ok-change.ensures.does S.tree going_on counted) in
     let is : IsPlan (next_of J) capacity plan = plan_is J (g.D.Drive.journal c.change.new.drive) capacity (g.D.Drive.capacity c.change.new.drive) plan c.change.ensures.reads.journal c.change.ensures.reads.capacity c.in_ok-plan.ensures.plan in
-    let makes : Makes c.args.self.now c.args.request.now change plan = makes_plan c.args.self.now c.args.request.now change plan c.unwrap-moment.result of_moment c.in_ok-plan.ensures.moment c.in_ok-plan.ensures.code c.in_ok-plan.ensures.commit c.in_ok-plan.ensures.writings c.in_ok-plan.ensures.table in
-    let room = subst (λ (L : List Event). next_of L + change_need c.in_ok-change.change (begun c.args.self.now.at c.args.request.now.client c.args.request.now.number (code_number c.in_ok-change.change.code) c.in_ok-change.change.made (view c.args.self.now.vat)) ≤ c.args.self.now.capacity) c.change.ensures.reads.journal c.in_ok-plan.ensures.room in
+    let makes : IsPlanOf c.args.self.now c.args.request.now change plan = makes_plan c.args.self.now c.args.request.now change plan c.unwrap-moment.result of_moment c.in_ok-plan.ensures.moment c.in_ok-plan.ensures.code c.in_ok-plan.ensures.commit c.in_ok-plan.ensures.writings c.in_ok-plan.ensures.table in
+    let room = subst (λ (L : List Event). next_of L + change_need c.in_ok-change.change (begun c.args.self.now.vat_icb_address c.args.request.now.client c.args.request.now.number (code_number c.in_ok-change.change.code) c.in_ok-change.change.made (view c.args.self.now.vat)) ≤ c.args.self.now.capacity) c.change.ensures.reads.journal c.in_ok-plan.ensures.room in
     withstands capacity volume J S store knows r change does plan makes is room {drive = g.D.Drive} c.commit.result c.plan.new.drive c.commit.new.drive (g.D.Drive.writes c.args.drive.now) (c.plan.ensures.reads.writes ∙ c.change.ensures.reads.writes)
     c.commit.ensures.alone (c.plan.ensures.reads.journal ∙ c.change.ensures.reads.journal) c.commit.ensures.written c.commit.ensures.front c.commit.ensures.device
 

@@ -2,7 +2,7 @@ use Rattle.std.proofs.Common.{ℕ, sym, subst}
 use Rattle.std.proofs.lemmas.Result.{err_from_is_err_and}
 use Rattle.drive.specs.Journal.{held}
 use Rattle.recover.specs.declared.fault.StoreFault.{StoreFault}
-use Rattle.store.specs.Past.{AllStood, IsCheckRefused}
+use Rattle.store.specs.Past.{AllRecovered, IsCheckRefused}
 use Rattle.store.proofs.Checks.{unchecked}
 use Rattle.store.proofs.Knowing.{commits}
 use Rattle.store.proofs.Pasts.{low_here}
@@ -16,7 +16,7 @@ returns-clause-whole g c volume T h knows =
     let checked = c.in_ok-check_states.ensures.checked h in
     let count = commits capacity volume J T c.args.self.now knows in
     let all = whole capacity volume J T c.args.self.now knows checked.commits (low_here capacity volume J T c.args.self.now knows) checked.history checked.shown in
-    (count, subst (λ (n : ℕ). AllStood capacity volume (held J) n) (sym count) all)
+    (count, subst (λ (n : ℕ). AllRecovered capacity volume (held J) n) (sym count) all)
 
 pub returns-in_err-check_states-clause-refused : goal.returns-in_err-check_states-clause-refused
 returns-in_err-check_states-clause-refused g c volume T h knows going =

@@ -1,15 +1,15 @@
 use Rattle.std.proofs.Common.{◌≡◌, Bool, ◌++◌, ◌≤◌, ◌∙◌, List, true, false, refl, sym, subst, ap, arith}
 use Rattle.std.specs.Prelude.{is_err, All}
 use Rattle.std.specs.Vec.Iter.{into_iter_items}
-use Rattle.drive.specs.Reads.{Follows, one_if}
+use Rattle.drive.specs.Reads.{ReadsAndWrites, one_if}
 use Rattle.drive.specs.Sending.{SendsAlone}
 use Rattle.drive.proofs.Reading.{writes_follow}
-use Rattle.drive.specs.Journal.{next_of, written, AddsFront}
+use Rattle.drive.specs.Journal.{next_of, written, AddsPrefix}
 use Rattle.planning.specs.Plan.{node_list, placed_of, plan_blocks, table_data}
 use Rattle.vat.specs.declared.table.Vat.{Vat}
-use Rattle.planning.specs.Last.{Keeps}
-use Rattle.directories.specs.Cache.{LiesThere}
-use Rattle.directories.specs.declared.nodes.Placed.{Placed}
+use Rattle.planning.specs.Last.{HasTableBelow}
+use Rattle.lookup.specs.Cache.{LiesThere}
+use Rattle.lookup.specs.declared.nodes.Placed.{Placed}
 use Rattle.planning.specs.declared.layout.PlacedDirectory.{PlacedDirectory}
 use Rattle.planning.specs.declared.layout.PlacedTable.{PlacedTable}
 use Rattle.store.proofs.Keeping.{kept_front, kept_longer, plan_lies}
@@ -21,19 +21,19 @@ use Rattle.store.proofs.store.Store.commit.Goals as goal
 pub returns-then-is_err-clause-follows : goal.returns-then-is_err-clause-follows
 returns-then-is_err-clause-follows g c =
     let failed : is_err c.write-written.result ≡ true = sym c.is_err.ensures.value ∙ c.if-is_err.true in
-    subst (λ (b : Bool). Follows g.D.Drive (one_if b) c.args.drive.now c.write-written.new.drive) failed (writes_follow c.write-written.ensures.writes)
+    subst (λ (b : Bool). ReadsAndWrites g.D.Drive (one_if b) c.args.drive.now c.write-written.new.drive) failed (writes_follow c.write-written.ensures.writes)
 
 pub returns-clause-follows : goal.returns-clause-follows
 returns-clause-follows g c =
     let done : is_err c.write-written.result ≡ false = sym c.is_err.ensures.value ∙ c.if-is_err.false in
-    subst (λ (b : Bool). Follows g.D.Drive (one_if b) c.args.drive.now c.write-written.new.drive) done (writes_follow c.write-written.ensures.writes)
+    subst (λ (b : Bool). ReadsAndWrites g.D.Drive (one_if b) c.args.drive.now c.write-written.new.drive) done (writes_follow c.write-written.ensures.writes)
 
 pub returns-then-is_err-clause-agrees : goal.returns-then-is_err-clause-agrees
 returns-then-is_err-clause-agrees g c =
     let J = g.D.Drive.journal c.args.drive.now in
     let J' = g.D.Drive.journal c.write-written.new.drive in
     let failed : is_err c.write-written.result ≡ true = sym c.is_err.ensures.value ∙ c.if-is_err.true in
-    let front = on_err c.write-written.result (AddsFront J (next_of J) (plan_blocks c.args.plan) J') failed c.write-written.ensures.err in
+    let front = on_err c.write-written.result (AddsPrefix J (next_of J) (plan_blocks c.args.plan) J') failed c.write-written.ensures.err in
     let more : next_of J ≤ next_of J' = front_ends (next_of J) J J' (plan_blocks c.args.plan) (omega arith) front in
     record {
       keeps = c.requires.agrees.keeps;
@@ -48,7 +48,7 @@ returns-then-is_err-clause-front g c =
     let J = g.D.Drive.journal c.args.drive.now in
     let J' = g.D.Drive.journal c.write-written.new.drive in
     let failed : is_err c.write-written.result ≡ true = sym c.is_err.ensures.value ∙ c.if-is_err.true in
-    on_err c.write-written.result (AddsFront J (next_of J) (plan_blocks c.args.plan) J') failed c.write-written.ensures.err
+    on_err c.write-written.result (AddsPrefix J (next_of J) (plan_blocks c.args.plan) J') failed c.write-written.ensures.err
 
 pub returns-then-is_err-clause-as_before : goal.returns-then-is_err-clause-as_before
 returns-then-is_err-clause-as_before g c = (refl, refl)
@@ -59,11 +59,11 @@ returns-clause-agrees g c =
     let J' = g.D.Drive.journal c.write-written.new.drive in
     let done : is_err c.write-written.result ≡ false = sym c.is_err.ensures.value ∙ c.if-is_err.false in
     let all = on_ok c.write-written.result (J' ≡ J ++ written (next_of J) (plan_blocks c.args.plan)) done c.write-written.ensures.ok in
-    let at : c.loop-placed.self.at ≡ c.args.plan.table.at = c.loop-placed.invariant.at ∙ ap (λ (t : PlacedTable). t.at) c.write-written.ensures.table in
+    let at : c.loop-placed.self.vat_icb_address ≡ c.args.plan.table.at = c.loop-placed.invariant.at ∙ ap (λ (t : PlacedTable). t.at) c.write-written.ensures.table in
     let vat : c.loop-placed.self.vat ≡ c.args.plan.table.vat = c.loop-placed.invariant.vat ∙ ap (λ (t : PlacedTable). t.vat) c.write-written.ensures.table in
     let ends = writes_ends (next_of J) J J' (plan_blocks c.args.plan) (omega arith) all in
     record {
-      keeps = subst (λ n. Keeps n c.loop-placed.self.vat) (sym at) (subst (λ (v : Vat). Keeps c.args.plan.table.at v) (sym vat) c.requires.plan.keeps);
+      keeps = subst (λ n. HasTableBelow n c.loop-placed.self.vat) (sym at) (subst (λ (v : Vat). HasTableBelow c.args.plan.table.at v) (sym vat) c.requires.plan.keeps);
       on = omega (arith, at, ends, plan_ends (next_of J) (g.D.Drive.capacity c.args.drive.now) c.args.plan c.requires.plan);
       least = omega (arith, c.loop-placed.invariant.capacity, c.requires.agrees.least);
       most = omega (arith, c.loop-placed.invariant.capacity, c.requires.agrees.most);
@@ -88,7 +88,7 @@ returns-then-is_err-clause-kept g c once kept =
     let J = g.D.Drive.journal c.args.drive.now in
     let J' = g.D.Drive.journal c.write-written.new.drive in
     let failed : is_err c.write-written.result ≡ true = sym c.is_err.ensures.value ∙ c.if-is_err.true in
-    let front = on_err c.write-written.result (AddsFront J (next_of J) (plan_blocks c.args.plan) J') failed c.write-written.ensures.err in
+    let front = on_err c.write-written.result (AddsPrefix J (next_of J) (plan_blocks c.args.plan) J') failed c.write-written.ensures.err in
     kept_front J J' (plan_blocks c.args.plan) c.args.self.now.directories front once kept
 
 pub loop-placed-init : goal.loop-placed-init

@@ -2,7 +2,7 @@ use Rattle.std.proofs.Common.{◌≡◌, false, List}
 use Rattle.std.specs.Prelude.{All}
 use Rattle.std.specs.Vec.Iter.{into_iter_items}
 use Rattle.drive.specs.Journal.{Event}
-use Rattle.directories.specs.Cache.{LiesThere, AreKept}
+use Rattle.lookup.specs.Cache.{LiesThere, AreKept}
 use Rattle.planning.specs.Plan.{placed_of}
 use Rattle.planning.specs.declared.layout.PlacedDirectory.{PlacedDirectory}
 use Rattle.store.proofs.store.Store.commit.Given as goal
@@ -10,7 +10,7 @@ use Rattle.store.proofs.store.Store.commit.Given as goal
 -- only the directories that are kept change, and each that is put there lies there
 abbrev pub invariant-loop-placed : goal.invariant-loop-placed
 invariant-loop-placed g l = record {
-  at : l.self.at ≡ l.table.at;
+  at : l.self.vat_icb_address ≡ l.table.at;
   capacity : l.self.capacity ≡ l.fn.self.capacity;
   vat : l.self.vat ≡ l.table.vat;
   stopped : l.self.is_stopped ≡ false;

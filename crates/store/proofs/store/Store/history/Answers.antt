@@ -10,12 +10,12 @@ use Rattle.store.proofs.store.Store.history.Goals as goal
 
 pub loop-vat-init : goal.loop-vat-init
 loop-vat-init g c = record {
-  found = λ h. begins (held (g.D.Drive.journal c.args.drive.now)) c.args.self.now.at (view c.in_ok-vat.vat) _ _ _ (c.in_ok-vat.ensures.table h)
+  found = λ h. begins (held (g.D.Drive.journal c.args.drive.now)) c.args.self.now.vat_icb_address (view c.in_ok-vat.vat) _ _ _ (c.in_ok-vat.ensures.table h)
       c.new-commits.ensures.items c.of.ensures c.in_ok-push.ensures.items;
-  goes = λ h all is. left_first (held (g.D.Drive.journal c.args.drive.now)) c.args.self.now.at (view c.in_ok-vat.vat) (c.in_ok-vat.ensures.table h) all is;
-  within = first_within (next_of (g.D.Drive.journal c.args.drive.now)) c.args.self.now.at (view c.in_ok-vat.vat) _ _ _ (omega (arith, c.requires.agrees.keeps.low)) c.requires.agrees.on
+  goes = λ h all is. left_first (held (g.D.Drive.journal c.args.drive.now)) c.args.self.now.vat_icb_address (view c.in_ok-vat.vat) (c.in_ok-vat.ensures.table h) all is;
+  within = first_within (next_of (g.D.Drive.journal c.args.drive.now)) c.args.self.now.vat_icb_address (view c.in_ok-vat.vat) _ _ _ (omega (arith, c.requires.agrees.keeps.low)) c.requires.agrees.on
       c.new-commits.ensures.items c.of.ensures c.in_ok-push.ensures.items;
-  fits = (let fits : c.args.self.now.at < 2 ^ 32 = omega arith in fits);
+  fits = (let fits : c.args.self.now.vat_icb_address < 2 ^ 32 = omega arith in fits);
   link = c.in_ok-vat.ensures.previous;
   first = c.in_ok-vat.ensures.first;
   reads = c.in_ok-vat.ensures.reads;
@@ -32,7 +32,7 @@ overflow_add-number g c = omega (arith, link_below _ _ _ c.in-Some.is c.loop-vat
 pub loop-vat-preserved : goal.loop-vat-preserved
 loop-vat-preserved g c =
     let below = link_below _ _ _ c.in-Some.is c.loop-vat.invariant.link in record {
-      found = λ h. goes_on (held (g.D.Drive.journal c.args.drive.now)) c.args.self.now.at c.in-Some.number (view c.loop-vat.vat) (view c.in_ok-vat-2.vat) _ _ _
+      found = λ h. goes_on (held (g.D.Drive.journal c.args.drive.now)) c.args.self.now.vat_icb_address c.in-Some.number (view c.loop-vat.vat) (view c.in_ok-vat-2.vat) _ _ _
           (c.loop-vat.invariant.found (c.linked.ensures.reads.honest h)) c.in-Some.is (rw c.loop-vat.invariant.reads.journal at (c.in_ok-vat-2.ensures.table h))
           c.in_ok-vat-2.ensures.commits c.of-in-Some.ensures c.in_ok-push-2.ensures.items;
       goes = λ h all is. left_next (held (g.D.Drive.journal c.args.drive.now)) c.in-Some.number (view c.loop-vat.vat) (view c.in_ok-vat-2.vat) c.in-Some.is
@@ -47,23 +47,23 @@ loop-vat-preserved g c =
 
 pub returns-clause-history : goal.returns-clause-history
 returns-clause-history g c = λ h.
-    ends (held (g.D.Drive.journal c.args.drive.now)) c.args.self.now.at (view c.loop-vat.vat) c.loop-vat.commits.items (c.loop-vat.invariant.found h)
+    ends (held (g.D.Drive.journal c.args.drive.now)) c.args.self.now.vat_icb_address (view c.loop-vat.vat) c.loop-vat.commits.items (c.loop-vat.invariant.found h)
     (no_link _ c.in_default.not-Some) c.loop-vat.invariant.first
 
 pub returns-clause-all : goal.returns-clause-all
 returns-clause-all g c volume T h knows =
     let J = g.D.Drive.journal c.args.drive.now in
     history_known (g.D.Drive.capacity c.args.drive.now) volume J T c.args.self.now knows c.loop-vat.commits.items
-    (ends (held J) c.args.self.now.at (view c.loop-vat.vat) c.loop-vat.commits.items (c.loop-vat.invariant.found h) (no_link _ c.in_default.not-Some) c.loop-vat.invariant.first)
+    (ends (held J) c.args.self.now.vat_icb_address (view c.loop-vat.vat) c.loop-vat.commits.items (c.loop-vat.invariant.found h) (no_link _ c.in_default.not-Some) c.loop-vat.invariant.first)
 
 pub returns-in_err-vat-clause-refused : goal.returns-in_err-vat-clause-refused
 returns-in_err-vat-clause-refused g c going =
     let q = err_from_is_err_and c.from_residual.result c.from_residual.ensures.1 in
-    rw (q.1, q.2) (λ h. history_first (held (g.D.Drive.journal c.args.drive.now)) c.args.self.now.at _ (c.in_err-vat.ensures.refused h))
+    rw (q.1, q.2) (λ h. history_first (held (g.D.Drive.journal c.args.drive.now)) c.args.self.now.vat_icb_address _ (c.in_err-vat.ensures.refused h))
 
 pub returns-in_err-vat-2-clause-refused : goal.returns-in_err-vat-2-clause-refused
 returns-in_err-vat-2-clause-refused g c going =
     let q = err_from_is_err_and c.from_residual-in_err-vat-2.result c.from_residual-in_err-vat-2.ensures.1 in
     rw (q.1, q.2) (λ h.
     let refused = subst (λ (K : List Event). IsLinkRefused (held K) (c.in-Some.number + 257) c.loop-vat.vat.sessions.commits c.in_err-vat-2.field-0.0) c.loop-vat.invariant.reads.journal (c.in_err-vat-2.ensures.refused h) in
-    history_link (held (g.D.Drive.journal c.args.drive.now)) c.args.self.now.at c.in-Some.number (view c.loop-vat.vat) c.in-Some.is (c.loop-vat.invariant.goes (c.linked.ensures.reads.honest h)) _ refused)
+    history_link (held (g.D.Drive.journal c.args.drive.now)) c.args.self.now.vat_icb_address c.in-Some.number (view c.loop-vat.vat) c.in-Some.is (c.loop-vat.invariant.goes (c.linked.ensures.reads.honest h)) _ refused)

@@ -5,9 +5,9 @@ use Rattle.drive.specs.Journal.{Event, held, next_of}
 use Rattle.recover.specs.Faults.{IsShortage}
 use Rattle.recover.specs.declared.fault.StoreFault.{StoreFault}
 use Rattle.recover.specs.State.{IsShown, IsStateRefused}
-use Rattle.recover.specs.Tables.{IsLast}
+use Rattle.recover.specs.Tables.{IsLastVatIcb}
 use Rattle.store.specs.Opened.{IsOpenRefused}
-use Rattle.next_vat.proofs.BelowLemmas.{below_entry}
+use Rattle.table_update.proofs.BelowLemmas.{below_entry}
 use Rattle.store.proofs.Opening.{knows_opened, not_read, opened_short, short_opened, shortage_opened}
 use Rattle.recover.proofs.States.{last_stands}
 use Rattle.store.proofs.store.Store.open.Goals as goal
@@ -39,14 +39,14 @@ returns-in_err-at-clause-refused g c =
     rw p.1 (λ h. subst (λ (f : StoreFault). IsOpenRefused (g.D.Drive.capacity c.args.drive.now) (held (g.D.Drive.journal c.args.drive.now)) f) (sym (p.2 ∙ c.in_err-at.ensures.device)) tt)
 
 pub returns-in-None-clause-refused : goal.returns-in-None-clause-refused
-returns-in-None-clause-refused g c = λ h. subst (λ (o : Option ℕ). IsLast (held (g.D.Drive.journal c.args.drive.now)) o) c.in-None.is (c.in_ok-at.ensures.last h)
+returns-in-None-clause-refused g c = λ h. subst (λ (o : Option ℕ). IsLastVatIcb (held (g.D.Drive.journal c.args.drive.now)) o) c.in-None.is (c.in_ok-at.ensures.last h)
 
 pub returns-in_err-capacity-clause-refused : goal.returns-in_err-capacity-clause-refused
 returns-in_err-capacity-clause-refused g c =
     let p = err_from_is_err_and c.from_residual-in_err-capacity.result c.from_residual-in_err-capacity.ensures.1 in
     let capacity = g.D.Drive.capacity c.args.drive.now in
     let J = g.D.Drive.journal c.args.drive.now in
-    let last = λ (h : IsTrue (g.D.Drive.honest c.state_at.new.drive)). subst (λ (o : Option ℕ). IsLast (held (g.D.Drive.journal c.args.drive.now)) o) c.in-Some.is (c.in_ok-at.ensures.last (c.state_at.ensures.reads.honest h)) in
+    let last = λ (h : IsTrue (g.D.Drive.honest c.state_at.new.drive)). subst (λ (o : Option ℕ). IsLastVatIcb (held (g.D.Drive.journal c.args.drive.now)) o) c.in-Some.is (c.in_ok-at.ensures.last (c.state_at.ensures.reads.honest h)) in
     let refused = λ (h : IsTrue (g.D.Drive.honest c.state_at.new.drive)).
     subst (λ (f : StoreFault). IsStateRefused (g.D.Drive.capacity c.args.drive.now) (held (g.D.Drive.journal c.args.drive.now)) c.in-Some.at f) (sym p.2)
     (subst (λ (n : ℕ). IsStateRefused n (held (g.D.Drive.journal c.args.drive.now)) c.in-Some.at c.in_err-capacity.field-0.0) c.last.ensures.reads.capacity
@@ -79,18 +79,18 @@ returns-clause-opens g c volume S honest once stands =
     let capacity = g.D.Drive.capacity c.args.drive.now in
     let J = g.D.Drive.journal c.args.drive.now in
     let state = c.in_ok-capacity.field-0 in
-    let last = subst (λ (o : Option ℕ). IsLast (held (g.D.Drive.journal c.args.drive.now)) o) c.in-Some.is (c.in_ok-at.ensures.last (c.state_at.ensures.reads.honest honest)) in
+    let last = subst (λ (o : Option ℕ). IsLastVatIcb (held (g.D.Drive.journal c.args.drive.now)) o) c.in-Some.is (c.in_ok-at.ensures.last (c.state_at.ensures.reads.honest honest)) in
     let shown =
     subst (λ (n : ℕ). IsShown n (held (g.D.Drive.journal c.args.drive.now)) c.in-Some.at c.in_ok-capacity.field-0) c.last.ensures.reads.capacity
     (subst (λ (K : List Event). IsShown (g.D.Drive.capacity c.last.new.drive) (held K) c.in-Some.at c.in_ok-capacity.field-0) c.last.ensures.reads.journal (c.in_ok-capacity.ensures.shown honest)) in
     (knows_opened capacity volume J S once stands c.in-Some.at state last shown _ refl refl refl (c.in_ok-new.ensures.kept J), refl)
 
-pub returns-clause-stands : goal.returns-clause-stands
-returns-clause-stands g c honest once =
+pub returns-clause-recovers : goal.returns-clause-recovers
+returns-clause-recovers g c honest once =
     let capacity = g.D.Drive.capacity c.args.drive.now in
     let J = g.D.Drive.journal c.args.drive.now in
     let state = c.in_ok-capacity.field-0 in
-    let last = subst (λ (o : Option ℕ). IsLast (held (g.D.Drive.journal c.args.drive.now)) o) c.in-Some.is (c.in_ok-at.ensures.last (c.state_at.ensures.reads.honest honest)) in
+    let last = subst (λ (o : Option ℕ). IsLastVatIcb (held (g.D.Drive.journal c.args.drive.now)) o) c.in-Some.is (c.in_ok-at.ensures.last (c.state_at.ensures.reads.honest honest)) in
     let shown =
     subst (λ (n : ℕ). IsShown n (held (g.D.Drive.journal c.args.drive.now)) c.in-Some.at c.in_ok-capacity.field-0) c.last.ensures.reads.capacity
     (subst (λ (K : List Event). IsShown (g.D.Drive.capacity c.last.new.drive) (held K) c.in-Some.at c.in_ok-capacity.field-0) c.last.ensures.reads.journal (c.in_ok-capacity.ensures.shown honest)) in

@@ -14,11 +14,11 @@ pub loop-vat-init : goal.loop-vat-init
 loop-vat-init g c = record {
   leads = λ h. (0, refl);
   table = c.in_ok-vat.ensures.table;
-  more = λ h first there le. subst (λ (t : Table_). c.args.commit ≤ t.commits) (one_read (held (g.D.Drive.journal c.args.drive.now)) c.args.self.now.at first (view c.in_ok-vat.vat) there (c.in_ok-vat.ensures.table h)) le;
+  more = λ h first there le. subst (λ (t : Table_). c.args.commit ≤ t.commits) (one_read (held (g.D.Drive.journal c.args.drive.now)) c.args.self.now.vat_icb_address first (view c.in_ok-vat.vat) there (c.in_ok-vat.ensures.table h)) le;
   first = c.in_ok-vat.ensures.first;
-  low = (let low : 257 ≤ c.args.self.now.at = omega (arith, c.requires.agrees.keeps.low) in low);
+  low = (let low : 257 ≤ c.args.self.now.vat_icb_address = omega (arith, c.requires.agrees.keeps.low) in low);
   high = c.requires.agrees.on;
-  fits = (let fits : c.args.self.now.at < 2 ^ 32 = omega arith in fits);
+  fits = (let fits : c.args.self.now.vat_icb_address < 2 ^ 32 = omega arith in fits);
   link = c.in_ok-vat.ensures.previous;
   reads = c.in_ok-vat.ensures.reads;
 }
@@ -64,11 +64,11 @@ returns-clause-table g c = λ h.
 pub returns-in_err-vat-clause-refused : goal.returns-in_err-vat-clause-refused
 returns-in_err-vat-clause-refused g c =
     let q = err_from_is_err_and c.from_residual.result c.from_residual.ensures.1 in
-    rw (q.1, q.2) (λ h. way_first (held (g.D.Drive.journal c.args.drive.now)) c.args.self.now.at c.args.commit _ (c.in_err-vat.ensures.refused h))
+    rw (q.1, q.2) (λ h. way_first (held (g.D.Drive.journal c.args.drive.now)) c.args.self.now.vat_icb_address c.args.commit _ (c.in_err-vat.ensures.refused h))
 
 pub returns-in_default-clause-refused : goal.returns-in_default-clause-refused
 returns-in_default-clause-refused g c = rw c.damaged.ensures (λ h.
-    way_end (held (g.D.Drive.journal c.args.drive.now)) c.args.self.now.at c.args.commit (view c.loop-vat.vat) (no_link _ c.in_default.not-Some) c.loop-vat.invariant.first c.loop-vat-test.true
+    way_end (held (g.D.Drive.journal c.args.drive.now)) c.args.self.now.vat_icb_address c.args.commit (view c.loop-vat.vat) (no_link _ c.in_default.not-Some) c.loop-vat.invariant.first c.loop-vat-test.true
     (c.loop-vat.invariant.more h) 0 0)
 
 pub returns-in_err-vat-2-clause-refused : goal.returns-in_err-vat-2-clause-refused
@@ -78,5 +78,5 @@ returns-in_err-vat-2-clause-refused g c =
     let now = c.linked.ensures.reads.honest h in
     let leads = c.loop-vat.invariant.leads now in
     let refused = subst (λ (K : List Event). IsLinkRefused (held K) (c.in-Some.number + 257) c.loop-vat.vat.sessions.commits c.in_err-vat-2.field-0.0) c.loop-vat.invariant.reads.journal (c.in_err-vat-2.ensures.refused h) in
-    way_link (held (g.D.Drive.journal c.args.drive.now)) c.args.self.now.at c.args.commit leads.0 c.loop-vat.at c.in-Some.number (view c.loop-vat.vat) leads.1 (c.loop-vat.invariant.table now) c.in-Some.is
+    way_link (held (g.D.Drive.journal c.args.drive.now)) c.args.self.now.vat_icb_address c.args.commit leads.0 c.loop-vat.at c.in-Some.number (view c.loop-vat.vat) leads.1 (c.loop-vat.invariant.table now) c.in-Some.is
     (λ first there le. more_than c.args.commit c.loop-vat.vat.sessions.commits (c.loop-vat.invariant.more now first there le) c.loop-vat-test.true) _ refused)

@@ -1,0 +1,78 @@
+-- The bytes of a file, by what its entry says of their place.
+use Rattle.std.proofs.Common.{◌≡◌, ℕ, ◌+◌, ◌≤◌, false, List, [], take, Option, refl, sym, ap, subst, ◌∙◌, arith}
+use Rattle.std.specs.Int.{div_ceil}
+use Rattle.std.proofs.lemmas.Bool.{true≢false}
+use Rattle.drive.specs.Journal.{Event, held}
+use Rattle.recover.specs.Blocks.{medium_bytes_at}
+use Rattle.icb.specs.declared.entry.FileEntry.{FileEntry}
+use Rattle.icb.specs.declared.entry.Place.TheVariants as places
+use Rattle.icb.specs.Entry as icb
+use Rattle.model.specs.Tree.{has_names}
+use Rattle.model.specs.Graph.{Stored, Body, is_directory, content_in}
+use Rattle.model.specs.Graph.Body.{Bytes, Entries}
+use Rattle.durability.specs.Formats.{Block, NodePlace, NodeFields}
+use Rattle.durability.specs.Formats.NodePlace.{Nowhere, Extent, Inside}
+use Rattle.durability.specs.Volume.{Medium, HoldsBody, HoldsFile, IsWithin, bytes_in, extent}
+use Rattle.udf.specs.Udf.{udf}
+use Rattle.udf.specs.Words.{icb_fields, icb_place}
+use Rattle.lookup.specs.Shows.{graph_below}
+use Rattle.lookup.proofs.StoredNodes.{shorter, part_below}
+
+-- a file that is stored has these bytes
+pub record HasBytes (medium : Medium) (s : Stored) (fields : NodeFields) : Type 0 where
+  pub bytes : List ℕ
+  pub body : s.body ≡ Bytes bytes
+  pub holds : HoldsFile medium fields.size fields.place bytes
+
+bytes_in_body : (medium : Medium) (s : Stored) (fields : NodeFields) (body : Body) → s.body ≡ body → has_names (content_in body) ≡ false → HoldsBody udf medium fields body → HasBytes medium s fields
+bytes_in_body medium s fields (Bytes bytes) e file h = record { bytes = bytes; body = e; holds = h.1 }
+bytes_in_body medium s fields (Entries parent entries) e file h = absurd (true≢false file)
+
+pub has_bytes : (at : ℕ) (entries : List (Option ℕ)) (J : List Event) (address : ℕ) (s : Stored) (there : graph_below at entries J address s) → is_directory s ≡ false → HasBytes (take at (held J)) s there.fields
+has_bytes at entries J address s there file = bytes_in_body (take at (held J)) s there.fields s.body refl file there.body
+
+nowhere : (medium : Medium) (size : ℕ) (place : NodePlace) (bytes : List ℕ) → HoldsFile medium size place bytes → icb.Place.Nowhere ≡ icb_place place → bytes ≡ []
+nowhere medium size Nowhere bytes h e = h
+nowhere medium size (Inside inside) bytes h e = cc
+nowhere medium size (Extent first) bytes h e = cc
+
+inside_of : icb.Place → List ℕ
+inside_of icb.Place.Nowhere = []
+inside_of (icb.Place.Extent first) = []
+inside_of (icb.Place.Inside bytes) = bytes
+
+first_of : icb.Place → ℕ
+first_of icb.Place.Nowhere = 0
+first_of (icb.Place.Extent first) = first
+first_of (icb.Place.Inside bytes) = 0
+
+within_entry : (medium : Medium) (size : ℕ) (place : NodePlace) (bytes inside : List ℕ) → HoldsFile medium size place bytes → icb.Place.Inside inside ≡ icb_place place → bytes ≡ inside
+unfolding inside_of
+within_entry medium size Nowhere bytes inside h e = cc
+within_entry medium size (Inside there) bytes inside h e = h ∙ sym (ap inside_of e)
+within_entry medium size (Extent first) bytes inside h e = cc
+
+behind : (medium : Medium) (size : ℕ) (place : NodePlace) (bytes : List ℕ) (first : ℕ) → HoldsFile medium size place bytes → icb.Place.Extent first ≡ icb_place place → IsWithin medium first size × (bytes ≡ bytes_in size (extent medium first size))
+unfolding first_of
+behind medium size Nowhere bytes first h e = cc
+behind medium size (Inside inside) bytes first h e = cc
+behind medium size (Extent there) bytes first h e = subst (λ (n : ℕ). IsWithin medium n size × (bytes ≡ bytes_in size (extent medium n size))) (sym (ap first_of e)) h
+
+module _ (at : ℕ) (J : List Event) (s : Stored) (fields : NodeFields) (read : FileEntry) (h : HasBytes (take at (held J)) s fields) (same : icb.fields_of read ≡ icb_fields fields) where
+  place_is : icb.place_of read.place ≡ icb_place fields.place
+  place_is = ap (λ (f : icb.Fields). f.place) same
+
+  pub stored_nowhere : read.place ≡ places.None → s.body ≡ Bytes []
+  stored_nowhere e = h.body ∙ ap Bytes (nowhere (take at (held J)) fields.size fields.place h.bytes h.holds (sym (ap icb.place_of e) ∙ place_is))
+
+  pub stored_inside : (inside : _) → read.place ≡ places.Inside inside → s.body ≡ Bytes inside.now
+  stored_inside inside e = h.body ∙ ap Bytes (within_entry (take at (held J)) fields.size fields.place h.bytes inside.now h.holds (sym (ap icb.place_of e) ∙ place_is))
+
+  pub stored_extent : (first : ℕ) → read.place ≡ places.Extent first → (first + 257 + div_ceil read.size 2048 ≤ at) × (s.body ≡ Bytes (medium_bytes_at (held J) (first + 257) read.size))
+  stored_extent first e =
+      let size : fields.size ≡ read.size = sym (ap (λ (f : icb.Fields). f.size) same) in
+      let b = subst (λ (n : ℕ). IsWithin (take at (held J)) first n × (h.bytes ≡ bytes_in n (extent (take at (held J)) first n))) size
+      (behind (take at (held J)) fields.size fields.place h.bytes first h.holds (sym (ap icb.place_of e) ∙ place_is)) in (
+        omega (arith, b.0, shorter at (held J)),
+        h.body ∙ ap Bytes (b.1 ∙ ap (λ (bs : List Block). bytes_in read.size bs) (part_below (held J) at (first + 257) (div_ceil read.size 2048) b.0)),
+      )

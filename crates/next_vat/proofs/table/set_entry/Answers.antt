@@ -1,6 +1,0 @@
-use Rattle.std.proofs.Common.{arith}
-use Rattle.next_vat.proofs.EntryChanges.{entry_set}
-use Rattle.next_vat.proofs.table.set_entry.Goals as goal
-
-pub returns-clause-entry : goal.returns-clause-entry
-returns-clause-entry c = entry_set c.args.entries.now.items c.args.address c.args.entry (omega (arith, c.args.entries.now.ok.0, c.len.ensures, c.if-place-len.false))

@@ -1,4 +1,0 @@
-use Rattle.recover.proofs.known.Known.of_no_nodes.Goals as goal
-
-pub returns : goal.returns
-returns c medium = record { front = tt; entries = c.new.ensures medium; before = c.new-2.ensures medium; met = c.new-3.ensures medium }

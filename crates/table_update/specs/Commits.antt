@@ -1,0 +1,40 @@
+-- What becomes of a state where the planned blocks of a request are written, all of them or a front.
+use Rattle.std.specs.Prelude.{◌≡◌, ◌⊎◌, ℕ, ◌+◌, ◌<◌, ◌≤◌, List, [], ◌∷◌, ◌++◌, length}
+use Rattle.drive.specs.Journal.{Event, held, Once, AddsPrefix, written}
+use Rattle.model.specs.Session.{State, Request, after, after_one}
+use Rattle.durability.specs.Formats.{Block}
+use Rattle.durability.specs.Volume.{Medium, RecoversTo}
+use Rattle.durability.specs.Plan.{IsPlanned}
+use Rattle.durability.specs.Commit.{need}
+use Rattle.durability.specs.Journal.{Advances}
+use Rattle.udf.specs.Udf.{udf, spelled}
+
+-- The request is committed, in no more blocks than it may need.
+pub record IsWholeCommit (capacity volume : ℕ) (before : List Event) (S : State) (request : Request) (behind : List Event) : Type 0 where
+  pub advances : Advances udf capacity volume before S behind (after_one S request)
+  pub some : length before < length behind
+  pub few : length behind ≤ length before + need spelled S request
+
+abbrev pub CommitsAreWhole : Type 0
+CommitsAreWhole =
+    (capacity volume : ℕ) (before behind : List Event) (S : State) (request : Request) (blocks : List Block) (mark : Block) → Once before → (stands : RecoversTo udf capacity volume (held before) S)
+    → IsPlanned udf capacity volume (held before) S stands request blocks mark → behind ≡ before ++ written (length before) (blocks ++ mark ∷ []) → IsWholeCommit capacity volume before S request behind
+
+-- The request is committed or not.
+pub record IsPart (capacity volume : ℕ) (before : List Event) (S : State) (request : Request) (behind : List Event) : Type 0 where
+  pub done : List Request
+  pub whether : (done ≡ []) ⊎ ((done ≡ request ∷ []) × (length before < length behind))
+  pub advances : Advances udf capacity volume before S behind (after S done)
+  pub few : length behind ≤ length before + need spelled S request
+
+abbrev pub CommitsArePart : Type 0
+CommitsArePart =
+    (capacity volume : ℕ) (before behind : List Event) (S : State) (request : Request) (blocks : List Block) (mark : Block) → Once before → (stands : RecoversTo udf capacity volume (held before) S)
+    → IsPlanned udf capacity volume (held before) S stands request blocks mark → AddsPrefix before (length before) (blocks ++ mark ∷ []) behind → IsPart capacity volume before S request behind
+
+-- after a whole commit the table that stands is the plan's, and its entry the last block
+abbrev pub TablesRecover : Type 0
+TablesRecover =
+    (capacity volume : ℕ) (medium : Medium) (S : State) (request : Request) (blocks : List Block) (mark : Block) (stands : RecoversTo udf capacity volume medium S)
+    → (plan : IsPlanned udf capacity volume medium S stands request blocks mark) (T : State) (later : RecoversTo udf capacity volume ((medium ++ blocks) ++ mark ∷ []) T)
+    → (later.at ≡ length medium + length blocks) × (later.tells.table ≡ plan.table)

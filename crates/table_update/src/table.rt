@@ -1,0 +1,241 @@
+//! The table that a commit writes: the one before, with the reply and the nodes.
+
+ghost use Rattle.limits.specs.declared.TheConstants.{PARTITION_START};
+ghost use Rattle.std.specs.Prelude.{◌≡◌, ◌≢◌, ◌+◌, ◌^◌, ◌<◌, ◌≤◌, ◌↔◌, ℕ, length, slice_index_or, Some, IsTrue, IfOk, IfErr, IfSome, IfNone, All, AllPairs, if◌then◌else◌, false};
+ghost use Rattle.recover.specs.Faults.{devices};
+ghost use Rattle.recover.specs.declared.fault.StoreFault.TheVariants.{Memory};
+ghost use Rattle.table_update.specs.Below.{AreBelow, IsUsed};
+ghost use Rattle.table_update.specs.Full.{is_full};
+ghost use Rattle.table_update.specs.Needs.{table_need};
+ghost use Rattle.table_update.specs.TableChange as spec;
+ghost use Rattle.vat.specs.declared.record.Record.{Record};
+ghost use Rattle.vat.specs.Table.{FitsTable, view};
+
+use dir::Kind;
+use recover::{PARTITION_START, ROOT_ADDRESS, StoreFault};
+use std::alloc::Global;
+use vat::{Record, Replies, Reply, Sessions, Vat, Version};
+
+/// The most virtual addresses of a table.
+const MOST_ADDRESSES: usize = limits::ADDRESSES as usize;
+
+/// A copy of a table.
+pub fn copied(alloc: Global, vat: &Vat) -> Result<Vat, StoreFault>
+    ensures same { IfOk result (λ copy. view copy ≡ view vat.now) }
+    ensures full { is_full result ≡ false }
+    ensures failures { devices result ≡ 0 }
+    ensures memory { IfErr result (λ fault. fault ≡ Memory) }
+{
+    let records = Vec::from_slice(alloc, &vat.sessions.records)?;
+    // A commit that makes a node adds an entry.
+    let mut entries = Vec::with_capacity(alloc, vat.entries.len() + 1)?;
+    entries.extend_from_slice(&vat.entries)?;
+    Ok(Vat {
+        label: vat.label,
+        previous: vat.previous,
+        files: vat.files,
+        directories: vat.directories,
+        sessions: Sessions {
+            version: vat.sessions.version,
+            next_unique: vat.sessions.next_unique,
+            commits: vat.sessions.commits,
+            records,
+        },
+        entries,
+    })
+}
+
+/// The index of a client's record, if it has one.
+fn place_of(records: &[Record], client: u64) -> Option<usize>
+    ensures some { IfSome result (λ i. (i < length records.now) × ((d : Record) → (slice_index_or records.now i d).client ≡ client)) }
+    ensures none { IfNone result (All (λ r. r.client ≢ client) records.now) }
+{
+    for i in 0..records.len() {
+        if records[i].client == client {
+            return Some(i);
+        }
+    }
+    None
+}
+
+/// Puts a reply in front of those that are kept for its client. A new client's record goes last.
+fn answer(
+    records: &mut Vec<Record>,
+    client: u64,
+    number: u64,
+    reply: Reply,
+) -> Result<(), StoreFault>
+    requires { AllPairs (λ a b. a.client ≢ b.client) records.old.items }
+    ensures kept { IfOk result (λ _. records.new.items ≡ spec.table_with_reply client number reply records.old.items) }
+    ensures full { is_full result ≡ false }
+    ensures failures { devices result ≡ 0 }
+    ensures memory { IfErr result (λ fault. fault ≡ Memory) }
+{
+    match place_of(records, client) {
+        Some(i) => {
+            let replies = records[i].replies.with(reply);
+            records[i] = Record {
+                client,
+                latest: number,
+                replies,
+            };
+        }
+        None => {
+            records.push(Record {
+                client,
+                latest: number,
+                replies: Replies::one(reply),
+            })?;
+        }
+    }
+    Ok(())
+}
+
+/// Counts a commit, and keeps its reply. The entry of the table before is at the address `at`.
+///
+/// After an error the table is in no state that is known.
+pub fn keep_reply(
+    vat: &mut Vat,
+    at: u32,
+    client: u64,
+    number: u64,
+    code: u16,
+) -> Result<(), StoreFault>
+    requires fits { FitsTable (view vat.old) }
+    requires behind { 261 ≤ at }
+    requires code { code ≤ 10 }
+    requires client { 0 < client }
+    requires number { 0 < number }
+    requires count { vat.old.sessions.commits + 1 < 2 ^ 32 }
+    requires next { spec.IsNext client number vat.old.sessions.records.items }
+    ensures kept { IfOk result (λ _. view vat.new ≡ spec.committed at client number code (view vat.old)) }
+    ensures fits { IfOk result (λ _. FitsTable (view vat.new)) }
+    ensures full { is_full result ≡ false }
+    ensures failures { devices result ≡ 0 }
+    ensures memory { IfErr result (λ fault. fault ≡ Memory) }
+{
+    let commit = vat.sessions.commits + 1;
+    answer(
+        &mut vat.sessions.records,
+        client,
+        number,
+        Reply { code, commit },
+    )?;
+    vat.sessions.version = Version::Two;
+    vat.sessions.commits = commit;
+    vat.previous = Some(at - PARTITION_START);
+    Ok(())
+}
+
+/// Gives a node the address, if its entry is unused or it is the next after the last.
+fn take_entry(entries: &mut Vec<Option<u32>>, address: u32, number: u32) -> Result<bool, StoreFault>
+    ensures free { IfOk result (λ taken. IsTrue taken ↔ spec.IsFree address entries.old.items) }
+    ensures entry { IfOk result (λ taken. entries.new.items ≡ (if taken then spec.with_number address (Some number) entries.old.items else entries.old.items)) }
+    ensures full { is_full result ≡ false }
+    ensures failures { devices result ≡ 0 }
+    ensures memory { IfErr result (λ fault. fault ≡ Memory) }
+{
+    let place = address as usize;
+    if place < entries.len() {
+        if entries[place].is_some() {
+            return Ok(false);
+        }
+        entries[place] = Some(number);
+        return Ok(true);
+    }
+    if place > entries.len() || place >= MOST_ADDRESSES {
+        return Ok(false);
+    }
+    entries.push(Some(number))?;
+    Ok(true)
+}
+
+/// Puts another entry in the place of a node's, if the address has one.
+fn set_entry(entries: &mut Vec<Option<u32>>, address: u32, entry: Option<u32>) -> bool
+    ensures used { IsTrue result ↔ IsUsed address entries.old.items }
+    ensures long { length entries.new.items ≡ length entries.old.items }
+    ensures entry { entries.new.items ≡ (if result then spec.with_number address entry entries.old.items else entries.old.items) }
+{
+    let place = address as usize;
+    if place >= entries.len() {
+        return false;
+    }
+    if entries[place].is_none() {
+        return false;
+    }
+    entries[place] = entry;
+    true
+}
+
+/// Makes a node, whose entry is at the block number, if the address is free: whether it is.
+///
+/// After an error the table is in no state that is known.
+pub fn add_node(vat: &mut Vat, kind: Kind, address: u32, number: u32) -> Result<bool, StoreFault>
+    requires fits { FitsTable (view vat.old) }
+    requires number { number < 0xFFFF_FFFF }
+    requires unique { vat.old.sessions.next_unique + 1 < 2 ^ 32 }
+    ensures free { IfOk result (λ made. IsTrue made ↔ spec.IsFree address vat.old.entries.items) }
+    ensures table { IfOk result (λ made. view vat.new ≡ (if made then spec.with_node kind address number (view vat.old) else view vat.old)) }
+    ensures fits { IfOk result (λ _. FitsTable (view vat.new)) }
+    ensures below { IfOk result (λ _. (at : ℕ) → number + PARTITION_START < at → AreBelow at vat.old.entries.items → AreBelow at vat.new.entries.items) }
+    ensures full { is_full result ≡ false }
+    ensures failures { devices result ≡ 0 }
+    ensures memory { IfErr result (λ fault. fault ≡ Memory) }
+{
+    if !take_entry(&mut vat.entries, address, number)? {
+        return Ok(false);
+    }
+    vat.sessions.next_unique += 1;
+    match kind {
+        Kind::File => vat.files += 1,
+        Kind::Directory => vat.directories += 1,
+    }
+    Ok(true)
+}
+
+/// Leads the address of a node to the block number, if it has one: whether it has.
+pub fn place_node(vat: &mut Vat, address: u32, number: u32) -> bool
+    requires fits { FitsTable (view vat.old) }
+    requires number { number < 0xFFFF_FFFF }
+    ensures used { IsTrue result ↔ IsUsed address vat.old.entries.items }
+    ensures table { view vat.new ≡ (if result then spec.placed address number (view vat.old) else view vat.old) }
+    ensures need { table_need (view vat.new) ≡ table_need (view vat.old) }
+    ensures fits { FitsTable (view vat.new) }
+    ensures commits { vat.new.sessions.commits ≡ vat.old.sessions.commits }
+    ensures unique { vat.new.sessions.next_unique ≡ vat.old.sessions.next_unique }
+    ensures below { (at : ℕ) → number + PARTITION_START < at → AreBelow at vat.old.entries.items → AreBelow at vat.new.entries.items }
+{
+    set_entry(&mut vat.entries, address, Some(number))
+}
+
+/// Whether a node of the kind is counted that is not the root.
+fn has_node(vat: &Vat, kind: Kind) -> bool
+    ensures { IsTrue result ↔ spec.HasNode kind (view vat.now) }
+{
+    match kind {
+        Kind::File => vat.files > 0,
+        Kind::Directory => vat.directories > 1,
+    }
+}
+
+/// Removes a node that is not the root, if the address has one and its kind is counted: whether it did.
+pub fn remove_node(vat: &mut Vat, kind: Kind, address: u32) -> bool
+    requires fits { FitsTable (view vat.old) }
+    ensures removed { IsTrue result ↔ spec.IsRemovable kind address (view vat.old) }
+    ensures table { view vat.new ≡ (if result then spec.removed kind address (view vat.old) else view vat.old) }
+    ensures need { table_need (view vat.new) ≡ table_need (view vat.old) }
+    ensures fits { FitsTable (view vat.new) }
+    ensures below { (at : ℕ) → AreBelow at vat.old.entries.items → AreBelow at vat.new.entries.items }
+{
+    if address <= ROOT_ADDRESS || !has_node(vat, kind) {
+        return false;
+    }
+    if !set_entry(&mut vat.entries, address, None) {
+        return false;
+    }
+    match kind {
+        Kind::File => vat.files -= 1,
+        Kind::Directory => vat.directories -= 1,
+    }
+    true
+}
