@@ -23,7 +23,7 @@ name_in_place text e = apart e.kind
     apart Directory same = omega arith
 
 pub name_Fits : (text : List ℕ) (e : Entry) → IsDirectoryEntry (text, e) → FitsIdentifier (of_name text e)
-name_Fits text e entry = record { name = name_few text entry.name; kind = kind_of_name e.kind; icb = entry.virtual_address; unique = entry.unique }
+name_Fits text e entry = record { name = name_few text entry.name; kind = kind_of_name e.kind; icb = entry.icb; unique = entry.unique }
 
 pub parent_in_place : (icb : ℕ) → IsInPlace true (of_parent icb)
 parent_in_place icb = (refl, refl, refl)

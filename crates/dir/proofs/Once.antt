@@ -66,10 +66,10 @@ one_kind File Directory e = absurd (omega arith)
 one_kind Directory File e = absurd (omega arith)
 one_kind Directory Directory e = refl
 
-same_entry : (a b : Entry) → a.kind ≡ b.kind → a.icb ≡ b.icb → a.unique ≡ b.unique → a ≡ b
+same_entry : (a b : Entry) → a.kind ≡ b.kind → a.virtual_address ≡ b.virtual_address → a.unique ≡ b.unique → a ≡ b
 same_entry a b k i u =
-    let P : Kind → ℕ → ℕ → Entry = λ x y z. record { kind = x; icb = y; unique = z } in
-    ap (λ (x : Kind). P x a.icb a.unique) k ∙ ap (λ (y : ℕ). P b.kind y a.unique) i ∙ ap (λ (z : ℕ). P b.kind b.icb z) u
+    let P : Kind → ℕ → ℕ → Entry = λ x y z. record { kind = x; virtual_address = y; unique = z } in
+    ap (λ (x : Kind). P x a.virtual_address a.unique) k ∙ ap (λ (y : ℕ). P b.kind y a.unique) i ∙ ap (λ (z : ℕ). P b.kind b.virtual_address z) u
 
 one_entry : (a b : List ℕ × Entry) → IsDirectoryEntry a → IsDirectoryEntry b → of_entry a ≡ of_entry b → a ≡ b
 one_entry a b x y e =

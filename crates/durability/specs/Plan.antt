@@ -141,7 +141,7 @@ module _ (formats : Formats) where
   -- data at the least clear start, blocks of zeros before it
   pub record IsPlaced (bytes : List ℕ) (from first : ℕ) (blocks : List Block) : Type 0 where
     pub start : IsClearStart (packed bytes) from first
-    pub as_stored : blocks ≡ replicate (first - from) zeros ++ packed bytes
+    pub whole : blocks ≡ replicate (first - from) zeros ++ packed bytes
 
   -- the blocks before a file's entry, and where the entry says that its bytes are
   pub data PlacesFile (bytes : List ℕ) (from : ℕ) (blocks : List Block) (place : NodePlace) : Type 0 where

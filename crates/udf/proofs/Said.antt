@@ -62,7 +62,7 @@ name_kind_back dir_kinds.File = refl
 
 entry_back : (e : List ℕ × DirEntry) → directory_entry (said_entry e) ≡ e
 entry_back e =
-    let of : DirKind → List ℕ × DirEntry = λ k. (e.0, record { kind = k; icb = e.1.icb; unique = e.1.unique }) in
+    let of : DirKind → List ℕ × DirEntry = λ k. (e.0, record { kind = k; virtual_address = e.1.virtual_address; unique = e.1.unique }) in
     ap of (name_kind_back e.1.kind)
 
 entries_back : (es : List (List ℕ × DirEntry)) → directory_entries (said_entries es) ≡ es

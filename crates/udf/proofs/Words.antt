@@ -77,7 +77,7 @@ same_entry a b name kind address identity =
 entry_one : (a b : Entry) → directory_entry a ≡ directory_entry b → a ≡ b
 entry_one a b e =
     same_entry a b (ap (λ (x : List ℕ × DirEntry). x.0) e) (name_kind_one a.is_directory b.is_directory (ap (λ (x : List ℕ × DirEntry). x.1.kind) e))
-    (ap (λ (x : List ℕ × DirEntry). x.1.icb) e) (ap (λ (x : List ℕ × DirEntry). x.1.unique) e)
+    (ap (λ (x : List ℕ × DirEntry). x.1.virtual_address) e) (ap (λ (x : List ℕ × DirEntry). x.1.unique) e)
 
 pub entries_one : (es fs : List Entry) → directory_entries es ≡ directory_entries fs → es ≡ fs
 entries_one es fs e = map_one directory_entry entry_one es fs e

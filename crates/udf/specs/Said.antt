@@ -45,7 +45,7 @@ names_directory dir_kinds.Directory = true
 names_directory dir_kinds.File = false
 
 abbrev pub said_entry : List ℕ × DirEntry → Entry
-said_entry e = record { name = e.0; is_directory = names_directory e.1.kind; address = e.1.icb; identity = e.1.unique }
+said_entry e = record { name = e.0; is_directory = names_directory e.1.kind; address = e.1.virtual_address; identity = e.1.unique }
 
 abbrev pub said_entries : List (List ℕ × DirEntry) → List Entry
 said_entries entries = map said_entry entries

@@ -41,7 +41,7 @@ name_kind false = dir_kinds.File
 
 -- a name, and what its identifier says of it
 abbrev pub directory_entry : Entry → List ℕ × DirEntry
-directory_entry e = (e.name, record { kind = name_kind e.is_directory; icb = e.address; unique = e.identity })
+directory_entry e = (e.name, record { kind = name_kind e.is_directory; virtual_address = e.address; unique = e.identity })
 
 abbrev pub directory_entries : List Entry → List (List ℕ × DirEntry)
 directory_entries entries = map directory_entry entries
