@@ -80,7 +80,7 @@ pub goes_on : (before now after : Walk) (files : CheckedFiles) (depth from index
     → WalksOn before now files depth from index → WalksOn before after files depth from (index + 1)
 goes_on before now after files depth from index at table next one before_it J start node entries within are here start_next begun =
     let (name, there, visits) = one J entries (omega (arith, at, within)) are in
-    let child : Named = record { kind = name.1.kind; address = name.1.icb; unique = name.1.unique; above = node.address; named_at = 0; depth = node.depth + 1 } in
+    let child : Named = record { kind = name.1.kind; address = name.1.virtual_address; unique = name.1.unique; above = node.address; named_at = 0; depth = node.depth + 1 } in
     begun_more (nodes_of J before) start now after node child entries index name.0 name.1 there refl refl refl refl refl (next ∙ start_next)
     (before_it J start node entries within are here start_next begun)
     (visits_same J J now before _ _ _ refl at table (visits child refl refl refl (omega (arith, here))))

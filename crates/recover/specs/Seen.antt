@@ -22,7 +22,7 @@ pub record IsNameSeen (medium : List (List ℕ)) (entries : List (List ℕ × En
   pub name : List ℕ × Entry
   pub there : slice_get entries index ≡ Some name
   pub kind : name.1.kind ≡ File
-  pub address : name.1.icb ≡ file.address
+  pub address : name.1.virtual_address ≡ file.address
   pub unique : name.1.unique ≡ file.unique
   pub seen : IsFileSeen medium file
 
@@ -35,14 +35,14 @@ pub record IsNamedAt (entries : List (List ℕ × Entry)) (index : ℕ) (node : 
   pub name : List ℕ × Entry
   pub there : slice_get entries index ≡ Some name
   pub kind : node.kind ≡ name.1.kind
-  pub address : node.address ≡ name.1.icb
+  pub address : node.address ≡ name.1.virtual_address
   pub unique : node.unique ≡ name.1.unique
 
 -- the node was seen that the name at this place stands for, so many names deep
 abbrev pub VisitsName : Graph → Walk → Walk → List (List ℕ × Entry) → ℕ → ℕ → Type 0
 VisitsName graph before after entries index depth =
     (name : List ℕ × Entry) × (slice_get entries index ≡ Some name)
-    × ((child : Named) → child.kind ≡ name.1.kind → child.address ≡ name.1.icb → child.unique ≡ name.1.unique → child.depth ≡ depth → Visits graph before after child)
+    × ((child : Named) → child.kind ≡ name.1.kind → child.address ≡ name.1.virtual_address → child.unique ≡ name.1.unique → child.depth ≡ depth → Visits graph before after child)
 
 -- Where the nodes of a directory, so many names deep, were seen up to one place, they are seen up to another: those between
 -- are among its files that are kept.

@@ -78,7 +78,7 @@ impl Named {
     fn child(&self, entry: &Entry, named_at: u32) -> Named
         requires { self.now.depth + 1 < 2 ^ 32 }
         ensures kind { result.kind ≡ entry.now.kind }
-        ensures address { result.address ≡ entry.now.icb }
+        ensures address { result.address ≡ entry.now.virtual_address }
         ensures unique { result.unique ≡ entry.now.unique }
         ensures above { result.above ≡ self.now.address }
         ensures depth { result.depth ≡ self.now.depth + 1 }
