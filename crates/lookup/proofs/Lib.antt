@@ -1,10 +1,12 @@
 pub mod Asking
-pub mod Behind
 pub mod Caches
 pub mod FileBytes
 pub mod FileSizes
+pub mod Finding
 pub mod Heights
+pub mod Lending
 pub mod Listings
+pub mod Looking
 pub mod Removals
 pub mod StoredNodes
 pub mod Walks

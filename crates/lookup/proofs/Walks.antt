@@ -31,9 +31,8 @@ use Rattle.udf.proofs.Said.{directories_agree}
 use Rattle.lookup.specs.declared.content.Content.{Content}
 use Rattle.lookup.specs.declared.nodes.Placed.{Placed}
 use Rattle.table_update.specs.declared.node.Node.{Node}
-use Rattle.lookup.specs.Cache.{AreKept, LiesThere}
-use Rattle.lookup.specs.declared.directories.DirectoryCache.{DirectoryCache}
-use Rattle.lookup.specs.Shows.{graph_below, LiesIn, IsOpened, IsSaid, IsNodeAt, IsFound, IsFoundDirectory, HasNodesOf}
+use Rattle.lookup.specs.Cache.{LiesThere}
+use Rattle.lookup.specs.Shows.{graph_below, LiesIn, IsOpened, IsNodeAt, IsFound, IsFoundDirectory}
 
 -- ---- one directory
 
@@ -143,48 +142,29 @@ module _ (graph : Graph) (tree : Tree) (one : IsFunctional graph) (is : IsTree t
       let whole : (take i names ++ name ∷ []) ++ drop (i + 1) names ≡ names = ap (λ (p : Path). p ++ drop (i + 1) names) (sym front) ∙ take-append-drop (i + 1) names in
       none_at tree names (λ has. not_none tree (take i names ++ name ∷ []) none (has_front tree is (take i names ++ name ∷ []) (drop (i + 1) names) (subst (λ (p : Path). Has tree p) (sym whole) has)))
 
--- ---- one step, by what the calls on a drive tell
+-- ---- on a journal
 
--- a drive that is honest later was before
-pub shows_before : (later earlier : Bool) (J : List Event) (directories : DirectoryCache) (at : ℕ) (entries : List (Option ℕ)) (tree : Tree) → (IsTrue later → IsTrue earlier) → HasNodesOf later J directories at entries tree → HasNodesOf earlier J directories at entries tree
-shows_before later earlier J directories at entries tree h s = record { honest = h s.honest; kept = s.kept; tree = s.tree; makes = s.makes; root = s.root }
-
--- what is kept after a call, on the same journal
-pub kept_on : (J J' : List Event) (directories next : DirectoryCache) → J' ≡ J → (AreKept J' directories → AreKept J' next) → AreKept J directories → AreKept J next
-kept_on J J' directories next same kept = subst (λ (K : List Event). AreKept K directories → AreKept K next) same kept
-
--- and so all is as it was at the next call
-pub shows_on : (later : Bool) (J J' : List Event) (directories next : DirectoryCache) (at : ℕ) (entries : List (Option ℕ)) (tree : Tree) → J' ≡ J → AreKept J next → HasNodesOf later J directories at entries tree → HasNodesOf later J' next at entries tree
-shows_on later J J' directories next at entries tree same kept s =
-    subst (λ (K : List Event). HasNodesOf later K next at entries tree) (sym same) (record { honest = s.honest; kept = kept; tree = s.tree; makes = s.makes; root = s.root })
-
--- what a directory says of the next name
-abbrev pub IsNext : Graph → Tree → Path → ℕ → Option DirEntry → Type 0
-IsNext graph tree names i None = get tree names ≡ None
-IsNext graph tree names i (Some e) = IsNodeAt graph (take (i + 1) names) (record { kind = e.kind; address = e.virtual_address; unique = e.unique })
-
-module _ (at : ℕ) (entries : List (Option ℕ)) (J J1 : List Event) (same : J1 ≡ J) (tree : Tree) (is : IsTree tree) (makes : MakesTree (graph_below at entries J) tree) where
+module _ (at : ℕ) (entries : List (Option ℕ)) (J : List Event) (tree : Tree) (is : IsTree tree) (makes : MakesTree (graph_below at entries J) tree) where
   one : IsFunctional (graph_below at entries J)
   one = stored_one udf exact (take at (held J)) entries
 
-  -- what a call tells of the directory that is stored at the node's address
-  pub told_at : (T : Stored → Type 0) (path : Path) (node : Node) (here : IsNodeAt (graph_below at entries J) path node) → names_directory node.kind ≡ true
-      → ((s : Stored) → graph_below at entries J1 node.address s → is_directory s ≡ true → T s) → T here.found.stored
-  told_at T path node here dir told =
-      let there : graph_below at entries J node.address here.found.stored = subst (λ (a : ℕ). graph_below at entries J a here.found.stored) (sym here.address) here.found.is in
-      told here.found.stored (subst (λ (K : List Event). graph_below at entries K node.address here.found.stored) (sym same) there) (sym here.kind ∙ dir)
+  -- a step by a name
+  pub next_none : (names : Path) (i : ℕ) (name : Name) → i < length names → name ≡ get_or names i name → get tree (take i names ++ name ∷ []) ≡ None → get tree names ≡ None
+  next_none names i name lt same_name none = rest_none (graph_below at entries J) tree one is makes names i name lt same_name none
 
-  pub next_at : (names : Path) (i : ℕ) (name : Name) (node : Node) (o : Option DirEntry) → i < length names → name ≡ get_or names i name → IsNodeAt (graph_below at entries J) (take i names) node → names_directory node.kind ≡ true
-      → ((s : Stored) → graph_below at entries J1 node.address s → is_directory s ≡ true → IsSaid s name o) → IsNext (graph_below at entries J) tree names i o
-  next_at names i name node o lt same_name here dir told =
-      by o (told_at (λ (s : Stored). IsSaid s name o) (take i names) node here dir told)
-    where
-      by : (o : Option DirEntry) → IsSaid here.found.stored name o → IsNext (graph_below at entries J) tree names i o
-      by None t = rest_none (graph_below at entries J) tree one is makes names i name lt same_name (step_none (graph_below at entries J) tree one is makes (take i names) node here t.placed t.content t.opened name (sym t.said))
-      by (Some entry) t =
-          let front : take (i + 1) names ≡ take i names ++ name ∷ [] = take_more names i name lt ∙ ap (λ (n : Name). take i names ++ n ∷ []) (sym same_name) in
-          subst (λ (p : Path). IsNodeAt (graph_below at entries J) p (record { kind = entry.kind; address = entry.virtual_address; unique = entry.unique })) (sym front)
-          (step_some (graph_below at entries J) tree one is makes (take i names) node here t.placed t.content t.opened name entry (sym t.said))
+  pub next_some : (names : Path) (i : ℕ) (name : Name) (node : Node) → i < length names → name ≡ get_or names i name → IsNodeAt (graph_below at entries J) (take i names ++ name ∷ []) node → IsNodeAt (graph_below at entries J) (take (i + 1) names) node
+  next_some names i name node lt same_name there =
+      let front : take (i + 1) names ≡ take i names ++ name ∷ [] = take_more names i name lt ∙ ap (λ (n : Name). take i names ++ n ∷ []) (sym same_name) in
+      subst (λ (p : Path). IsNodeAt (graph_below at entries J) p node) (sym front) there
+
+  -- what a directory has under a name
+  pub child_some : (path : Path) (node : Node) (here : IsNodeAt (graph_below at entries J) path node) (placed : Placed) (content : Content) → IsOpened here.found.stored placed content → (name : Name) (e : DirEntry)
+      → lookup (pointwise nat_eq name) content.dir.entries.entries ≡ Some e → IsNodeAt (graph_below at entries J) (path ++ name ∷ []) (record { kind = e.kind; address = e.virtual_address; unique = e.unique })
+  child_some path node here placed content shown name e found = step_some (graph_below at entries J) tree one is makes path node here placed content shown name e found
+
+  pub child_none : (path : Path) (node : Node) (here : IsNodeAt (graph_below at entries J) path node) (placed : Placed) (content : Content) → IsOpened here.found.stored placed content → (name : Name)
+      → lookup (pointwise nat_eq name) content.dir.entries.entries ≡ None → get tree (path ++ name ∷ []) ≡ None
+  child_none path node here placed content shown name none = step_none (graph_below at entries J) tree one is makes path node here placed content shown name none
 
   pub file_at : (names : Path) (i : ℕ) (name : Name) (node : Node) → i < length names → name ≡ get_or names i name → IsNodeAt (graph_below at entries J) (take i names) node → names_directory node.kind ≡ false → get tree names ≡ None
   file_at names i name node lt same_name here file =

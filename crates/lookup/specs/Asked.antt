@@ -7,6 +7,7 @@ use Rattle.request.specs.declared.message.Query as querying
 use Rattle.request.specs.declared.message.Query.TheVariants as query
 use Rattle.request.specs.declared.answer.Listed.{Listed}
 use Rattle.request.specs.declared.answer.NodeKind.{NodeKind}
+use Rattle.request.specs.declared.answer.NodeStatus.{NodeStatus}
 use Rattle.request.specs.declared.answer.NodeKind.TheVariants as kind
 use Rattle.model.specs.Tree.{Name}
 use Rattle.model.specs.Operation.{Operation}
@@ -14,6 +15,7 @@ use Rattle.model.specs.Operation.Operation.{Create, Replace, MakeDir, Rename, Re
 use Rattle.model.specs.Session.{Request}
 use Rattle.durability.specs.Runs.{Query}
 use Rattle.durability.specs.Runs.Query.{Get, List_, Stat}
+use Rattle.durability.specs.Runs as runs
 
 abbrev pub model_operation : Op → Operation
 model_operation (asked.Create path bytes) = Create path bytes
@@ -40,3 +42,7 @@ said_listed l = (is_directory l.kind, l.name)
 
 abbrev pub said_names : List Listed → List (Bool × Name)
 said_names names = map said_listed names
+
+-- what is known of a node
+abbrev pub said_status : NodeStatus → runs.Answer
+said_status status = runs.Answer.NodeIs (is_directory status.kind) status.moment status.size

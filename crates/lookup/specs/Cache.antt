@@ -8,7 +8,7 @@ use Rattle.dir.specs.Directory.{IsDirectory}
 use Rattle.recover.specs.declared.directory.Extent.{Extent}
 use Rattle.recover.specs.Nodes.{data_of}
 use Rattle.lookup.specs.declared.content.Content.{Content}
-use Rattle.lookup.specs.declared.directories.DirectoryCache.{DirectoryCache}
+use Rattle.lookup.specs.declared.cache.DirectoryCache.{DirectoryCache}
 use Rattle.lookup.specs.declared.nodes.EntryAt.{EntryAt}
 use Rattle.lookup.specs.declared.nodes.Placed.{Placed}
 

@@ -14,7 +14,7 @@ use Rattle.durability.specs.Volume.{graph_of}
 use Rattle.udf.specs.Udf.{udf}
 use Rattle.udf.specs.Said.{said_entries, names_directory}
 use Rattle.lookup.specs.declared.content.Content.{Content}
-use Rattle.lookup.specs.declared.directories.DirectoryCache.{DirectoryCache}
+use Rattle.lookup.specs.declared.cache.DirectoryCache.{DirectoryCache}
 use Rattle.lookup.specs.declared.nodes.Placed.{Placed}
 use Rattle.table_update.specs.declared.node.Node.{Node}
 use Rattle.lookup.specs.Cache.{AreKept}
@@ -35,13 +35,6 @@ pub record LiesIn (journal : List Event) (placed : Placed) (s : Stored) : Type 0
 pub record IsOpened (s : Stored) (placed : Placed) (content : Content) : Type 0 where
   pub body : s.body ≡ Entries content.dir.parent (said_entries content.dir.entries.entries)
   pub moment : placed.moment ≡ s.moment
-
--- what the directory that is stored says of a name
-pub record IsSaid (s : Stored) (name : Name) (found : Option DirEntry) : Type 0 where
-  pub placed : Placed
-  pub content : Content
-  pub opened : IsOpened s placed content
-  pub said : found ≡ lookup (pointwise nat_eq name) content.dir.entries.entries
 
 -- an honest drive, kept directories that lie there, and nodes that make the tree
 pub record HasNodesOf (is_honest : Bool) (journal : List Event) (directories : DirectoryCache) (at : ℕ) (entries : List (Option ℕ)) (t : Tree) : Type 0 where

@@ -33,6 +33,7 @@ use Rattle.lookup.specs.Shows.{IsNodeAt, IsOpened}
 use Rattle.planning.specs.Writings.{directory_writing, new_file, change_writings}
 use Rattle.table_update.specs.NextTable.{RemovesNode}
 use Rattle.planning.specs.Changes.{addresses_in, gone_of, IsChangeOf}
+use Rattle.model.proofs.Maps.{none_at}
 use Rattle.planning.proofs.Adding.{not_empty}
 use Rattle.lookup.proofs.Walks.{node_at, names_stored, directory_stored, texts_exact}
 
@@ -49,6 +50,10 @@ pub has_some : (b : Body) (parent : ℕ) (es : List (List ℕ × DirEntry)) (emp
 has_some b parent es empty is none =
     let count : length es ≡ length (entries_in b) = sym (length-map es said_entry) ∙ ap (λ (c : Body). length (entries_in c)) (sym is) in
     some_names (length es) empty none ∙ ap (λ (n : ℕ). nat_lt 0 n) count
+
+pub has_none : (b : Body) → has_names (content_in b) ≡ false → false ≡ nat_lt 0 (length (entries_in b))
+has_none (Bytes bytes) e = refl
+has_none (Entries parent entries) e = absurd (false≢true (sym e))
 
 lists_in : (c : Content_) (name : Name) → Contains (names_in c) name → has_names c ≡ true
 lists_in (FileContent bytes) name there = absurd (not_in_nil name there)
@@ -87,6 +92,10 @@ module _ (path above : Path) (name : Name) (split : path ≡ above ++ name ∷ [
   -- what is there has a directory above it
   pub above_there : IsTree tree → Has tree path → is_directory_at tree above ≡ true
   above_there is has = lists_name (get tree above) name ((is.children above name).0 (subst (λ (p : Path). Has tree p) split has))
+
+  -- and so nothing is where no directory is above
+  pub nothing_under : IsTree tree → is_directory_at tree above ≡ false → get tree path ≡ None
+  nothing_under is none = none_at tree path (λ has. absurd (false≢true (sym none ∙ above_there is has)))
 
 -- ---- the entries that are left
 

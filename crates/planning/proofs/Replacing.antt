@@ -1,5 +1,6 @@
 -- What replacing a file's bytes does.
-use Rattle.std.proofs.Common.{◌≡◌, ℕ, suc, ◌==◌, if◌then◌else◌, not, Bool, true, false, List, [], ◌∷◌, ◌++◌, length, map, take, Option, Some, None, is_some, refl, sym, ap, ◌∙◌, arith}
+use Rattle.std.proofs.Common.{◌≡◌, ℕ, suc, ◌==◌, if◌then◌else◌, not, Bool, true, false, List, [], ◌∷◌, ◌++◌, length, map, take, Option, Some, None, is_some, refl, sym, ap, subst, ◌∙◌, arith}
+use Rattle.std.specs.Prelude.{Result}
 use Rattle.std.specs.FinMap.{get, contains_key}
 use Rattle.model.specs.Tree.{Path, Tree, IsTree, is_directory_at}
 use Rattle.model.specs.Graph.{Graph, MakesTree, as_stored}
@@ -9,6 +10,8 @@ use Rattle.model.specs.Operation.Operation.{Replace}
 use Rattle.durability.specs.Plan.{Writing}
 use Rattle.durability.proofs.Stored.{stored_one}
 use Rattle.drive.specs.Journal.{Event, held}
+use Rattle.drive.specs.declared.Drive.{Ghosts}
+use Rattle.recover.specs.declared.fault.StoreFault.{StoreFault}
 use Rattle.request.specs.Numbers.{code_number}
 use Rattle.request.specs.declared.answer.Code.{Code}
 use Rattle.request.specs.declared.answer.Code.TheVariants as code
@@ -18,9 +21,12 @@ use Rattle.udf.proofs.Formats.{exact}
 use Rattle.planning.specs.declared.change.Change.{Change}
 use Rattle.planning.specs.declared.change.NewFile.{NewFile}
 use Rattle.table_update.specs.declared.node.Node.{Node}
+use Rattle.lookup.specs.Lookups.{Answers, Looks, free_seen, graph_seen}
 use Rattle.lookup.specs.Shows.{graph_below, IsNodeAt}
+use Rattle.lookup.specs.declared.lookup.Lookup.{Lookup}
+use Rattle.lookup.proofs.Looking.{free_same, graph_same}
 use Rattle.planning.specs.Writings.{file_writing, directory_writing, new_file, change_writings}
-use Rattle.planning.specs.Changes.{addresses_in, gone_of, IsChangeRefused, IsChangeOf}
+use Rattle.planning.specs.Changes.{addresses_in, gone_of, IsChangeRefused, IsChangeOf, IsChangeSeen}
 use Rattle.lookup.proofs.Walks.{node_at, directory_stored}
 
 -- nothing is written where nothing is done
@@ -100,3 +106,10 @@ module _ (at : ℕ) (entries : List (Option ℕ)) (J : List Event) (tree : Tree)
         done = λ none. ((record { file = here.found; nodes_are = nodes ∙ ap (λ (w : Writing). w ∷ []) writing }, gone), made ∙ r.made, removed ∙ r.removed);
         refused = λ other. absurd (other zero_code);
       }
+
+-- a change of what is seen after other calls is one of what was seen before them
+pub change_seen : {D : Type 0} {drive : Ghosts D} {n : ℕ} {a b : Lookup D drive} → Looks drive n a b → (result : Result Change StoreFault) (tree : Tree) (operation : Operation) (moment identity : ℕ)
+    → Answers result (IsChangeSeen drive b tree operation moment identity) → Answers result (IsChangeSeen drive a tree operation moment identity)
+change_seen {D} {drive} {n} {a} {b} p result tree operation moment identity does =
+    subst (λ (G : Graph). Answers result (IsChangeOf G (free_seen a) tree operation moment identity)) (graph_same p)
+    (subst (λ (free : ℕ). Answers result (IsChangeOf (graph_seen drive b) free tree operation moment identity)) (free_same p) does)

@@ -19,6 +19,7 @@ use Rattle.table_update.specs.TableChange.{IsFree, IsRemovable, placed, with_num
 use Rattle.planning.specs.Writings.{change_writings, new_directories, new_file}
 use Rattle.table_update.proofs.EntryChanges.{entry_other}
 use Rattle.table_update.proofs.NodeChanges.{still_used}
+use Rattle.planning.specs.Last.{IsTakenBy}
 use Rattle.planning.proofs.Plans.{placed_append}
 
 used_within : (xs : List (Option ℕ)) (i : ℕ) → IsUsed i xs → i ≤ length xs
@@ -71,11 +72,6 @@ both_addresses xs ys ms ns p q =
     map-append (λ (w : Written). w.address) xs ys
     ∙ (λ i. p i ++ q i)
     ∙ sym (map-append (λ (n : Writing). n.address) ms ns)
-
--- whatever the numbers of the entries are, the table takes the change
-abbrev pub IsTakenBy : ℕ → Change → Table → Type 0
-IsTakenBy moment change base =
-    (written : List Written) → map (λ (w : Written). w.address) written ≡ map (λ (n : Writing). n.address) (change_writings moment change) → AreTaken change.made written change.removed base
 
 module _ (moment : ℕ) (change : Change) (base : Table) (takes : IsTakenBy moment change base) where
   first : AreTaken change.made (bare (change_writings moment change)) change.removed base

@@ -3,10 +3,14 @@ use Rattle.std.specs.Prelude.{◌≡◌, ℕ, Bool, List, [], ◌∷◌, Option,
 use Rattle.limits.specs.declared.TheConstants.{NODES, DIRECTORY_NAMES}
 use Rattle.model.specs.Tree.{Path, Tree, Content}
 use Rattle.model.specs.Tree.Content.{File as FileContent, Directory as DirectoryContent}
-use Rattle.model.specs.Graph.{Graph}
+use Rattle.model.specs.Change.{new_body}
+use Rattle.model.specs.Graph.{Graph, as_stored}
 use Rattle.model.specs.Operation.{Operation, code_of}
 use Rattle.model.specs.Operation.Operation.{Create, MakeDir}
-use Rattle.durability.specs.Plan.{Plans}
+use Rattle.drive.specs.declared.Drive.{Ghosts}
+use Rattle.durability.specs.Plan.{Plans, Writing}
+use Rattle.lookup.specs.Lookups.{free_seen, graph_seen}
+use Rattle.lookup.specs.declared.lookup.Lookup.{Lookup}
 use Rattle.request.specs.Numbers.{code_number}
 use Rattle.request.specs.declared.answer.Code.{Code}
 use Rattle.planning.specs.declared.change.Change.{Change}
@@ -24,6 +28,10 @@ addition path thing.Directory = MakeDir path
 abbrev pub content_of_thing : NewContent → Content
 content_of_thing (thing.File bytes) = FileContent bytes.now
 content_of_thing thing.Directory = DirectoryContent []
+
+-- what is written of it, below a directory
+abbrev pub new_writing : (address identity moment parent : ℕ) → NewContent → Writing
+new_writing address identity moment parent what = record { address = address; stored = as_stored identity moment (new_body parent (content_of_thing what)) }
 
 -- the code of an addition, by whether the directory has the name, how many names it has, and how many nodes there are
 abbrev pub code_by_names : Bool → ℕ → ℕ → ℕ
@@ -53,3 +61,14 @@ pub record IsChangeOf (graph : Graph) (free : ℕ) (tree : Tree) (operation : Op
       → Plans graph free operation moment identity (change_writings moment change) (gone_of change)
       × (change.made ≡ made_by operation free) × RemovesNode operation tree (gone_of change) change.removed
   pub refused : (code_of operation tree ≡ 0 → ⊥) → (change_writings moment change ≡ []) × (gone_of change ≡ []) × (change.made ≡ None) × (change.removed ≡ None)
+
+-- the change of an operation on the state that a look-up sees
+abbrev pub IsChangeSeen : {D : Type 0} (drive : Ghosts D) → Lookup D drive → Tree → Operation → ℕ → ℕ → Change → Type 0
+IsChangeSeen drive l tree operation moment identity change = IsChangeOf (graph_seen drive l) (free_seen l) tree operation moment identity change
+
+-- nothing but the directories that are written is another
+pub record IsSameButDirectories (old new : Change) : Type 0 where
+  pub code : new.code ≡ old.code
+  pub file : new.file ≡ old.file
+  pub made : new.made ≡ old.made
+  pub removed : new.removed ≡ old.removed

@@ -1,10 +1,26 @@
 -- The table of a volume after which a commit is planned.
-use Rattle.std.specs.Prelude.{ℕ, ◌+◌, ◌*◌, ◌-◌, ◌<◌, ◌≤◌, List}
-use Rattle.limits.specs.declared.TheConstants.{LEAST_CAPACITY, GREATEST_CAPACITY, FORMAT_BLOCKS, FIRST_UNIQUE}
+use Rattle.std.specs.Prelude.{◌≡◌, ℕ, ◌+◌, ◌*◌, ◌-◌, ◌<◌, ◌≤◌, List, map}
+use Rattle.std.specs.FinMap.{len}
+use Rattle.limits.specs.declared.TheConstants.{LEAST_CAPACITY, GREATEST_CAPACITY, FORMAT_BLOCKS, FIRST_UNIQUE, NODES}
 use Rattle.drive.specs.Journal.{Event, next_of}
-use Rattle.vat.specs.Table.{FitsTable, view}
+use Rattle.drive.specs.declared.Drive.{Ghosts}
+use Rattle.model.specs.Addresses.{free_address}
+use Rattle.model.specs.Tree.{Tree}
+use Rattle.request.specs.declared.message.Request.{Request}
+use Rattle.durability.specs.Plan.{Writing, Written}
+use Rattle.request.specs.Numbers.{code_number}
+use Rattle.vat.specs.Table.{FitsTable, Table, view}
 use Rattle.vat.specs.declared.table.Vat.{Vat}
 use Rattle.table_update.specs.Below.{AreBelow}
+use Rattle.table_update.specs.NextTable.{AreTaken, begun}
+use Rattle.table_update.specs.TableChange.{committed}
+use Rattle.lookup.specs.Asked.{model_operation}
+use Rattle.lookup.specs.Shows.{HasNodesOf, graph_below}
+use Rattle.lookup.specs.declared.cache.DirectoryCache.{DirectoryCache}
+use Rattle.planning.specs.Changes.{IsChangeOf}
+use Rattle.planning.specs.Needs.{change_need}
+use Rattle.planning.specs.Writings.{change_writings}
+use Rattle.planning.specs.declared.change.Change.{Change}
 use Rattle.planning.specs.declared.plan.LastTable.{LastTable}
 
 -- a table whose entry stands at this address
@@ -17,8 +33,35 @@ pub record HasTableBelow (at : ℕ) (vat : Vat) : Type 0 where
 
 -- it stands on a drive with this journal and capacity
 pub record IsLastTableOn (journal : List Event) (capacity : ℕ) (last : LastTable) : Type 0 where
-  pub keeps : HasTableBelow last.at last.vat.now
-  pub on : last.at < next_of journal
+  pub keeps : HasTableBelow last.vat_icb_address last.vat.now
+  pub on : last.vat_icb_address < next_of journal
   pub least : LEAST_CAPACITY ≤ last.capacity
   pub most : last.capacity ≤ GREATEST_CAPACITY
   pub fits : last.capacity ≤ capacity
+
+-- the nodes of the table's state make a tree, on a drive that is honest to the end
+abbrev pub HasTree : {D : Type 0} (drive : Ghosts D) → D → D → DirectoryCache → LastTable → Tree → Type 0
+HasTree drive old new cache last tree = HasNodesOf (drive.honest new) (drive.journal old) cache last.vat_icb_address last.vat.now.entries.items tree
+
+-- the table counts the tree's nodes
+pub record IsCounted (last : LastTable) (tree : Tree) : Type 0 where
+  pub count : last.vat.now.files + last.vat.now.directories ≡ len tree
+  pub few : last.vat.now.files + last.vat.now.directories ≤ NODES
+
+-- the change is the one that a request makes of the table's state at a moment
+abbrev pub IsChangeIn : List Event → LastTable → Tree → Request → ℕ → Change → Type 0
+IsChangeIn journal last tree request moment change =
+    IsChangeOf (graph_below last.vat_icb_address last.vat.now.entries.items journal) (free_address last.vat.now.entries.items) tree (model_operation request.op) moment last.vat.now.sessions.next_unique change
+
+-- whatever the numbers of the entries are, the table takes the change
+abbrev pub IsTakenBy : ℕ → Change → Table → Type 0
+IsTakenBy moment change base =
+    (written : List Written) → map (λ (w : Written). w.address) written ≡ map (λ (n : Writing). n.address) (change_writings moment change) → AreTaken change.made written change.removed base
+
+-- the most blocks that a request's change may take
+abbrev pub need_of : LastTable → Request → Change → ℕ
+need_of last request change = change_need change (begun last.vat_icb_address request.client request.number (code_number change.code) change.made (view last.vat.now))
+
+-- what the next table says of a request, before any of its nodes is placed
+abbrev pub table_committed : LastTable → Request → Change → Table
+table_committed last request change = committed last.vat_icb_address request.client request.number (code_number change.code) (view last.vat.now)

@@ -1,12 +1,18 @@
 -- What is asked of a node that gets another path.
-use Rattle.std.specs.Prelude.{◌≡◌, ℕ, true, List, [], ◌∷◌, ◌++◌, length, nat_le, if◌then◌else◌, None}
+use Rattle.std.specs.Prelude.{◌≡◌, ℕ, true, List, [], ◌∷◌, ◌++◌, length, nat_le, if◌then◌else◌, None, Result}
 use Rattle.std.specs.FinMap.{get}
 use Rattle.limits.specs.declared.TheConstants.{DIRECTORY_NAMES}
 use Rattle.model.specs.Tree.{Name, Path, Tree, Has, names_at}
 use Rattle.model.specs.Graph.{Graph, Stored, Entry}
 use Rattle.model.specs.Operation.{code_of}
 use Rattle.model.specs.Operation.Operation.{Rename}
+use Rattle.drive.specs.declared.Drive.{Ghosts}
 use Rattle.durability.specs.Plan.{Writing, turned}
+use Rattle.recover.specs.declared.fault.StoreFault.{StoreFault}
+use Rattle.lookup.specs.Lookups.{Answers, Sees}
+use Rattle.lookup.specs.declared.lookup.Lookup.{Lookup}
+use Rattle.planning.specs.Changes.{IsChangeSeen}
+use Rattle.planning.specs.declared.change.Change.{Change}
 use Rattle.udf.specs.Said.{names_directory}
 use Rattle.table_update.specs.declared.node.Node.{Node}
 use Rattle.lookup.specs.Shows.{IsNodeAt}
@@ -40,3 +46,7 @@ pub record IsBetween (graph : Graph) (tree : Tree) (from to : Path) (node source
 -- what is written of the node at this address, which gets another parent
 abbrev pub Turns : ℕ → Stored → ℕ → List Writing → Type 0
 Turns address s parent nodes = (moved : Entry) → moved.address ≡ address → nodes ≡ turned moved s parent
+
+-- for a move of which this holds in the tree that is seen
+abbrev pub Moves : {D : Type 0} (drive : Ghosts D) → Lookup D drive → Lookup D drive → (Tree → Path → Path → Type 0) → ℕ → Result Change StoreFault → Type 0
+Moves drive old new holds moment result = (tree : Tree) (from to : Path) (identity : ℕ) → Sees drive old new tree → holds tree from to → Answers result (IsChangeSeen drive old tree (Rename from to) moment identity)

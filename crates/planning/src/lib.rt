@@ -8,12 +8,13 @@
 //! Left to others: which volume it is, whether a request is due, and what is kept of the volume after a commit.
 #![tactic(auto)]
 
+mod before;
 mod change;
 mod layout;
 mod places;
 mod plan;
 mod write;
 
-pub use change::{Change, NewDirectory, NewFile, StateBefore};
+pub use change::{Change, NewDirectory, NewFile};
 pub use layout::{PlacedDirectory, PlacedFile, PlacedTable};
 pub use plan::{LastTable, Plan};

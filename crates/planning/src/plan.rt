@@ -16,7 +16,7 @@ ghost use Rattle.udf.specs.Udf.{udf};
 ghost use Rattle.vat.specs.Table.{FitsTable, view};
 ghost use Rattle.recover.specs.Faults.{IsShortage, devices};
 ghost use Rattle.request.specs.Numbers.{code_number};
-ghost use Rattle.planning.specs.Last.{IsLastTableOn, HasTableBelow};
+ghost use Rattle.planning.specs.Last.{IsLastTableOn, IsTakenBy, HasTableBelow, need_of, table_committed};
 ghost use Rattle.table_update.specs.Below.{AreBelow, IsUsed};
 ghost use Rattle.table_update.specs.Full.{is_full};
 ghost use Rattle.planning.specs.Needs as needs;
@@ -54,6 +54,7 @@ const LEAST_USED: u64 = 1720;
 #[derive(Drop)]
 pub struct Plan<'r> {
     pub reply: Reply,
+    /// Of the request. No code reads it: what is planned is said by it.
     pub moment: Timestamp,
     pub file: Option<PlacedFile<'r>>,
     pub directories: Vec<PlacedDirectory>,
@@ -204,10 +205,10 @@ impl LastTable<'_> {
         ensures moment { IfOk result (λ p. p.moment ≡ moment) }
         ensures writings { IfOk result (λ p. plan_writings p ≡ change_writings moment change.entry) }
         ensures table { IfOk result (λ p. view p.table.vat ≡ next_table self.now.vat_icb_address request.now.client request.now.number (code_number change.entry.code) change.entry.made (plan_written p) change.entry.removed (view self.now.vat.now)) }
-        ensures room { OnOk result (next_of (D.journal drive.old) + needs.change_need change.entry (begun self.now.vat_icb_address request.now.client request.now.number (code_number change.entry.code) change.entry.made (view self.now.vat.now)) ≤ self.now.capacity) }
-        ensures full { result ≡ Err Full → self.now.capacity < next_of (D.journal drive.old) + needs.change_need change.entry (begun self.now.vat_icb_address request.now.client request.now.number (code_number change.entry.code) change.entry.made (view self.now.vat.now)) }
+        ensures room { OnOk result (next_of (D.journal drive.old) + need_of self.now request.now change.entry ≤ self.now.capacity) }
+        ensures full { result ≡ Err Full → self.now.capacity < next_of (D.journal drive.old) + need_of self.now request.now change.entry }
         // Where the table takes each change, nothing else is refused.
-        ensures refused { ((written : List Written) → map (λ w. w.address) written ≡ map (λ n. n.address) (change_writings moment change.entry) → AreTaken change.entry.made written change.entry.removed (committed self.now.vat_icb_address request.now.client request.now.number (code_number change.entry.code) (view self.now.vat.now))) → IfErr result (λ fault. IsShortage fault ⊎ (fault ≡ Full)) }
+        ensures refused { IsTakenBy moment change.entry (table_committed self.now request.now change.entry) → IfErr result (λ fault. IsShortage fault ⊎ (fault ≡ Full)) }
         ensures reads { ReadsOnly D.Drive (devices result) drive.old drive.new }
     {
         let next = match drive.next() {

@@ -177,7 +177,7 @@ module _ (capacity volume : ℕ) (J : List Event) (S : State) (store : Store) (k
             (append_assoc (held J) blocks (plan.table.entry ∷ []) ∙ sym (held_write J J' (length J) (blocks ++ plan.table.entry ∷ []) knows.once refl there_all))
             (tables_stand capacity volume (held J) S (model_request r) blocks plan.table.entry knows.stands plans (after_one S (model_request r)))
 
-        pub knows_done : (now : Store) → now.at ≡ plan.table.at → now.vat ≡ plan.table.vat → now.capacity ≡ store.capacity → AreKept J' now.directories → IsOpenOn capacity volume J' (after_one S (model_request r)) now
+        pub knows_done : (now : Store) → now.vat_icb_address ≡ plan.table.at → now.vat ≡ plan.table.vat → now.capacity ≡ store.capacity → AreKept J' now.directories → IsOpenOn capacity volume J' (after_one S (model_request r)) now
         knows_done now at vat size kept =
             let later : RecoversTo udf capacity volume (held J') (after_one S (model_request r)) = whole.advances.moves.ends in
             let same = stands_there later in
@@ -190,7 +190,7 @@ module _ (capacity volume : ℕ) (J : List Event) (S : State) (store : Store) (k
               kept = kept;
             }
 
-        pub done : (reply : told.Reply) (now : Store) → reply ≡ plan.reply → now.at ≡ plan.table.at → now.vat ≡ plan.table.vat → now.capacity ≡ store.capacity → AreKept J' now.directories
+        pub done : (reply : told.Reply) (now : Store) → reply ≡ plan.reply → now.vat_icb_address ≡ plan.table.at → now.vat ≡ plan.table.vat → now.capacity ≡ store.capacity → AreKept J' now.directories
             → IsCommitDone capacity volume J S (model_request r) reply J' now
         done reply now said at vat size kept = record {
           reply_is = ap reply_said said ∙ reply_planned;
@@ -205,7 +205,7 @@ module _ (capacity volume : ℕ) (J : List Event) (S : State) (store : Store) (k
             reply_planned = λ i. record { code = (ap code_number makes.code ∙ does.code_is) i; commit = (makes.commit ∙ ap (λ (n : ℕ). n + 1) (commits capacity volume J S store knows)) i }
 
       -- by what the commit answered
-      pub applies : (result : Result told.Reply StoreFault) (K J' : List Event) (now : Store) → K ≡ J → IfOk result (λ reply. reply ≡ plan.reply) → OnOk result (now.at ≡ plan.table.at) → OnOk result (now.vat ≡ plan.table.vat)
+      pub applies : (result : Result told.Reply StoreFault) (K J' : List Event) (now : Store) → K ≡ J → IfOk result (λ reply. reply ≡ plan.reply) → OnOk result (now.vat_icb_address ≡ plan.table.at) → OnOk result (now.vat ≡ plan.table.vat)
           → OnOk result (J' ≡ K ++ written (next_of K) (plan_blocks plan)) → OnErr result (AddsPrefix K (next_of K) (plan_blocks plan) J') → IfErr result (λ refusal. refusal ≡ fault.Device)
           → now.is_stopped ≡ is_err result → now.capacity ≡ store.capacity → AreKept J' now.directories → Applies capacity volume J S (model_request r) result J' now
       applies (Ok reply) K J' now same said at vat written_is front device stops size kept =

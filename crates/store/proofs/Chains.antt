@@ -50,14 +50,14 @@ module _ (M : Medium) (at : ℕ) (N : Medium) (ends : EndsAt M at N) where
     has = subst (λ (B : Medium). volumes.HasTable udf B at is.block t is.moment) (sym below_same) is.has;
   }
 
-  last_at : (t : Table_) → IsTableTold M at t → (last : LastTable udf N) → last.vat_icb_address ≡ at
-  last_at t is last = last_one udf N last.vat_icb_address at last.block is.block last.last (last_in t is).last
+  last_at : (t : Table_) → IsTableTold M at t → (last : LastTable udf N) → last.at ≡ at
+  last_at t is last = last_one udf N last.at at last.block is.block last.last (last_in t is).last
 
   pub last_is : (t : Table_) → IsTableTold M at t → (last : LastTable udf N) → last.table ≡ t
   last_is t is last = last_table_one udf exact N last (last_in t is)
 
   -- the last table is told there
-  last_told : (last : LastTable udf N) → last.vat_icb_address ≡ at → IsTableTold M at last.table
+  last_told : (last : LastTable udf N) → last.at ≡ at → IsTableTold M at last.table
   last_told last same = record {
     block = last.block;
     moment = last.moment;

@@ -45,7 +45,7 @@ link_under (Some n) number at less below = omega (arith, less, below)
 
 module _ (M : List (List ℕ)) (capacity at : ℕ) where
   abbrev IsAt : Commit → Type 0
-  IsAt c = (state : State) × IsShown capacity M c.at state
+  IsAt c = (state : State) × IsShown capacity M c.vat_icb_address state
 
   -- ---- the states that were shown
 
@@ -88,7 +88,7 @@ module _ (M : List (List ℕ)) (capacity at : ℕ) where
   first_unseen (Damaged b c) r = λ all (t, has, earlier, is, chain). (
     0,
     (let some : 0 < length all = omega (arith, ap (λ (cs : List Commit). length cs) is) in some),
-    λ d. subst (λ (cs : List Commit). IsUntold capacity M (slice_index_or cs 0 d).at) (sym is) r,
+    λ d. subst (λ (cs : List Commit). IsUntold capacity M (slice_index_or cs 0 d).vat_icb_address) (sym is) r,
   )
   first_unseen _ r = absurd r
 
@@ -100,11 +100,11 @@ module _ (M : List (List ℕ)) (capacity at : ℕ) where
       by : (all : List Commit) → IsLeftToCheck M t all → HasUntold capacity M all
       by all (before, [], same, (none, count)) = absurd (none-some number (sym none ∙ link))
       by all (before, (c ∷ earlier), same, (n, is, v, there, fewer, says, chain)) =
-          let place : number + 257 ≡ c.at = ap (λ (k : ℕ). k + 257) (sym (same_Some n number (sym is ∙ link))) ∙ sym (ap (λ (e : Commit). e.at) says) in (
+          let place : number + 257 ≡ c.vat_icb_address = ap (λ (k : ℕ). k + 257) (sym (same_Some n number (sym is ∙ link))) ∙ sym (ap (λ (e : Commit). e.vat_icb_address) says) in (
             length before,
             (let less : length before < length all = omega (arith, length-append before (c ∷ earlier), ap (λ (cs : List Commit). length cs) same) in less),
-            λ d. subst (λ (cs : List Commit). IsUntold capacity M (slice_index_or cs (length before) d).at) (sym same)
-                (subst (λ (e : Commit). IsUntold capacity M e.at) (sym (get_or-append_seam before c earlier d)) (subst (IsUntold capacity M) place r)),
+            λ d. subst (λ (cs : List Commit). IsUntold capacity M (slice_index_or cs (length before) d).vat_icb_address) (sym same)
+                (subst (λ (e : Commit). IsUntold capacity M e.vat_icb_address) (sym (get_or-append_seam before c earlier d)) (subst (IsUntold capacity M) place r)),
           )
   next_unseen number t so_far link _ r = absurd r
 

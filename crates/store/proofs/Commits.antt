@@ -55,7 +55,7 @@ writes_plan (Err e) K J J' before request capacity change plan store same makes 
 
 pub has_failed : {T : Type 0} (r : Result T StoreFault) (K J J' : List Event) (before : Store) (request : Request) (capacity : ℕ) (change : Change) (plan : Plan) (store : Store) → K ≡ J → IsPlanOf before request change plan → IsPlan (next_of J) capacity plan
     → OnErr r (AddsPrefix K (next_of K) (plan_blocks plan) J') → IfErr r (λ fault. fault ≡ Device) → store.is_stopped ≡ is_err r
-    → OnErr r ((store.vat_icb_address ≡ before.at) × (store.vat ≡ before.vat)) → store.capacity ≡ before.capacity → IfErr r (IsCommitRefused before request capacity J J' store)
+    → OnErr r ((store.vat_icb_address ≡ before.vat_icb_address) × (store.vat ≡ before.vat)) → store.capacity ≡ before.capacity → IfErr r (IsCommitRefused before request capacity J J' store)
 has_failed (Ok x) K J J' before request capacity change plan store same makes is front device stopped table volume = tt
 has_failed (Err e) K J J' before request capacity change plan store same makes is front device stopped table volume = inr (record {
   device = device;

@@ -28,17 +28,17 @@ ends M at t found before none first =
 
 -- each of the commits is within a medium
 abbrev pub AreWithin : ℕ → List Commit → Type 0
-AreWithin next found = All (λ (c : Commit). (257 ≤ c.at) × (c.at < next)) found
+AreWithin next found = All (λ (c : Commit). (257 ≤ c.vat_icb_address) × (c.vat_icb_address < next)) found
 
 pub first_within : (next at : ℕ) (t : Table) (none found : List Commit) (c : Commit) → 257 ≤ at → at < next → none ≡ [] → c ≡ told_of at t → found ≡ none ++ c ∷ [] → AreWithin next found
 first_within next at t none found c low high empty is_c is =
-    let P = λ (d : Commit). (257 ≤ d.at) × (d.at < next) in
+    let P = λ (d : Commit). (257 ≤ d.vat_icb_address) × (d.vat_icb_address < next) in
     let first : found ≡ told_of at t ∷ [] = is ∙ ap (λ (cs : List Commit). cs ++ c ∷ []) empty ∙ ap (λ (d : Commit). d ∷ []) is_c in
     subst (AreWithin next) (sym first) (All-cons P (told_of at t) [] (low, high) (All-nil P))
 
 pub more_within : (next at : ℕ) (t : Table) (found more : List Commit) (c : Commit) → AreWithin next found → 257 ≤ at → at < next → c ≡ told_of at t → more ≡ found ++ c ∷ [] → AreWithin next more
 more_within next at t found more c before low high is_c is =
-    let P = λ (d : Commit). (257 ≤ d.at) × (d.at < next) in
+    let P = λ (d : Commit). (257 ≤ d.vat_icb_address) × (d.vat_icb_address < next) in
     let one : P c = subst P (sym is_c) (low, high) in
     subst (AreWithin next) (sym is) (All-append P found (c ∷ []) before (All-cons P c [] one (All-nil P)))
 

@@ -15,7 +15,7 @@ use Rattle.recover.proofs.Held.{length-held}
 use Rattle.lookup.specs.Cache.{IsEntryThere, LiesThere, AreKept, SaysPlace}
 use Rattle.planning.specs.Plan.{directory_data, directory_list, directories_list, file_list, table_data, placed_of, plan_blocks, AreLaid, IsPlan}
 use Rattle.lookup.specs.declared.content.Content.{Content}
-use Rattle.lookup.specs.declared.directories.DirectoryCache.{DirectoryCache}
+use Rattle.lookup.specs.declared.cache.DirectoryCache.{DirectoryCache}
 use Rattle.lookup.specs.declared.nodes.Placed.{Placed}
 use Rattle.planning.specs.declared.layout.PlacedDirectory.{PlacedDirectory}
 use Rattle.planning.specs.declared.plan.Plan.{Plan}

@@ -42,7 +42,8 @@ use Rattle.table_update.proofs.ChangesTaken.{changes_are_taken}
 use Rattle.table_update.proofs.PlanPieces.{nodes_are_written, pieces_are_planned, pieces_table}
 use Rattle.table_update.proofs.Reckoning.{need_is_reckoned}
 use Rattle.planning.proofs.Sizing.{all_names, bytes_of, change_is_of, change_reckoned}
-use Rattle.planning.proofs.Taking.{IsTakenBy, bare, bare_addresses}
+use Rattle.planning.specs.Last.{IsTakenBy}
+use Rattle.planning.proofs.Taking.{bare, bare_addresses}
 
 module _ (capacity volume : ℕ) (J : List Event) (S : State) (store : Store) (knows : IsOpenOn capacity volume J S store) where
   pub entries_are : store.vat.entries.items ≡ knows.stands.tells.table.entries
@@ -61,16 +62,12 @@ module _ (capacity volume : ℕ) (J : List Event) (S : State) (store : Store) (k
     root = knows.stands.tells.identities.root;
   }
 
-  -- the same of the entries as they are lent
-  pub shows_lent : (h : Bool) → IsTrue h → (entries : List (Option ℕ)) → entries ≡ store.vat.entries.items → HasNodesOf h J store.directories store.vat_icb_address entries S.tree
-  shows_lent h honest entries same = subst (λ (es : List (Option ℕ)). HasNodesOf h J store.directories store.vat_icb_address es S.tree) (sym same) (shows h honest)
-
-  pub does_lent : (r : asking.Request) (change : Change) (entries : List (Option ℕ)) (moment : ℕ) → entries ≡ store.vat.entries.items → moment ≡ r.moment
-      → IsChangeOf (graph_below store.vat_icb_address entries J) (free_address entries) S.tree (model_operation r.op) moment store.vat.sessions.next_unique change
+  -- at the request's own moment
+  pub does_at : (r : asking.Request) (change : Change) (moment : ℕ) → moment ≡ r.moment
+      → IsChangeOf (graph_below store.vat_icb_address store.vat.entries.items J) (free_address store.vat.entries.items) S.tree (model_operation r.op) moment store.vat.sessions.next_unique change
       → IsChangeOf (graph_below store.vat_icb_address store.vat.entries.items J) (free_address store.vat.entries.items) S.tree (model_operation r.op) r.moment store.vat.sessions.next_unique change
-  does_lent r change entries moment same at does =
+  does_at r change moment at =
       subst (λ (m : ℕ). IsChangeOf (graph_below store.vat_icb_address store.vat.entries.items J) (free_address store.vat.entries.items) S.tree (model_operation r.op) m store.vat.sessions.next_unique change) at
-      (subst (λ (es : List (Option ℕ)). IsChangeOf (graph_below store.vat_icb_address es J) (free_address es) S.tree (model_operation r.op) moment store.vat.sessions.next_unique change) same does)
 
   -- the nodes are counted
   pub nodes : store.vat.files + store.vat.directories ≡ len S.tree
@@ -85,7 +82,7 @@ module _ (capacity volume : ℕ) (J : List Event) (S : State) (store : Store) (k
   commits = ap (λ (t : Table_). t.commits) knows.table ∙ knows.stands.tells.commits
 
   -- the same store, but for the directories that it keeps
-  pub knows_again : (J' : List Event) (now : Store) → J' ≡ J → now.at ≡ store.vat_icb_address → now.vat ≡ store.vat → now.capacity ≡ store.capacity → AreKept J now.directories → IsOpenOn capacity volume J' S now
+  pub knows_again : (J' : List Event) (now : Store) → J' ≡ J → now.vat_icb_address ≡ store.vat_icb_address → now.vat ≡ store.vat → now.capacity ≡ store.capacity → AreKept J now.directories → IsOpenOn capacity volume J' S now
   knows_again J' now journal at vat size kept = subst (λ (K : List Event). IsOpenOn capacity volume K S now) (sym journal) (record {
     once = knows.once;
     stands = knows.stands;

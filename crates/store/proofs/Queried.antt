@@ -88,20 +88,20 @@ module _ (capacity volume : ℕ) (J J' : List Event) (S : State) (h : Bool) (old
   pub still_known : SameVolume old new → J' ≡ J → (IsTrue h → AreKept J old.directories → AreKept J new.directories) → IsOpenOn capacity volume J' S new
   still_known same journal kept = knows_again capacity volume J S old knows J' new journal same.at same.vat same.capacity (kept honest knows.kept)
 
-  shown_tree : HasNodesOf h J old.directories old.at old.vat.entries.items S.tree
+  shown_tree : HasNodesOf h J old.directories old.vat_icb_address old.vat.entries.items S.tree
   shown_tree = shows capacity volume J S old knows h honest
 
   pub get_known : (path : Path) (result : Result (List ℕ) StoreFault) → old.is_stopped ≡ false
-      → ((tree : Tree) → HasNodesOf h J old.directories old.at old.vat.entries.items tree → IfOk result (λ bytes. told tree (Get path) ≡ runs.Answer.Data bytes))
-      → ((tree : Tree) → HasNodesOf h J old.directories old.at old.vat.entries.items tree → old.is_stopped ≡ false → IfErr result (IsQueryRefused (told tree (Get path)))) → Gets S path result
+      → ((tree : Tree) → HasNodesOf h J old.directories old.vat_icb_address old.vat.entries.items tree → IfOk result (λ bytes. told tree (Get path) ≡ runs.Answer.Data bytes))
+      → ((tree : Tree) → HasNodesOf h J old.directories old.vat_icb_address old.vat.entries.items tree → old.is_stopped ≡ false → IfErr result (IsQueryRefused (told tree (Get path)))) → Gets S path result
   get_known path result going is refused = gets S path result (is S.tree shown_tree) (refused S.tree shown_tree going)
 
   pub list_known : (path : Path) (result : Result (List Listed) StoreFault) → old.is_stopped ≡ false
-      → ((tree : Tree) → HasNodesOf h J old.directories old.at old.vat.entries.items tree → IfOk result (λ names. told tree (List_ path) ≡ runs.Answer.Names (said_names names)))
-      → ((tree : Tree) → HasNodesOf h J old.directories old.at old.vat.entries.items tree → old.is_stopped ≡ false → IfErr result (IsQueryRefused (told tree (List_ path)))) → Lists S path result
+      → ((tree : Tree) → HasNodesOf h J old.directories old.vat_icb_address old.vat.entries.items tree → IfOk result (λ names. told tree (List_ path) ≡ runs.Answer.Names (said_names names)))
+      → ((tree : Tree) → HasNodesOf h J old.directories old.vat_icb_address old.vat.entries.items tree → old.is_stopped ≡ false → IfErr result (IsQueryRefused (told tree (List_ path)))) → Lists S path result
   list_known path result going is refused = lists S path result (is S.tree shown_tree) (refused S.tree shown_tree going)
 
   pub stat_known : (path : Path) (result : Result NodeStatus StoreFault) → old.is_stopped ≡ false
-      → ((tree : Tree) → Once J → HasNodesOf h J old.directories old.at old.vat.entries.items tree → IfOk result (λ status. told tree (Stat path) ≡ runs.Answer.NodeIs (is_directory status.kind) status.moment status.size))
-      → ((tree : Tree) → HasNodesOf h J old.directories old.at old.vat.entries.items tree → old.is_stopped ≡ false → IfErr result (IsQueryRefused (told tree (Stat path)))) → Stats S path result
+      → ((tree : Tree) → Once J → HasNodesOf h J old.directories old.vat_icb_address old.vat.entries.items tree → IfOk result (λ status. told tree (Stat path) ≡ runs.Answer.NodeIs (is_directory status.kind) status.moment status.size))
+      → ((tree : Tree) → HasNodesOf h J old.directories old.vat_icb_address old.vat.entries.items tree → old.is_stopped ≡ false → IfErr result (IsQueryRefused (told tree (Stat path)))) → Stats S path result
   stat_known path result going is refused = stats S path result (is S.tree knows.once shown_tree) (refused S.tree shown_tree going)

@@ -87,7 +87,7 @@ module _ (M : Medium) where
     stood_in_chain at t [] has chain shown i less = absurd (omega (arith, less))
     stood_in_chain at t (c ∷ earlier) has (n, is, v, there, fewer, says, chain) shown zero less =
         let here = shown 0 c (omega arith) in
-        let at_is : IsShown capacity M (n + 257) here.0 = subst (λ (d : Commit). IsShown capacity M d.at here.0) says here.1 in
+        let at_is : IsShown capacity M (n + 257) here.0 = subst (λ (d : Commit). IsShown capacity M d.vat_icb_address here.0) says here.1 in
         let low : 257 ≤ n + 257 = omega arith in
         (at_is.said, step_back capacity volume M at (n + 257) 0 at_is.said (one_before M at n t v has is there fewer) (shown_stood capacity volume M (n + 257) here.0 low at_is (sized (n + 257) here.0 low at_is)))
     stood_in_chain at t (c ∷ earlier) has (n, is, v, there, fewer, says, chain) shown (suc i) less =
@@ -106,22 +106,22 @@ module _ (M : Medium) where
     -- ---- none stood where none is told
 
     not_in_chain : (at : ℕ) (t : Table) (earlier : List Commit) → HasTableAt M at t → IsChain M t.previous t.commits earlier → (i : ℕ) → i < length earlier → (S : model.State) (N : Medium) → EndsAt M at N
-        → RecoveredBefore udf (suc i) capacity volume N S → ((d : Commit) → IsUntold capacity M (slice_index_or earlier i d).at) → ⊥
+        → RecoveredBefore udf (suc i) capacity volume N S → ((d : Commit) → IsUntold capacity M (slice_index_or earlier i d).vat_icb_address) → ⊥
     not_in_chain at t [] has chain i less S N ends stood untold = absurd (omega (arith, less))
     not_in_chain at t (c ∷ earlier) has (n, is, v, there, fewer, says, chain) zero less S N ends stood untold =
         let on = step_on capacity volume M at (n + 257) 0 S N ends (one_before M at n t v has is there fewer) stood in
         let told = stood_told capacity volume M (n + 257) v S on.0 there on.1 on.2 in
-        subst (λ (d : Commit). IsUntold capacity M d.at) says (untold c) volume on.2.block S told.0 told.1
+        subst (λ (d : Commit). IsUntold capacity M d.vat_icb_address) says (untold c) volume on.2.block S told.0 told.1
     not_in_chain at t (c ∷ earlier) has (n, is, v, there, fewer, says, chain) (suc i) less S N ends stood untold =
         let on = step_on capacity volume M at (n + 257) (suc i) S N ends (one_before M at n t v has is there fewer) stood in
         not_in_chain (n + 257) v earlier there chain i (omega (arith, less)) S on.0 on.1 on.2 untold
 
     pub not_in : (at : ℕ) (all : List Commit) → IsHistory M at all → (i : ℕ) → i < length all → (S : model.State) (N : Medium) → EndsAt M at N → RecoveredBefore udf i capacity volume N S
-        → ((d : Commit) → IsUntold capacity M (slice_index_or all i d).at) → ⊥
+        → ((d : Commit) → IsUntold capacity M (slice_index_or all i d).vat_icb_address) → ⊥
     not_in at all (t, has, earlier, is, chain) i less S N ends stood untold =
-        go i (subst (λ (cs : List Commit). i < length cs) is less) stood (subst (λ (cs : List Commit). (d : Commit) → IsUntold capacity M (slice_index_or cs i d).at) is untold)
+        go i (subst (λ (cs : List Commit). i < length cs) is less) stood (subst (λ (cs : List Commit). (d : Commit) → IsUntold capacity M (slice_index_or cs i d).vat_icb_address) is untold)
       where
-        go : (j : ℕ) → j < length (told_of at t ∷ earlier) → RecoveredBefore udf j capacity volume N S → ((d : Commit) → IsUntold capacity M (slice_index_or (told_of at t ∷ earlier) j d).at) → ⊥
+        go : (j : ℕ) → j < length (told_of at t ∷ earlier) → RecoveredBefore udf j capacity volume N S → ((d : Commit) → IsUntold capacity M (slice_index_or (told_of at t ∷ earlier) j d).vat_icb_address) → ⊥
         go zero l s u = let told = stood_told capacity volume M at t S N has ends s in u (told_of at t) volume s.block S told.0 told.1
         go (suc j) l s u = not_in_chain at t earlier has chain j (omega (arith, l)) S N ends s u
 

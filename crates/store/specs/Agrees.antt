@@ -15,7 +15,7 @@ pub record IsStoreOn (journal : List Event) (capacity : ℕ) (store : Store) : T
 
 -- all but the directories that are kept
 pub record SameVolume (old new : Store) : Type 0 where
-  pub at : new.at ≡ old.at
+  pub at : new.vat_icb_address ≡ old.vat_icb_address
   pub capacity : new.capacity ≡ old.capacity
   pub vat : new.vat ≡ old.vat
   pub stopped : new.is_stopped ≡ old.is_stopped

@@ -12,7 +12,7 @@ use Rattle.store.specs.declared.history.Commit.{Commit}
 
 -- what is told of the commit whose VAT ICB stands at an address
 abbrev pub told_of : ℕ → Table → Commit
-told_of at table = record { commit = table.commits; at = at; files = table.files; directories = table.directories }
+told_of at table = record { commit = table.commits; vat_icb_address = at; files = table.files; directories = table.directories }
 
 -- the commits below a table with this link and so many commits, the newest first, down to the format
 abbrev pub IsChain : List (List ℕ) → Option ℕ → ℕ → List Commit → Type 0
@@ -40,7 +40,7 @@ pub record IsTableOf (medium : List (List ℕ)) (from commits at : ℕ) (vat : V
 
 -- the state after each of the commits is told by the blocks, on a drive of this capacity
 abbrev pub AreShown : ℕ → List (List ℕ) → List Commit → Type 0
-AreShown capacity medium commits = All (λ (c : Commit). (state : State) × IsShown capacity medium c.at state) commits
+AreShown capacity medium commits = All (λ (c : Commit). (state : State) × IsShown capacity medium c.vat_icb_address state) commits
 
 -- each commit from the one whose VAT ICB stands at an address, and the state after it
 pub record IsChecked (capacity : ℕ) (medium : List (List ℕ)) (at : ℕ) : Type 0 where
@@ -74,7 +74,7 @@ IsWayRefused medium from commits _ = ⊥
 
 -- at the address of one of the commits no state is told
 abbrev pub HasUntold : ℕ → List (List ℕ) → List Commit → Type 0
-HasUntold capacity medium commits = (i : ℕ) × (i < length commits) × ((c : Commit) → IsUntold capacity medium (slice_index_or commits i c).at)
+HasUntold capacity medium commits = (i : ℕ) × (i < length commits) × ((c : Commit) → IsUntold capacity medium (slice_index_or commits i c).vat_icb_address)
 
 -- why not each state was shown: the drive failed, memory was short, or in no list that is all commits is each of them told
 abbrev pub IsUnchecked : ℕ → List (List ℕ) → ℕ → StoreFault → Type 0

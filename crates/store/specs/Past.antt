@@ -11,7 +11,7 @@ use Rattle.vat.specs.declared.table.Vat.{Vat}
 use Rattle.vat.specs.Table.{view}
 use Rattle.recover.specs.declared.fault.StoreFault.{StoreFault}
 use Rattle.recover.specs.declared.fault.StoreFault.TheVariants.{Device, Memory, Damaged, NoCommit}
-use Rattle.lookup.specs.declared.directories.DirectoryCache.{DirectoryCache}
+use Rattle.lookup.specs.declared.cache.DirectoryCache.{DirectoryCache}
 use Rattle.lookup.specs.Cache.{AreKept}
 use Rattle.lookup.specs.Shows.{HasNodesOf, graph_below}
 

@@ -46,7 +46,7 @@ pub record HasFailed (before : Store) (request : Request) (capacity : ℕ) (J J'
   pub device : fault ≡ Device
   pub front : StopsInPlan before request capacity J J'
   pub stopped : store.is_stopped ≡ true
-  pub at : store.vat_icb_address ≡ before.at
+  pub at : store.vat_icb_address ≡ before.vat_icb_address
   pub vat : store.vat ≡ before.vat
   pub volume : store.capacity ≡ before.capacity
 

@@ -18,8 +18,7 @@ ghost use Rattle.recover.specs.declared.fault.StoreFault.TheVariants.{Device, St
 use crate::store::Store;
 use drive::Drive;
 use ecma::Timestamp;
-use lookup::Nodes;
-use planning::{LastTable, Plan, StateBefore};
+use planning::{LastTable, Plan};
 use recover::StoreFault;
 use request::{Reply, Request};
 use std::alloc::Global;
@@ -55,20 +54,12 @@ impl Store {
             return Err(StoreFault::Stopped);
         }
         let moment = Timestamp::of(request.moment).unwrap();
-        let before = StateBefore {
-            nodes: Nodes {
-                vat_icb_address: self.vat_icb_address,
-                numbers: &self.vat.entries,
-            },
-            node_count: self.vat.files.saturating_add(self.vat.directories),
-            next_unique: self.vat.sessions.next_unique,
-        };
-        let change = before.change(alloc, drive, &mut self.directories, request, moment)?;
         let last = LastTable {
             vat_icb_address: self.vat_icb_address,
             capacity: self.capacity,
             vat: &self.vat,
         };
+        let change = last.change(alloc, drive, &mut self.directories, request, moment)?;
         let plan = last.plan(alloc, drive, request, change, moment)?;
         self.commit(drive, plan)
     }

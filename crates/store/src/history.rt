@@ -20,6 +20,7 @@ ghost use Rattle.store.specs.Past.{AllRecovered, IsCheckRefused, IsPast, IsPastR
 use crate::queries::nodes_of;
 use crate::store::Store;
 use drive::Drive;
+use lookup::Lookup;
 use recover::{
     PARTITION_START, ReadCache, State, StoreFault, cause, damaged, linked, state_at, state_sharing,
     table_at,
@@ -65,7 +66,7 @@ pub struct Snapshot {
     vat_icb_address: u32,
     vat: Vat,
     ghost few: { length vat.entries.items ≤ ADDRESSES },
-    ghost below: { AreBelow at vat.entries.items } by { Prim.hlevel props },
+    ghost below: { AreBelow vat_icb_address vat.entries.items } by { Prim.hlevel props },
 }
 
 impl Snapshot {
@@ -119,7 +120,7 @@ impl Snapshot {
         ensures reads { ReadsOnly D.Drive (devices result) drive.old drive.new }
     {
         let nodes = nodes_of(store.is_stopped, self.vat_icb_address, &self.vat.entries)?;
-        nodes.get(alloc, drive, &mut store.directories, path)
+        Lookup::new(alloc, drive, &mut store.directories, nodes).get(path)
     }
 
     /// The names in a directory, as they were, in their stored order.
@@ -141,7 +142,7 @@ impl Snapshot {
         ensures reads { ReadsOnly D.Drive (devices result) drive.old drive.new }
     {
         let nodes = nodes_of(store.is_stopped, self.vat_icb_address, &self.vat.entries)?;
-        nodes.list(alloc, drive, &mut store.directories, path)
+        Lookup::new(alloc, drive, &mut store.directories, nodes).list(path)
     }
 
     /// What was known of a file or a directory.
@@ -163,7 +164,7 @@ impl Snapshot {
         ensures reads { ReadsOnly D.Drive (devices result) drive.old drive.new }
     {
         let nodes = nodes_of(store.is_stopped, self.vat_icb_address, &self.vat.entries)?;
-        nodes.stat(alloc, drive, &mut store.directories, path)
+        Lookup::new(alloc, drive, &mut store.directories, nodes).stat(path)
     }
 }
 
@@ -177,7 +178,7 @@ impl Store {
         ensures all { (volume : ℕ) (T : said.State) → IsTrue (D.honest drive.new) → IsOpenOn (D.capacity drive.old) volume (D.journal drive.old) T self.now → IfOk result (λ commits. length commits.items ≡ T.commits + 1) }
         // Where it is refused no list is the history, or the drive failed or memory was short.
         ensures refused { self.now.is_stopped ≡ false → IfErr result (λ fault. IsTrue (D.honest drive.new) → IsHistoryRefused (held (D.journal drive.old)) self.now.vat_icb_address fault) }
-        ensures within { IfOk result (λ commits. All (λ c. (PARTITION_START ≤ c.at) × (c.at < next_of (D.journal drive.old))) commits.items) }
+        ensures within { IfOk result (λ commits. All (λ c. (PARTITION_START ≤ c.vat_icb_address) × (c.vat_icb_address < next_of (D.journal drive.old))) commits.items) }
         ensures reads { ReadsOnly D.Drive (devices result) drive.old drive.new }
     {
         if self.is_stopped {
@@ -204,12 +205,12 @@ impl Store {
         ensures stopped { IsTrue self.now.is_stopped → (result ≡ Err Stopped) × (drive.new ≡ drive.old) }
         ensures none { self.now.is_stopped ≡ false → self.now.vat.sessions.commits < commit → result ≡ Err NoCommit }
         // The state that stood after so many commits.
-        ensures past { (volume : ℕ) (T : said.State) → IsTrue (D.honest drive.new) → IsOpenOn (D.capacity drive.old) volume (D.journal drive.old) T self.now → IfOk result (λ s. (S : said.State) × IsPast (D.capacity drive.old) volume (D.journal drive.old) commit S s.at s.vat) }
+        ensures past { (volume : ℕ) (T : said.State) → IsTrue (D.honest drive.new) → IsOpenOn (D.capacity drive.old) volume (D.journal drive.old) T self.now → IfOk result (λ s. (S : said.State) × IsPast (D.capacity drive.old) volume (D.journal drive.old) commit S s.vat_icb_address s.vat) }
         // Where it is refused none stood, or the drive failed or memory was short.
         ensures refused { (volume : ℕ) (T : said.State) → IsTrue (D.honest drive.new) → IsOpenOn (D.capacity drive.old) volume (D.journal drive.old) T self.now → self.now.is_stopped ≡ false → IfErr result (IsPastRefused (D.capacity drive.old) volume (held (D.journal drive.old)) T.commits commit) }
-        ensures table { IfOk result (λ s. IsTrue (D.honest drive.new) → IsTableOf (held (D.journal drive.old)) self.now.vat_icb_address commit s.at s.vat) }
-        ensures shown { IfOk result (λ s. IsTrue (D.honest drive.new) → (state : State) × IsShown (D.capacity drive.old) (held (D.journal drive.old)) s.at state × (state.vat ≡ s.vat)) }
-        ensures within { IfOk result (λ s. s.at < next_of (D.journal drive.new)) }
+        ensures table { IfOk result (λ s. IsTrue (D.honest drive.new) → IsTableOf (held (D.journal drive.old)) self.now.vat_icb_address commit s.vat_icb_address s.vat) }
+        ensures shown { IfOk result (λ s. IsTrue (D.honest drive.new) → (state : State) × IsShown (D.capacity drive.old) (held (D.journal drive.old)) s.vat_icb_address state × (state.vat ≡ s.vat)) }
+        ensures within { IfOk result (λ s. s.vat_icb_address < next_of (D.journal drive.new)) }
         ensures reads { ReadsOnly D.Drive (devices result) drive.old drive.new }
     {
         if self.is_stopped {

@@ -18,7 +18,7 @@ ghost use Rattle.lookup.specs.Shows.{HasNodesOf};
 
 use crate::store::Store;
 use drive::Drive;
-use lookup::Nodes;
+use lookup::{Lookup, Nodes};
 use recover::StoreFault;
 use request::{FileData, Listing, NodeStatus, Path};
 use std::alloc::Global;
@@ -41,7 +41,7 @@ impl Store {
         ensures reads { ReadsOnly D.Drive (devices result) drive.old drive.new }
     {
         let nodes = nodes_of(self.is_stopped, self.vat_icb_address, &self.vat.entries)?;
-        nodes.get(alloc, drive, &mut self.directories, path)
+        Lookup::new(alloc, drive, &mut self.directories, nodes).get(path)
     }
 
     /// The names in a directory, in their stored order.
@@ -61,7 +61,7 @@ impl Store {
         ensures reads { ReadsOnly D.Drive (devices result) drive.old drive.new }
     {
         let nodes = nodes_of(self.is_stopped, self.vat_icb_address, &self.vat.entries)?;
-        nodes.list(alloc, drive, &mut self.directories, path)
+        Lookup::new(alloc, drive, &mut self.directories, nodes).list(path)
     }
 
     /// What is known of a file or a directory.
@@ -81,7 +81,7 @@ impl Store {
         ensures reads { ReadsOnly D.Drive (devices result) drive.old drive.new }
     {
         let nodes = nodes_of(self.is_stopped, self.vat_icb_address, &self.vat.entries)?;
-        nodes.stat(alloc, drive, &mut self.directories, path)
+        Lookup::new(alloc, drive, &mut self.directories, nodes).stat(path)
     }
 }
 

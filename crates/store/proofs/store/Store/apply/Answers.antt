@@ -20,9 +20,14 @@ use Rattle.store.specs.Putting.{IsPlanOf}
 use Rattle.table_update.specs.TableChange.{committed}
 use Rattle.store.proofs.Commits.{if_ok, makes_plan, plan_is, writes_plan, has_failed, goes_on, open_is_ok, some_is}
 use Rattle.store.proofs.Applying.{applies, full, short, unwritten, withstands}
-use Rattle.store.proofs.Knowing.{does_lent, few, knows_again, nodes, shows_lent, takes}
-use Rattle.planning.proofs.Taking.{IsTakenBy}
+use Rattle.store.proofs.Knowing.{does_at, few, knows_again, nodes, shows, takes}
+use Rattle.planning.specs.Last.{IsTakenBy}
 use Rattle.store.proofs.store.Store.apply.Goals as goal
+
+pub change-requires : goal.change-requires
+change-requires g c = record {
+  agrees = record { keeps = c.requires.agrees.keeps; on = c.requires.agrees.on; least = c.requires.agrees.least; most = c.requires.agrees.most; fits = c.requires.agrees.fits };
+}
 
 pub plan-requires-clause-agrees : goal.plan-requires-clause-agrees
 plan-requires-clause-agrees g c = record {
@@ -111,9 +116,9 @@ returns-in_err-change-clause-applies g c volume S honest knows going =
     let r = c.args.request.now in
     let J = g.D.Drive.journal c.args.drive.now in
     let capacity = g.D.Drive.capacity c.args.drive.now in
-    let now : Store = record { at = c.args.self.now.vat_icb_address; capacity = c.args.self.now.capacity; vat = c.args.self.now.vat; directories = c.change.new.directories; is_stopped = c.args.self.now.is_stopped; most_held = c.args.self.now.most_held } in
+    let now : Store = record { vat_icb_address = c.args.self.now.vat_icb_address; capacity = c.args.self.now.capacity; vat = c.args.self.now.vat; directories = c.change.new.cache; is_stopped = c.args.self.now.is_stopped; most_held = c.args.self.now.most_held } in
     let p = err_from_is_err_and c.from_residual.result c.from_residual.ensures.1 in
-    let going_on = shows_lent capacity volume J S store knows (g.D.Drive.honest c.change.new.drive) honest c.deref.result.now c.deref.ensures.value in
+    let going_on = shows capacity volume J S store knows (g.D.Drive.honest c.change.new.drive) honest in
     let shortage : IsShortage p.0 = subst (λ (f : StoreFault). IsShortage f) (sym p.2) (c.in_err-change.ensures.short S.tree going_on) in
     let again = knows_again capacity volume J S store knows (g.D.Drive.journal c.change.new.drive) now c.change.ensures.reads.journal refl refl refl (c.change.ensures.kept honest knows.kept) in
     rw p.1 (short capacity volume J S store knows r p.0 (g.D.Drive.journal c.change.new.drive) now shortage c.change.ensures.reads.journal again)
@@ -125,13 +130,12 @@ returns-in_err-plan-clause-applies g c volume S honest knows going =
     let J = g.D.Drive.journal c.args.drive.now in
     let capacity = g.D.Drive.capacity c.args.drive.now in
     let change = c.in_ok-change.change in
-    let now : Store = record { at = c.args.self.now.vat_icb_address; capacity = c.args.self.now.capacity; vat = c.args.self.now.vat; directories = c.change.new.directories; is_stopped = c.args.self.now.is_stopped; most_held = c.args.self.now.most_held } in
+    let now : Store = record { vat_icb_address = c.args.self.now.vat_icb_address; capacity = c.args.self.now.capacity; vat = c.args.self.now.vat; directories = c.change.new.cache; is_stopped = c.args.self.now.is_stopped; most_held = c.args.self.now.most_held } in
     let p = err_from_is_err_and c.from_residual-in_err-plan.result c.from_residual-in_err-plan.ensures.1 in
     let after_change = c.plan.ensures.reads.honest honest in
     let of_moment : c.unwrap-moment.result ≡ c.args.request.now.moment = some_is c.of.result c.unwrap-moment.result c.args.request.now.moment _ (search rules) c.of.ensures in
-    let counted : c.saturating_add.result ≡ len S.tree = omega (arith, c.saturating_add.ensures, nodes capacity volume J S store knows, few capacity volume J S store knows) in
-    let going_on = shows_lent capacity volume J S store knows (g.D.Drive.honest c.change.new.drive) after_change c.deref.result.now c.deref.ensures.value in
-    let does = does_lent capacity volume J S store knows r change c.deref.result.now c.unwrap-moment.result c.deref.ensures.value of_moment (c.in_ok-change.ensures.does S.tree going_on counted) in
+    let going_on = shows capacity volume J S store knows (g.D.Drive.honest c.change.new.drive) after_change in
+    let does = does_at capacity volume J S store knows r change c.unwrap-moment.result of_moment (c.in_ok-change.ensures.does S.tree going_on (record { count = nodes capacity volume J S store knows; few = few capacity volume J S store knows })) in
     let taken = subst (λ (m : ℕ). IsTakenBy m c.in_ok-change.change (committed c.args.self.now.vat_icb_address c.args.request.now.client c.args.request.now.number (code_number c.in_ok-change.change.code) (view c.args.self.now.vat))) (sym of_moment) (takes capacity volume J S store knows r change does) in
     let refused : IsShortage p.0 ⊎ (p.0 ≡ Full) = subst (λ (f : StoreFault). IsShortage f ⊎ (f ≡ Full)) (sym p.2) (c.in_err-plan.ensures.refused taken) in
     let same = c.plan.ensures.reads.journal ∙ c.change.ensures.reads.journal in
@@ -152,15 +156,14 @@ returns-clause-applies g c volume S honest knows going =
     let after_plan = c.commit.ensures.follows.honest honest in
     let after_change = c.plan.ensures.reads.honest after_plan in
     let of_moment : c.unwrap-moment.result ≡ c.args.request.now.moment = some_is c.of.result c.unwrap-moment.result c.args.request.now.moment _ (search rules) c.of.ensures in
-    let counted : c.saturating_add.result ≡ len S.tree = omega (arith, c.saturating_add.ensures, nodes capacity volume J S store knows, few capacity volume J S store knows) in
-    let going_on = shows_lent capacity volume J S store knows (g.D.Drive.honest c.change.new.drive) after_change c.deref.result.now c.deref.ensures.value in
-    let does = does_lent capacity volume J S store knows r change c.deref.result.now c.unwrap-moment.result c.deref.ensures.value of_moment (c.in_ok-change.ensures.does S.tree going_on counted) in
+    let going_on = shows capacity volume J S store knows (g.D.Drive.honest c.change.new.drive) after_change in
+    let does = does_at capacity volume J S store knows r change c.unwrap-moment.result of_moment (c.in_ok-change.ensures.does S.tree going_on (record { count = nodes capacity volume J S store knows; few = few capacity volume J S store knows })) in
     let is : IsPlan (next_of J) capacity plan = plan_is J (g.D.Drive.journal c.change.new.drive) capacity (g.D.Drive.capacity c.change.new.drive) plan c.change.ensures.reads.journal c.change.ensures.reads.capacity c.in_ok-plan.ensures.plan in
     let makes : IsPlanOf c.args.self.now c.args.request.now change plan = makes_plan c.args.self.now c.args.request.now change plan c.unwrap-moment.result of_moment c.in_ok-plan.ensures.moment c.in_ok-plan.ensures.code c.in_ok-plan.ensures.commit c.in_ok-plan.ensures.writings c.in_ok-plan.ensures.table in
     let room = subst (λ (L : List Event). next_of L + change_need c.in_ok-change.change (begun c.args.self.now.vat_icb_address c.args.request.now.client c.args.request.now.number (code_number c.in_ok-change.change.code) c.in_ok-change.change.made (view c.args.self.now.vat)) ≤ c.args.self.now.capacity) c.change.ensures.reads.journal c.in_ok-plan.ensures.room in
     let same : K ≡ J = c.plan.ensures.reads.journal ∙ c.change.ensures.reads.journal in
     let once = subst (λ (L : List Event). Once L) (sym same) knows.once in
-    let kept = subst (λ (L : List Event). AreKept L c.change.new.directories) (sym same) (c.change.ensures.kept after_change knows.kept) in
+    let kept = subst (λ (L : List Event). AreKept L c.change.new.cache) (sym same) (c.change.ensures.kept after_change knows.kept) in
     applies capacity volume J S store knows r change does plan makes is room c.commit.result K (g.D.Drive.journal c.commit.new.drive) c.commit.new.self same c.commit.ensures.reply c.commit.ensures.at c.commit.ensures.vat
     c.commit.ensures.written c.commit.ensures.front c.commit.ensures.device c.commit.ensures.stopped c.commit.ensures.volume (c.commit.ensures.kept once kept)
 
@@ -175,9 +178,8 @@ returns-clause-withstands g c volume S honest knows =
     let after_plan = c.commit.ensures.follows.honest honest in
     let after_change = c.plan.ensures.reads.honest after_plan in
     let of_moment : c.unwrap-moment.result ≡ c.args.request.now.moment = some_is c.of.result c.unwrap-moment.result c.args.request.now.moment _ (search rules) c.of.ensures in
-    let counted : c.saturating_add.result ≡ len S.tree = omega (arith, c.saturating_add.ensures, nodes capacity volume J S store knows, few capacity volume J S store knows) in
-    let going_on = shows_lent capacity volume J S store knows (g.D.Drive.honest c.change.new.drive) after_change c.deref.result.now c.deref.ensures.value in
-    let does = does_lent capacity volume J S store knows r change c.deref.result.now c.unwrap-moment.result c.deref.ensures.value of_moment (c.in_ok-change.ensures.does S.tree going_on counted) in
+    let going_on = shows capacity volume J S store knows (g.D.Drive.honest c.change.new.drive) after_change in
+    let does = does_at capacity volume J S store knows r change c.unwrap-moment.result of_moment (c.in_ok-change.ensures.does S.tree going_on (record { count = nodes capacity volume J S store knows; few = few capacity volume J S store knows })) in
     let is : IsPlan (next_of J) capacity plan = plan_is J (g.D.Drive.journal c.change.new.drive) capacity (g.D.Drive.capacity c.change.new.drive) plan c.change.ensures.reads.journal c.change.ensures.reads.capacity c.in_ok-plan.ensures.plan in
     let makes : IsPlanOf c.args.self.now c.args.request.now change plan = makes_plan c.args.self.now c.args.request.now change plan c.unwrap-moment.result of_moment c.in_ok-plan.ensures.moment c.in_ok-plan.ensures.code c.in_ok-plan.ensures.commit c.in_ok-plan.ensures.writings c.in_ok-plan.ensures.table in
     let room = subst (λ (L : List Event). next_of L + change_need c.in_ok-change.change (begun c.args.self.now.vat_icb_address c.args.request.now.client c.args.request.now.number (code_number c.in_ok-change.change.code) c.in_ok-change.change.made (view c.args.self.now.vat)) ≤ c.args.self.now.capacity) c.change.ensures.reads.journal c.in_ok-plan.ensures.room in

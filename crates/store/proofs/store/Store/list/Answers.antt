@@ -1,11 +1,19 @@
-use Rattle.std.proofs.Common.{◌∙◌, sym, subst₂, List, Option, ℕ}
-use Rattle.lookup.specs.Shows.{HasNodesOf}
+use Rattle.std.proofs.Common.{◌∙◌, ap, refl, rules}
+use Rattle.lookup.specs.declared.nodes.Nodes.{Nodes}
+use Rattle.lookup.proofs.Lending.{kept_lent, sees_lent}
 use Rattle.store.proofs.store.Store.list.Goals as goal
 
 pub returns-clause-reported : goal.returns-clause-reported
 returns-clause-reported g c tree s =
-    c.list.ensures.reported tree (subst₂ (λ (at : ℕ) (entries : List (Option ℕ)). HasNodesOf (g.D.Drive.honest c.list.new.drive) (g.D.Drive.journal c.args.drive.now) c.args.self.now.directories at entries tree) (sym c.in_ok-nodes.ensures.nodes.0) (sym (c.in_ok-nodes.ensures.nodes.1 ∙ c.deref.ensures.value)) s)
+    let seen = sees_lent c.new.result c.list.new.self _ _ _ c.new.ensures.drive c.new.ensures.cache (search rules) c.args.self.now.vat_icb_address c.args.self.now.vat.entries.items tree
+    (ap (λ (n : Nodes). n.vat_icb_address) c.new.ensures.nodes ∙ c.in_ok-nodes.ensures.nodes.0) (ap (λ (n : Nodes). n.numbers.now) c.new.ensures.nodes ∙ (c.in_ok-nodes.ensures.nodes.1 ∙ c.deref.ensures.value)) s in
+    (c.list.ensures.told tree seen).0
 
 pub returns-clause-refused : goal.returns-clause-refused
 returns-clause-refused g c tree s going =
-    c.list.ensures.refused tree (subst₂ (λ (at : ℕ) (entries : List (Option ℕ)). HasNodesOf (g.D.Drive.honest c.list.new.drive) (g.D.Drive.journal c.args.drive.now) c.args.self.now.directories at entries tree) (sym c.in_ok-nodes.ensures.nodes.0) (sym (c.in_ok-nodes.ensures.nodes.1 ∙ c.deref.ensures.value)) s)
+    let seen = sees_lent c.new.result c.list.new.self _ _ _ c.new.ensures.drive c.new.ensures.cache (search rules) c.args.self.now.vat_icb_address c.args.self.now.vat.entries.items tree
+    (ap (λ (n : Nodes). n.vat_icb_address) c.new.ensures.nodes ∙ c.in_ok-nodes.ensures.nodes.0) (ap (λ (n : Nodes). n.numbers.now) c.new.ensures.nodes ∙ (c.in_ok-nodes.ensures.nodes.1 ∙ c.deref.ensures.value)) s in
+    (c.list.ensures.told tree seen).1
+
+pub returns-clause-kept : goal.returns-clause-kept
+returns-clause-kept g c = kept_lent c.new.result c.list.new.self _ _ _ c.new.ensures.drive c.new.ensures.cache (search rules) c.list.new.self.cache.now c.list.ensures.looks refl

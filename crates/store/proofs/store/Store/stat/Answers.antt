@@ -1,11 +1,20 @@
-use Rattle.std.proofs.Common.{◌∙◌, sym, subst₂, List, Option, ℕ}
-use Rattle.lookup.specs.Shows.{HasNodesOf}
+use Rattle.std.proofs.Common.{◌∙◌, ap, refl, rules, subst, sym}
+use Rattle.drive.specs.Journal.{Once}
+use Rattle.lookup.specs.declared.nodes.Nodes.{Nodes}
+use Rattle.lookup.proofs.Lending.{kept_lent, sees_lent}
 use Rattle.store.proofs.store.Store.stat.Goals as goal
 
 pub returns-clause-reported : goal.returns-clause-reported
 returns-clause-reported g c tree once s =
-    c.stat.ensures.reported tree once (subst₂ (λ (at : ℕ) (entries : List (Option ℕ)). HasNodesOf (g.D.Drive.honest c.stat.new.drive) (g.D.Drive.journal c.args.drive.now) c.args.self.now.directories at entries tree) (sym c.in_ok-nodes.ensures.nodes.0) (sym (c.in_ok-nodes.ensures.nodes.1 ∙ c.deref.ensures.value)) s)
+    let seen = sees_lent c.new.result c.stat.new.self _ _ _ c.new.ensures.drive c.new.ensures.cache (search rules) c.args.self.now.vat_icb_address c.args.self.now.vat.entries.items tree
+    (ap (λ (n : Nodes). n.vat_icb_address) c.new.ensures.nodes ∙ c.in_ok-nodes.ensures.nodes.0) (ap (λ (n : Nodes). n.numbers.now) c.new.ensures.nodes ∙ (c.in_ok-nodes.ensures.nodes.1 ∙ c.deref.ensures.value)) s in
+    c.stat.ensures.told tree (subst (λ (d : _). Once (g.D.Drive.journal d)) (sym c.new.ensures.drive) once) seen
 
 pub returns-clause-refused : goal.returns-clause-refused
 returns-clause-refused g c tree s going =
-    c.stat.ensures.refused tree (subst₂ (λ (at : ℕ) (entries : List (Option ℕ)). HasNodesOf (g.D.Drive.honest c.stat.new.drive) (g.D.Drive.journal c.args.drive.now) c.args.self.now.directories at entries tree) (sym c.in_ok-nodes.ensures.nodes.0) (sym (c.in_ok-nodes.ensures.nodes.1 ∙ c.deref.ensures.value)) s)
+    let seen = sees_lent c.new.result c.stat.new.self _ _ _ c.new.ensures.drive c.new.ensures.cache (search rules) c.args.self.now.vat_icb_address c.args.self.now.vat.entries.items tree
+    (ap (λ (n : Nodes). n.vat_icb_address) c.new.ensures.nodes ∙ c.in_ok-nodes.ensures.nodes.0) (ap (λ (n : Nodes). n.numbers.now) c.new.ensures.nodes ∙ (c.in_ok-nodes.ensures.nodes.1 ∙ c.deref.ensures.value)) s in
+    c.stat.ensures.refused tree seen
+
+pub returns-clause-kept : goal.returns-clause-kept
+returns-clause-kept g c = kept_lent c.new.result c.stat.new.self _ _ _ c.new.ensures.drive c.new.ensures.cache (search rules) c.stat.new.self.cache.now c.stat.ensures.looks refl
