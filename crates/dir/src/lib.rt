@@ -32,7 +32,7 @@ pub use fault::DirFault;
 pub use fids::{Fid, Fids};
 pub use kept::Identifiers;
 pub use laws::{blocks_are_few, blocks_begin, data_is_sized, laid_is_directory, one_directory};
-pub use laying::{Lay, MAX_BLOCKS, MAX_NAMES};
+pub use laying::Lay;
 pub use read::read_dir;
 pub use size::DataSize;
 pub use whole::lay;

@@ -1,10 +1,12 @@
-ghost use Rattle.std.specs.Prelude.{◌≡◌, ◌↔◌, IsTrue, IfOk, IfErr, IfSome, IfNone, take, drop, replicate};
+ghost use Rattle.limits.specs.declared.TheConstants.{BLOCK_BYTES};
+ghost use Rattle.std.specs.Prelude.{◌≡◌, ◌-◌, ◌↔◌, IsTrue, IfOk, IfErr, IfSome, IfNone, take, drop, replicate};
 ghost use Rattle.ecma.specs.FirstFault.{IsFirst, AllHold};
 ghost use Rattle.ecma.specs.Tag.{Sealed};
 ghost use Rattle.icb.specs.FileSet.{HasFileSetFields, IsFileSet, set_rules};
 
 use crate::fault::IcbFault;
 use ecma::{Block, CS0, EntityId, Field, LongAd, Timestamp, descriptor_block, open_tag};
+use limits::{BLOCK_BYTES, BLOCK_SIZE};
 use osta::Label;
 
 const FILE_SET: u16 = 256;
@@ -17,7 +19,7 @@ const SIZE: usize = 512;
 
 /// The extent of the root's entry, which has the virtual address 1.
 const ROOT: LongAd = LongAd {
-    length: 2048,
+    length: BLOCK_BYTES,
     block: 1,
     partition: 1,
     flags: 0,
@@ -131,8 +133,8 @@ fn set_stamp(block: &Block) -> [u8; 12]
 }
 
 fn has_set_tail(block: &Block) -> bool
-    ensures { IsTrue result ↔ (drop 512 block.now ≡ replicate 1536 0) }
+    ensures { IsTrue result ↔ (drop 512 block.now ≡ replicate (BLOCK_BYTES - 512) 0) }
 {
     let (_, tail) = block.split_at(SIZE);
-    tail == &[0; 2048 - SIZE][..]
+    tail == &[0; BLOCK_SIZE - SIZE][..]
 }

@@ -14,16 +14,17 @@ ghost use Rattle.recover.specs.Tables.{HasTableAt};
 use crate::cause;
 use crate::fault::{StoreFault, damaged};
 use crate::read_cache::ReadCache;
-use crate::reading::{PARTITION_START, read_block};
+use crate::reading::read_block;
 use crate::table::{address_below, read_table, table_entry};
 use crate::walk::{Named, Walk};
 use drive::Drive;
 use ecma::Timestamp;
 use icb::{FileSet, decode_fsd};
+use limits::{FORMAT_BLOCKS, PARTITION_START};
 use osta::Label;
 use std::alloc::Global;
 use vat::Vat;
-use volume::{FRONT_BLOCKS, Front, VolumeFault, first_difference, front_words};
+use volume::{Front, VolumeFault, first_difference, front_words};
 
 /// The address of the primary volume descriptor.
 const PRIMARY: u32 = 32;
@@ -31,15 +32,15 @@ const PRIMARY: u32 = 32;
 /// The address of the partition descriptor.
 const PARTITION: u32 = 34;
 
-/// The least address after the blocks of a format and its last one's. Each commit writes two blocks at least.
-const FIRST_TABLE: u64 = limits::FORMAT_BLOCKS as u64 - 1;
+/// The address of the first VAT ICB, which is the last block of a format. Each commit writes two blocks at least.
+const FIRST_TABLE: u64 = FORMAT_BLOCKS as u64 - 1;
 
 /// What stands where a VAT ICB does, but for the tree.
 #[derive(Drop)]
 pub struct State {
     /// That of the request that the table committed, or of the format.
     pub moment: Timestamp,
-    /// Of the volume, in blocks, from 512 to 450,000.
+    /// Of the volume, in blocks, at least `limits::LEAST_CAPACITY` and at most `limits::GREATEST_CAPACITY`.
     pub capacity: u32,
     pub label: Label,
     pub vat: Vat,
@@ -140,7 +141,7 @@ pub(crate) fn read_front<D: Drive>(drive: &mut D) -> Result<Front, StoreFault>
         Ok(front) => front,
         Err(VolumeFault::Field { block, .. }) => return Err(damaged(block, cause::FRONT)),
     };
-    for n in 0..FRONT_BLOCKS {
+    for n in 0..PARTITION_START {
         let block = read_block(drive, n)?;
         match first_difference(&front, n, &block) {
             Some(_) => return Err(damaged(n, cause::FRONT)),

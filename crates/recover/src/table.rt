@@ -16,10 +16,11 @@ ghost use Rattle.recover.specs.Walk.{LeadsTo};
 
 use crate::cause::{CHAIN, RANGE};
 use crate::fault::{StoreFault, damaged};
-use crate::reading::{PARTITION_START, block_count, read_block, read_bytes};
+use crate::reading::{block_count, read_block, read_bytes};
 use drive::Drive;
 use ecma::Timestamp;
 use icb::{FileEntry, Kind, Place, decode_fe};
+use limits::PARTITION_START;
 use std::alloc::Global;
 use vat::{Vat, VatFault, decode_vat, is_vat_icb};
 

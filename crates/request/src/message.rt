@@ -6,13 +6,7 @@ use crate::path::Path;
 use std::alloc::{AllocError, Global};
 use std::marker::Model;
 
-/// The most bytes that a file can have.
-pub const FILE_BYTES: usize = limits::FILE_BYTES as usize;
-
-/// The first moment that has no timestamp, in microseconds from 1970-01-01 UTC.
-pub const MOMENT_LIMIT: u64 = limits::MOMENT_LIMIT;
-
-/// The bytes of a file, at most 1,048,576.
+/// The bytes of a file, at most `limits::FILE_BYTES`.
 #[derive(Debug, Drop)]
 pub struct FileData {
     bytes: Vec<u8>,

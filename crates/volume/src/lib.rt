@@ -13,6 +13,6 @@ mod front;
 mod laws;
 mod read;
 
-pub use front::{FRONT_BLOCKS, Front, front_block, front_blocks};
+pub use front::{Front, front_block, front_blocks};
 pub use laws::{front_is_no_entry, one_front};
 pub use read::{VolumeFault, first_difference, front_words, read_front};

@@ -1,4 +1,4 @@
-ghost use Rattle.limits.specs.declared.TheConstants.{BLOCK_BYTES, GREATEST_CAPACITY, LEAST_CAPACITY, PARTITION_BLOCKS, PARTITION_START};
+ghost use Rattle.limits.specs.declared.TheConstants.{BLOCK_BYTES, GREATEST_CAPACITY, LEAST_CAPACITY, LEAST_PARTITION_BLOCKS, PARTITION_BLOCKS, PARTITION_START};
 ghost use Rattle.std.specs.Prelude.{◌≡◌, ◌<◌, ◌≤◌, ◌↔◌, ℕ, List, [], length, slice_index, slice_index_or, take, IsTrue, IfOk, IfErr, IfSome, IfNone};
 ghost use Rattle.ecma.specs.Tag.{Sealed};
 ghost use Rattle.ecma.specs.FirstFault.{IsFirst};
@@ -6,9 +6,10 @@ ghost use Rattle.volume.specs.declared.read.VolumeFault.TheVariants.{Field};
 ghost use Rattle.volume.specs.Front.{IsFront, IsFrontBlock};
 ghost use Rattle.volume.specs.Reading.{word_rules, DescriptorsTell, DiffersAt, DiffersFirst, IsFaultTold, stamp_field};
 
-use crate::descriptors::{MAIN, PARTITION, PARTITION_TAG, PRIMARY_VOLUME_TAG};
+use crate::descriptors::{MAIN, PARTITION_TAG, PRIMARY_VOLUME_TAG};
 use crate::front::{Front, front_block};
 use ecma::{Block, Timestamp, open_tag, u32_at, u64_at};
+use limits::{LEAST_PARTITION_BLOCKS, PARTITION_BLOCKS, PARTITION_START};
 use osta::Label;
 
 /// Why blocks are no front.
@@ -71,7 +72,7 @@ pub fn front_words(primary: &Block, partition: &Block) -> Result<Front, VolumeFa
     Ok(Front {
         label,
         moment,
-        capacity: length + PARTITION,
+        capacity: length + PARTITION_START,
     })
 }
 
@@ -119,11 +120,11 @@ fn same_front(block: &Block, expected: &Block) -> usize
     at
 }
 
-/// Whether a partition may have so many blocks: as many as one of a medium of 512 to 450,000 blocks.
+/// Whether a partition may have so many blocks: as many as on a medium that is neither too small nor too large.
 fn is_partition_length(length: u32) -> bool
-    ensures { IsTrue result ↔ ((255 ≤ length) × (length ≤ PARTITION_BLOCKS)) }
+    ensures { IsTrue result ↔ ((LEAST_PARTITION_BLOCKS ≤ length) × (length ≤ PARTITION_BLOCKS)) }
 {
-    255 <= length && length <= 449_743
+    LEAST_PARTITION_BLOCKS <= length && length <= PARTITION_BLOCKS
 }
 
 fn fault(block: u32, at: u32) -> VolumeFault
