@@ -12,7 +12,7 @@ use limits::{GREATEST_CAPACITY, LEAST_CAPACITY, MOMENT_LIMIT};
 pub enum Storage<'w> {
     /// The volume on the image at this path.
     Image(&'w str),
-    /// A new volume in memory, with a capacity of so many blocks: 512 to 450,000.
+    /// A new volume in memory, with a capacity of so many blocks.
     Memory(u32),
 }
 
@@ -25,7 +25,7 @@ pub enum Command<'w> {
         label: &'w str,
         /// Microseconds from 1970-01-01 UTC.
         moment: u64,
-        /// In blocks: 512 to 450,000.
+        /// In blocks.
         capacity: u32,
     },
     /// Answers to the messages of the standard input.
@@ -44,7 +44,7 @@ pub enum Command<'w> {
     Log {
         image: &'w str,
     },
-    /// Whether the state after each commit stands.
+    /// Whether the state after each commit is valid.
     Check {
         image: &'w str,
     },

@@ -66,7 +66,7 @@ impl<'a> Item<'a> {
         ensures short { length result.name.now ≤ 255 }
         ensures entry { IsDirectoryEntry (name.now, entry) }
     {
-        // Read so that the proof has that it is a name.
+        // Unused: brings into the proof that it is a name.
         let _text = name.as_str();
         Item {
             name: name.compressed(),

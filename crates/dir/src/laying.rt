@@ -54,7 +54,7 @@ impl<'a> Lay<'a> {
     ghost use Rattle.dir.specs.declared.laying.Lay.{Lay};
     ghost use Rattle.dir.specs.Identifier.{plain_size, identifier};
 
-    /// The blocks of a directory of at most 512 names, the first of them having this number.
+    /// The blocks of a directory, the first of them having this number.
     pub fn new(dir: &'a Dir, first: u32) -> Lay<'a>
         requires few { length dir.now.entries.entries ≤ DIRECTORY_NAMES }
         requires first { first ≤ PARTITION_BLOCKS }
@@ -180,7 +180,7 @@ impl<'a> Lay<'a> {
         behind
     }
 
-    /// Goes past the next identifier, and tells its bytes for the block number 0 and not lengthened, if they are kept.
+    /// Goes past the next identifier, and gives its bytes for the block number 0 and not lengthened, if they are kept.
     fn pass(&mut self, item: &Item<'a>) -> Option<&'a [u8]>
         requires next { slice_get (identifiers_of self.old.dir.now) self.old.next ≡ Some (said item.now) }
         requires short { length item.now.name.now ≤ 255 }

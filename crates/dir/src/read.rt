@@ -20,9 +20,9 @@ pub fn read_dir(alloc: Global, blocks: &[Block], size: u32, first: u32) -> Resul
     requires some { 0 < size }
     requires count { length blocks.now ≡ block_count size }
     requires first { first ≤ PARTITION_BLOCKS }
-    // What is read stands there.
+    // What is read is what the blocks hold.
     ensures found { IfOk result (λ dir. IsDirectory dir.parent dir.entries.entries first size blocks.now) }
-    // What stands there is read, unless memory is short.
+    // What they hold is read, unless memory is short.
     ensures only { IfErr result (λ fault. fault ≢ DirFault.Memory → (parent : ℕ) (entries : List (List ℕ × Entry)) → IsDirectory parent entries first size blocks.now → ⊥) }
 {
     let mut fids = Fids::new(blocks, size as usize);

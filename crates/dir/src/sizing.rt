@@ -12,7 +12,7 @@ use crate::size::{DataSize, plain_size};
 use limits::DIRECTORY_NAMES;
 
 impl Dir {
-    /// The size of the directory's data, from the lengths of its names alone, which are at most 512.
+    /// The size of the directory's data, from the lengths of its names alone.
     pub fn data_size(&self) -> DataSize
         requires few { length self.now.entries.entries ≤ DIRECTORY_NAMES }
         ensures size { end_bytes (end_of_data result) ≡ directory_size self.now }

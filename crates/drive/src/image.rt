@@ -28,7 +28,7 @@ enum Access {
     Write,
 }
 
-/// A regular file that is open as an image. How many of its blocks count is kept by its user, and told to
+/// A regular file that is open as an image. How many of its blocks count is kept by its user, and passed to
 /// each call.
 #[derive(Drop)]
 pub(crate) struct Image {

@@ -28,8 +28,8 @@ pub(crate) fn packet_of<'b>(first: &'b [Block], second: &'b [Block], done: usize
 }
 
 /// Writes the blocks from this address on: all but the last in one run, and the last in a write of its own, after
-/// the finished writes of all others. So whatever part of a write a power loss leaves, the last block stands
-/// only where the others do.
+/// the finished writes of all others. So whatever part of a write a power loss leaves, the last block is there
+/// only where the others are.
 pub fn write_last_alone<D: Drive>(
     drive: &mut D,
     at: u32,

@@ -41,7 +41,7 @@ const FIRST_TABLE: u32 = 204;
 const TABLE_ENTRY: u32 = 4;
 
 /// Writes a new volume on a blank drive, or the rest of one that the same words began. The moment is in microseconds from
-/// 1970-01-01 UTC. A drive is refused that has other blocks, or more. The last block, with which the volume stands, goes out
+/// 1970-01-01 UTC. A drive is refused that has other blocks, or more. The last block, which makes the volume valid, goes out
 /// in a write of its own, after the finished writes of all others.
 #[tactic(auto, using(crate::proofs::FormatJournals::nothing_written))]
 pub fn format<D: Drive>(

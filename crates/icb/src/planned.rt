@@ -40,7 +40,7 @@ impl<'a> PlannedEntry<'a> {
         ensures { IsEntry (fields_of entry.now) location result }
     {
         let stamp = entry.moment.to_bytes();
-        // Read so that the proof has that they are bytes.
+        // Unused: brings into the proof that they are bytes.
         let _inside = bytes_inside(&entry.place);
         // Field by field, since no proof covers the copy of the whole through a reference.
         let entry = FileEntry {

@@ -67,9 +67,9 @@ pub fn encode_fsd(set: &FileSet) -> Block
 
 /// The file set whose descriptor the block is (ECMA-167 4/14.1).
 pub fn decode_fsd(block: &Block) -> Result<FileSet, IcbFault>
-    // What is read stands there.
+    // What is read is what the block spells.
     ensures found { IfOk result (λ set. IsFileSet set block.now) }
-    // What stands there is read.
+    // What a block spells is read.
     ensures only { (set : FileSet) → IsFileSet set block.now → result ≡ Ok set }
     // A fault is the first.
     ensures fault { IfErr result (IsFirst (set_rules block.now)) }

@@ -29,7 +29,7 @@ use std::alloc::Global;
 /// The virtual address of the root directory.
 pub const ROOT_ADDRESS: u32 = 1;
 
-/// How many entries the drive is told of before they are read.
+/// How many entries are announced to the drive before they are read.
 const AHEAD: usize = 32;
 
 /// A node as the directory above it names it.

@@ -1,4 +1,4 @@
-//! What a client is told.
+//! The answers to a client.
 
 ghost use Rattle.limits.specs.declared.TheConstants.{DIRECTORY_NAMES};
 ghost use Rattle.std.specs.Prelude.{◌≡◌, ◌<◌, ◌≤◌, ◌++◌, ◌∷◌, [], List, ℕ, length, vec_len, OnOk, OnErr};
@@ -172,7 +172,7 @@ pub struct NodeStatus {
     pub size: u64,
 }
 
-/// What a client is told.
+/// An answer to a client.
 #[derive(Debug, Drop)]
 pub enum Answer {
     /// The request is committed.

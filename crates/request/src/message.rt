@@ -85,7 +85,7 @@ pub enum Op<'a> {
     Remove { path: Path },
 }
 
-/// A change that a client asks for. A client counts its requests from 1 on. It stands as long as its payload does.
+/// A change that a client asks for. A client counts its requests from 1 on. It lives as long as its payload.
 #[derive(Debug, Drop)]
 pub struct Request<'a> {
     pub client: u64,

@@ -20,13 +20,13 @@ use ecma::u32_at;
 use osta::Label;
 use std::alloc::{AllocError, Global};
 
-/// The table that the bytes spell, whose entry stands at block number `icb`.
+/// The table that the bytes spell, whose VAT ICB has block number `icb`.
 pub fn decode_vat(alloc: Global, bytes: &[u8], icb: u32) -> Result<Vat, VatFault>
-    // What is read stands there.
+    // What is read is the table of these bytes.
     ensures found { IfOk result (λ vat. IsTableAt icb (view vat) bytes.now) }
-    // What stands there is read, where there is memory for it.
+    // A table is read, where there is memory for it.
     ensures only { (t : Table) → IsTableAt icb t bytes.now → MatchResult result (λ vat. view vat ≡ t) (λ e. e ≡ VatFault.Memory) }
-    // A fault is the first, and lack of memory is told only where there is none.
+    // A fault is the first, and lack of memory is reported only where there is none.
     ensures fault { IfErr result (λ e. IsFirst (table_rules icb bytes.now) e ⊎ ((e ≡ VatFault.Memory) × AllHold (table_rules icb bytes.now))) }
 {
     examine(bytes, icb)?;

@@ -11,7 +11,7 @@ use ecma::{Block, u32_at};
 use icb::{Kind, decode_fe};
 use limits::BLOCK_SIZE;
 
-/// Where a descriptor's tag tells its location (ECMA-167 4/7.2.8).
+/// Where a descriptor's tag has its location (ECMA-167 4/7.2.8).
 const LOCATION: usize = 12;
 
 /// Whether the block is the entry of a virtual allocation table for this block number.

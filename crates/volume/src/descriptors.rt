@@ -1,4 +1,4 @@
-//! The descriptors of a volume, each as a table of its fields. Each stands at the address that its tag tells.
+//! The descriptors of a volume, each as a table of its fields. Each is at the address that its tag has.
 
 ghost use Rattle.limits.specs.declared.TheConstants.{FORMAT_BLOCKS, PARTITION_START};
 ghost use Rattle.std.specs.Prelude.{◌≡◌, ◌<◌, ◌≤◌, ◌%◌, ◌++◌, IsAscii};

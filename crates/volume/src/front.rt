@@ -13,7 +13,7 @@ use limits::{BLOCK_SIZE, PARTITION_START};
 use osta::Label;
 use std::alloc::{AllocError, Global};
 
-/// What a format says of its volume, and its front tells.
+/// What a format says of its volume, and its front keeps.
 #[derive(Clone, Copy, Debug, PartialEq, Eq)]
 pub struct Front {
     pub label: Label,

@@ -24,8 +24,8 @@ const PRIMARY: u32 = MAIN;
 
 const PARTITION_DESCRIPTOR: u32 = MAIN + 2;
 
-/// The front whose blocks these are. Of other blocks it tells the first fault: where the primary volume descriptor or the
-/// partition descriptor can not be read, that field; else the first byte that is not that of the front which they tell.
+/// The front whose blocks these are. Of other blocks it reports the first fault: where the primary volume descriptor or the
+/// partition descriptor cannot be read, that field; otherwise the first byte that is not that of the front which they say.
 pub fn read_front(blocks: &[Block]) -> Result<Front, VolumeFault>
     requires { length blocks.now ≡ PARTITION_START }
     ensures found { IfOk result (λ f. IsFront f.label f.moment f.capacity blocks.now) }
@@ -47,7 +47,7 @@ pub fn read_front(blocks: &[Block]) -> Result<Front, VolumeFault>
     Ok(front)
 }
 
-/// The front that its primary volume descriptor, block 32, and its partition descriptor, block 34, tell.
+/// The front that its primary volume descriptor, block 32, and its partition descriptor, block 34, say.
 pub fn front_words(primary: &Block, partition: &Block) -> Result<Front, VolumeFault>
     ensures reports { IfOk result (λ f. DescriptorsTell f primary.now partition.now) }
     ensures capacity { IfOk result (λ f. (LEAST_CAPACITY ≤ f.capacity) × (f.capacity ≤ GREATEST_CAPACITY)) }
