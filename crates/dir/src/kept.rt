@@ -31,7 +31,7 @@ pub struct Identifiers {
 
 impl Identifiers {
     ghost use Rattle.dir.specs.Directory.{directory_blocks, directory_count, directory_size, is_directory, of_name, IsDirectoryEntry};
-    ghost use Rattle.dir.specs.Layout.{block_count};
+    ghost use Rattle.ecma.specs.Blocks.{block_count};
     ghost use Rattle.dir.specs.Size.{end_bytes, next_end};
     ghost use Rattle.osta.specs.Compressed.{compressed};
     ghost use Rattle.dir.specs.Fronts.{IsIdentifierPrefix};

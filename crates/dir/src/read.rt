@@ -4,7 +4,7 @@ ghost use Rattle.limits.specs.declared.TheConstants.{BLOCK_BYTES};
 ghost use Rattle.std.specs.Prelude.{◌≡◌, ◌≢◌, ◌+◌, ◌-◌, ◌*◌, ◌<◌, ◌≤◌, ◌↔◌, ℕ, List, length, drop, replicate, IsTrue, IfOk, IfErr};
 ghost use Rattle.std.specs.List.{concat};
 ghost use Rattle.dir.specs.Directory.{IsDirectory};
-ghost use Rattle.dir.specs.Layout.{block_count};
+ghost use Rattle.ecma.specs.Blocks.{block_count};
 ghost use Rattle.dir.specs.declared.entry.Entry.{Entry};
 
 use crate::entry::Dir;

@@ -43,7 +43,7 @@ pub struct DataSize {
 
 impl DataSize {
     ghost use Rattle.std.specs.Prelude.{◌≡◌, ◌+◌, ◌<◌, ◌≤◌, ◌^◌};
-    ghost use Rattle.dir.specs.Layout.{block_count};
+    ghost use Rattle.ecma.specs.Blocks.{block_count};
     ghost use Rattle.dir.specs.Size.{end_of_data, parent_end, next_end, end_bytes};
 
     /// The data of a directory without names.

@@ -3,7 +3,7 @@
 ghost use Rattle.std.specs.Prelude.{◌≡◌, ◌*◌, ◌<◌, ◌≤◌, ℕ, length};
 ghost use Rattle.std.specs.List.{All};
 ghost use Rattle.dir.specs.Directory.{directory_size, directory_blocks, directory_count, IsDirectoryEntry};
-ghost use Rattle.dir.specs.Layout.{block_count};
+ghost use Rattle.ecma.specs.Blocks.{block_count};
 ghost use Rattle.dir.specs.Size.{end_of_data, end_bytes, name_sizes, plain_sizes};
 
 use crate::entry::Dir;

@@ -3,7 +3,7 @@
 ghost use Rattle.limits.specs.declared.TheConstants.{BLOCK_BYTES, FILE_BYTES, PARTITION_BLOCKS};
 ghost use Rattle.std.specs.Prelude.{◌≡◌, ℕ, ◌+◌, ◌*◌, ◌<◌, ◌≤◌, ◌↔◌, length, take, drop, IsTrue};
 ghost use Rattle.ecma.specs.Descriptor.{padded};
-ghost use Rattle.icb.specs.Entry.{block_count};
+ghost use Rattle.ecma.specs.Blocks.{block_count};
 ghost use Rattle.icb.specs.VatIcb.{IsVatIcb};
 ghost use Rattle.vat.specs.Imitation.{Imitates};
 
