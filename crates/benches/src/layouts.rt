@@ -1,9 +1,10 @@
 //! Directories of 512 names, laid and read, beside a copy of the same blocks.
 
 use crate::report::{Report, since, used, wrong};
-use dir::{Dir, Entry, Kind, MAX_NAMES, lay, read_dir};
+use dir::{Dir, Entry, Kind, lay, read_dir};
 use ecma::Block;
 use indexmap::IndexMap;
+use limits::DIRECTORY_NAMES;
 use osta::Name;
 use std::alloc::Global;
 use std::io;
@@ -40,7 +41,7 @@ fn many(alloc: Global, letters: usize) -> io::Result<Dir> {
 fn lay_often(alloc: Global, dir: &Dir, rounds: u32) -> io::Result<usize> {
     let mut count = 0usize;
     for _ in 0..rounds {
-        if dir.entries.len() <= MAX_NAMES {
+        if dir.entries.len() <= DIRECTORY_NAMES {
             count = count.saturating_add(lay(alloc, dir, FIRST)?.len());
         }
     }
@@ -85,7 +86,7 @@ fn of_letters(
     let start = used(rt);
     let laid = lay_often(alloc, &dir, rounds)?;
     let lay_time = since(rt, start);
-    if dir.entries.len() > MAX_NAMES {
+    if dir.entries.len() > DIRECTORY_NAMES {
         return Err(wrong());
     }
     let blocks = lay(alloc, &dir, FIRST)?;

@@ -1,7 +1,8 @@
 //! The identifiers of a directory one by one.
 
-use dir::{Dir, Entry, Fids, Kind, MAX_BLOCKS, lay};
+use dir::{Dir, Entry, Fids, Kind, lay};
 use indexmap::IndexMap;
+use limits::PARTITION_BLOCKS;
 use osta::Name;
 use std::alloc::Global;
 use std::test::Fail;
@@ -34,7 +35,7 @@ fn identifiers_are_slices(rt: HostRuntime) -> Result<(), Fail> {
         unique: 16,
     };
     dir.entries.insert(Name::read(rt.alloc(), "a")?, entry)?;
-    assert!(rt; dir.entries.len() <= 512 && 6 <= MAX_BLOCKS);
+    assert!(rt; dir.entries.len() <= 512 && 6 <= PARTITION_BLOCKS);
     let blocks = lay(rt.alloc(), &dir, 6)?;
     assert_eq!(rt; blocks.len(), 1);
     let mut fids = Fids::new(&blocks, 80);

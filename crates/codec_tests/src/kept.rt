@@ -4,7 +4,8 @@ ghost use Rattle.std.specs.Prelude.{OnOk};
 ghost use Rattle.dir.specs.Fronts.{IsIdentifierPrefix};
 
 use crate::directories::{empty, numbered};
-use dir::{Dir, Entry, Identifiers, Kind, Lay, MAX_BLOCKS, lay};
+use dir::{Dir, Entry, Identifiers, Kind, Lay, lay};
+use limits::PARTITION_BLOCKS;
 use osta::Name;
 use std::alloc::Global;
 use std::process::Abort;
@@ -67,7 +68,7 @@ fn check_laid(
     requires { IsIdentifierPrefix identifiers.now dir.now.entries.entries }
 {
     assert!(rt; dir.entries.len() <= 512);
-    for first in [0, 255, MAX_BLOCKS - 100] {
+    for first in [0, 255, PARTITION_BLOCKS - 100] {
         let blocks = lay(alloc, dir, first)?;
         let mut left = Lay::over(dir, identifiers, first);
         let mut block = [7; 2048];

@@ -6,7 +6,8 @@ ghost use Rattle.recover.specs.ReadCache.{IsKnown};
 
 use crate::media::{chain, created, state_of, volume_after};
 use drive::{Drive, Fault, MemDrive};
-use recover::{PARTITION_START, ReadCache, StoreFault, last, state_sharing};
+use limits::PARTITION_START;
+use recover::{ReadCache, StoreFault, last, state_sharing};
 use std::alloc::Global;
 use std::test::Fail;
 

@@ -5,21 +5,14 @@ ghost use Rattle.command_line.specs.Number.{IsNumeralOf};
 ghost use Rattle.command_line.specs.Commands.{Asks, AsksApply, AsksFormat, IsCapacity};
 
 use crate::number::read_number;
-
-/// The least and the greatest capacity of a volume, in blocks.
-const LEAST_CAPACITY: u64 = limits::LEAST_CAPACITY as u64;
-
-const GREATEST_CAPACITY: u64 = limits::GREATEST_CAPACITY as u64;
-
-/// The last moment that has a timestamp, in microseconds from 1970-01-01 UTC.
-const LAST_MOMENT: u64 = limits::MOMENT_LIMIT - 1;
+use limits::{GREATEST_CAPACITY, LEAST_CAPACITY, MOMENT_LIMIT};
 
 /// What requests are applied to.
 #[derive(Clone, Copy, Debug, PartialEq, Eq)]
 pub enum Storage<'w> {
     /// The volume on the image at this path.
     Image(&'w str),
-    /// A new volume in memory, with a capacity of so many blocks: 512 to 450,000.
+    /// A new volume in memory, with a capacity of so many blocks.
     Memory(u32),
 }
 
@@ -32,7 +25,7 @@ pub enum Command<'w> {
         label: &'w str,
         /// Microseconds from 1970-01-01 UTC.
         moment: u64,
-        /// In blocks: 512 to 450,000.
+        /// In blocks.
         capacity: u32,
     },
     /// Answers to the messages of the standard input.
@@ -51,7 +44,7 @@ pub enum Command<'w> {
     Log {
         image: &'w str,
     },
-    /// Whether the state after each commit stands.
+    /// Whether the state after each commit is valid.
     Check {
         image: &'w str,
     },
@@ -126,7 +119,7 @@ fn read_format<'w>(words: &[&'w str]) -> Option<Command<'w>>
         [image, label, moment, capacity] => Some(Command::Format {
             image,
             label,
-            moment: read_number(moment, LAST_MOMENT)?,
+            moment: read_number(moment, MOMENT_LIMIT - 1)?,
             capacity: read_capacity(capacity)?,
         }),
         _ => None,
@@ -151,8 +144,8 @@ fn read_capacity(word: &str) -> Option<u32>
     ensures some { IfSome result (λ n. IsNumeralOf word.now n × IsCapacity n) }
     ensures only { (n : ℕ) → IsNumeralOf word.now n → IsCapacity n → result ≡ Some n }
 {
-    let capacity = read_number(word, GREATEST_CAPACITY)?;
-    if capacity < LEAST_CAPACITY {
+    let capacity = read_number(word, u64::from(GREATEST_CAPACITY))?;
+    if capacity < u64::from(LEAST_CAPACITY) {
         return None;
     }
     Some(capacity as u32)

@@ -8,7 +8,8 @@ use Rattle.ecma.specs.Numbers.{u16_at}
 use Rattle.dir.specs.declared.entry.Entry.{Entry}
 use Rattle.dir.specs.Directory.{identifiers, IsDirectory, BlocksBegin}
 use Rattle.dir.specs.Identifier.{Identifier, plain_size, identifier}
-use Rattle.dir.specs.Layout.{stays, laid, onward, block_count, FitsInBlock, identifier_end}
+use Rattle.ecma.specs.Blocks.{block_count}
+use Rattle.dir.specs.Layout.{stays, laid, onward, FitsInBlock, identifier_end}
 use Rattle.dir.specs.Split.{FitsIdentifier}
 use Rattle.dir.proofs.Spelled.{length-identifier, tag-identifier}
 use Rattle.dir.proofs.Placing.{plain_bounds, laid-nil, laid-put, onward-full, onward-within, stands_within, stands_next}

@@ -12,7 +12,8 @@ use Rattle.dir.specs.declared.item.Item.{Item}
 use Rattle.dir.specs.declared.laying.Lay.{Lay}
 use Rattle.dir.specs.Identifier.{Identifier, plain_size, identifier}
 use Rattle.dir.specs.Directory.{identifiers, identifiers_of, of_name}
-use Rattle.dir.specs.Layout.{fits, stays, laid, onward, block_count, blocked, identifier_blocks, FitsInBlock, identifier_end}
+use Rattle.ecma.specs.Blocks.{block_count}
+use Rattle.dir.specs.Layout.{fits, stays, laid, onward, blocked, identifier_blocks, FitsInBlock, identifier_end}
 use Rattle.dir.specs.Item.{said}
 use Rattle.dir.specs.Laying.{identifiers_left, left_of, IsFilled, IsFilledTo}
 use Rattle.ecma.specs.Numbers.{u16_at}

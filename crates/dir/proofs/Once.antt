@@ -12,7 +12,8 @@ use Rattle.dir.specs.declared.entry.Kind.{Kind}
 use Rattle.dir.specs.declared.entry.Kind.TheVariants.{File, Directory}
 use Rattle.dir.specs.Directory.{of_parent, characteristics_of, identifiers, IsDirectoryEntry, IsDirectory}
 use Rattle.dir.specs.Identifier.{Identifier, rounded}
-use Rattle.dir.specs.Layout.{laid, block_count, blocked, identifier_blocks, FitsInBlock}
+use Rattle.ecma.specs.Blocks.{block_count}
+use Rattle.dir.specs.Layout.{laid, blocked, identifier_blocks, FitsInBlock}
 use Rattle.dir.specs.Split.{AreBytes, FitsIdentifier, size_of, use_size, name_size}
 use Rattle.dir.proofs.Placing.{fits_cases, laid-nil, length-laid, stands_within, onward-full, onward-within}
 use Rattle.dir.proofs.Refusals.{of_entry, all_Fit, one_name, directory_data}

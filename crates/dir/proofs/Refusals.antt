@@ -15,7 +15,8 @@ use Rattle.dir.specs.declared.entry.Entry.{Entry}
 use Rattle.dir.specs.declared.fids.Fids.{Fids}
 use Rattle.dir.specs.Directory.{of_parent, of_name, identifiers, IsDirectoryEntry, IsDirectory}
 use Rattle.dir.specs.Identifier.{Identifier}
-use Rattle.dir.specs.Layout.{laid, block_count, FitsInBlock}
+use Rattle.ecma.specs.Blocks.{block_count}
+use Rattle.dir.specs.Layout.{laid, FitsInBlock}
 use Rattle.dir.specs.Reads.{IsFirstNameShort}
 use Rattle.dir.specs.Split.{FitsIdentifier}
 use Rattle.dir.proofs.Directories.{IsRead, Continues, first_of_all, short_behind}

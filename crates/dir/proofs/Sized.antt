@@ -10,7 +10,8 @@ use Rattle.osta.specs.Compressed.{compressed}
 use Rattle.dir.specs.declared.entry.Entry.{Entry}
 use Rattle.dir.specs.Directory.{identifiers}
 use Rattle.dir.specs.Identifier.{plain_size}
-use Rattle.dir.specs.Layout.{fits, blocked, block_count, laid, identifier_blocks}
+use Rattle.ecma.specs.Blocks.{block_count}
+use Rattle.dir.specs.Layout.{fits, blocked, laid, identifier_blocks}
 use Rattle.dir.specs.Size.{End, end_bytes, next_end, parent_end, name_sizes, plain_sizes}
 use Rattle.dir.proofs.Sizes.{data_sized_short, fits_not}
 use Rattle.dir.proofs.Placing.{plain_bounds}

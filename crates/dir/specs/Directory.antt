@@ -12,7 +12,8 @@ use Rattle.dir.specs.declared.entry.Entry.{Entry}
 use Rattle.dir.specs.declared.entry.Kind.{Kind}
 use Rattle.dir.specs.declared.entry.Kind.TheVariants.{File, Directory}
 use Rattle.dir.specs.Identifier.{Identifier}
-use Rattle.dir.specs.Layout.{laid, block_count, identifier_blocks}
+use Rattle.ecma.specs.Blocks.{block_count}
+use Rattle.dir.specs.Layout.{laid, identifier_blocks}
 use Rattle.dir.specs.Split.{AreBytes}
 
 -- the file characteristics of a name

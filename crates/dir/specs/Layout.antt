@@ -1,6 +1,7 @@
 -- How the identifiers of a directory stand in its blocks.
-use Rattle.std.specs.Prelude.{◌≡◌, ◌⊎◌, ℕ, zero, suc, ◌+◌, ◌-◌, ◌/◌, ◌==◌, ◌||◌, nat_le, Bool, true, IsTrue, if◌then◌else◌, List, [], ◌∷◌, ◌++◌, length, take, drop}
+use Rattle.std.specs.Prelude.{◌≡◌, ◌⊎◌, ℕ, zero, suc, ◌+◌, ◌-◌, ◌==◌, ◌||◌, nat_le, Bool, true, IsTrue, if◌then◌else◌, List, [], ◌∷◌, ◌++◌, length, take, drop}
 use Rattle.limits.specs.declared.TheConstants.{BLOCK_BYTES}
+use Rattle.ecma.specs.Blocks.{block_count}
 use Rattle.ecma.specs.Descriptor.{padded}
 use Rattle.dir.specs.Identifier.{Identifier, plain_size, identifier}
 
@@ -23,10 +24,6 @@ laid number at (x ∷ rest) =
     if stays rest left
     then identifier number x 0 ++ laid number end rest
     else identifier number x left ++ laid (number + 1) 0 rest
-
--- the blocks that so many bytes take
-abbrev pub block_count : ℕ → ℕ
-block_count size = (size + (BLOCK_BYTES - 1)) / BLOCK_BYTES
 
 -- bytes as so many blocks, zeros after them
 abbrev pub blocked : ℕ → List ℕ → List (List ℕ)

@@ -1,7 +1,7 @@
 -- The size of a directory's data, from the lengths of its names.
 use Rattle.std.specs.Prelude.{◌≡◌, ℕ, ◌+◌, ◌-◌, ◌*◌, ◌/◌, ◌≤◌, if◌then◌else◌, List, [], ◌∷◌, fold, length, map}
 use Rattle.std.specs.List.{All}
-use Rattle.limits.specs.declared.TheConstants.{BLOCK_BYTES}
+use Rattle.limits.specs.declared.TheConstants.{BLOCK_BYTES, LEAST_FILLED_BYTES}
 use Rattle.osta.specs.Compressed.{compressed}
 use Rattle.dir.specs.declared.entry.Entry.{Entry}
 use Rattle.dir.specs.declared.size.DataSize.{DataSize}
@@ -50,12 +50,12 @@ DataIsSized =
     (number parent : ℕ) (entries : List (List ℕ × Entry)) → All IsDirectoryEntry entries
     → length (laid number 0 (identifiers parent entries)) ≡ end_bytes (data_end (name_sizes entries))
 
--- no more blocks are taken than the lengths of the identifiers allow: one that is left has 1,720 of their bytes at least
+-- no more blocks are taken than the lengths of the identifiers allow: one that another follows has so many of their bytes
 abbrev pub BlocksAreFew : Type 0
-BlocksAreFew = (lens : List ℕ) → All (λ len. len ≤ 255) lens → (data_end lens).full + 1 ≤ 1 + (40 + plain_sizes lens) / 1720
+BlocksAreFew = (lens : List ℕ) → All (λ len. len ≤ 255) lens → (data_end lens).full + 1 ≤ 1 + (40 + plain_sizes lens) / LEAST_FILLED_BYTES
 
 -- so a directory takes no more
 abbrev pub DirectoriesAreShort : Type 0
 DirectoriesAreShort =
     (parent first size : ℕ) (entries : List (List ℕ × Entry)) (blocks : List (List ℕ)) → All (λ block. length block ≡ BLOCK_BYTES) blocks
-    → IsDirectory parent entries first size blocks → length blocks ≤ 1 + (40 + plain_sizes (name_sizes entries)) / 1720
+    → IsDirectory parent entries first size blocks → length blocks ≤ 1 + (40 + plain_sizes (name_sizes entries)) / LEAST_FILLED_BYTES

@@ -39,6 +39,6 @@ pub struct Entry {
 #[derive(Drop)]
 pub struct Dir {
     pub parent: u32,
-    /// At most 512 on a volume.
+    /// At most `limits::DIRECTORY_NAMES` on a volume.
     pub entries: IndexMap<Name, Entry>,
 }

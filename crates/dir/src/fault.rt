@@ -20,8 +20,8 @@ pub enum DirFault {
     Span = 35,
     /// Implementation use or padding that is not as the layout has it.
     Pad = 36,
-    /// An identifier past the data's end, bytes after the data that are not zeros, or more than
-    /// 512 names.
+    /// An identifier past the data's end, bytes after the data that are not zeros, or more names
+    /// than a directory may have.
     End = 37,
     /// There is no memory.
     Memory = 7,

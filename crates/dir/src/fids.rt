@@ -5,8 +5,9 @@ use crate::characteristics::Characteristics;
 use crate::entry::Entry;
 use crate::fault::DirFault;
 use crate::item::{FILE_IDENTIFIER, HEAD_SIZE, Item, has_fields};
-use crate::size::{BLOCK_SIZE, fits, plain_size, rounded};
+use crate::size::{fits, plain_size, rounded};
 use ecma::{Block, EntityId, are_zeros, open_tag, u16_at, u32_at};
+use limits::BLOCK_SIZE;
 use osta::Name;
 use std::alloc::Global;
 

@@ -10,15 +10,13 @@ use crate::entry::Entry;
 use bitflags::Flags;
 use byteorder::{ByteOrder, LittleEndian};
 use ecma::{EntityId, TAG_SIZE, is_u16_at, is_u32_at, seal};
+use limits::BLOCK_BYTES;
 use osta::Name;
 
 pub(crate) const FILE_IDENTIFIER: u16 = 257;
 
 /// The file version number of each identifier (ECMA-167 4/14.4.2).
 const VERSION: u16 = 1;
-
-/// The bytes of the extent that holds an entry.
-const EXTENT_LENGTH: u32 = limits::BLOCK_BYTES;
 
 /// The partition of that extent, the virtual one.
 const PARTITION: u16 = 1;
@@ -68,7 +66,7 @@ impl<'a> Item<'a> {
         ensures short { length result.name.now ≤ 255 }
         ensures entry { IsDirectoryEntry (name.now, entry) }
     {
-        // Read so that the proof has that it is a name.
+        // Unused: brings into the proof that it is a name.
         let _text = name.as_str();
         Item {
             name: name.compressed(),
@@ -150,7 +148,7 @@ impl Item<'_> {
         LittleEndian::write_u16(&mut into[..2], VERSION); // 16 file version number
         into[2] = self.characteristics.bits(); // 18 file characteristics
         into[3] = self.name.len() as u8; // 19 length of file identifier
-        LittleEndian::write_u32(&mut into[4..8], EXTENT_LENGTH); // 20 ICB: extent length
+        LittleEndian::write_u32(&mut into[4..8], BLOCK_BYTES); // 20 ICB: extent length
         LittleEndian::write_u32(&mut into[8..12], self.icb); // 24 extent location: block number
         LittleEndian::write_u16(&mut into[12..14], PARTITION); // 28 partition
         LittleEndian::write_u16(&mut into[14..16], FLAGS); // 30 implementation use: flags
@@ -168,7 +166,7 @@ pub(crate) fn has_fields(bytes: &[u8]) -> bool
     if !is_u16_at(VERSION, bytes, 16) {
         return false;
     }
-    if !is_u32_at(EXTENT_LENGTH, bytes, 20) {
+    if !is_u32_at(BLOCK_BYTES, bytes, 20) {
         return false;
     }
     if !is_u16_at(PARTITION, bytes, 28) {

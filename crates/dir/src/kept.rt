@@ -8,8 +8,8 @@ ghost use Rattle.dir.specs.Size.{data_end, end_of_data, name_sizes, plain_sizes}
 
 use crate::entry::{Dir, Entry};
 use crate::item::Item;
-use crate::laying::MAX_NAMES;
 use crate::size::{DataSize, plain_size};
+use limits::DIRECTORY_NAMES;
 use osta::Name;
 use std::alloc::{AllocError, Global};
 
@@ -31,7 +31,7 @@ pub struct Identifiers {
 
 impl Identifiers {
     ghost use Rattle.dir.specs.Directory.{directory_blocks, directory_count, directory_size, is_directory, of_name, IsDirectoryEntry};
-    ghost use Rattle.dir.specs.Layout.{block_count};
+    ghost use Rattle.ecma.specs.Blocks.{block_count};
     ghost use Rattle.dir.specs.Size.{end_bytes, next_end};
     ghost use Rattle.osta.specs.Compressed.{compressed};
     ghost use Rattle.dir.specs.Fronts.{IsIdentifierPrefix};
@@ -67,7 +67,7 @@ impl Identifiers {
         ensures onward { self.old.count ≤ self.new.count }
     {
         // What they add up to is counted in few bits.
-        if dir.entries.len() > MAX_NAMES {
+        if dir.entries.len() > DIRECTORY_NAMES {
             return Err(AllocError);
         }
         for index in self.count..dir.entries.len() {
@@ -79,7 +79,7 @@ impl Identifiers {
 
     /// Takes away that of the name at an index, where it is kept, before the name itself goes.
     pub fn remove(&mut self, dir: &Dir, index: usize)
-        requires few { length dir.now.entries.entries ≤ MAX_NAMES }
+        requires few { length dir.now.entries.entries ≤ DIRECTORY_NAMES }
         requires front { IsIdentifierPrefix self.old dir.now.entries.entries }
         requires there { index < length dir.now.entries.entries }
         ensures front { IsIdentifierPrefix self.new (remove dir.now.entries.entries index) }
@@ -99,10 +99,10 @@ impl Identifiers {
 
     /// The size of the directory's data, at once where all of its names are kept.
     pub fn data_size(&self, dir: &Dir) -> DataSize
-        requires few { length dir.now.entries.entries ≤ MAX_NAMES }
+        requires few { length dir.now.entries.entries ≤ DIRECTORY_NAMES }
         requires front { IsIdentifierPrefix self.now dir.now.entries.entries }
         ensures size { end_bytes (end_of_data result) ≡ directory_size dir.now }
-        ensures full { (end_of_data result).full < MAX_NAMES }
+        ensures full { (end_of_data result).full < DIRECTORY_NAMES }
         ensures blocks { (first : ℕ) → length (directory_blocks dir.now first) ≡ block_count (directory_size dir.now) }
     {
         if self.count == dir.entries.len() {
@@ -113,10 +113,10 @@ impl Identifiers {
 
     /// The bytes of the identifiers of all of the directory's names, none of them lengthened, at once where they are kept.
     pub fn plain_size(&self, dir: &Dir) -> usize
-        requires few { length dir.now.entries.entries ≤ MAX_NAMES }
+        requires few { length dir.now.entries.entries ≤ DIRECTORY_NAMES }
         requires front { IsIdentifierPrefix self.now dir.now.entries.entries }
         ensures size { result ≡ plain_sizes (name_sizes dir.now.entries.entries) }
-        ensures few { result ≤ 296 * MAX_NAMES }
+        ensures few { result ≤ 296 * DIRECTORY_NAMES }
         ensures proper { All IsDirectoryEntry dir.now.entries.entries }
     {
         if self.count == dir.entries.len() {
@@ -127,10 +127,10 @@ impl Identifiers {
 
     /// How many of the directory's names are of directories, at once where all of them are kept.
     pub fn directory_count(&self, dir: &Dir) -> u16
-        requires few { length dir.now.entries.entries ≤ MAX_NAMES }
+        requires few { length dir.now.entries.entries ≤ DIRECTORY_NAMES }
         requires front { IsIdentifierPrefix self.now dir.now.entries.entries }
         ensures value { result ≡ directory_count dir.now.entries.entries }
-        ensures few { result ≤ MAX_NAMES }
+        ensures few { result ≤ DIRECTORY_NAMES }
     {
         if self.count == dir.entries.len() {
             return self.directories;
@@ -140,8 +140,8 @@ impl Identifiers {
 
     /// Adds that of a name after the others.
     fn push(&mut self, name: &Name, entry: Entry) -> Result<(), AllocError>
-        requires few { self.old.count < MAX_NAMES }
-        requires room { (end_of_data self.old.size).full < MAX_NAMES }
+        requires few { self.old.count < DIRECTORY_NAMES }
+        requires room { (end_of_data self.old.size).full < DIRECTORY_NAMES }
         requires within { self.old.directories ≤ self.old.count }
         ensures entry { IsDirectoryEntry (name.now, entry) }
         ensures bytes { OnOk result (self.new.bytes.items ≡ self.old.bytes.items ++ plain (of_name name.now entry)) }
@@ -165,7 +165,7 @@ impl Identifiers {
 
 /// Where the identifier of the name at an index begins and ends among those of all names.
 fn place(dir: &Dir, index: usize) -> (usize, usize)
-    requires few { length dir.now.entries.entries ≤ MAX_NAMES }
+    requires few { length dir.now.entries.entries ≤ DIRECTORY_NAMES }
     requires there { index < length dir.now.entries.entries }
     ensures order { result.0 ≤ result.1 }
     ensures start { result.0 ≡ length (flat_map plain (take index (named dir.now.entries.entries))) }
@@ -202,7 +202,7 @@ fn cut(bytes: &mut Vec<u8>, start: usize, end: usize)
 
 /// The size of the data of a directory of the first names, as many as `count`, without the one at an index of them.
 fn size_without(dir: &Dir, index: usize, count: usize) -> DataSize
-    requires few { length dir.now.entries.entries ≤ MAX_NAMES }
+    requires few { length dir.now.entries.entries ≤ DIRECTORY_NAMES }
     requires there { index < count }
     requires within { count ≤ length dir.now.entries.entries }
     ensures end { end_of_data result ≡ data_end (take (count - 1) (name_sizes (remove dir.now.entries.entries index))) }

@@ -12,14 +12,9 @@ ghost use Rattle.dir.specs.Item.{said};
 use crate::entry::Dir;
 use crate::item::{Item, relocate};
 use crate::kept::Identifiers;
-use crate::size::{BLOCK_SIZE, fits, plain_size};
+use crate::size::{fits, plain_size};
 use ecma::Block;
-
-/// The most names of a directory.
-pub const MAX_NAMES: usize = limits::DIRECTORY_NAMES as usize;
-
-/// The blocks of the largest partition.
-pub const MAX_BLOCKS: u32 = limits::PARTITION_BLOCKS;
+use limits::{BLOCK_SIZE, DIRECTORY_NAMES, PARTITION_BLOCKS};
 
 /// Where an identifier has the length of its name.
 const NAME_SIZE: usize = 19;
@@ -59,10 +54,10 @@ impl<'a> Lay<'a> {
     ghost use Rattle.dir.specs.declared.laying.Lay.{Lay};
     ghost use Rattle.dir.specs.Identifier.{plain_size, identifier};
 
-    /// The blocks of a directory of at most 512 names, the first of them having this number.
+    /// The blocks of a directory, the first of them having this number.
     pub fn new(dir: &'a Dir, first: u32) -> Lay<'a>
-        requires few { length dir.now.entries.entries ≤ MAX_NAMES }
-        requires first { first ≤ MAX_BLOCKS }
+        requires few { length dir.now.entries.entries ≤ DIRECTORY_NAMES }
+        requires first { first ≤ PARTITION_BLOCKS }
         ensures { blocks_left result ≡ directory_blocks dir.now first }
     {
         Lay {
@@ -78,8 +73,8 @@ impl<'a> Lay<'a> {
     /// The same, laid by the identifiers that are kept of its first names.
     pub fn over(dir: &'a Dir, identifiers: &'a Identifiers, first: u32) -> Lay<'a>
         requires front { IsIdentifierPrefix identifiers.now dir.now.entries.entries }
-        requires few { length dir.now.entries.entries ≤ MAX_NAMES }
-        requires first { first ≤ MAX_BLOCKS }
+        requires few { length dir.now.entries.entries ≤ DIRECTORY_NAMES }
+        requires first { first ≤ PARTITION_BLOCKS }
         ensures { blocks_left result ≡ directory_blocks dir.now first }
     {
         Lay {
@@ -185,7 +180,7 @@ impl<'a> Lay<'a> {
         behind
     }
 
-    /// Goes past the next identifier, and tells its bytes for the block number 0 and not lengthened, if they are kept.
+    /// Goes past the next identifier, and gives its bytes for the block number 0 and not lengthened, if they are kept.
     fn pass(&mut self, item: &Item<'a>) -> Option<&'a [u8]>
         requires next { slice_get (identifiers_of self.old.dir.now) self.old.next ≡ Some (said item.now) }
         requires short { length item.now.name.now ≤ 255 }

@@ -4,25 +4,25 @@ ghost use Rattle.limits.specs.declared.TheConstants.{BLOCK_BYTES};
 ghost use Rattle.std.specs.Prelude.{◌≡◌, ◌≢◌, ◌+◌, ◌-◌, ◌*◌, ◌<◌, ◌≤◌, ◌↔◌, ℕ, List, length, drop, replicate, IsTrue, IfOk, IfErr};
 ghost use Rattle.std.specs.List.{concat};
 ghost use Rattle.dir.specs.Directory.{IsDirectory};
-ghost use Rattle.dir.specs.Layout.{block_count};
+ghost use Rattle.ecma.specs.Blocks.{block_count};
 ghost use Rattle.dir.specs.declared.entry.Entry.{Entry};
 
 use crate::entry::Dir;
 use crate::fault::DirFault;
 use crate::fids::Fids;
-use crate::laying::{MAX_BLOCKS, MAX_NAMES};
 use ecma::{Block, are_zeros};
 use indexmap::IndexMap;
+use limits::{DIRECTORY_NAMES, PARTITION_BLOCKS};
 use std::alloc::Global;
 
 /// The directory whose data of `size` bytes the blocks are, the first of them having this number.
 pub fn read_dir(alloc: Global, blocks: &[Block], size: u32, first: u32) -> Result<Dir, DirFault>
     requires some { 0 < size }
     requires count { length blocks.now ≡ block_count size }
-    requires first { first ≤ MAX_BLOCKS }
-    // What is read stands there.
+    requires first { first ≤ PARTITION_BLOCKS }
+    // What is read is what the blocks hold.
     ensures found { IfOk result (λ dir. IsDirectory dir.parent dir.entries.entries first size blocks.now) }
-    // What stands there is read, unless memory is short.
+    // What they hold is read, unless memory is short.
     ensures only { IfErr result (λ fault. fault ≢ DirFault.Memory → (parent : ℕ) (entries : List (List ℕ × Entry)) → IsDirectory parent entries first size blocks.now → ⊥) }
 {
     let mut fids = Fids::new(blocks, size as usize);
@@ -34,7 +34,7 @@ pub fn read_dir(alloc: Global, blocks: &[Block], size: u32, first: u32) -> Resul
             return Err(DirFault::Twice);
         }
     }
-    if entries.len() > MAX_NAMES {
+    if entries.len() > DIRECTORY_NAMES {
         return Err(DirFault::End);
     }
     if !ends_in_zeros(blocks, size as usize) {

@@ -5,8 +5,7 @@ ghost use Rattle.std.specs.Prelude.{◌≡◌, ◌+◌, ◌<◌, ◌≤◌, ◌^
 ghost use Rattle.dir.specs.Identifier as identifier;
 ghost use Rattle.dir.specs.Layout as layout;
 
-/// The bytes of a block.
-pub(crate) const BLOCK_SIZE: usize = limits::BLOCK_BYTES as usize;
+use limits::{BLOCK_BYTES, BLOCK_SIZE};
 
 /// The least multiple of 4 that is not below the size.
 pub(crate) fn rounded(size: usize) -> usize
@@ -44,7 +43,7 @@ pub struct DataSize {
 
 impl DataSize {
     ghost use Rattle.std.specs.Prelude.{◌≡◌, ◌+◌, ◌<◌, ◌≤◌, ◌^◌};
-    ghost use Rattle.dir.specs.Layout.{block_count};
+    ghost use Rattle.ecma.specs.Blocks.{block_count};
     ghost use Rattle.dir.specs.Size.{end_of_data, parent_end, next_end, end_bytes};
 
     /// The data of a directory without names.
@@ -73,7 +72,7 @@ impl DataSize {
     pub fn bytes(&self) -> u64
         ensures { result ≡ end_bytes (end_of_data self.now) }
     {
-        u64::from(self.full) * 2048 + u64::from(self.used)
+        u64::from(self.full) * u64::from(BLOCK_BYTES) + u64::from(self.used)
     }
 
     /// The blocks that the data takes.

@@ -3,20 +3,20 @@
 ghost use Rattle.std.specs.Prelude.{◌≡◌, ◌*◌, ◌<◌, ◌≤◌, ℕ, length};
 ghost use Rattle.std.specs.List.{All};
 ghost use Rattle.dir.specs.Directory.{directory_size, directory_blocks, directory_count, IsDirectoryEntry};
-ghost use Rattle.dir.specs.Layout.{block_count};
+ghost use Rattle.ecma.specs.Blocks.{block_count};
 ghost use Rattle.dir.specs.Size.{end_of_data, end_bytes, name_sizes, plain_sizes};
 
 use crate::entry::Dir;
 use crate::item::Item;
-use crate::laying::MAX_NAMES;
 use crate::size::{DataSize, plain_size};
+use limits::DIRECTORY_NAMES;
 
 impl Dir {
-    /// The size of the directory's data, from the lengths of its names alone, which are at most 512.
+    /// The size of the directory's data, from the lengths of its names alone.
     pub fn data_size(&self) -> DataSize
-        requires few { length self.now.entries.entries ≤ MAX_NAMES }
+        requires few { length self.now.entries.entries ≤ DIRECTORY_NAMES }
         ensures size { end_bytes (end_of_data result) ≡ directory_size self.now }
-        ensures full { (end_of_data result).full < MAX_NAMES }
+        ensures full { (end_of_data result).full < DIRECTORY_NAMES }
         ensures blocks { (first : ℕ) → length (directory_blocks self.now first) ≡ block_count (directory_size self.now) }
     {
         let mut size = DataSize::new();
@@ -29,9 +29,9 @@ impl Dir {
 
     /// The bytes of its names' identifiers, none of them lengthened.
     pub fn plain_size(&self) -> usize
-        requires few { length self.now.entries.entries ≤ MAX_NAMES }
+        requires few { length self.now.entries.entries ≤ DIRECTORY_NAMES }
         ensures size { result ≡ plain_sizes (name_sizes self.now.entries.entries) }
-        ensures few { result ≤ 296 * MAX_NAMES }
+        ensures few { result ≤ 296 * DIRECTORY_NAMES }
         ensures proper { All IsDirectoryEntry self.now.entries.entries }
     {
         let mut size = 0;
@@ -45,9 +45,9 @@ impl Dir {
 
     /// How many of its names are of directories.
     pub fn directory_count(&self) -> u16
-        requires few { length self.now.entries.entries ≤ MAX_NAMES }
+        requires few { length self.now.entries.entries ≤ DIRECTORY_NAMES }
         ensures value { result ≡ directory_count self.now.entries.entries }
-        ensures few { result ≤ MAX_NAMES }
+        ensures few { result ≤ DIRECTORY_NAMES }
     {
         let directories = self
             .entries

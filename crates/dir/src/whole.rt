@@ -6,15 +6,15 @@ ghost use Rattle.ecma.specs.Numbers.{u16_at};
 ghost use Rattle.dir.specs.Directory.{directory_blocks};
 
 use crate::entry::Dir;
-use crate::laying::{Lay, MAX_BLOCKS, MAX_NAMES};
-use crate::size::BLOCK_SIZE;
+use crate::laying::Lay;
 use ecma::Block;
+use limits::{BLOCK_SIZE, DIRECTORY_NAMES, PARTITION_BLOCKS};
 use std::alloc::{AllocError, Global};
 
-/// The blocks of a directory of at most 512 names, the first of them having this number.
+/// The blocks of a directory, the first of them having this number.
 pub fn lay(alloc: Global, dir: &Dir, first: u32) -> Result<Vec<Block>, AllocError>
-    requires few { length dir.now.entries.entries ≤ MAX_NAMES }
-    requires first { first ≤ MAX_BLOCKS }
+    requires few { length dir.now.entries.entries ≤ DIRECTORY_NAMES }
+    requires first { first ≤ PARTITION_BLOCKS }
     ensures blocks { IfOk result (λ blocks. blocks.items ≡ directory_blocks dir.now first) }
     // Each begins with an identifier's tag, and so is no file entry.
     ensures tags { IfOk result (λ blocks. All (λ block. u16_at 0 block ≡ 257) blocks.items) }

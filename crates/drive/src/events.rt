@@ -72,7 +72,7 @@ impl Events {
         requires { k ≤ length self.now.list.items }
         ensures { IfOk result (λ front. front.list.items ≡ take k self.now.list.items) }
     {
-        // Read so that the proof has its range.
+        // Unused: brings its range into the proof.
         let _next = self.next;
         let list = Vec::from_slice(alloc, &self.list[..k])?;
         let next = next_after(&list);

@@ -16,11 +16,10 @@ ghost use Rattle.std.specs.Prelude.{◌+◌, ◌<◌, ◌^◌, length, IfOk};
 
 use crate::descriptor::{Descriptor, Found};
 use crate::{Block, DriveFault};
+use limits::BLOCK_BYTES;
 use std::fs::{File, Files, OpenOptions};
 use std::io::ErrorKind;
 use std::{fs, io};
-
-const BLOCK_BYTES: u64 = limits::BLOCK_BYTES as u64;
 
 /// What a file is open for.
 #[derive(Clone, Copy, Debug, PartialEq, Eq)]
@@ -29,7 +28,7 @@ enum Access {
     Write,
 }
 
-/// A regular file that is open as an image. How many of its blocks count is kept by its user, and told to
+/// A regular file that is open as an image. How many of its blocks count is kept by its user, and passed to
 /// each call.
 #[derive(Drop)]
 pub(crate) struct Image {
@@ -92,7 +91,7 @@ impl Image {
     /// Has the system begin to read these blocks. It may not, and no call fails for it.
     pub(crate) fn read_soon(&self, at: u32, count: u32) {
         self.file
-            .read_soon(offset(at), u64::from(count) * BLOCK_BYTES);
+            .read_soon(offset(at), u64::from(count) * u64::from(BLOCK_BYTES));
     }
 
     /// The bytes after the last whole block, at the front of `into`: how many they are, at most 2,047.
@@ -100,8 +99,8 @@ impl Image {
         ensures { IfOk result (λ n. n < BLOCK_BYTES) }
     {
         let found = self.file.found()?;
-        let len = (found.len % BLOCK_BYTES) as usize;
-        let end = found.len - found.len % BLOCK_BYTES;
+        let len = (found.len % u64::from(BLOCK_BYTES)) as usize;
+        let end = found.len - found.len % u64::from(BLOCK_BYTES);
         self.file.read_exact_at(&mut into[..len], end)?;
         Ok(len)
     }
@@ -216,10 +215,10 @@ fn fault_of<T>(outcome: io::Result<T>) -> Result<T, DriveFault> {
 
 /// Where the block at an address begins.
 fn offset(at: u32) -> u64 {
-    u64::from(at) * BLOCK_BYTES
+    u64::from(at) * u64::from(BLOCK_BYTES)
 }
 
 /// How many whole blocks a file's length shows.
 fn whole_blocks(found: &Found) -> Result<u32, DriveFault> {
-    u32::try_from(found.len / BLOCK_BYTES).map_err(|_| DriveFault)
+    u32::try_from(found.len / u64::from(BLOCK_BYTES)).map_err(|_| DriveFault)
 }

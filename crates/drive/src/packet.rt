@@ -1,6 +1,7 @@
 //! Blocks on their way to a drive, in packets that one write may be given.
 ghost use Rattle.std.specs.Prelude.{◌≡◌, ◌+◌, ◌*◌, ◌/◌, ◌==◌, ◌<◌, ◌≤◌, if◌then◌else◌, ℕ, List, ◌∷◌, ◌++◌, [], length, take, drop, vec_len, is_err, IfOk, OnOk, OnErr};
 ghost use Rattle.std.specs.Vec.{vec_capacity};
+ghost use Rattle.drive.specs.declared.TheConstants.{PACKET};
 ghost use Rattle.drive.specs.Journal.{written, next_of, AddsPrefix};
 ghost use Rattle.drive.specs.Reads.{WritesOnly};
 ghost use Rattle.drive.specs.Sending.{Sends, SendsAlone};
@@ -11,7 +12,7 @@ use std::alloc::{AllocError, Global};
 use std::marker::Model;
 use std::slice;
 
-/// The next packet of the blocks of both slices after so many of them: at most 32, of one slice.
+/// The next packet of the blocks of both slices after so many of them: at most [`PACKET`], of one slice.
 pub(crate) fn packet_of<'b>(first: &'b [Block], second: &'b [Block], done: usize) -> &'b [Block]
     requires { done < length first.now + length second.now }
     ensures blocks { result.now ≡ take (length result.now) (drop done (first.now ++ second.now)) }
@@ -27,8 +28,8 @@ pub(crate) fn packet_of<'b>(first: &'b [Block], second: &'b [Block], done: usize
 }
 
 /// Writes the blocks from this address on: all but the last in one run, and the last in a write of its own, after
-/// the finished writes of all others. So whatever part of a write a power loss leaves, the last block stands
-/// only where the others do.
+/// the finished writes of all others. So whatever part of a write a power loss leaves, the last block is there
+/// only where the others are.
 pub fn write_last_alone<D: Drive>(
     drive: &mut D,
     at: u32,
@@ -68,7 +69,7 @@ impl<'b> Model for PacketWriter<'b> {
 
     ghost view = { λ w. record { at = w.at; blocks = w.lent.now ++ w.packet.items } };
 
-    ghost invariant = { λ w. (vec_len w.packet ≤ 32) × (32 ≤ vec_capacity w.packet) };
+    ghost invariant = { λ w. (vec_len w.packet ≤ PACKET) × (PACKET ≤ vec_capacity w.packet) };
 }
 
 impl<'b> PacketWriter<'b> {
@@ -83,7 +84,7 @@ impl<'b> PacketWriter<'b> {
         })
     }
 
-    /// How many blocks wait in the packet, from 0 to 32.
+    /// How many blocks wait in the packet, from 0 to [`PACKET`].
     pub fn waiting(&self) -> usize
         ensures { result ≤ PACKET }
     {

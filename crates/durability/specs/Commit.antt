@@ -1,6 +1,6 @@
 -- How many blocks a commit may take, from sizes alone.
 use Rattle.std.specs.Prelude.{ℕ, ◌+◌, ◌*◌, ◌/◌, if◌then◌else◌, ◌==◌, nat_lt, List, [], length}
-use Rattle.limits.specs.declared.TheConstants.{INSIDE_BYTES, TABLE_HEAD_BYTES, RECORD_BYTES, ADDRESS_BYTES}
+use Rattle.limits.specs.declared.TheConstants.{INSIDE_BYTES, LEAST_FILLED_BYTES, TABLE_HEAD_BYTES, RECORD_BYTES, ADDRESS_BYTES}
 use Rattle.model.specs.Tree.{Name, Tree, names_at, parent_of, is_directory_at, paths_eq}
 use Rattle.model.specs.Operation.{Operation, code_of}
 use Rattle.model.specs.Operation.Operation.{Create, Replace, MakeDir, Rename, Remove}
@@ -22,7 +22,7 @@ most_for_file bytes = 2 * file_blocks (length bytes) + 1
 
 -- the most blocks that a directory's data and its entry take
 abbrev pub most_for_directory : (Name → ℕ) → List Name → ℕ
-most_for_directory spelled names = 2 + identifiers_size spelled names / 1720
+most_for_directory spelled names = 2 + identifiers_size spelled names / LEAST_FILLED_BYTES
 
 -- the bytes of a table with so many records and entries
 abbrev pub table_size : ℕ → ℕ → ℕ

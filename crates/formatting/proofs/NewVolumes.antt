@@ -13,7 +13,8 @@ use Rattle.icb.specs.Entry.{IsEntry}
 use Rattle.icb.specs.FileSet.{IsFileSet}
 use Rattle.icb.proofs.Spellings.{one_block, one_set}
 use Rattle.dir.specs.Directory.{IsDirectory, IsDirectoryEntry as IsName, identifiers}
-use Rattle.dir.specs.Layout.{laid, block_count, blocked, identifier_blocks}
+use Rattle.ecma.specs.Blocks.{block_count}
+use Rattle.dir.specs.Layout.{laid, blocked, identifier_blocks}
 use Rattle.dir.proofs.Once.{laid_directory}
 use Rattle.dir.proofs.Sizes.{data_sized}
 use Rattle.vat.specs.Table.{FitsTable, IsTable, table_bytes}

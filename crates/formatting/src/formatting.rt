@@ -1,6 +1,6 @@
 //! A new volume.
 
-ghost use Rattle.limits.specs.declared.TheConstants.{BLOCK_BYTES, FORMAT_BLOCKS, GREATEST_CAPACITY, LEAST_CAPACITY};
+ghost use Rattle.limits.specs.declared.TheConstants.{BLOCK_BYTES, FORMAT_BLOCKS, GREATEST_CAPACITY, LEAST_CAPACITY, MOMENT_LIMIT};
 ghost use Rattle.std.specs.Prelude.{◌≡◌, ◌↔◌, ℕ, ◌<◌, ◌≤◌, ◌∷◌, [], Ok, Err, IsTrue, None, IsSome, IsNone, IfOk, IfErr, IfSome, OnOk, is_err, length};
 ghost use Rattle.drive.specs.Journal.{counted, held, next_of};
 ghost use Rattle.drive.specs.Reads.{ReadsAndWrites, ReadsOnly};
@@ -23,19 +23,13 @@ use drive::{Drive, DriveFault, write_last_alone};
 use ecma::{Block, Timestamp};
 use icb::{FileEntry, FileSet, Kind, Place, encode_fe, encode_fsd};
 use indexmap::IndexMap;
+use limits::{BLOCK_SIZE, FORMAT_BLOCKS, GREATEST_CAPACITY, LEAST_CAPACITY, PARTITION_START};
 use osta::Label;
 use recover::{ROOT_ADDRESS, StoreFault};
 use std::alloc::{AllocError, Global};
 use udf::blocks_are_bytes;
 use vat::{Sessions, Vat, Version, encode_vat};
-use volume::{FRONT_BLOCKS, front_block};
-
-/// How many blocks a format writes.
-const FORMAT_BLOCKS: u32 = limits::FORMAT_BLOCKS;
-
-const LEAST_CAPACITY: u32 = limits::LEAST_CAPACITY;
-
-const GREATEST_CAPACITY: u32 = limits::GREATEST_CAPACITY;
+use volume::front_block;
 
 /// The bytes of a directory without names.
 const EMPTY_DIRECTORY: u32 = 40;
@@ -47,7 +41,7 @@ const FIRST_TABLE: u32 = 204;
 const TABLE_ENTRY: u32 = 4;
 
 /// Writes a new volume on a blank drive, or the rest of one that the same words began. The moment is in microseconds from
-/// 1970-01-01 UTC. A drive is refused that has other blocks, or more. The last block, with which the volume stands, goes out
+/// 1970-01-01 UTC. A drive is refused that has other blocks, or more. The last block, which makes the volume valid, goes out
 /// in a write of its own, after the finished writes of all others.
 #[tactic(auto, using(crate::proofs::FormatJournals::nothing_written))]
 pub fn format<D: Drive>(
@@ -56,7 +50,7 @@ pub fn format<D: Drive>(
     label: &str,
     moment: u64,
 ) -> Result<(), StoreFault>
-    requires moment { moment < 4_102_444_800_000_000 }
+    requires moment { moment < MOMENT_LIMIT }
     ensures ok { OnOk result (IsFormatted (D.capacity drive.old) (words_on (D.capacity drive.old) label.now moment) (D.journal drive.old) (D.journal drive.new) (D.honest drive.new)) }
     ensures err { IfErr result (IsFormatRefused (D.capacity drive.old) (words_on (D.capacity drive.old) label.now moment) (D.journal drive.old) (D.journal drive.new) (D.honest drive.new)) }
     // Whatever part of its writes a power loss leaves, where a disk keeps any choice of the blocks of the last one that it was given.
@@ -144,7 +138,7 @@ fn begun<D: Drive>(drive: &mut D, parts: &Parts) -> Result<Option<u32>, DriveFau
         return Ok(None);
     }
     for n in 0..next {
-        let mut block = [0; 2048];
+        let mut block = [0; BLOCK_SIZE];
         match drive.read(n, &mut block) {
             Ok(()) => {}
             Err(fault) => return Err(fault),
@@ -177,7 +171,7 @@ fn format_block(parts: &Parts, n: u32) -> Block
     requires { n < FORMAT_BLOCKS }
     ensures { IsBlockAt (words_of parts.now) n result }
 {
-    if n < FRONT_BLOCKS {
+    if n < PARTITION_START {
         return front_block(&parts.label, parts.moment, parts.capacity, n);
     }
     match n {
@@ -227,7 +221,7 @@ fn table_block(table: &[u8]) -> Block
     requires { length table.now ≤ BLOCK_BYTES }
     ensures { result ≡ padded table.now }
 {
-    let mut block = [0; 2048];
+    let mut block = [0; BLOCK_SIZE];
     block[..table.len()].copy_from_slice(table);
     block
 }

@@ -1,5 +1,6 @@
 //! What an image holds after its last whole block, where a format is to go on.
 
+ghost use Rattle.limits.specs.declared.TheConstants.{MOMENT_LIMIT};
 ghost use Rattle.std.specs.Prelude.{◌≡◌, ◌<◌, IfErr, OnOk};
 ghost use Rattle.drive.specs.FileDrive.{journal_of, capacity_of, honest_of};
 ghost use Rattle.formatting.specs.NewVolume.{words_on};
@@ -7,6 +8,7 @@ ghost use Rattle.formatting.specs.Beginning.{Begins, IsNoPart, IsPartBegun, IsPa
 
 use crate::formatting::format;
 use drive::{Drive, FileDrive, MemDrive};
+use limits::BLOCK_SIZE;
 use recover::StoreFault;
 use std::alloc::Global;
 
@@ -18,14 +20,14 @@ pub fn require_beginning(
     label: &str,
     moment: u64,
 ) -> Result<(), StoreFault>
-    requires { moment < 4_102_444_800_000_000 }
+    requires { moment < MOMENT_LIMIT }
     ensures journal { journal_of drive.new ≡ journal_of drive.old }
     ensures capacity { capacity_of drive.new ≡ capacity_of drive.old }
     ensures honest { honest_of drive.new ≡ honest_of drive.old }
     ensures begun { OnOk result (IsPartBegun (capacity_of drive.old) label.now moment (journal_of drive.old)) }
     ensures refused { IfErr result (IsPartUnbegun (capacity_of drive.old) label.now moment (journal_of drive.old)) }
 {
-    let mut part = [0; 2048];
+    let mut part = [0; BLOCK_SIZE];
     let Ok(count) = drive.part(&mut part) else {
         return Err(StoreFault::Device);
     };
@@ -47,7 +49,7 @@ fn require_part(
     at: u32,
     part: &[u8],
 ) -> Result<(), StoreFault>
-    requires { moment < 4_102_444_800_000_000 }
+    requires { moment < MOMENT_LIMIT }
     ensures begins { OnOk result (Begins (words_on capacity label.now moment) at part.now) }
     ensures refused { IfErr result (IsNoPart capacity label.now moment at part.now) }
 {

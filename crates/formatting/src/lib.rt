@@ -1,8 +1,8 @@
 //! A new volume, written on a blank drive or finished where a format was cut.
 //!
-//! Promised: which blocks are written, and in which order; that words have one list of them; that the new volume stands with
-//! its last block and nothing before; what is written where the drive fails, and when each refusal comes. Opening a volume
-//! and whatever is done with it are left to the crates above.
+//! Promised: which blocks are written, and in which order; that words have one list of them; that the medium recovers to the
+//! new volume with its last block and to nothing before; what is written where the drive fails, and when each refusal comes.
+//! Opening a volume and whatever is done with it are left to the crates above.
 #![tactic(auto)]
 
 mod formatting;

@@ -15,7 +15,8 @@ use Rattle.icb.specs.declared.entry.Kind.TheVariants.{Directory, File, Vat}
 use Rattle.icb.specs.declared.entry.Place as source
 use Rattle.icb.specs.declared.entry.Place.TheVariants as places
 use Rattle.icb.specs.declared.planned.PlannedEntry.TheInside as planned
-use Rattle.icb.specs.Entry.{Fields, FitsEntry, FitsPlace, IsEntry, Place, allocation, block_count, blocks_recorded, entry_parts, extent, file_type, flags_of, inside, permissions, place_of}
+use Rattle.ecma.specs.Blocks.{block_count}
+use Rattle.icb.specs.Entry.{Fields, FitsEntry, FitsPlace, IsEntry, Place, allocation, blocks_recorded, entry_parts, extent, file_type, flags_of, inside, permissions, place_of}
 use Rattle.icb.specs.Entry.Place.{Nowhere, Extent, Inside}
 use Rattle.icb.specs.Planned.{entry_body, planned_block}
 

@@ -6,6 +6,7 @@ ghost use Rattle.icb.specs.Entry.{inside, place_of};
 use crate::encode::{BYTES_INSIDE, LONG_DESCRIPTORS, extent, write_entry};
 use crate::entry::{FileEntry, Place};
 use ecma::Block;
+use limits::BLOCK_BYTES;
 use std::marker::Model;
 
 /// A file entry that is made when it is written: what it says, and its location. To a caller it is its block.
@@ -39,7 +40,7 @@ impl<'a> PlannedEntry<'a> {
         ensures { IsEntry (fields_of entry.now) location result }
     {
         let stamp = entry.moment.to_bytes();
-        // Read so that the proof has that they are bytes.
+        // Unused: brings into the proof that they are bytes.
         let _inside = bytes_inside(&entry.place);
         // Field by field, since no proof covers the copy of the whole through a reference.
         let entry = FileEntry {
@@ -71,7 +72,7 @@ impl PlannedEntry<'_> {
         match entry.place {
             Place::None => write_entry(entry, loc, LONG_DESCRIPTORS, 0, stamp, &[], block),
             Place::Extent(first) => {
-                let blocks = u64::from(entry.size).div_ceil(2048);
+                let blocks = u64::from(entry.size).div_ceil(BLOCK_BYTES as u64);
                 let extent = extent(entry.size, first).to_bytes();
                 write_entry(entry, loc, LONG_DESCRIPTORS, blocks, stamp, &extent, block)
             }

@@ -1,10 +1,12 @@
-ghost use Rattle.std.specs.Prelude.{◌≡◌, ◌↔◌, IsTrue, IfOk, IfErr, IfSome, IfNone, take, drop, replicate};
+ghost use Rattle.limits.specs.declared.TheConstants.{BLOCK_BYTES};
+ghost use Rattle.std.specs.Prelude.{◌≡◌, ◌-◌, ◌↔◌, IsTrue, IfOk, IfErr, IfSome, IfNone, take, drop, replicate};
 ghost use Rattle.ecma.specs.FirstFault.{IsFirst, AllHold};
 ghost use Rattle.ecma.specs.Tag.{Sealed};
 ghost use Rattle.icb.specs.FileSet.{HasFileSetFields, IsFileSet, set_rules};
 
 use crate::fault::IcbFault;
 use ecma::{Block, CS0, EntityId, Field, LongAd, Timestamp, descriptor_block, open_tag};
+use limits::{BLOCK_BYTES, BLOCK_SIZE};
 use osta::Label;
 
 const FILE_SET: u16 = 256;
@@ -17,7 +19,7 @@ const SIZE: usize = 512;
 
 /// The extent of the root's entry, which has the virtual address 1.
 const ROOT: LongAd = LongAd {
-    length: 2048,
+    length: BLOCK_BYTES,
     block: 1,
     partition: 1,
     flags: 0,
@@ -65,9 +67,9 @@ pub fn encode_fsd(set: &FileSet) -> Block
 
 /// The file set whose descriptor the block is (ECMA-167 4/14.1).
 pub fn decode_fsd(block: &Block) -> Result<FileSet, IcbFault>
-    // What is read stands there.
+    // What is read is what the block spells.
     ensures found { IfOk result (λ set. IsFileSet set block.now) }
-    // What stands there is read.
+    // What a block spells is read.
     ensures only { (set : FileSet) → IsFileSet set block.now → result ≡ Ok set }
     // A fault is the first.
     ensures fault { IfErr result (IsFirst (set_rules block.now)) }
@@ -131,8 +133,8 @@ fn set_stamp(block: &Block) -> [u8; 12]
 }
 
 fn has_set_tail(block: &Block) -> bool
-    ensures { IsTrue result ↔ (drop 512 block.now ≡ replicate 1536 0) }
+    ensures { IsTrue result ↔ (drop 512 block.now ≡ replicate (BLOCK_BYTES - 512) 0) }
 {
     let (_, tail) = block.split_at(SIZE);
-    tail == &[0; 2048 - SIZE][..]
+    tail == &[0; BLOCK_SIZE - SIZE][..]
 }

@@ -18,7 +18,8 @@ use Rattle.dir.specs.declared.entry.Kind.{Kind}
 use Rattle.dir.specs.declared.entry.Kind.TheVariants.{File, Directory}
 use Rattle.dir.specs.Directory.{of_parent, of_name, characteristics_of, identifiers, IsDirectoryEntry}
 use Rattle.dir.specs.Identifier.{Identifier, plain_size, use_of, head_of, body_of, identifier}
-use Rattle.dir.specs.Layout.{stays, laid, block_count, blocked, identifier_blocks}
+use Rattle.ecma.specs.Blocks.{block_count}
+use Rattle.dir.specs.Layout.{stays, laid, blocked, identifier_blocks}
 use Rattle.dir.specs.Split.{AreBytes}
 use Rattle.dir.proofs.Placing.{laid-stays, laid-leaves, laid-nil}
 use Rattle.udf.specs.Udf.{IsBlock}

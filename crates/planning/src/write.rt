@@ -11,10 +11,11 @@ ghost use Rattle.dir.specs.Directory.{directory_blocks};
 ghost use Rattle.ecma.specs.Descriptor.{padded};
 ghost use Rattle.durability.specs.Plan.{zeros, packed};
 
-use dir::{Lay, MAX_BLOCKS};
+use dir::Lay;
 use drive::{Drive, DriveFault, PACKET, PacketWriter};
 use ecma::Block;
 use icb::PlannedEntry;
+use limits::PARTITION_BLOCKS;
 use lookup::Content;
 use std::alloc::{AllocError, Global};
 
@@ -217,7 +218,7 @@ impl<'b> Writer<'b> {
         content: &Content,
         first: u32,
     ) -> Result<(), DriveFault>
-        requires first { first ≤ MAX_BLOCKS }
+        requires first { first ≤ PARTITION_BLOCKS }
         requires begins { self.old.packets.at ≤ next_of (D.journal drive.old) }
         requires fits { next_address self.old.packets + length (directory_blocks content.now.dir first) ≤ D.capacity drive.old }
         ensures ok { OnOk result (TakesBlocks D.Drive drive.old self.old.packets (directory_blocks content.now.dir first) drive.new self.new.packets) }

@@ -11,9 +11,10 @@ ghost use Rattle.recover.specs.Faults.{devices};
 ghost use Rattle.recover.specs.Nodes.{IsDirectoryRefused, data_of, links_of};
 
 use crate::fault::{StoreFault, damaged};
-use crate::reading::{PARTITION_START, block_count, read_blocks};
-use dir::{Dir, DirFault, MAX_BLOCKS, MAX_NAMES, read_dir};
+use crate::reading::{block_count, read_blocks};
+use dir::{Dir, DirFault, read_dir};
 use drive::Drive;
+use limits::{DIRECTORY_NAMES, PARTITION_BLOCKS, PARTITION_START};
 use std::alloc::Global;
 
 /// Where the bytes of a node lie: the number of their first block, and how many there are.
@@ -30,7 +31,7 @@ pub fn read_directory<D: Drive>(
     extent: Extent,
 ) -> Result<Dir, StoreFault>
     requires some { 0 < extent.size }
-    requires first { extent.first ≤ MAX_BLOCKS }
+    requires first { extent.first ≤ PARTITION_BLOCKS }
     requires within { extent.first + PARTITION_START + div_ceil extent.size BLOCK_BYTES ≤ next_of (D.journal drive.old) }
     ensures directory { IfOk result (λ dir. (blocks : List (List ℕ)) × (IsTrue (D.honest drive.new) → blocks ≡ data_of (held (D.journal drive.old)) extent) × All IsBlock blocks × IsDirectory dir.parent dir.entries.entries extent.first extent.size blocks) }
     ensures refused { IfErr result (λ fault. IsTrue (D.honest drive.new) → IsDirectoryRefused extent (data_of (held (D.journal drive.old)) extent) fault) }
@@ -47,7 +48,7 @@ pub fn read_directory<D: Drive>(
 
 /// The links of a directory: one, and one for each directory in it.
 pub(crate) fn link_count(directory: &Dir) -> u16
-    requires few { length directory.now.entries.entries ≤ MAX_NAMES }
+    requires few { length directory.now.entries.entries ≤ DIRECTORY_NAMES }
     ensures { result ≡ links_of directory.now.entries.entries }
 {
     1 + directory.directory_count()

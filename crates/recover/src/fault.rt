@@ -14,7 +14,7 @@ pub enum StoreFault {
     /// The text is no label of at most 31 bytes.
     #[error("62 Label")]
     Label,
-    /// The drive has fewer than 512 blocks.
+    /// The drive has fewer than `limits::LEAST_CAPACITY` blocks.
     #[error("63 Small")]
     Small,
     /// The drive failed. What was asked of it may have been done.

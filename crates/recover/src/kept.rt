@@ -13,6 +13,7 @@ use crate::reading::read_into;
 use dir::Dir;
 use drive::Drive;
 use icb::{FileEntry, Kind, Place, decode_fe};
+use limits::BLOCK_SIZE;
 use std::alloc::Global;
 use std::collections::HashMap;
 
@@ -52,7 +53,7 @@ impl NodeEntry {
         ensures refused { IfErr result (λ fault. IsTrue (D.honest drive.new) → IsUnsaid (held (D.journal drive.old)) place fault) }
         ensures reads { ReadsOnly D.Drive (devices result) drive.old drive.new }
     {
-        let mut block = [0; 2048];
+        let mut block = [0; BLOCK_SIZE];
         read_into(drive, place.at, &mut block)?;
         match decode_fe(&block, place.address) {
             Ok(entry) => Ok(NodeEntry {

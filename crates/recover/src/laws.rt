@@ -2,7 +2,7 @@
 
 ghost use Rattle.recover.specs.Laws.{LastRecovers};
 
-/// The state that was read at the last VAT ICB stands on the medium.
+/// The medium recovers to the state that was read at the last VAT ICB.
 pub fn last_state_stands()
     ensures { LastRecovers }
 {}

@@ -1,13 +1,12 @@
-//! What lies on a medium, read back: the last table, the tables before it, and the state that stands where a VAT ICB
-//! does.
+//! What lies on a medium, read back: the last table, the tables before it, and the state to which a VAT ICB leads.
 //!
 //! Promised: each call reads alone, so that the drive's journal stays as it was; each refusal is one of `StoreFault`, and one
-//! of the drive is told only where the drive counted a failure. On a drive whose reads are honest `last` finds the last entry
+//! of the drive is reported only where the drive counted a failure. On a drive whose reads are honest `last` finds the last entry
 //! of a table, from the end, and what is read is what the medium has. `state_at` looks at every node that a table leads to,
-//! and what it gives is the state that the blocks below the VAT ICB tell, which stands where that entry is the last.
-//! Where it tells of damage no state is told there. `state_sharing` gives the same, and reads no node again that the state
-//! had for which it was called before; of a file that stands where it was found under its name it asks no more than where
-//! the table leads.
+//! and what it gives is the state that the blocks below the VAT ICB hold, to which the medium recovers where that entry is
+//! the last. Where it reports damage there is no such state. `state_sharing` gives the same, and reads no node again that
+//! the state had for which it was called before; of a file that is where it was found under its name it asks no more than
+//! where the table leads.
 //!
 //! Left to others: whatever is written, and what is asked of a state.
 #![tactic(auto)]
@@ -29,8 +28,9 @@ mod walk;
 pub use directory::{Extent, read_directory};
 pub use fault::{StoreFault, damaged};
 pub use laws::last_state_stands;
+pub use limits::PARTITION_START;
 pub use read_cache::ReadCache;
-pub use reading::{BLOCK_BYTES, PARTITION_START, block_count, read_block, read_blocks, read_bytes};
+pub use reading::{block_count, read_block, read_blocks, read_bytes};
 pub use state::{State, state_at, state_sharing};
 pub use table::{TableEntry, before, last, lies_below, linked, read_table, table_at, table_entry};
-pub use walk::{FIRST_UNIQUE, PATH_NAMES, ROOT_ADDRESS};
+pub use walk::ROOT_ADDRESS;

@@ -78,7 +78,7 @@ impl ReadCache {
         self.met.clear();
     }
 
-    /// What the front tells.
+    /// What the front says.
     pub(crate) fn front<D: Drive>(&mut self, drive: &mut D) -> Result<Front, StoreFault>
         requires within { PARTITION_START ≤ next_of (D.journal drive.old) }
         requires known { IsTrue (D.honest drive.old) → IsKnown (held (D.journal drive.old)) self.old }
@@ -98,7 +98,7 @@ impl ReadCache {
         }
     }
 
-    /// Keeps what the front tells.
+    /// Keeps what the front says.
     fn keep_front(&mut self, front: &Front)
         requires low { LEAST_CAPACITY ≤ front.now.capacity }
         requires high { front.now.capacity ≤ GREATEST_CAPACITY }

@@ -13,14 +13,9 @@ ghost use Rattle.recover.specs.Faults.{IsShortage, devices};
 use crate::fault::StoreFault;
 use drive::Drive;
 use ecma::Block;
+use limits::{BLOCK_BYTES, BLOCK_SIZE};
 use std::alloc::Global;
 use udf::blocks_are_bytes;
-
-/// The address of the block with number 0 of the partition.
-pub const PARTITION_START: u32 = limits::PARTITION_START;
-
-/// The bytes of a block.
-pub const BLOCK_BYTES: u32 = limits::BLOCK_BYTES;
 
 /// How many blocks so many bytes take.
 pub fn block_count(size: u32) -> u32
@@ -38,7 +33,7 @@ pub fn read_block<D: Drive>(drive: &mut D, at: u32) -> Result<Block, StoreFault>
     ensures device { IfErr result (λ fault. fault ≡ Device) }
     ensures reads { ReadsOnly D.Drive (devices result) drive.old drive.new }
 {
-    let mut block = [0; 2048];
+    let mut block = [0; BLOCK_SIZE];
     match read_into(drive, at, &mut block) {
         Ok(()) => Ok(block),
         Err(fault) => Err(fault),

@@ -1,4 +1,4 @@
-//! The state that stands where a VAT ICB does.
+//! The state to which a VAT ICB leads.
 
 ghost use Rattle.limits.specs.declared.TheConstants.{GREATEST_CAPACITY, LEAST_CAPACITY, NODES, PARTITION_START};
 ghost use Rattle.std.specs.Prelude.{◌≡◌, ℕ, ◌<◌, ◌≤◌, ◌+◌, ◌-◌, List, IsTrue, IfOk, IfErr, OnOk, take};
@@ -14,16 +14,17 @@ ghost use Rattle.recover.specs.Tables.{HasTableAt};
 use crate::cause;
 use crate::fault::{StoreFault, damaged};
 use crate::read_cache::ReadCache;
-use crate::reading::{PARTITION_START, read_block};
+use crate::reading::read_block;
 use crate::table::{address_below, read_table, table_entry};
 use crate::walk::{Named, Walk};
 use drive::Drive;
 use ecma::Timestamp;
 use icb::{FileSet, decode_fsd};
+use limits::{FORMAT_BLOCKS, PARTITION_START};
 use osta::Label;
 use std::alloc::Global;
 use vat::Vat;
-use volume::{FRONT_BLOCKS, Front, VolumeFault, first_difference, front_words};
+use volume::{Front, VolumeFault, first_difference, front_words};
 
 /// The address of the primary volume descriptor.
 const PRIMARY: u32 = 32;
@@ -31,31 +32,31 @@ const PRIMARY: u32 = 32;
 /// The address of the partition descriptor.
 const PARTITION: u32 = 34;
 
-/// The least address after the blocks of a format and its last one's. Each commit writes two blocks at least.
-const FIRST_TABLE: u64 = limits::FORMAT_BLOCKS as u64 - 1;
+/// The address of the first VAT ICB, which is the last block of a format. Each commit writes two blocks at least.
+const FIRST_TABLE: u64 = FORMAT_BLOCKS as u64 - 1;
 
-/// What stands where a VAT ICB does, but for the tree.
+/// The state to which a VAT ICB leads, but for the tree.
 #[derive(Drop)]
 pub struct State {
     /// That of the request that the table committed, or of the format.
     pub moment: Timestamp,
-    /// Of the volume, in blocks, from 512 to 450,000.
+    /// Of the volume, in blocks, at least `limits::LEAST_CAPACITY` and at most `limits::GREATEST_CAPACITY`.
     pub capacity: u32,
     pub label: Label,
     pub vat: Vat,
 }
 
-/// The state that stands on the blocks up to `at`, where a VAT ICB stands. Every node is looked at, and each
+/// The state that the blocks up to `at` hold, where `at` has a VAT ICB. Every node is looked at, and each
 /// directory is read once and let go.
 pub fn state_at<D: Drive>(alloc: Global, drive: &mut D, at: u32) -> Result<State, StoreFault>
     requires low { PARTITION_START ≤ at }
     requires within { at < next_of (D.journal drive.old) }
-    // What is told there.
+    // It is the state of these blocks.
     ensures shown { IfOk result (λ state. IsTrue (D.honest drive.new) → IsShown (D.capacity drive.old) (held (D.journal drive.old)) at state) }
-    // Where it is refused none is told there, unless the drive failed or memory was short.
+    // Where it is refused they hold none, unless the drive failed or memory was short.
     ensures refused { IfErr result (λ fault. IsTrue (D.honest drive.new) → IsStateRefused (D.capacity drive.old) (held (D.journal drive.old)) at fault) }
     ensures sound { IfOk result (HasSoundTable at (D.capacity drive.old)) }
-    // The table that it keeps is the one whose entry stands there.
+    // The table that it keeps is the one of that VAT ICB.
     ensures table { IfOk result (λ state. IsTrue (D.honest drive.new) → HasTableAt (held (D.journal drive.old)) at (view state.vat)) }
     ensures reads { ReadsOnly D.Drive (devices result) drive.old drive.new }
 {
@@ -88,7 +89,7 @@ pub fn state_sharing<D: Drive>(
     Ok(state)
 }
 
-/// What stands there but for the tree, beside the address of the first block of the table's data.
+/// The state but for the tree, beside the address of the first block of the table's data.
 fn described<D: Drive>(
     alloc: Global,
     drive: &mut D,
@@ -140,7 +141,7 @@ pub(crate) fn read_front<D: Drive>(drive: &mut D) -> Result<Front, StoreFault>
         Ok(front) => front,
         Err(VolumeFault::Field { block, .. }) => return Err(damaged(block, cause::FRONT)),
     };
-    for n in 0..FRONT_BLOCKS {
+    for n in 0..PARTITION_START {
         let block = read_block(drive, n)?;
         match first_difference(&front, n, &block) {
             Some(_) => return Err(damaged(n, cause::FRONT)),

@@ -16,10 +16,11 @@ ghost use Rattle.recover.specs.Walk.{LeadsTo};
 
 use crate::cause::{CHAIN, RANGE};
 use crate::fault::{StoreFault, damaged};
-use crate::reading::{PARTITION_START, block_count, read_block, read_bytes};
+use crate::reading::{block_count, read_block, read_bytes};
 use drive::Drive;
 use ecma::Timestamp;
 use icb::{FileEntry, Kind, Place, decode_fe};
+use limits::PARTITION_START;
 use std::alloc::Global;
 use vat::{Vat, VatFault, decode_vat, is_vat_icb};
 
@@ -99,7 +100,7 @@ fn data_start(entry: &FileEntry<'_>) -> Option<u32>
     }
 }
 
-/// The table whose entry stands at an address.
+/// The table whose VAT ICB has this address.
 pub fn read_table<D: Drive>(
     alloc: Global,
     drive: &mut D,
@@ -130,7 +131,7 @@ pub fn lies_below(first: u32, size: u32, at: u32) -> bool
     u64::from(first) + u64::from(PARTITION_START) + u64::from(block_count(size)) <= u64::from(at)
 }
 
-/// The table whose entry stands at an address, by its entry and its data.
+/// The table whose VAT ICB has this address, by its entry and its data.
 pub fn table_at<D: Drive>(alloc: Global, drive: &mut D, at: u32) -> Result<Vat, StoreFault>
     requires low { PARTITION_START ≤ at }
     requires within { at < next_of (D.journal drive.old) }
@@ -191,7 +192,7 @@ pub(crate) fn address_below(entries: &[Option<u32>], address: u32, at: u32) -> O
     Some(number + PARTITION_START)
 }
 
-/// The address of the entry of the table before the one whose entry stands at `at`, by one step of the chain; none where
+/// The address of the VAT ICB before the one at `at`, by one step of the chain; none where
 /// no request was committed.
 pub fn before<D: Drive>(alloc: Global, drive: &mut D, at: u32) -> Result<Option<u32>, StoreFault>
     requires low { PARTITION_START ≤ at }

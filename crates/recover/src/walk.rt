@@ -19,23 +19,18 @@ use crate::fault::{StoreFault, damaged};
 use crate::id_set::IdSet;
 use crate::kept::{EntryPlace, Names, NodeEntry};
 use crate::read_cache::ReadCache;
-use crate::reading::{PARTITION_START, block_count};
+use crate::reading::block_count;
 use crate::table::{address_below, lies_below};
 use dir::{Dir, Entry, Kind};
 use drive::Drive;
+use limits::{FIRST_UNIQUE, PARTITION_START, PATH_NAMES};
 use std::alloc::Global;
-
-/// The greatest number of names in a path of the tree.
-pub const PATH_NAMES: u32 = limits::PATH_NAMES;
 
 /// The virtual address of the root directory.
 pub const ROOT_ADDRESS: u32 = 1;
 
-/// How many entries the drive is told of before they are read.
+/// How many entries are announced to the drive before they are read.
 const AHEAD: usize = 32;
-
-/// The least unique ID of a node but the root.
-pub const FIRST_UNIQUE: u32 = limits::FIRST_UNIQUE;
 
 /// A node as the directory above it names it.
 #[derive(Clone, Copy, Debug)]

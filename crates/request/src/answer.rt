@@ -1,14 +1,12 @@
-//! What a client is told.
+//! The answers to a client.
 
+ghost use Rattle.limits.specs.declared.TheConstants.{DIRECTORY_NAMES};
 ghost use Rattle.std.specs.Prelude.{◌≡◌, ◌<◌, ◌≤◌, ◌++◌, ◌∷◌, [], List, ℕ, length, vec_len, OnOk, OnErr};
 
 use crate::message::{Cause, FileData};
 use osta::Name;
 use std::alloc::{AllocError, Global};
 use std::marker::Model;
-
-/// The most names that a directory can have.
-pub const DIRECTORY_NAMES: usize = limits::DIRECTORY_NAMES as usize;
 
 /// How a committed request went.
 #[derive(Clone, Copy, Debug, PartialEq, Eq)]
@@ -28,7 +26,7 @@ pub enum Code {
     Root,
     /// A path would have more than 16 names.
     TooDeep,
-    /// The parent has 512 names.
+    /// The parent has as many names as a directory may have.
     DirectoryFull,
     /// The tree has 4,096 nodes.
     TooMany,
@@ -113,7 +111,7 @@ pub struct Listed {
     pub name: Name,
 }
 
-/// The names in a directory in their stored order, at most 512.
+/// The names in a directory in their stored order, at most `limits::DIRECTORY_NAMES`.
 #[derive(Debug, Drop)]
 pub struct Listing {
     names: Vec<Listed>,
@@ -153,7 +151,7 @@ impl Listing {
 
     /// Adds a name at the end, and leaves the listing as it was where there is no memory.
     pub fn push(&mut self, listed: Listed) -> Result<(), AllocError>
-        requires { length self.old < 512 }
+        requires { length self.old < DIRECTORY_NAMES }
         ensures ok { OnOk result (self.new ≡ self.old ++ listed ∷ []) }
         ensures err { OnErr result (self.new ≡ self.old) }
     {
@@ -174,7 +172,7 @@ pub struct NodeStatus {
     pub size: u64,
 }
 
-/// What a client is told.
+/// An answer to a client.
 #[derive(Debug, Drop)]
 pub enum Answer {
     /// The request is committed.

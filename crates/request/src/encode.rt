@@ -1,5 +1,6 @@
 //! Writing answers as frames.
 
+ghost use Rattle.limits.specs.declared.TheConstants.{DIRECTORY_NAMES};
 ghost use Rattle.std.specs.Prelude.{◌≡◌, ◌≤◌, ◌<◌, ◌+◌, ◌*◌, ◌^◌, ◌++◌, length, OnOk, OnErr};
 ghost use Rattle.std.specs.Int.{w16, w32, w64, to_le_bytes};
 ghost use Rattle.std.specs.List.{flat_map};
@@ -81,7 +82,7 @@ fn body_len(answer: &Answer) -> usize
 
 fn names_len(listing: &Listing) -> usize
     ensures length { result ≡ length (flat_map listed_field listing.now) }
-    ensures few { result ≤ 512 * 1023 }
+    ensures few { result ≤ DIRECTORY_NAMES * 1023 }
 {
     let mut total = 0;
     for listed in listing.names() {

@@ -108,7 +108,7 @@ impl Frames {
     }
 
     /// The next message, once its frame is whole: it is read where it is held, and stays so until `skip`. A frame that is
-    /// longer than any payload is told of as soon as its length is there.
+    /// longer than any payload is reported as soon as its length is there.
     #[tactic(auto, using(crate::proofs::FrameLaws::is_first))]
     pub fn first(&self) -> Option<Message<'_>>
         ensures some { IfSome result (IsFirstMessage self.now) }

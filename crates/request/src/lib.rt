@@ -21,12 +21,11 @@ mod message;
 mod path;
 mod payload;
 
-pub use answer::{Answer, Code, DIRECTORY_NAMES, Listed, Listing, NodeKind, NodeStatus, Reply};
+pub use answer::{Answer, Code, Listed, Listing, NodeKind, NodeStatus, Reply};
 pub use encode::encode_answer;
 pub use frames::{FeedFault, Frames, PAYLOAD_BYTES};
 pub use laws::{feeding_goes_on, no_answer_begins_another, one_reading, taking_goes_on};
-pub use message::{
-    Cause, FILE_BYTES, FileData, FileSlice, MOMENT_LIMIT, Message, Op, Query, Request,
-};
-pub use path::{MESSAGE_PATH_NAMES, Path, PathFault};
+pub use limits::DIRECTORY_NAMES;
+pub use message::{Cause, FileData, FileSlice, Message, Op, Query, Request};
+pub use path::{Path, PathFault};
 pub use payload::read_payload;

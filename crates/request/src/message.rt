@@ -6,13 +6,7 @@ use crate::path::Path;
 use std::alloc::{AllocError, Global};
 use std::marker::Model;
 
-/// The most bytes that a file can have.
-pub const FILE_BYTES: usize = limits::FILE_BYTES as usize;
-
-/// The first moment that has no timestamp, in microseconds from 1970-01-01 UTC.
-pub const MOMENT_LIMIT: u64 = limits::MOMENT_LIMIT;
-
-/// The bytes of a file, at most 1,048,576.
+/// The bytes of a file, at most `limits::FILE_BYTES`.
 #[derive(Debug, Drop)]
 pub struct FileData {
     bytes: Vec<u8>,
@@ -91,7 +85,7 @@ pub enum Op<'a> {
     Remove { path: Path },
 }
 
-/// A change that a client asks for. A client counts its requests from 1 on. It stands as long as its payload does.
+/// A change that a client asks for. A client counts its requests from 1 on. It lives as long as its payload.
 #[derive(Debug, Drop)]
 pub struct Request<'a> {
     pub client: u64,

@@ -6,14 +6,12 @@ ghost use Rattle.std.specs.List.{slice_split};
 ghost use Rattle.request.specs.Path.{IsPath, path_text};
 ghost use Rattle.request.specs.PathFault.{path_fault_of};
 
+use limits::MESSAGE_PATH_NAMES;
 use osta::{Name, NameFault};
 use std::alloc::{AllocError, Global};
 use std::marker::Model;
 
-/// The most names that a path can have in a message.
-pub const MESSAGE_PATH_NAMES: usize = limits::MESSAGE_PATH_NAMES as usize;
-
-/// The names from the root on, at most 255. The root itself has none.
+/// The names from the root on, at most [`MESSAGE_PATH_NAMES`]. The root itself has none.
 #[derive(Debug, Drop)]
 pub struct Path {
     names: Vec<Name>,
@@ -73,7 +71,7 @@ impl Path {
 
     /// Adds a name at the end, and leaves the path as it was where there is no memory.
     pub(crate) fn push(&mut self, name: Name) -> Result<(), AllocError>
-        requires { length self.old < 255 }
+        requires { length self.old < MESSAGE_PATH_NAMES }
         ensures ok { OnOk result (self.new ≡ self.old ++ name ∷ []) }
         ensures err { OnErr result (self.new ≡ self.old) }
     {

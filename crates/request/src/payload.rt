@@ -8,8 +8,9 @@ ghost use Rattle.request.specs.Reading.{Gives, Fails, number_at, client_at, numb
 ghost use Rattle.request.specs.Payload.{DecodesPayload, IsSpelled, told_by, request_said};
 ghost use Rattle.request.specs.declared.payload.ReadError.TheVariants.{Memory};
 
-use crate::message::{Cause, FILE_BYTES, FileSlice, MOMENT_LIMIT, Message, Op, Query, Request};
-use crate::path::{MESSAGE_PATH_NAMES, Path};
+use crate::message::{Cause, FileSlice, Message, Op, Query, Request};
+use crate::path::Path;
+use limits::{FILE_BYTES, MOMENT_LIMIT};
 use osta::{Name, NameFault};
 use std::alloc::{AllocError, AllocFailed, Global};
 
@@ -195,7 +196,7 @@ fn number_of(bytes: &[u8]) -> Result<(u64, &[u8]), ReadError>
 #[tactic(auto, unfolding(crate::specs::Reading::moment_at))]
 fn moment_of(bytes: &[u8]) -> Result<(u64, &[u8]), ReadError>
     ensures exact { Gives (λ x. (x.0, x.1.now)) result (moment_at bytes.now) }
-    ensures in_range { IfOk result (λ x. x.0 < 4102444800000000) }
+    ensures in_range { IfOk result (λ x. x.0 < MOMENT_LIMIT) }
 {
     let (moment, rest) = u64_of(bytes)?;
     if moment >= MOMENT_LIMIT {

@@ -29,7 +29,7 @@ pub fn pieces_are_planned()
 {}
 
 /// Where a plan is written whole its request is committed, and where a prefix of it is, the request is committed or not:
-/// what stands at each prefix follows.
+/// to what each prefix recovers follows.
 pub fn commits_are_planned()
     ensures whole { CommitsAreWhole }
     ensures part { CommitsArePart }

@@ -12,12 +12,10 @@ ghost use Rattle.vat.specs.declared.record.Record.{Record};
 ghost use Rattle.vat.specs.Table.{FitsTable, view};
 
 use dir::Kind;
-use recover::{PARTITION_START, ROOT_ADDRESS, StoreFault};
+use limits::{ADDRESSES, PARTITION_START};
+use recover::{ROOT_ADDRESS, StoreFault};
 use std::alloc::Global;
 use vat::{Record, Replies, Reply, Sessions, Vat, Version};
-
-/// The most virtual addresses of a table.
-const MOST_ADDRESSES: usize = limits::ADDRESSES as usize;
 
 /// A copy of a table.
 pub fn copied(alloc: Global, vat: &Vat) -> Result<Vat, StoreFault>
@@ -143,7 +141,7 @@ fn take_entry(entries: &mut Vec<Option<u32>>, address: u32, number: u32) -> Resu
         entries[place] = Some(number);
         return Ok(true);
     }
-    if place > entries.len() || place >= MOST_ADDRESSES {
+    if place > entries.len() || place >= ADDRESSES {
         return Ok(false);
     }
     entries.push(Some(number))?;

@@ -10,7 +10,8 @@ use Rattle.durability.proofs.Mediums.{none_from, none_take_at}
 use Rattle.durability.proofs.Packed.{length-packed}
 use Rattle.icb.specs.declared.entry.Kind.{Kind as IcbKind}
 use Rattle.icb.specs.declared.entry.Kind.TheVariants as icb_kinds
-use Rattle.icb.specs.Entry.{Place as IcbPlace, Fields as IcbFields, IsEntry, block_count}
+use Rattle.ecma.specs.Blocks.{block_count}
+use Rattle.icb.specs.Entry.{Place as IcbPlace, Fields as IcbFields, IsEntry}
 use Rattle.icb.specs.Entry.Place.{Nowhere as IcbNowhere, Extent as IcbExtent, Inside as IcbInside}
 use Rattle.icb.specs.VatIcb.{IsVatIcb}
 use Rattle.icb.proofs.EntryLaws.{same_fields}

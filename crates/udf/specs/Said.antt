@@ -10,7 +10,8 @@ use Rattle.durability.specs.Volume.{partition_start, blocks_for, IsVatIcbAt}
 use Rattle.durability.specs.Plan.{packed, IsClearStart}
 use Rattle.icb.specs.declared.entry.Kind.{Kind as IcbKind}
 use Rattle.icb.specs.declared.entry.Kind.TheVariants as icb_kinds
-use Rattle.icb.specs.Entry.{Place as IcbPlace, Fields as IcbFields, IsEntry, block_count}
+use Rattle.ecma.specs.Blocks.{block_count}
+use Rattle.icb.specs.Entry.{Place as IcbPlace, Fields as IcbFields, IsEntry}
 use Rattle.icb.specs.Entry.Place.{Nowhere as IcbNowhere, Extent as IcbExtent, Inside as IcbInside}
 use Rattle.icb.specs.VatIcb.{IsVatIcb}
 use Rattle.dir.specs.declared.entry.Entry.{Entry as DirEntry}

@@ -42,7 +42,7 @@ pub fn formats_are_short()
     ensures { AreShort udf spelled }
 {}
 
-/// What the codecs read stands there by these formats, in the words of the medium.
+/// What the codecs read is what the blocks hold by these formats, in the words of the medium.
 pub fn codecs_agree()
     ensures entries { EntriesAgree }
     ensures directories { DirectoriesAgree }
@@ -57,20 +57,20 @@ pub fn imitation_agrees()
     ensures clear { ClearStartsAgree }
 {}
 
-/// At most one state stands on a medium, and it is sound.
+/// A medium recovers to at most one state, and it is sound.
 pub fn one_state_stands()
     ensures one { OneStateIsRecovered }
     ensures sound { RecoveredIsSound }
 {}
 
-/// At most one state stood after a number of commits; the one that stands is the last of them.
+/// After a number of commits there was at most one state; the one to which the medium recovers is the last of them.
 pub fn one_state_stood()
     ensures one { OnePast }
     ensures within { PastIsWithin }
     ensures last { RecoveredIsLast }
 {}
 
-/// Blocks of which none imitates a VAT ICB change neither what stands nor what stood.
+/// Blocks of which none imitates a VAT ICB change neither the state to which a medium recovers nor those before it.
 pub fn blocks_are_appended()
     ensures recovers { RecoversAppended }
     ensures past { PastAppended }
@@ -82,13 +82,13 @@ pub fn planned_blocks_carry()
     ensures short { PlannedShort }
 {}
 
-/// At each prefix of a commit on a drive's journal the old state stands, and the state after the request with its last
-/// block alone.
+/// Each prefix of a commit on a drive's journal recovers to the old state, and to the state after the request with its
+/// last block alone.
 pub fn commits_advance()
     ensures { CommitAdvances }
 {}
 
-/// The new volume stands with the last block of a format, and nothing does before.
+/// A medium recovers to the new volume with the last block of a format, and to nothing before.
 pub fn formats_stand()
     ensures before { NothingBefore }
     ensures recovers { FormatRecovers }
@@ -99,7 +99,7 @@ pub fn new_volumes_are_formats()
     ensures { NewVolumesAreFormats }
 {}
 
-/// A run leaves at each of its fronts, on a medium and on a drive's journal, the state after the first of its commits.
+/// Each prefix of a run leaves, on a medium and on a drive's journal, the state after the first of its commits.
 pub fn runs_hold()
     ensures medium { RunsHold }
     ensures journal { RunsHoldOnJournal }
@@ -113,8 +113,8 @@ pub fn torn_images_are_left()
     ensures choices { ChoicesAreLeft }
 {}
 
-/// Where a commit's last block goes out alone after all others, the old state stands whatever is left of the others, and
-/// the state after the request with the last block alone.
+/// Where a commit's last block goes out alone after all others, the medium recovers to the old state whatever is left of
+/// the others, and to the state after the request with the last block alone.
 pub fn torn_commits_move()
     ensures part { TornPartIsAlike }
     ensures last { LastBlockDecides }
@@ -124,14 +124,15 @@ pub fn torn_commits_move()
 {}
 
 /// At any moment of commits in turn those that were answered are there. After any number of power losses, with
-/// commits between them, the state after the whole ones stands, and no other. A run's laws hold with power losses in it.
+/// commits between them, the medium recovers to the state after the whole ones, and to no other. A run's laws hold with
+/// power losses in it.
 pub fn commits_endure()
     ensures answered { AnsweredEndure }
     ensures turns { CommitsEndure }
     ensures runs { TornCommitRuns }
 {}
 
-/// So of a format whose last block goes out alone: nothing stands, or the new volume does.
+/// So of a format whose last block goes out alone: the medium recovers to nothing, or to the new volume.
 pub fn torn_formats_stand()
     ensures part { TornFormatIsNothing }
     ensures recovers { TornFormatRecovers }

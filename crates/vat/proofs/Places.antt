@@ -6,7 +6,7 @@ use Rattle.std.proofs.lemmas.List.{get_or_append_left, drop-replicate, take_all}
 use Rattle.ecma.specs.Numbers.{u32_at}
 use Rattle.ecma.specs.Descriptor.{padded}
 use Rattle.ecma.proofs.Seals.{located}
-use Rattle.icb.specs.Entry.{block_count}
+use Rattle.ecma.specs.Blocks.{block_count}
 use Rattle.icb.specs.VatIcb.{IsVatIcb}
 use Rattle.vat.specs.Imitation.{Imitates, data_block}
 

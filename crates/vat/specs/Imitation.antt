@@ -2,7 +2,7 @@
 use Rattle.std.specs.Prelude.{ℕ, ◌+◌, ◌*◌, ◌<◌, List, length, take, drop}
 use Rattle.limits.specs.declared.TheConstants.{BLOCK_BYTES}
 use Rattle.ecma.specs.Descriptor.{padded}
-use Rattle.icb.specs.Entry.{block_count}
+use Rattle.ecma.specs.Blocks.{block_count}
 use Rattle.icb.specs.VatIcb.{IsVatIcb}
 
 -- a block of the data, the last one with zeros after it

@@ -1,6 +1,6 @@
 -- What holds of tables, each the contract of a public function.
 use Rattle.std.specs.Prelude.{◌≡◌, ℕ, ◌+◌, ◌*◌, ◌≤◌, List, length}
-use Rattle.limits.specs.declared.TheConstants.{ADDRESSES}
+use Rattle.limits.specs.declared.TheConstants.{ADDRESSES, ADDRESS_BYTES, TABLE_HEAD_BYTES}
 use Rattle.vat.specs.Version.{record_size}
 use Rattle.vat.specs.Table.{Table, FitsTable, IsTable, IsTableAt}
 
@@ -12,9 +12,9 @@ OneTable = (icb other : ℕ) (t u : Table) (bytes : List ℕ) → IsTableAt icb 
 abbrev pub NodesHaveEntries : Type 0
 NodesHaveEntries = (t : Table) → FitsTable t → (1 + (t.files + t.directories) ≤ length t.entries) × (length t.entries ≤ ADDRESSES)
 
--- how many bytes a table takes: 48 for a record in version 2
+-- how many bytes a table takes
 abbrev pub TakesSoMany : Type 0
-TakesSoMany = (t : Table) (bytes : List ℕ) → IsTable t bytes → length bytes ≡ 196 + (record_size t.version * length t.records + 4 * length t.entries)
+TakesSoMany = (t : Table) (bytes : List ℕ) → IsTable t bytes → length bytes ≡ TABLE_HEAD_BYTES + (record_size t.version * length t.records + ADDRESS_BYTES * length t.entries)
 
 -- a table that stands stands for every later entry too
 abbrev pub IsValidLater : Type 0

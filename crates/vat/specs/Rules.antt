@@ -2,7 +2,7 @@
 use Rattle.std.specs.Prelude.{◌≡◌, ◌≢◌, ℕ, ◌+◌, ◌-◌, ◌*◌, ◌%◌, ◌<◌, ◌≤◌, ◌==◌, ◌⊎◌, not, List, [], ◌∷◌, length, take, drop, map, codes, replicate, slice_index, IsSome, unwrap_or, count_by}
 use Rattle.std.specs.Int.{w16, to_le_bytes}
 use Rattle.std.specs.List.{concat, flat_map, AllByRecursion}
-use Rattle.limits.specs.declared.TheConstants.{ADDRESSES, CLIENTS, FIRST_UNIQUE}
+use Rattle.limits.specs.declared.TheConstants.{ADDRESSES, CLIENTS, FIRST_UNIQUE, TABLE_HEAD_BYTES}
 use Rattle.ecma.specs.Field.{IsAt}
 use Rattle.ecma.specs.Numbers.{u16_at, u32_at, u64_at}
 use Rattle.osta.specs.Label.{IsLabelDstring}
@@ -46,7 +46,7 @@ abbrev pub numbers_at : List ℕ → List ℕ
 numbers_at bytes = words (drop (u16_at 0 bytes) bytes)
 
 pub record HasHeader (icb : ℕ) (bytes : List ℕ) : Type 0 where
-  pub long : 196 ≤ length bytes
+  pub long : TABLE_HEAD_BYTES ≤ length bytes
   pub header : u16_at 0 bytes ≡ 152 + u16_at 2 bytes
   pub records : u16_at 2 bytes ≡ 44 + record_size_at bytes * count_at bytes
   pub whole : u16_at 0 bytes ≤ length bytes
@@ -71,7 +71,7 @@ reply_at at text = record { code = u16_at at text; commit = u32_at (at + 4) text
 
 -- where the bytes of a record begin
 abbrev pub record_place : List ℕ → ℕ → ℕ
-record_place bytes i = 196 + record_size_at bytes * i
+record_place bytes i = TABLE_HEAD_BYTES + record_size_at bytes * i
 
 abbrev pub record_text : List ℕ → ℕ → List ℕ
 record_text bytes i = take (record_size_at bytes) (drop (record_place bytes i) bytes)
@@ -121,7 +121,7 @@ table_rules icb bytes =
 pub record SaysRecords (records : List Record) (bytes : List ℕ) : Type 0 where
   pub count : length records ≡ count_at bytes
   pub kept : AllByRecursion (IsKept (version_at bytes) (commits_at bytes)) records
-  pub whole : flat_map (record_bytes (version_at bytes)) records ≡ take (record_size_at bytes * count_at bytes) (drop 196 bytes)
+  pub whole : flat_map (record_bytes (version_at bytes)) records ≡ take (record_size_at bytes * count_at bytes) (drop TABLE_HEAD_BYTES bytes)
 
 -- what the bytes say
 pub record DescribesTable (t : Table) (bytes : List ℕ) : Type 0 where

@@ -1,3 +1,4 @@
+ghost use Rattle.limits.specs.declared.TheConstants.{TABLE_HEAD_BYTES};
 ghost use Rattle.std.specs.Prelude.{◌≡◌, ◌≤◌, ◌+◌, ◌*◌, ◌/◌, ◌⊎◌, ℕ, IfErr, IfOk, OnOk, MatchResult, length, map};
 ghost use Rattle.ecma.specs.FirstFault.{IsFirst, AllHold};
 ghost use Rattle.ecma.specs.Numbers as numbers;
@@ -8,6 +9,7 @@ ghost use Rattle.vat.specs.Rules.{table_rules, HasLabel, HasRecords, DescribesTa
 
 use crate::encode::UNUSED;
 use crate::fault::VatFault;
+use crate::offsets::{COMMITS, DIRECTORIES, FILES, NEXT_UNIQUE, PREVIOUS};
 use crate::record::Record;
 use crate::rules::{
     entry_text, has_clients, has_counts, has_entries, has_header, has_label, has_records,
@@ -18,13 +20,13 @@ use ecma::u32_at;
 use osta::Label;
 use std::alloc::{AllocError, Global};
 
-/// The table that the bytes spell, whose entry stands at block number `icb`.
+/// The table that the bytes spell, whose VAT ICB has block number `icb`.
 pub fn decode_vat(alloc: Global, bytes: &[u8], icb: u32) -> Result<Vat, VatFault>
-    // What is read stands there.
+    // What is read is the table of these bytes.
     ensures found { IfOk result (λ vat. IsTableAt icb (view vat) bytes.now) }
-    // What stands there is read, where there is memory for it.
+    // A table is read, where there is memory for it.
     ensures only { (t : Table) → IsTableAt icb t bytes.now → MatchResult result (λ vat. view vat ≡ t) (λ e. e ≡ VatFault.Memory) }
-    // A fault is the first, and lack of memory is told only where there is none.
+    // A fault is the first, and lack of memory is reported only where there is none.
     ensures fault { IfErr result (λ e. IsFirst (table_rules icb bytes.now) e ⊎ ((e ≡ VatFault.Memory) × AllHold (table_rules icb bytes.now))) }
 {
     examine(bytes, icb)?;
@@ -62,9 +64,9 @@ fn examine(bytes: &[u8], icb: u32) -> Result<(), VatFault>
 
 /// The table, from bytes that keep the rules.
 fn read(alloc: Global, bytes: &[u8]) -> Result<Vat, AllocError>
-    requires long { 196 ≤ length bytes.now }
+    requires long { TABLE_HEAD_BYTES ≤ length bytes.now }
     requires header { numbers.u16_at 0 bytes.now ≤ length bytes.now }
-    requires whole { 196 + rule.record_size_at bytes.now * rule.count_at bytes.now ≤ length bytes.now }
+    requires whole { TABLE_HEAD_BYTES + rule.record_size_at bytes.now * rule.count_at bytes.now ≤ length bytes.now }
     requires label { HasLabel bytes.now }
     requires kept { HasRecords bytes.now }
     ensures { IfOk result (λ vat. DescribesTable (view vat) bytes.now) }
@@ -74,13 +76,13 @@ fn read(alloc: Global, bytes: &[u8]) -> Result<Vat, AllocError>
     let entries = read_entries(alloc, entry_text(bytes))?;
     Ok(Vat {
         label,
-        previous: entry(u32_at(bytes, 132)),
-        files: u32_at(bytes, 136),
-        directories: u32_at(bytes, 140),
+        previous: entry(u32_at(bytes, PREVIOUS)),
+        files: u32_at(bytes, FILES),
+        directories: u32_at(bytes, DIRECTORIES),
         sessions: Sessions {
             version: version(bytes),
-            next_unique: u32_at(bytes, 188),
-            commits: u32_at(bytes, 192),
+            next_unique: u32_at(bytes, NEXT_UNIQUE),
+            commits: u32_at(bytes, COMMITS),
             records,
         },
         entries,
@@ -96,13 +98,13 @@ fn entry(number: u32) -> Option<u32>
 
 /// The records of the clients.
 fn read_records(alloc: Global, bytes: &[u8]) -> Result<Vec<Record>, AllocError>
-    requires long { 196 ≤ length bytes.now }
-    requires whole { 196 + rule.record_size_at bytes.now * rule.count_at bytes.now ≤ length bytes.now }
+    requires long { TABLE_HEAD_BYTES ≤ length bytes.now }
+    requires whole { TABLE_HEAD_BYTES + rule.record_size_at bytes.now * rule.count_at bytes.now ≤ length bytes.now }
     requires kept { HasRecords bytes.now }
     ensures { IfOk result (λ records. SaysRecords records.items bytes.now) }
 {
     let version = version(bytes);
-    let commits = u32_at(bytes, 192);
+    let commits = u32_at(bytes, COMMITS);
     let count = record_count(bytes);
     let mut records = Vec::with_capacity(alloc, count)?;
     for i in 0..count {

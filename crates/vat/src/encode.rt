@@ -1,4 +1,4 @@
-ghost use Rattle.limits.specs.declared.TheConstants.{ADDRESSES};
+ghost use Rattle.limits.specs.declared.TheConstants.{ADDRESSES, CLIENTS};
 ghost use Rattle.std.specs.Prelude.{◌≡◌, ◌*◌, ◌≤◌, ◌++◌, length, All, IfOk, OnOk};
 ghost use Rattle.std.specs.List.{flat_map};
 ghost use Rattle.vat.specs.Table.{view, FitsTable, head_bytes, table_bytes};
@@ -6,17 +6,13 @@ ghost use Rattle.vat.specs.Record as spec;
 ghost use Rattle.vat.specs.Record.{HasRoom};
 ghost use Rattle.vat.specs.Entry.{entry_number, entry_bytes};
 
+use crate::offsets::IMPLEMENTATION_USE;
 use crate::record::Record;
 use crate::table::{Vat, Version};
 use byteorder::{ByteOrder, LittleEndian};
 use ecma::{Field, write_fields};
+use limits::{RECORD_BYTES, TABLE_HEAD_BYTES};
 use std::alloc::{AllocError, Global};
-
-/// The bytes before the implementation use.
-pub(crate) const HEADER_SIZE: usize = 152;
-
-/// The bytes before the first record.
-pub(crate) const RECORDS_AT: usize = limits::TABLE_HEAD_BYTES as usize;
 
 /// The number in the place of a virtual address that is unused, and of an entry before the first.
 pub(crate) const UNUSED: u32 = u32::MAX;
@@ -33,7 +29,7 @@ pub fn encode_vat(alloc: Global, vat: &Vat) -> Result<Vec<u8>, AllocError>
     ensures { IfOk result (λ bytes. bytes.items ≡ table_bytes (view vat.now)) }
 {
     let sessions = &vat.sessions;
-    let size = RECORDS_AT
+    let size = TABLE_HEAD_BYTES
         + sessions.version.record_size() * sessions.records.len()
         + 4 * vat.entries.len();
     let mut out = Vec::with_capacity(alloc, size)?;
@@ -86,8 +82,8 @@ fn number_of(entry: Option<u32>) -> u32
 }
 
 /// What stands before the records.
-fn head(vat: &Vat) -> [u8; RECORDS_AT]
-    requires { length vat.now.sessions.records.items ≤ 64 }
+fn head(vat: &Vat) -> [u8; TABLE_HEAD_BYTES]
+    requires { length vat.now.sessions.records.items ≤ CLIENTS }
     ensures { result ≡ head_bytes (view vat.now) }
 {
     let sessions = &vat.sessions;
@@ -95,10 +91,10 @@ fn head(vat: &Vat) -> [u8; RECORDS_AT]
     let record_size = sessions.version.record_size() as u16;
     let implementation_use = 44 + record_size * count;
     let label = vat.label.dstring_128();
-    let mut head = [0; RECORDS_AT];
+    let mut head = [0; TABLE_HEAD_BYTES];
     write_fields(
         &[
-            Field::U16(152 + implementation_use), // 0 length of header
+            Field::U16(IMPLEMENTATION_USE as u16 + implementation_use), // 0 length of header
             Field::U16(implementation_use), // 2 length of implementation use
             Field::Bytes(&label), // 4 logical volume identifier
             Field::U32(number_of(vat.previous)), // 132 previous VAT ICB location
@@ -121,11 +117,11 @@ fn head(vat: &Vat) -> [u8; RECORDS_AT]
 }
 
 /// A record in version 2. Where it keeps one reply, version 1 has the first 24 bytes.
-pub(crate) fn record_bytes(kept: &Record) -> [u8; 48]
+pub(crate) fn record_bytes(kept: &Record) -> [u8; RECORD_BYTES]
     ensures { result ≡ spec.record_bytes Version.Two kept.now }
 {
     let [first, second, third, fourth] = kept.replies.places();
-    let mut bytes = [0; 48];
+    let mut bytes = [0; RECORD_BYTES];
     write_fields(
         &[
             Field::U64(kept.client), // 0 client

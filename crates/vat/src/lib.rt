@@ -1,8 +1,8 @@
 //! The virtual allocation table of a write-once volume (UDF 2.01 2.2.10), the sessions that it keeps in
 //! its implementation use, and places for data.
 //!
-//! Promised: a table has one spelling, `encode_vat` writes it and `decode_vat` reads exactly it, else it
-//! tells the first fault; `is_vat_icb` knows a VAT ICB by its whole descriptor, its location
+//! Promised: a table has one spelling, `encode_vat` writes it and `decode_vat` reads exactly it, and otherwise
+//! reports the first fault; `is_vat_icb` knows a VAT ICB by its whole descriptor, its location
 //! and its check among it; `clear_start` gives the least start from which data shows no such entry.
 //!
 //! Left to others: that a table agrees with the tree that it leads to, the chain of earlier tables, and
@@ -13,6 +13,7 @@ mod decode;
 mod encode;
 mod fault;
 mod laws;
+mod offsets;
 mod place;
 mod record;
 mod rules;
@@ -23,5 +24,5 @@ pub use encode::encode_vat;
 pub use fault::VatFault;
 pub use laws::tables;
 pub use place::{clear_start, is_vat_icb};
-pub use record::{KEPT_REPLIES, Record, Replies, Reply};
+pub use record::{Record, Replies, Reply};
 pub use table::{Sessions, Vat, Version};

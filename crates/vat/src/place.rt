@@ -1,18 +1,17 @@
 //! Where data may stand: where none of its blocks looks like a VAT ICB.
 
-ghost use Rattle.limits.specs.declared.TheConstants.{BLOCK_BYTES, PARTITION_BLOCKS};
+ghost use Rattle.limits.specs.declared.TheConstants.{BLOCK_BYTES, FILE_BYTES, PARTITION_BLOCKS};
 ghost use Rattle.std.specs.Prelude.{◌≡◌, ℕ, ◌+◌, ◌*◌, ◌<◌, ◌≤◌, ◌↔◌, length, take, drop, IsTrue};
 ghost use Rattle.ecma.specs.Descriptor.{padded};
-ghost use Rattle.icb.specs.Entry.{block_count};
+ghost use Rattle.ecma.specs.Blocks.{block_count};
 ghost use Rattle.icb.specs.VatIcb.{IsVatIcb};
 ghost use Rattle.vat.specs.Imitation.{Imitates};
 
 use ecma::{Block, u32_at};
 use icb::{Kind, decode_fe};
+use limits::BLOCK_SIZE;
 
-const BLOCK_SIZE: usize = limits::BLOCK_BYTES as usize;
-
-/// Where a descriptor's tag tells its location (ECMA-167 4/7.2.8).
+/// Where a descriptor's tag has its location (ECMA-167 4/7.2.8).
 const LOCATION: usize = 12;
 
 /// Whether the block is the entry of a virtual allocation table for this block number.
@@ -28,7 +27,7 @@ pub fn is_vat_icb(block: &Block, number: u32) -> bool
 /// The least block number from `from` on at which the data can begin, so that no block of it, the last one
 /// filled up with zeros, is the entry of a virtual allocation table for the number at which it would stand.
 pub fn clear_start(bytes: &[u8], from: u32) -> u32
-    requires size { length bytes.now ≤ 1_048_576 }
+    requires size { length bytes.now ≤ FILE_BYTES }
     requires place { from ≤ PARTITION_BLOCKS }
     ensures low { from ≤ result }
     ensures high { result ≤ from + block_count (length bytes.now) }
@@ -46,7 +45,7 @@ pub fn clear_start(bytes: &[u8], from: u32) -> u32
 
 /// Whether some block of data that begins there is a VAT ICB.
 fn imitates(bytes: &[u8], start: u32) -> bool
-    requires size { length bytes.now ≤ 1_048_576 }
+    requires size { length bytes.now ≤ FILE_BYTES }
     requires place { start ≤ 1_000_000 }
     ensures { IsTrue result ↔ Imitates bytes.now start }
 {

@@ -3,10 +3,8 @@
 ghost use Rattle.std.specs.Prelude.{◌≡◌, ◌+◌, ◌-◌, ◌<◌, ◌≤◌, List, ◌∷◌, [], ◌++◌, length, take, drop, replicate, slice_get, Some, IfSome, IfNone, slice_index};
 ghost use Rattle.vat.specs.Reply as spec;
 
+use limits::KEPT_REPLIES;
 use std::marker::Model;
-
-/// How many replies a record keeps at most.
-pub const KEPT_REPLIES: usize = limits::KEPT_REPLIES as usize;
 
 /// What a request was answered.
 #[derive(Clone, Copy, Debug, PartialEq, Eq)]
@@ -81,7 +79,7 @@ impl Replies {
 
     /// The replies in four places, with zeros where none is kept.
     pub(crate) fn places(&self) -> [Reply; KEPT_REPLIES]
-        ensures { result ≡ spec.filled 4 self.now }
+        ensures { result ≡ spec.filled KEPT_REPLIES self.now }
     {
         self.kept
     }

@@ -12,46 +12,42 @@ ghost use Rattle.vat.specs.Entry.{words};
 ghost use Rattle.vat.specs.Rules as rule;
 ghost use Rattle.vat.specs.Rules.{HasHeader, HasLabel, HasRevisions, HasRecords, HasClients, HasEntries, HasCounts};
 
-use crate::encode::{RECORDS_AT, REVISION, SESSIONS, UNUSED, record_bytes};
+use crate::encode::{REVISION, SESSIONS, UNUSED, record_bytes};
+use crate::offsets::{
+    COMMITS, DIRECTORIES, FILES, IMPLEMENTATION_USE, LABEL, NEXT_UNIQUE, PREVIOUS, RECORD_COUNT,
+    RESERVED, REVISIONS, VERSION,
+};
 use crate::record::{Record, Replies, Reply};
 use crate::table::Version;
 use ecma::{Field, are_fields_at, u16_at, u32_at, u64_at};
+use limits::{ADDRESSES, CLIENTS, FIRST_UNIQUE, TABLE_HEAD_BYTES};
 use osta::Label;
-
-/// How many clients are kept at most.
-const CLIENTS: u16 = limits::CLIENTS;
-
-/// How many virtual addresses there are at most.
-const ENTRIES: usize = limits::ADDRESSES as usize;
-
-/// The first unique ID of a node that is not the root.
-const FIRST_UNIQUE: u32 = limits::FIRST_UNIQUE;
 
 /// The version of the sessions. Lengths of a version that is unknown are computed as those of the first.
 pub(crate) fn version(bytes: &[u8]) -> Version
-    requires { 196 ≤ length bytes.now }
+    requires { TABLE_HEAD_BYTES ≤ length bytes.now }
     ensures { result ≡ rule.version_at bytes.now }
 {
-    Version::read(u16_at(bytes, 184)).unwrap_or(Version::One)
+    Version::read(u16_at(bytes, VERSION)).unwrap_or(Version::One)
 }
 
 /// How many records there are.
 pub(crate) fn record_count(bytes: &[u8]) -> usize
-    requires { 196 ≤ length bytes.now }
+    requires { TABLE_HEAD_BYTES ≤ length bytes.now }
     ensures { result ≡ rule.count_at bytes.now }
 {
-    usize::from(u16_at(bytes, 186))
+    usize::from(u16_at(bytes, RECORD_COUNT))
 }
 
 pub(crate) fn has_header(bytes: &[u8], icb: u32) -> bool
     ensures { IsTrue result ↔ HasHeader icb bytes.now }
 {
-    if bytes.len() < RECORDS_AT {
+    if bytes.len() < TABLE_HEAD_BYTES {
         return false;
     }
     let header = usize::from(u16_at(bytes, 0));
     let implementation_use = usize::from(u16_at(bytes, 2));
-    if header != 152 + implementation_use {
+    if header != IMPLEMENTATION_USE + implementation_use {
         return false;
     }
     if implementation_use != 44 + version(bytes).record_size() * record_count(bytes) {
@@ -63,11 +59,11 @@ pub(crate) fn has_header(bytes: &[u8], icb: u32) -> bool
     if (bytes.len() - header) % 4 != 0 {
         return false;
     }
-    if u16_at(bytes, 150) != 0 {
+    if u16_at(bytes, RESERVED) != 0 {
         return false;
     }
-    let previous = u32_at(bytes, 132);
-    if u32_at(bytes, 192) == 0 {
+    let previous = u32_at(bytes, PREVIOUS);
+    if u32_at(bytes, COMMITS) == 0 {
         return previous == UNUSED;
     }
     previous < icb
@@ -75,23 +71,23 @@ pub(crate) fn has_header(bytes: &[u8], icb: u32) -> bool
 
 /// The bytes of the label.
 pub(crate) fn label_field(bytes: &[u8]) -> &[u8]
-    requires { 196 ≤ length bytes.now }
+    requires { TABLE_HEAD_BYTES ≤ length bytes.now }
     ensures { result.now ≡ rule.label_field bytes.now }
 {
-    let (_, rest) = bytes.split_at(4);
+    let (_, rest) = bytes.split_at(LABEL);
     let (field, _) = rest.split_at(128);
     field
 }
 
 pub(crate) fn has_label(bytes: &[u8]) -> bool
-    requires { 196 ≤ length bytes.now }
+    requires { TABLE_HEAD_BYTES ≤ length bytes.now }
     ensures { IsTrue result ↔ HasLabel bytes.now }
 {
     Label::of(label_field(bytes)).is_some()
 }
 
 pub(crate) fn has_revisions(bytes: &[u8]) -> bool
-    requires { 196 ≤ length bytes.now }
+    requires { TABLE_HEAD_BYTES ≤ length bytes.now }
     ensures { IsTrue result ↔ HasRevisions bytes.now }
 {
     let revisions = [
@@ -99,18 +95,18 @@ pub(crate) fn has_revisions(bytes: &[u8]) -> bool
         Field::U16(REVISION),
         Field::U16(REVISION),
     ];
-    are_fields_at(&revisions, bytes, 144)
+    are_fields_at(&revisions, bytes, REVISIONS)
 }
 
 /// The bytes of a record.
 pub(crate) fn record_text(bytes: &[u8], i: usize) -> &[u8]
-    requires long { 196 ≤ length bytes.now }
+    requires long { TABLE_HEAD_BYTES ≤ length bytes.now }
     requires there { rule.record_place bytes.now i + rule.record_size_at bytes.now ≤ length bytes.now }
     ensures value { result.now ≡ rule.record_text bytes.now i }
     ensures size { length result.now ≡ rule.record_size_at bytes.now }
 {
     let size = version(bytes).record_size();
-    let (_, rest) = bytes.split_at(RECORDS_AT + size * i);
+    let (_, rest) = bytes.split_at(TABLE_HEAD_BYTES + size * i);
     let (text, _) = rest.split_at(size);
     text
 }
@@ -217,20 +213,24 @@ fn spells(version: Version, kept: &Record, text: &[u8]) -> bool
 }
 
 pub(crate) fn has_records(bytes: &[u8]) -> bool
-    requires long { 196 ≤ length bytes.now }
-    requires whole { 196 + rule.record_size_at bytes.now * rule.count_at bytes.now ≤ length bytes.now }
+    requires long { TABLE_HEAD_BYTES ≤ length bytes.now }
+    requires whole { TABLE_HEAD_BYTES + rule.record_size_at bytes.now * rule.count_at bytes.now ≤ length bytes.now }
     ensures { IsTrue result ↔ HasRecords bytes.now }
 {
-    if !are_fields_at(&[Field::Bytes(SESSIONS), Field::Zeros(14)], bytes, 152) {
+    if !are_fields_at(
+        &[Field::Bytes(SESSIONS), Field::Zeros(14)],
+        bytes,
+        IMPLEMENTATION_USE,
+    ) {
         return false;
     }
-    let Some(version) = Version::read(u16_at(bytes, 184)) else {
+    let Some(version) = Version::read(u16_at(bytes, VERSION)) else {
         return false;
     };
-    if u16_at(bytes, 186) > CLIENTS {
+    if record_count(bytes) > CLIENTS {
         return false;
     }
-    let commits = u32_at(bytes, 192);
+    let commits = u32_at(bytes, COMMITS);
     for i in 0..record_count(bytes) {
         if read_record(version, commits, record_text(bytes, i)).is_none() {
             return false;
@@ -241,16 +241,16 @@ pub(crate) fn has_records(bytes: &[u8]) -> bool
 
 /// The client of a record.
 fn client_at(bytes: &[u8], i: usize) -> u64
-    requires long { 196 ≤ length bytes.now }
+    requires long { TABLE_HEAD_BYTES ≤ length bytes.now }
     requires there { rule.record_place bytes.now i + rule.record_size_at bytes.now ≤ length bytes.now }
     ensures { result ≡ read.u64_at (rule.record_place bytes.now i) bytes.now }
 {
-    u64_at(bytes, RECORDS_AT + version(bytes).record_size() * i)
+    u64_at(bytes, TABLE_HEAD_BYTES + version(bytes).record_size() * i)
 }
 
 /// Whether the client of a record has none before it.
 fn is_new_client(bytes: &[u8], j: usize) -> bool
-    requires long { 196 ≤ length bytes.now }
+    requires long { TABLE_HEAD_BYTES ≤ length bytes.now }
     requires there { rule.record_place bytes.now j + rule.record_size_at bytes.now ≤ length bytes.now }
     ensures { IsTrue result ↔ ((i : ℕ) → i < j → read.u64_at (rule.record_place bytes.now i) bytes.now ≢ read.u64_at (rule.record_place bytes.now j) bytes.now) }
 {
@@ -264,8 +264,8 @@ fn is_new_client(bytes: &[u8], j: usize) -> bool
 }
 
 pub(crate) fn has_clients(bytes: &[u8]) -> bool
-    requires long { 196 ≤ length bytes.now }
-    requires whole { 196 + rule.record_size_at bytes.now * rule.count_at bytes.now ≤ length bytes.now }
+    requires long { TABLE_HEAD_BYTES ≤ length bytes.now }
+    requires whole { TABLE_HEAD_BYTES + rule.record_size_at bytes.now * rule.count_at bytes.now ≤ length bytes.now }
     ensures { IsTrue result ↔ HasClients bytes.now }
 {
     for j in 0..record_count(bytes) {
@@ -278,7 +278,7 @@ pub(crate) fn has_clients(bytes: &[u8]) -> bool
 
 /// The bytes of the entries.
 pub(crate) fn entry_text(bytes: &[u8]) -> &[u8]
-    requires long { 196 ≤ length bytes.now }
+    requires long { TABLE_HEAD_BYTES ≤ length bytes.now }
     requires whole { read.u16_at 0 bytes.now ≤ length bytes.now }
     ensures { result.now ≡ drop (read.u16_at 0 bytes.now) bytes.now }
 {
@@ -287,7 +287,7 @@ pub(crate) fn entry_text(bytes: &[u8]) -> &[u8]
 }
 
 pub(crate) fn has_entries(bytes: &[u8], icb: u32) -> bool
-    requires long { 196 ≤ length bytes.now }
+    requires long { TABLE_HEAD_BYTES ≤ length bytes.now }
     requires whole { read.u16_at 0 bytes.now ≤ length bytes.now }
     ensures { IsTrue result ↔ HasEntries icb bytes.now }
 {
@@ -326,7 +326,7 @@ fn used(text: &[u8]) -> usize
 }
 
 pub(crate) fn has_counts(bytes: &[u8]) -> bool
-    requires long { 196 ≤ length bytes.now }
+    requires long { TABLE_HEAD_BYTES ≤ length bytes.now }
     requires whole { read.u16_at 0 bytes.now ≤ length bytes.now }
     ensures { IsTrue result ↔ HasCounts bytes.now }
 {
@@ -334,12 +334,12 @@ pub(crate) fn has_counts(bytes: &[u8]) -> bool
     if entries.len() / 4 < 2 {
         return false;
     }
-    if entries.len() / 4 > ENTRIES {
+    if entries.len() / 4 > ADDRESSES {
         return false;
     }
-    let nodes = u32_at(bytes, 136) as usize + u32_at(bytes, 140) as usize;
+    let nodes = u32_at(bytes, FILES) as usize + u32_at(bytes, DIRECTORIES) as usize;
     if used(entries) != 1 + nodes {
         return false;
     }
-    u32_at(bytes, 188) >= FIRST_UNIQUE
+    u32_at(bytes, NEXT_UNIQUE) >= FIRST_UNIQUE
 }

@@ -4,6 +4,7 @@ ghost use Rattle.std.specs.Prelude.{◌≡◌};
 ghost use Rattle.vat.specs.Version as spec;
 
 use crate::record::Record;
+use limits::{KEPT_REPLIES, RECORD_BYTES};
 use osta::Label;
 
 /// The version of the sessions, which gives the room for replies in a record.
@@ -41,7 +42,7 @@ impl Version {
     {
         match self {
             Version::One => 1,
-            Version::Two => 4,
+            Version::Two => KEPT_REPLIES,
         }
     }
 
@@ -51,7 +52,7 @@ impl Version {
     {
         match self {
             Version::One => 24,
-            Version::Two => limits::RECORD_BYTES as usize,
+            Version::Two => RECORD_BYTES,
         }
     }
 }

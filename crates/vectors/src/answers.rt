@@ -1,10 +1,10 @@
 //! Answers and their frames.
 
 use crate::trouble::Trouble;
+use limits::FILE_BYTES;
 use osta::Name;
 use request::{
-    Answer, Cause, Code, FILE_BYTES, FileData, Listed, Listing, NodeKind, NodeStatus, Reply,
-    encode_answer,
+    Answer, Cause, Code, FileData, Listed, Listing, NodeKind, NodeStatus, Reply, encode_answer,
 };
 use std::alloc::Global;
 use std::str;

@@ -3,9 +3,10 @@
 use crate::compare::{blocks_of, words_of};
 use crate::texts::show_text;
 use crate::trouble::Trouble;
-use dir::{DataSize, Dir, Entry, Kind, Lay, MAX_BLOCKS, MAX_NAMES, lay, read_dir};
+use dir::{DataSize, Dir, Entry, Kind, Lay, lay, read_dir};
 use ecma::{Block, crc};
 use indexmap::IndexMap;
+use limits::{BLOCK_SIZE, DIRECTORY_NAMES, PARTITION_BLOCKS};
 use osta::Name;
 use std::alloc::Global;
 use std::fmt::Write;
@@ -39,7 +40,10 @@ fn read(
     first: u32,
     size: u32,
 ) -> Result<Result<Dir, u8>, Trouble> {
-    if size == 0 || first > MAX_BLOCKS || blocks.len() != (size as usize + 2047) / 2048 {
+    if size == 0
+        || first > PARTITION_BLOCKS
+        || blocks.len() != (size as usize + BLOCK_SIZE - 1) / BLOCK_SIZE
+    {
         return Err(Trouble::Line("no data of a directory is so long"));
     }
     match read_dir(alloc, blocks, size, first) {
@@ -62,7 +66,7 @@ fn size_of(dir: &Dir) -> Option<u32> {
 
 /// Whether a directory is laid as these blocks, whole and block by block.
 fn lays(alloc: Global, dir: &Dir, first: u32, blocks: &[Block]) -> Result<bool, Trouble> {
-    if dir.entries.len() > MAX_NAMES || first > MAX_BLOCKS {
+    if dir.entries.len() > DIRECTORY_NAMES || first > PARTITION_BLOCKS {
         return Ok(false);
     }
     let laid = lay(alloc, dir, first)?;
@@ -79,7 +83,7 @@ fn lays(alloc: Global, dir: &Dir, first: u32, blocks: &[Block]) -> Result<bool, 
 /// each the letter `x` and then the name's number, from 0 on.
 pub fn numbered(alloc: Global, count: u32, letters: usize, first: u32) -> Result<String, Trouble> {
     let dir = files(alloc, count, letters)?;
-    if dir.entries.len() > MAX_NAMES || first > MAX_BLOCKS {
+    if dir.entries.len() > DIRECTORY_NAMES || first > PARTITION_BLOCKS {
         return Err(Trouble::Line("no such directory"));
     }
     let blocks = lay(alloc, &dir, first)?;

@@ -2,6 +2,7 @@
 
 use crate::compare::{block_of, words_of};
 use crate::trouble::Trouble;
+use limits::{FILE_BYTES, PARTITION_BLOCKS};
 use std::alloc::Global;
 use std::fmt::Write;
 use vat::{Record, Vat, Version, clear_start, decode_vat, encode_vat, is_vat_icb};
@@ -96,7 +97,7 @@ pub fn is_entry(alloc: Global, bytes: &[u8], number: u32) -> Result<String, Trou
 
 /// The least block number from one on at which none of the blocks would be a VAT ICB.
 pub fn start(alloc: Global, bytes: &[u8], from: u32) -> Result<String, Trouble> {
-    if bytes.len() > 1_048_576 || from > 449_743 {
+    if bytes.len() > FILE_BYTES || from > PARTITION_BLOCKS {
         return Err(Trouble::Line("no file is so long"));
     }
     Ok(format!(in alloc; "{}", clear_start(bytes, from))?)

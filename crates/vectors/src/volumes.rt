@@ -9,9 +9,8 @@ use crate::tables::tell_table;
 use crate::trouble::Trouble;
 use drive::{Drive, MemDrive};
 use ecma::Block;
-use recover::{
-    PARTITION_START, ReadCache, State, StoreFault, before, last, state_at, state_sharing,
-};
+use limits::PARTITION_START;
+use recover::{ReadCache, State, StoreFault, before, last, state_at, state_sharing};
 use std::alloc::Global;
 use std::fmt::Write;
 use words::number;

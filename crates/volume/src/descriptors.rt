@@ -1,4 +1,4 @@
-//! The descriptors of a volume, each as a table of its fields. Each stands at the address that its tag tells.
+//! The descriptors of a volume, each as a table of its fields. Each is at the address that its tag has.
 
 ghost use Rattle.limits.specs.declared.TheConstants.{FORMAT_BLOCKS, PARTITION_START};
 ghost use Rattle.std.specs.Prelude.{◌≡◌, ◌<◌, ◌≤◌, ◌%◌, ◌++◌, IsAscii};
@@ -7,13 +7,8 @@ ghost use Rattle.ecma.specs.Descriptor.{IsDescriptor};
 ghost use Rattle.volume.specs.Descriptors as spec;
 
 use ecma::{Block, CS0, EntityId, ExtentAd, Field, LongAd, descriptor_block};
+use limits::{BLOCK_BYTES, FORMAT_BLOCKS, PARTITION_START};
 use osta::Label;
-
-/// Where the partition begins.
-pub(crate) const PARTITION: u32 = limits::PARTITION_START;
-
-/// How many blocks a format takes.
-const FORMATTED: u32 = limits::FORMAT_BLOCKS;
 
 /// How many blocks the sequence of volume descriptors may take, and how many the integrity sequence.
 const SEQUENCE_BLOCKS: u32 = 16;
@@ -25,8 +20,6 @@ pub(crate) const MAIN: u32 = 32;
 pub(crate) const RESERVE: u32 = 48;
 
 pub(crate) const INTEGRITY: u32 = 64;
-
-const BLOCK_SIZE: u32 = limits::BLOCK_BYTES;
 
 // The tag identifiers of the descriptors (ECMA-167 3/7.2.1).
 
@@ -105,7 +98,7 @@ pub(crate) fn primary(
 pub(crate) fn anchor(n: u32) -> Block
     ensures { IsDescriptor 2 n spec.anchor_fields result }
 {
-    let length = SEQUENCE_BLOCKS * BLOCK_SIZE;
+    let length = SEQUENCE_BLOCKS * BLOCK_BYTES;
     descriptor_block(
         ANCHOR_TAG,
         n,
@@ -160,8 +153,8 @@ pub(crate) fn partition(capacity: u32, n: u32) -> Block
             Field::EntityId(PARTITION_CONTENTS), // 24 partition contents
             Field::Zeros(128), // 56 partition contents use
             Field::U32(2), // 184 access type: write once
-            Field::U32(PARTITION), // 188 partition starting location
-            Field::U32(capacity - PARTITION), // 192 partition length
+            Field::U32(PARTITION_START), // 188 partition starting location
+            Field::U32(capacity - PARTITION_START), // 192 partition length
             Field::EntityId(EntityId::DEVELOPER), // 196 implementation identifier
             Field::Zeros(284), // 228 implementation use, 356 reserved
         ],
@@ -181,11 +174,11 @@ pub(crate) fn logical_volume(label: &Label, n: u32) -> Block
             Field::U32(4), // 16 volume descriptor sequence number
             Field::Bytes(&CS0), // 20 descriptor character set
             Field::Bytes(&volume), // 84 logical volume identifier
-            Field::U32(BLOCK_SIZE), // 212 logical block size
+            Field::U32(BLOCK_BYTES), // 212 logical block size
             Field::EntityId(EntityId::DOMAIN), // 216 domain identifier
             // 248 logical volume contents use: the file set descriptor
             Field::LongAd(LongAd {
-                length: BLOCK_SIZE,
+                length: BLOCK_BYTES,
                 block: 0,
                 partition: 1,
                 flags: 0,
@@ -197,7 +190,7 @@ pub(crate) fn logical_volume(label: &Label, n: u32) -> Block
             Field::Zeros(128), // 304 implementation use
             // 432 integrity sequence extent
             Field::ExtentAd(ExtentAd {
-                length: INTEGRITY_BLOCKS * BLOCK_SIZE,
+                length: INTEGRITY_BLOCKS * BLOCK_BYTES,
                 location: INTEGRITY,
             }),
             Field::U8(1), // 440 partition map type
@@ -254,9 +247,9 @@ pub(crate) fn integrity(stamp: [u8; 12], capacity: u32, n: u32) -> Block
             Field::Zeros(24), // 48 reserved
             Field::U32(2), // 72 number of partitions
             Field::U32(46), // 76 length of implementation use
-            Field::U32(capacity - FORMATTED), // 80 free space table: the physical partition
+            Field::U32(capacity - FORMAT_BLOCKS), // 80 free space table: the physical partition
             Field::U32(u32::MAX), // 84 the virtual partition
-            Field::U32(capacity - PARTITION), // 88 size table: the physical partition
+            Field::U32(capacity - PARTITION_START), // 88 size table: the physical partition
             Field::U32(u32::MAX), // 92 the virtual partition
             Field::EntityId(EntityId::DEVELOPER), // 96 implementation ID
             Field::U32(0), // 128 number of files

@@ -9,19 +9,17 @@ use crate::descriptors::{
     unallocated_space,
 };
 use ecma::{Block, Field, Timestamp, write_fields};
+use limits::{BLOCK_SIZE, PARTITION_START};
 use osta::Label;
 use std::alloc::{AllocError, Global};
 
-/// How many blocks the front has.
-pub const FRONT_BLOCKS: u32 = limits::PARTITION_START;
-
-/// What a format says of its volume, and its front tells.
+/// What a format says of its volume, and its front keeps.
 #[derive(Clone, Copy, Debug, PartialEq, Eq)]
 pub struct Front {
     pub label: Label,
     /// That of the format.
     pub moment: Timestamp,
-    /// In blocks, from 512 to 450,000.
+    /// In blocks, at least `limits::LEAST_CAPACITY` and at most `limits::GREATEST_CAPACITY`.
     pub capacity: u32,
 }
 
@@ -40,7 +38,7 @@ pub fn front_block(label: &Label, moment: Timestamp, capacity: u32, n: u32) -> B
         64 => integrity(stamp, capacity, n),
         65 => terminating(n),
         256 => anchor(n),
-        _ => [0; 2048],
+        _ => [0; BLOCK_SIZE],
     }
 }
 
@@ -55,8 +53,8 @@ pub fn front_blocks(
     requires high { capacity ≤ GREATEST_CAPACITY }
     ensures { IfOk result (λ blocks. IsFront label.now moment capacity blocks.items) }
 {
-    let mut blocks = Vec::with_capacity(alloc, FRONT_BLOCKS as usize)?;
-    for n in 0..FRONT_BLOCKS {
+    let mut blocks = Vec::with_capacity(alloc, PARTITION_START as usize)?;
+    for n in 0..PARTITION_START {
         blocks.push(front_block(label, moment, capacity, n))?;
     }
     Ok(blocks)
@@ -70,7 +68,7 @@ fn recognition_block(n: u32) -> Block
         16 => recognition(b"BEA01"),
         17 => recognition(b"NSR03"),
         18 => recognition(b"TEA01"),
-        _ => [0; 2048],
+        _ => [0; BLOCK_SIZE],
     }
 }
 
@@ -78,7 +76,7 @@ fn recognition_block(n: u32) -> Block
 fn recognition(identifier: &[u8; 5]) -> Block
     ensures { HasContent 0 (Recognition identifier.now) result }
 {
-    let mut block = [0; 2048];
+    let mut block = [0; BLOCK_SIZE];
     let structure = [Field::U8(0), Field::Bytes(identifier), Field::U8(1)];
     write_fields(&structure, &mut block);
     block
@@ -104,6 +102,6 @@ fn sequence_block(
         3 => logical_volume(label, n),
         4 => unallocated_space(n),
         5 => terminating(n),
-        _ => [0; 2048],
+        _ => [0; BLOCK_SIZE],
     }
 }

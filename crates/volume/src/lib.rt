@@ -2,10 +2,10 @@
 //! 2.2).
 //!
 //! `front_block` gives each block of the front for a label, a moment and a capacity; `front_blocks` gives all of them.
-//! `read_front` reads exactly such a front, and else tells the first byte that is not as it must be. Who cannot hold 257
-//! blocks reads the label, the moment and the capacity by `front_words`, and compares block by block by `first_difference`.
+//! `read_front` reads exactly such a front, and otherwise reports the first byte that is not as it must be. Who cannot hold
+//! all of its blocks reads the label, the moment and the capacity by `front_words`, and compares block by block by `first_difference`.
 //!
-//! What stands in the partition, and whether the capacity is that of the medium, is left to the crates above.
+//! What the partition holds, and whether the capacity is that of the medium, is left to the crates above.
 #![tactic(auto)]
 
 mod descriptors;
@@ -13,6 +13,6 @@ mod front;
 mod laws;
 mod read;
 
-pub use front::{FRONT_BLOCKS, Front, front_block, front_blocks};
+pub use front::{Front, front_block, front_blocks};
 pub use laws::{front_is_no_entry, one_front};
 pub use read::{VolumeFault, first_difference, front_words, read_front};

@@ -1,4 +1,4 @@
-ghost use Rattle.limits.specs.declared.TheConstants.{BLOCK_BYTES, GREATEST_CAPACITY, LEAST_CAPACITY, PARTITION_BLOCKS, PARTITION_START};
+ghost use Rattle.limits.specs.declared.TheConstants.{BLOCK_BYTES, GREATEST_CAPACITY, LEAST_CAPACITY, LEAST_PARTITION_BLOCKS, PARTITION_BLOCKS, PARTITION_START};
 ghost use Rattle.std.specs.Prelude.{◌≡◌, ◌<◌, ◌≤◌, ◌↔◌, ℕ, List, [], length, slice_index, slice_index_or, take, IsTrue, IfOk, IfErr, IfSome, IfNone};
 ghost use Rattle.ecma.specs.Tag.{Sealed};
 ghost use Rattle.ecma.specs.FirstFault.{IsFirst};
@@ -6,9 +6,10 @@ ghost use Rattle.volume.specs.declared.read.VolumeFault.TheVariants.{Field};
 ghost use Rattle.volume.specs.Front.{IsFront, IsFrontBlock};
 ghost use Rattle.volume.specs.Reading.{word_rules, DescriptorsTell, DiffersAt, DiffersFirst, IsFaultTold, stamp_field};
 
-use crate::descriptors::{MAIN, PARTITION, PARTITION_TAG, PRIMARY_VOLUME_TAG};
+use crate::descriptors::{MAIN, PARTITION_TAG, PRIMARY_VOLUME_TAG};
 use crate::front::{Front, front_block};
 use ecma::{Block, Timestamp, open_tag, u32_at, u64_at};
+use limits::{LEAST_PARTITION_BLOCKS, PARTITION_BLOCKS, PARTITION_START};
 use osta::Label;
 
 /// Why blocks are no front.
@@ -23,8 +24,8 @@ const PRIMARY: u32 = MAIN;
 
 const PARTITION_DESCRIPTOR: u32 = MAIN + 2;
 
-/// The front whose blocks these are. Of other blocks it tells the first fault: where the primary volume descriptor or the
-/// partition descriptor can not be read, that field; else the first byte that is not that of the front which they tell.
+/// The front whose blocks these are. Of other blocks it reports the first fault: where the primary volume descriptor or the
+/// partition descriptor cannot be read, that field; otherwise the first byte that is not that of the front which they say.
 pub fn read_front(blocks: &[Block]) -> Result<Front, VolumeFault>
     requires { length blocks.now ≡ PARTITION_START }
     ensures found { IfOk result (λ f. IsFront f.label f.moment f.capacity blocks.now) }
@@ -46,7 +47,7 @@ pub fn read_front(blocks: &[Block]) -> Result<Front, VolumeFault>
     Ok(front)
 }
 
-/// The front that its primary volume descriptor, block 32, and its partition descriptor, block 34, tell.
+/// The front that its primary volume descriptor, block 32, and its partition descriptor, block 34, say.
 pub fn front_words(primary: &Block, partition: &Block) -> Result<Front, VolumeFault>
     ensures reports { IfOk result (λ f. DescriptorsTell f primary.now partition.now) }
     ensures capacity { IfOk result (λ f. (LEAST_CAPACITY ≤ f.capacity) × (f.capacity ≤ GREATEST_CAPACITY)) }
@@ -71,7 +72,7 @@ pub fn front_words(primary: &Block, partition: &Block) -> Result<Front, VolumeFa
     Ok(Front {
         label,
         moment,
-        capacity: length + PARTITION,
+        capacity: length + PARTITION_START,
     })
 }
 
@@ -119,11 +120,11 @@ fn same_front(block: &Block, expected: &Block) -> usize
     at
 }
 
-/// Whether a partition may have so many blocks: as many as one of a medium of 512 to 450,000 blocks.
+/// Whether a partition may have so many blocks: as many as on a medium that is neither too small nor too large.
 fn is_partition_length(length: u32) -> bool
-    ensures { IsTrue result ↔ ((255 ≤ length) × (length ≤ PARTITION_BLOCKS)) }
+    ensures { IsTrue result ↔ ((LEAST_PARTITION_BLOCKS ≤ length) × (length ≤ PARTITION_BLOCKS)) }
 {
-    255 <= length && length <= 449_743
+    LEAST_PARTITION_BLOCKS <= length && length <= PARTITION_BLOCKS
 }
 
 fn fault(block: u32, at: u32) -> VolumeFault

@@ -8,6 +8,7 @@ ghost use Rattle.model.specs.Plain.{texts_in, path_in, tree_in, code_in, operati
 use super::Operation;
 use super::nodes::{Entry, find, is_directory_at, names_at};
 use super::paths::{begins_with, parent, same_path};
+use limits::{DIRECTORY_NAMES, NODES, PATH_NAMES};
 
 /// How a request was answered.
 #[derive(Clone, Copy, Debug, PartialEq, Eq)]
@@ -34,15 +35,6 @@ impl Code {
     }
 }
 
-/// How many names a path of the tree may have.
-const MOST_NAMES_IN_A_PATH: usize = limits::PATH_NAMES as usize;
-
-/// How many names a directory may have.
-const MOST_NAMES: usize = limits::DIRECTORY_NAMES as usize;
-
-/// How many nodes there may be, the root counted.
-const MOST_NODES: usize = limits::NODES as usize;
-
 /// The code of an operation at these nodes.
 pub fn code_of(nodes: &[Entry], operation: &Operation) -> Code
     requires { AreApart nodes.now }
@@ -63,15 +55,15 @@ fn code_of_addition(nodes: &[Entry], path: &[String]) -> Code
 {
     if path.is_empty() {
         Code::Root
-    } else if path.len() > MOST_NAMES_IN_A_PATH {
+    } else if path.len() > PATH_NAMES as usize {
         Code::TooDeep
     } else if !is_directory_at(nodes, parent(path)) {
         Code::NoParent
     } else if find(nodes, path).is_some() {
         Code::Exists
-    } else if names_at(nodes, parent(path)) >= MOST_NAMES {
+    } else if names_at(nodes, parent(path)) >= DIRECTORY_NAMES {
         Code::DirectoryFull
-    } else if nodes.len() >= MOST_NODES {
+    } else if nodes.len() >= NODES as usize {
         Code::TooMany
     } else {
         Code::Done
@@ -121,7 +113,9 @@ fn code_of_move(nodes: &[Entry], from: &[String], to: &[String]) -> Code
         Code::Exists
     } else if moves_too_deep(nodes, from, to) {
         Code::TooDeep
-    } else if names_at(nodes, parent(to)) >= MOST_NAMES && !same_path(parent(to), parent(from)) {
+    } else if names_at(nodes, parent(to)) >= DIRECTORY_NAMES
+        && !same_path(parent(to), parent(from))
+    {
         Code::DirectoryFull
     } else {
         Code::Done
@@ -144,5 +138,5 @@ fn any_too_deep(nodes: &[Entry], from: &[String], to: &[String]) -> bool
 fn is_too_deep(path: &[String], from: &[String], to: &[String]) -> bool
     ensures { result ≡ is_too_deep (texts_in from.now) (texts_in to.now) (texts_in path.now) }
 {
-    begins_with(path, from) && MOST_NAMES_IN_A_PATH + from.len() < to.len() + path.len()
+    begins_with(path, from) && PATH_NAMES as usize + from.len() < to.len() + path.len()
 }

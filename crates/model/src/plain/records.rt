@@ -7,13 +7,8 @@ ghost use Rattle.model.specs.Session.{record_of, due_by, answered, answered_if, 
 ghost use Rattle.model.specs.Plain.{reply_in, record_in, due_in};
 
 use super::Code;
+use limits::{CLIENTS, KEPT_REPLIES};
 use std::alloc::{AllocError, Global};
-
-/// How many clients have a record.
-const MOST_CLIENTS: usize = limits::CLIENTS as usize;
-
-/// How many replies are kept for a client.
-const KEPT_REPLIES: usize = limits::KEPT_REPLIES as usize;
 
 /// The answer to a request that was committed: its code, and its number among all commits.
 #[derive(Clone, Copy, Debug, PartialEq, Eq)]
@@ -68,7 +63,7 @@ fn due_with_none(clients: usize, number: u64) -> Due
         Due::Stale(0)
     } else if number > 1 {
         Due::Gap(0)
-    } else if clients >= MOST_CLIENTS {
+    } else if clients >= CLIENTS {
         Due::ClientsFull
     } else {
         Due::New

@@ -102,14 +102,14 @@ returns-then-is_some-clause-only c = λ apart p es d.
     twice whole c.args.first parent p entries es c.read_name.new.self text e c.in_ok-insert.field-0 next entry inv.2 d.parent_fits d.named d.distinct
     (directory_data p es c.args.first c.args.size c.args.blocks.now d) c.in_ok-insert.ensures.old c.if-is_some.ensures
 
-pub returns-then-len-gt-MAX_NAMES-clause-only : goal.returns-then-len-gt-MAX_NAMES-clause-only
-returns-then-len-gt-MAX_NAMES-clause-only c = λ apart p es d.
+pub returns-then-len-gt-DIRECTORY_NAMES-clause-only : goal.returns-then-len-gt-DIRECTORY_NAMES-clause-only
+returns-then-len-gt-DIRECTORY_NAMES-clause-only c = λ apart p es d.
     let inv = c.loop-fids.invariant in
     let same =
     no_more (take c.args.size (concat c.args.blocks.now)) c.args.first c.in_ok-parent.parent p c.loop-fids.entries.entries es c.loop-fids.fids inv.0 d.parent_fits d.named
     (directory_data p es c.args.first c.args.size c.args.blocks.now d) (c.is_empty.ensures.0 c.loop-fids-test.false) in
     let few = d.few in
-    omega (arith, same, few, c.len.ensures.len, c.if-len-gt-MAX_NAMES.true)
+    omega (arith, same, few, c.len.ensures.len, c.if-len-gt-DIRECTORY_NAMES.true)
 
 pub returns-then-not-ends_in_zeros-clause-only : goal.returns-then-not-ends_in_zeros-clause-only
 returns-then-not-ends_in_zeros-clause-only c = λ apart p es d.
@@ -122,5 +122,5 @@ returns-clause-found c =
     let f = c.new-fids.ensures in
     let inv = c.loop-fids.invariant in
     directory_found c.args.first c.args.size c.in_ok-parent.parent c.loop-fids.entries.entries c.args.blocks.now c.loop-fids.fids inv.0 inv.1 inv.2
-    (omega (arith, c.len.ensures.len, c.if-len-gt-MAX_NAMES.false)) c.len.ensures.unique (c.is_empty.ensures.0 c.loop-fids-test.false)
+    (omega (arith, c.len.ensures.len, c.if-len-gt-DIRECTORY_NAMES.false)) c.len.ensures.unique (c.is_empty.ensures.0 c.loop-fids-test.false)
     (ap length (sym f.«data») ∙ f.length) c.requires.count (c.ends_in_zeros.ensures.0 c.if-not-ends_in_zeros.false)

@@ -6,8 +6,8 @@ use Rattle.formatting.specs.NewVolume.{words_of}
 use Rattle.formatting.proofs.NewVolumes.{front_at, set_at, names_at, root_at, table_at, mark_at, names_are, first_is}
 use Rattle.formatting.proofs.formatting.format_block.Goals as goal
 
-pub returns-then-n-lt-FRONT_BLOCKS : goal.returns-then-n-lt-FRONT_BLOCKS
-returns-then-n-lt-FRONT_BLOCKS c = front_at (words_of c.args.parts.now) c.args.n c.front_block.result c.if-n-lt-FRONT_BLOCKS.true c.front_block.ensures
+pub returns-then-n-lt-PARTITION_START : goal.returns-then-n-lt-PARTITION_START
+returns-then-n-lt-PARTITION_START c = front_at (words_of c.args.parts.now) c.args.n c.front_block.result c.if-n-lt-PARTITION_START.true c.front_block.ensures
 
 pub table_block-requires : goal.table_block-requires
 table_block-requires c =

@@ -1,6 +1,6 @@
 use Rattle.std.proofs.Common.{◌≡◌, ◌+◌, length, subst, inl, inr, arith}
 use Rattle.std.proofs.lemmas.Bool.{cases_lt}
-use Rattle.icb.specs.Entry.{block_count}
+use Rattle.ecma.specs.Blocks.{block_count}
 use Rattle.vat.specs.Imitation.{Imitates}
 use Rattle.vat.proofs.Places.{one_free}
 use Rattle.vat.proofs.place.clear_start.Goals as goal

@@ -2,7 +2,8 @@ use Rattle.std.proofs.Common.{◌≡◌, sym, ap, ◌∙◌, arith}
 use Rattle.ecma.specs.LongAd.{long_ad}
 use Rattle.ecma.specs.declared.field.LongAd.{LongAd}
 use Rattle.icb.specs.declared.entry.Place.TheVariants as places
-use Rattle.icb.specs.Entry.{block_count, extent}
+use Rattle.ecma.specs.Blocks.{block_count}
+use Rattle.icb.specs.Entry.{extent}
 use Rattle.icb.proofs.EntryBlocks.{block_there, block_extended}
 use Rattle.icb.proofs.planned.PlannedEntry.write.Goals as goal
 

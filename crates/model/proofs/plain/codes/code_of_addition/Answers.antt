@@ -5,8 +5,8 @@ use Rattle.model.specs.Plain.{tree_in}
 use Rattle.model.proofs.PlainLists.{apart_len}
 use Rattle.model.proofs.plain.codes.code_of_addition.Goals as goal
 
-pub returns-then-nodes-ge-MOST_NODES : goal.returns-then-nodes-ge-MOST_NODES
-returns-then-nodes-ge-MOST_NODES c = let n : len (tree_in c.args.nodes.now) ≡ length c.args.nodes.now = apart_len c.args.nodes.now c.requires in grind (arith, common_steps, n)
+pub returns-then-nodes : goal.returns-then-nodes
+returns-then-nodes c = let n : len (tree_in c.args.nodes.now) ≡ length c.args.nodes.now = apart_len c.args.nodes.now c.requires in grind (arith, common_steps, n)
 
-pub returns-else-nodes-ge-MOST_NODES : goal.returns-else-nodes-ge-MOST_NODES
-returns-else-nodes-ge-MOST_NODES c = let n : len (tree_in c.args.nodes.now) ≡ length c.args.nodes.now = apart_len c.args.nodes.now c.requires in grind (arith, common_steps, n)
+pub returns-else-nodes : goal.returns-else-nodes
+returns-else-nodes c = let n : len (tree_in c.args.nodes.now) ≡ length c.args.nodes.now = apart_len c.args.nodes.now c.requires in grind (arith, common_steps, n)

@@ -1,7 +1,7 @@
 use Rattle.std.proofs.Common.{◌≡◌, ◌+◌, ◌/◌, ◌++◌, ◌∷◌, ◌∙◌, [], length, refl, sym, subst, arith, ap, rules}
 use Rattle.std.specs.Int.{div_ceil}
 use Rattle.dir.specs.Directory.{directory_size, directory_blocks}
-use Rattle.dir.specs.Layout.{block_count}
+use Rattle.ecma.specs.Blocks.{block_count}
 use Rattle.durability.specs.Plan.{WritesNode}
 use Rattle.udf.specs.Udf.{udf}
 use Rattle.planning.specs.Writings.{directory_writing}
