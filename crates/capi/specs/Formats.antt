@@ -58,7 +58,8 @@ IsMadeInMemory label moment capacity drive =
     IsFormatted capacity (words_on capacity label moment) [] (memory.journal_of drive) (memory.honest_of drive) × (memory.capacity_of drive ≡ capacity)
 
 -- why it was not made: no volume can have these words, or a format on a blank drive in memory was refused
-abbrev pub IsNotMade : {T : Type 0} → List ℕ → ℕ → ℕ → Result T Fault → Type 0
-IsNotMade label moment capacity outcome =
-    AreNoWords label moment outcome
-    ⊎ ((cause : StoreFault) × (outcome ≡ Err (told_of cause)) × (behind : List Event) × (honest : Bool) × IsFormatRefused capacity (words_on capacity label moment) [] behind honest cause)
+abbrev pub IsNotMade : List ℕ → ℕ → ℕ → Fault → Type 0
+IsNotMade label moment capacity fault =
+    ((fault ≡ Text) × (IsUtf8 label → ⊥))
+    ⊎ (((fault ≡ Volume) × (4102444800000000 ≤ moment))
+    ⊎ ((cause : StoreFault) × (fault ≡ told_of cause) × (behind : List Event) × (honest : Bool) × IsFormatRefused capacity (words_on capacity label moment) [] behind honest cause))

@@ -69,5 +69,5 @@ OpensFile outcome old new =
 -- No such volume can be made, or it was made in memory and looked for.
 abbrev pub OpensMemory : {T : Type 0} → List ℕ → ℕ → ℕ → Result T Fault → Session → Session → Type 0
 OpensMemory label moment capacity outcome old new =
-    (IsNotMade label moment capacity outcome × (new ≡ old))
+    ((fault : Fault) × (outcome ≡ Err fault) × IsNotMade label moment capacity fault × (new ≡ old))
     ⊎ ((drive : MemDrive) × IsMadeInMemory label moment capacity drive × TurnsTo (Memory drive) outcome old new)

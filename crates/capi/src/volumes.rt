@@ -1,6 +1,6 @@
 //! New volumes, and drives over the descriptors of a caller.
 
-ghost use Rattle.std.specs.Prelude.{◌≡◌, ◌<◌, ℕ, List, IfOk, IfErr, OnErr};
+ghost use Rattle.std.specs.Prelude.{◌≡◌, ◌<◌, ℕ, List, IfOk, IfErr};
 ghost use Rattle.drive.specs.FileDrive.{capacity_of, BeginsWith};
 ghost use Rattle.capi.specs.declared.fault.Fault.TheVariants as faults;
 ghost use Rattle.capi.specs.Formats.{FormatsFile, FormatsOn, IsMadeInMemory, IsNotMade, Makes};
@@ -66,7 +66,7 @@ pub(crate) fn format_memory(
     capacity: u32,
 ) -> Result<MemDrive, Fault>
     ensures made { IfOk result (IsMadeInMemory label.now moment capacity) }
-    ensures refused { OnErr result (IsNotMade label.now moment capacity result) }
+    ensures refused { IfErr result (IsNotMade label.now moment capacity) }
 {
     let Ok(text) = std::str::from_utf8(label) else {
         return Err(Fault::Text);
