@@ -103,7 +103,8 @@ int32_t udfburn_open_drive(const struct udfburn_drive *drive, udfburn **out) {
     if (!is_whole(drive) || !out) return UDFBURN_ARGUMENT;
     int32_t status = make_port(drive, &port);
     if (status != UDFBURN_OK) return status;
-    status = udfburn_open_number(port->number, out);
+    udfburn *handle = udfburn_new_handle();
+    status = handle ? udfburn_open_number(handle, port->number, out) : UDFBURN_MEMORY;
     if (status == UDFBURN_OK) {
         (*out)->port = port;
         (*out)->release = release;

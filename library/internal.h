@@ -16,8 +16,11 @@ struct udfburn {
     void (*release)(void *port);
 };
 
-/* Opens what is under a descriptor, or under the number of a drive, which is the core's from the call on. */
-int32_t udfburn_open_number(int32_t number, udfburn **out);
+/* A handle in which no volume is open yet, or NULL. */
+udfburn *udfburn_new_handle(void);
+
+/* Opens what is under a descriptor, or under the number of a drive, in a new handle: it is given, or closed with the number. */
+int32_t udfburn_open_number(udfburn *handle, int32_t number, udfburn **out);
 
 /* Whether the stream stands between two frames, and no answer waits. */
 int udfburn_between_frames(const udfburn *handle);
@@ -25,7 +28,7 @@ int udfburn_between_frames(const udfburn *handle);
 /* UDFBURN_DEVICE, from then on, where the file lost its name: what it holds goes with the handle. */
 int32_t udfburn_check_name(udfburn *handle);
 
-/* ---- The core. A handle is what open wrote, and the slices are never NULL. ---- */
+/* ---- The core. A handle is what udfburn_core_new wrote, and the slices are never NULL. ---- */
 
 struct udfburn_core_status {
     uint64_t moment;
@@ -33,15 +36,23 @@ struct udfburn_core_status {
     uint8_t label[64];
 };
 
+struct udfburn_core_commit {
+    uint64_t moment;
+    uint32_t number, address, files, directories;
+};
+
 int32_t udfburn_core_format_fd(int32_t fd, const uint8_t *label, size_t label_length, uint64_t moment, uint32_t capacity);
-int32_t udfburn_core_open_fd(int32_t fd, void **out);
-int32_t udfburn_core_open_memory(const uint8_t *label, size_t label_length, uint64_t moment, uint32_t capacity, void **out);
+int32_t udfburn_core_new(void **out);
+int32_t udfburn_core_open_fd(void *handle, int32_t fd);
+int32_t udfburn_core_open_memory(void *handle, const uint8_t *label, size_t label_length, uint64_t moment, uint32_t capacity);
 int32_t udfburn_core_answer(void *handle, const uint8_t *bytes, size_t count);
 size_t udfburn_core_answered(void *handle);
 size_t udfburn_core_take(void *handle, uint8_t *into, size_t room);
 int32_t udfburn_core_next_block(void *handle, uint32_t *address, uint8_t *block);
 int32_t udfburn_core_took(void *handle);
+int32_t udfburn_core_last_number(void *handle, uint64_t client, uint64_t *number);
 int32_t udfburn_core_status(void *handle, struct udfburn_core_status *status);
+int32_t udfburn_core_log(void *handle, uint32_t after, struct udfburn_core_commit *commit);
 void udfburn_core_end(void *handle);
 
 #endif

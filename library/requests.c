@@ -413,24 +413,15 @@ static int32_t outcome(udfburn *handle, const struct message *message, const str
     return request->repeated ? confirm(handle, message) : UDFBURN_OK;
 }
 
-/* A number that no client comes to: the answer to it says the client's last number, and nothing is committed. */
-static const uint64_t FAR_AHEAD = UINT64_MAX;
-
 int32_t udfburn_last_number(udfburn *handle, uint64_t client, uint64_t *number) {
-    struct answer answer;
-    struct udfburn_request request = {client, FAR_AHEAD, 0, 0, 0};
-    struct message message = {REMOVE, &request, "/", NULL, NULL, 0};
     if (!handle || client == 0 || !number) {
         return UDFBURN_ARGUMENT;
     }
-    int32_t status = exchange(handle, &message, &answer);
-    if (status == UDFBURN_OK && answer.code == GAP && answer.length == 8) {
-        *number = number_at(answer.fields, 8);
-    } else if (status == UDFBURN_OK) {
-        status = refusal(&answer);
+    int32_t status = ready(handle);
+    if (status == UDFBURN_OK) {
+        status = udfburn_check_name(handle);
     }
-    end_answer(&answer);
-    return status;
+    return status == UDFBURN_OK ? udfburn_core_last_number(handle->core, client, number) : status;
 }
 
 /* Runs a request whose pointers were checked. */

@@ -1,4 +1,4 @@
-/* The call of udfburn.h that says what a volume is. SPDX-License-Identifier: MIT OR Apache-2.0 */
+/* The calls of udfburn.h that say what a volume is, and how it came to be. SPDX-License-Identifier: MIT OR Apache-2.0 */
 #include "internal.h"
 
 #include <string.h>
@@ -19,5 +19,19 @@ int32_t udfburn_status(udfburn *handle, struct udfburn_status *status) {
     status->clients = found.clients;
     memset(status->label, 0, sizeof status->label);
     memcpy(status->label, found.label, found.label_length);
+    return UDFBURN_OK;
+}
+
+int32_t udfburn_log(udfburn *handle, struct udfburn_commit *commit) {
+    struct udfburn_core_commit found;
+    if (!handle || !commit) return UDFBURN_ARGUMENT;
+    if (udfburn_check_name(handle) != UDFBURN_OK) return UDFBURN_DEVICE;
+    int32_t outcome = udfburn_core_log(handle->core, commit->address, &found);
+    if (outcome != UDFBURN_OK) return outcome;
+    commit->moment = found.moment;
+    commit->number = found.number;
+    commit->address = found.address;
+    commit->files = found.files;
+    commit->directories = found.directories;
     return UDFBURN_OK;
 }

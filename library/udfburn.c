@@ -118,34 +118,31 @@ int32_t udfburn_format(const char *path, const char *label, uint64_t moment, uin
 
 /* ---- Handles ---- */
 
-static udfburn *new_handle(void) {
+udfburn *udfburn_new_handle(void) {
     udfburn *handle = calloc(1, sizeof *handle);
-    if (handle) handle->named = -1;
-    return handle;
+    if (!handle) return NULL;
+    handle->named = -1;
+    if (udfburn_core_new(&handle->core) == UDFBURN_OK) return handle;
+    free(handle);
+    return NULL;
 }
 
-/* The core's handle is a block of malloc. */
-static int32_t end_core(void *core, int32_t status) {
-    udfburn_core_end(core);
-    free(core);
+static int32_t give(udfburn *handle, int32_t status, udfburn **out) {
+    if (status == UDFBURN_OK) *out = handle;
+    else udfburn_close(handle);
     return status;
 }
 
-int32_t udfburn_open_number(int32_t number, udfburn **out) {
-    void *core = NULL;
-    int32_t status = udfburn_core_open_fd(number, &core);
-    if (status != UDFBURN_OK) return status;
-    udfburn *handle = new_handle();
-    if (!handle) return end_core(core, UDFBURN_MEMORY);
-    handle->core = core;
-    *out = handle;
-    return UDFBURN_OK;
+int32_t udfburn_open_number(udfburn *handle, int32_t number, udfburn **out) {
+    return give(handle, udfburn_core_open_fd(handle->core, number), out);
 }
 
 int32_t udfburn_open_fd(int32_t fd, udfburn **out) {
     if (out) *out = NULL;
     if (fd < 0 || !out) return refused(fd, UDFBURN_ARGUMENT);
-    return is_usable(fd) ? udfburn_open_number(fd, out) : refused(fd, UDFBURN_DEVICE);
+    if (!is_usable(fd)) return refused(fd, UDFBURN_DEVICE);
+    udfburn *handle = udfburn_new_handle();
+    return handle ? udfburn_open_number(handle, fd, out) : refused(fd, UDFBURN_MEMORY);
 }
 
 int32_t udfburn_open(const char *path, udfburn **out) {
@@ -171,18 +168,18 @@ int32_t udfburn_open_memory(const char *label, uint64_t moment, uint32_t capacit
     if (out) *out = NULL;
     int32_t status = out ? check_words(label, moment, capacity) : UDFBURN_ARGUMENT;
     if (status != UDFBURN_OK) return status;
-    udfburn *handle = new_handle();
+    udfburn *handle = udfburn_new_handle();
     if (!handle) return UDFBURN_MEMORY;
-    status = udfburn_core_open_memory((const uint8_t *)label, strlen(label), moment, capacity, &handle->core);
-    if (status == UDFBURN_OK) *out = handle;
-    else free(handle);
+    status = udfburn_core_open_memory(handle->core, (const uint8_t *)label, strlen(label), moment, capacity);
     /* A drive in memory fails where there is no more of it. */
-    return status == UDFBURN_DEVICE ? UDFBURN_MEMORY : status;
+    return give(handle, status == UDFBURN_DEVICE ? UDFBURN_MEMORY : status, out);
 }
 
 void udfburn_close(udfburn *handle) {
     if (!handle) return;
-    end_core(handle->core, UDFBURN_OK);
+    /* The core's handle is a block of malloc. */
+    udfburn_core_end(handle->core);
+    free(handle->core);
     if (handle->release) handle->release(handle->port);
     free(handle);
 }

@@ -69,7 +69,7 @@ enum {
     UDFBURN_TEXT = 4,           /* a label or a path is not valid */
     UDFBURN_VOLUME = 5,         /* no volume, a damaged one, or one that cannot be made with this moment or capacity */
     UDFBURN_ARGUMENT = 6,       /* NULL, or another argument that the call does not accept */
-    UDFBURN_NONE = 7,           /* there is none: no block waits */
+    UDFBURN_NONE = 7,           /* there is none: no block waits, or no commit comes before */
 
     /* The request is committed, but the tree stays as it was. A repeat gets the same status. Queries return
      * UDFBURN_NOT_FOUND, UDFBURN_IS_DIRECTORY and UDFBURN_NOT_DIRECTORY too, and commit nothing. */
@@ -228,10 +228,32 @@ struct udfburn_status {
 };
 int32_t udfburn_status(udfburn *handle, struct udfburn_status *status);
 
+/* A commit of a volume. */
+struct udfburn_commit {
+    uint64_t moment;            /* the moment of its request, or of the format */
+    uint32_t number;            /* from 1 on; 0 is the format */
+    uint32_t address;           /* of its last block, the VAT ICB: the blocks up to it are the volume as it was then */
+    uint32_t files;             /* how many the tree had after it */
+    uint32_t directories;       /* the root included */
+};
+
+/* The commits, the newest first, one a call. Begin with a structure of zeros. Each call replaces the commit in it by the one
+ * before, down to the format:
+ *
+ *     struct udfburn_commit commit = { 0 };
+ *     while (udfburn_log(disc, &commit) == UDFBURN_OK) ..
+ *
+ * The call goes by `address` alone: at 0 it gives the newest commit. Nothing is kept between calls, so requests may come
+ * between them, and so may the end of the loop.
+ *   UDFBURN_NONE: there is none before it, and the structure stays as it was. UDFBURN_VOLUME: no commit has this address, or
+ * the one before is damaged. UDFBURN_DEVICE, UDFBURN_MEMORY, UDFBURN_ARGUMENT; the structure stays too. */
+int32_t udfburn_log(udfburn *handle, struct udfburn_commit *commit);
+
 /* ---- Frames --------------------------------------------------------------------------------------------------------
  *
  * The calls above are made of these: messages and answers as on the pipe of `udfburn apply` (docs/PROTOCOL.md). Use them
- * to serve a connection. The calls above return UDFBURN_ARGUMENT while a frame is incomplete or answers wait. */
+ * to serve a connection. The calls above return UDFBURN_ARGUMENT while a frame is incomplete or answers wait, except
+ * udfburn_status() and udfburn_log(). */
 
 /* Take `count` bytes of the stream of messages, cut anywhere, and answer every message that is complete. Each answer is
  * made after its commit is on the medium. The answers wait in the handle until udfburn_take().

@@ -39,31 +39,23 @@ fn main(rt: HostRuntime) -> ExitCode {
     let mut block = [0u8; 2048];
     let mut address: u32 = 0;
     let _ = exports::udfburn_core_format_fd(alloc, -1, b"X", 0, 3000);
-    let _ = exports::udfburn_core_open_fd(alloc, -1, &mut out);
-    if exports::udfburn_core_open_memory(alloc, b"MEM", 0, 3000, &mut out) != 0 {
+    if exports::udfburn_core_new(alloc, &mut out) != 0 {
         return ExitCode::from(3u8);
     }
+    let mut number: u64 = 0;
+    let mut status = crate::told::Status { moment: 0, capacity: 0, next: 0, commits: 0, files: 0, directories: 0, clients: 0, label_length: 0, label: [0; 64] };
+    let mut commit = crate::told::CommitStatus { moment: 0, number: 0, address: 0, files: 0, directories: 0 };
     unsafe {
+        let _ = exports::udfburn_core_open_fd(out, -1);
+        let _ = exports::udfburn_core_open_memory(out, b"MEM", 0, 3000);
         let _ = exports::udfburn_core_answer(out, &[0u8; 4]);
         let _ = exports::udfburn_core_answered(out);
         let _ = exports::udfburn_core_take(out, &mut block);
         let _ = exports::udfburn_core_next_block(out, &mut address, &mut block);
         let _ = exports::udfburn_core_took(out);
-END
-    # Those that come last, where they are there.
-    if grep -q 'fn udfburn_core_last_number' "$program/src/exports.rt"; then
-        cat << 'END'
-        let mut number: u64 = 0;
         let _ = exports::udfburn_core_last_number(out, 1, &mut number);
-END
-    fi
-    if grep -q 'fn udfburn_core_status' "$program/src/exports.rt"; then
-        cat << 'END'
-        let mut status = crate::told::Status { moment: 0, capacity: 0, next: 0, commits: 0, files: 0, directories: 0, clients: 0, label_length: 0, label: [0; 64] };
         let _ = exports::udfburn_core_status(out, &mut status);
-END
-    fi
-    cat << 'END'
+        let _ = exports::udfburn_core_log(out, 0, &mut commit);
         exports::udfburn_core_end(out);
     }
     ExitCode::from(0u8)

@@ -33,6 +33,10 @@ class Status(ctypes.Structure):
                 ("label", ctypes.c_char * 64)]
 
 
+class Commit(ctypes.Structure):
+    _fields_ = [("moment", c_uint64), *((name, c_uint32) for name in ("number", "address", "files", "directories"))]
+
+
 CAPACITY = ctypes.CFUNCTYPE(c_int32, c_void_p, POINTER(c_uint32))
 READ = ctypes.CFUNCTYPE(c_int32, c_void_p, c_uint32, c_uint32, c_void_p)
 
@@ -110,6 +114,13 @@ class FromPython(Case):
         self.assertEqual(self.call("status", handle, byref(status)), OK)
         self.assertEqual((status.label, status.capacity, status.commits, status.files, status.clients), (b"PY", 600, 1, 1, 1))
 
+    def how_it_came(self, handle: c_void_p) -> None:
+        commit, found = Commit(), []
+        while self.call("log", handle, byref(commit)) == OK:
+            found.append((commit.number, commit.address, commit.files, commit.directories, commit.moment))
+        self.assertEqual(found, [(1, 266, 1, 1, 0), (0, 261, 0, 1, MOMENT)])
+        self.assertEqual(self.call("log", handle, byref(commit)), NONE)
+
     def requests(self, handle: c_void_p) -> None:
         asked, node, names, count = AskedRequest(8, 0, MOMENT), Node(), POINTER(Name)(), c_size_t()
         steps: List[Tuple[Any, ...]] = [("mkdir", b"/d"), ("create", b"/d/x", b"data", c_size_t(4)), ("replace", b"/d/x", b"other", c_size_t(5)),
@@ -170,6 +181,7 @@ class FromPython(Case):
             image = file.read()
         handle = self.opened(path)
         self.what_it_is(handle)
+        self.how_it_came(handle)
         self.requests(handle)
         self.call("close", handle)
         self.by_descriptor(path)
@@ -179,7 +191,7 @@ class FromPython(Case):
 
     def test_structures(self) -> None:
         """The sizes of the structures are those of a C compiler."""
-        kinds = {"request": AskedRequest, "node": Node, "name": Name, "status": Status, "drive": Drive}
+        kinds = {"request": AskedRequest, "node": Node, "name": Name, "status": Status, "commit": Commit, "drive": Drive}
         lines = ["#include \"udfburn.h\"", "#include <stdio.h>", "int main(void) {"]
         lines += ["    printf(\"%%zu\\n\", sizeof(struct udfburn_%s));" % name for name in kinds]
         source = self.folder / "sizes.c"

@@ -1,6 +1,6 @@
 -- What an open store knows of a client is what the state does.
 use Rattle.std.proofs.Common.{◌≡◌, ℕ, List, Option, Some, sym, ap, subst, ◌∙◌}
-use Rattle.std.specs.Prelude.{false, map, unwrap_or, Result, Ok, Err, IfOk}
+use Rattle.std.specs.Prelude.{false, map, unwrap_or, Result, Ok, Err, IfOk, IfErr}
 use Rattle.drive.specs.Journal.{Event, Once, held}
 use Rattle.model.specs.Session.{State, ClientRecord, record_of}
 use Rattle.durability.specs.Volume.{RecoversTo}
@@ -42,3 +42,7 @@ holds_same volume S before behind kept journal size at = record {
 pub if_ok : {T E : Type 0} {P Q : T → Type 0} (outcome : Result T E) → ((x : T) → P x → Q x) → IfOk outcome P → IfOk outcome Q
 if_ok (Ok x) other h = other x h
 if_ok (Err fault) other h = tt
+
+pub if_err : {T E : Type 0} {P Q : E → Type 0} (outcome : Result T E) → ((x : E) → P x → Q x) → IfErr outcome P → IfErr outcome Q
+if_err (Ok x) other h = tt
+if_err (Err fault) other h = other fault h

@@ -1,16 +1,17 @@
 -- A session that was opened begins the run.
 use Rattle.std.proofs.Common.{◌≡◌, ℕ, List, [], Option, Some, None, sym, ap, subst, ◌∙◌}
-use Rattle.std.specs.Prelude.{IsTrue}
+use Rattle.std.specs.Prelude.{IsTrue, Result, Ok, Err, IfErr, OnOk}
 use Rattle.model.specs.Session.{State}
 use Rattle.store.specs.declared.store.Store.{Store}
 use Rattle.engine.specs.declared.engine.Engine.{Engine}
 use Rattle.engine.specs.Situation.{Situation, IsOpen, situation}
 use Rattle.engine.specs.Steps.{HoldsState}
+use Rattle.capi.specs.declared.fault.Fault.{Fault}
 use Rattle.capi.specs.declared.medium.Medium.{Medium}
 use Rattle.capi.specs.declared.session.Session.{Session}
 use Rattle.capi.specs.Media.{journal_on, failures_on, capacity_on, honest_on, writes_on, in_memory, seen_by}
 use Rattle.capi.specs.Sessions.{seen, waiting}
-use Rattle.capi.specs.Opens.{Opened, fresh}
+use Rattle.capi.specs.Opens.{Opened, Unopened, TurnsTo, fresh}
 
 -- an engine that keeps no store sees the medium as it is
 pub fresh_is : (engine : Engine) (medium : Medium) → engine.store ≡ None → fresh medium ≡ seen_by engine medium
@@ -40,3 +41,8 @@ module _ (first engine : Engine) (before behind : Medium) (s : Session) (engine_
     holds = λ volume S h at. subst (λ (x : Situation). HoldsState volume S x) (sym seen_is)
         (holds volume S (honest_is h) (subst (λ (x : Situation). HoldsState volume S x) (fresh_is first before none) at));
   }
+
+-- a session was opened in the place of another, or that one stayed
+pub turned : {T : Type 0} (medium : Medium) (outcome : Result T Fault) (old new : Session) → OnOk outcome (Opened medium new) → IfErr outcome (λ fault. Unopened medium fault × (new ≡ old)) → TurnsTo medium outcome old new
+turned medium (Ok x) old new opens refuses = opens
+turned medium (Err fault) old new opens refuses = refuses

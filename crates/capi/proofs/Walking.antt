@@ -20,7 +20,8 @@ pub use denote.Builtin.{u8, u32, u64, i32, unit, Array, SliceRefOf}
 pub use denote.Exit.{yes}
 pub use denote.Laws.{Is, shows}
 pub use denote.Plain.{uint_Lawful, uint_vals, uint_Tells}
-pub use denote.Signed.{sint_Lawful}
+pub use denote.Signed.{sint_vals, sint_Tells, sint_Lawful}
+pub use mir.ValLaws.{of_z_fits}
 pub use denote.Slice.{MutSlice, mut_slice_vals, mut_slice_Tells, ShrSlice, shr_slice_vals, shr_slice_Tells}
 pub use denote.Memory.{mem}
 pub use denote.Lend.{lends_ref, ref_back}

@@ -4,7 +4,15 @@ use Rattle.capi.specs.declared.fault.Fault.{Fault}
 use Rattle.capi.specs.declared.fault.Fault.TheVariants.{Device, Nothing}
 use Rattle.capi.specs.declared.session.Session.{Session}
 use Rattle.capi.specs.Numbers.{status, number_of}
+use Rattle.capi.specs.Opens.{OpensFile, OpensMemory}
 use Rattle.capi.specs.Sessions.{waiting, blocks, Answered, Shows, Gives}
+
+-- the volume on a file, or a new one in memory, was opened in the session, and the number says what became of it
+abbrev pub OpensVolume : ℤ → Session → Session → Type 0
+OpensVolume number old new = (outcome : Result ⊤ Fault) × (number ≡ status outcome) × OpensFile outcome old new
+
+abbrev pub OpensNewVolume : List ℕ → ℕ → ℕ → ℤ → Session → Session → Type 0
+OpensNewVolume label moment capacity number old new = (outcome : Result ⊤ Fault) × (number ≡ status outcome) × OpensMemory label moment capacity outcome old new
 
 -- bytes of messages came, and the number says what became of them
 abbrev pub AnswersBytes : List ℕ → ℤ → Session → Session → Type 0

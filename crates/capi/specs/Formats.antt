@@ -1,8 +1,10 @@
 -- A volume that is made on a drive, or on the file under a descriptor.
-use Rattle.std.specs.Prelude.{◌≡◌, ◌⊎◌, ◌≤◌, ℕ, Bool, List, IsUtf8, Result, Ok, Err}
+use Rattle.std.specs.Prelude.{◌≡◌, ◌⊎◌, ◌≤◌, ℕ, Bool, List, [], IsUtf8, Result, Ok, Err}
 use Rattle.drive.specs.Journal.{Event}
 use Rattle.drive.specs.FileDrive.{journal_of, capacity_of, honest_of, BeginsWith}
+use Rattle.drive.specs.MemDrive as memory
 use Rattle.drive.specs.declared.file.FileDrive.{FileDrive}
+use Rattle.drive.specs.declared.memory.MemDrive.{MemDrive}
 use Rattle.recover.specs.declared.fault.StoreFault.{StoreFault}
 use Rattle.formatting.specs.NewVolume.{words_on, IsFormatted, IsFormatRefused}
 use Rattle.formatting.specs.Beginning.{IsPartBegun, IsPartUnbegun}
@@ -47,3 +49,17 @@ pub record OnFile (capacity : ℕ) (Did : FileDrive → FileDrive → Type 0) : 
 -- The file could not be had, or this was done on it.
 abbrev pub FormatsFile : {T : Type 0} → List ℕ → ℕ → ℕ → Result T Fault → Type 0
 FormatsFile label moment capacity outcome = (outcome ≡ Err Device) ⊎ OnFile capacity (λ before behind. FormatsOn label moment outcome before behind)
+
+-- ---- in memory
+
+-- the drive holds a new volume with these words, and has room for so many blocks
+abbrev pub IsMadeInMemory : List ℕ → ℕ → ℕ → MemDrive → Type 0
+IsMadeInMemory label moment capacity drive =
+    IsFormatted capacity (words_on capacity label moment) [] (memory.journal_of drive) (memory.honest_of drive) × (memory.capacity_of drive ≡ capacity)
+
+-- why it was not made: no volume can have these words, or a format on a blank drive in memory was refused
+abbrev pub IsNotMade : List ℕ → ℕ → ℕ → Fault → Type 0
+IsNotMade label moment capacity fault =
+    ((fault ≡ Text) × (IsUtf8 label → ⊥))
+    ⊎ (((fault ≡ Volume) × (4102444800000000 ≤ moment))
+    ⊎ ((cause : StoreFault) × (fault ≡ told_of cause) × (behind : List Event) × (honest : Bool) × IsFormatRefused capacity (words_on capacity label moment) [] behind honest cause))

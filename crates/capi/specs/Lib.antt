@@ -9,3 +9,4 @@ pub mod Calls
 pub mod Questions
 pub mod Statuses
 pub mod StatusCalls
+pub mod Commits

@@ -1,5 +1,11 @@
 -- A session that was opened.
-use Rattle.std.specs.Prelude.{◌≡◌, ℕ, List, [], Some, None, IsTrue, Result, Ok, Err}
+use Rattle.std.specs.Prelude.{◌≡◌, ◌⊎◌, ℕ, List, [], Some, None, IsTrue, Result, Ok, Err}
+use Rattle.limits.specs.declared.TheConstants.{GREATEST_CAPACITY}
+use Rattle.drive.specs.FileDrive.{capacity_of, BeginsWith}
+use Rattle.drive.specs.MemDrive as memory
+use Rattle.drive.specs.declared.file.FileDrive.{FileDrive}
+use Rattle.drive.specs.declared.memory.MemDrive.{MemDrive}
+use Rattle.formatting.specs.NewVolume.{words_on, IsFormatted}
 use Rattle.model.specs.Session.{State}
 use Rattle.recover.specs.Faults.{IsShortage}
 use Rattle.recover.specs.declared.fault.StoreFault.{StoreFault}
@@ -7,8 +13,11 @@ use Rattle.store.specs.declared.store.Store.{Store}
 use Rattle.engine.specs.Situation.{Situation, IsOpen, situation}
 use Rattle.engine.specs.Steps.{HoldsState}
 use Rattle.capi.specs.declared.fault.Fault.{Fault}
+use Rattle.capi.specs.declared.fault.Fault.TheVariants.{Device}
 use Rattle.capi.specs.declared.medium.Medium.{Medium}
+use Rattle.capi.specs.declared.medium.Medium.TheVariants.{Image, Memory}
 use Rattle.capi.specs.declared.session.Session.{Session}
+use Rattle.capi.specs.Formats.{IsMadeInMemory, IsNotMade}
 use Rattle.capi.specs.Media.{journal_on, failures_on, capacity_on, honest_on, writes_on, in_memory}
 use Rattle.capi.specs.Numbers.{told_of}
 use Rattle.capi.specs.Sessions.{seen, waiting}
@@ -42,3 +51,23 @@ pub record Unopened (medium : Medium) (fault : Fault) : Type 0 where
 abbrev pub Opens : Medium → Result Session Fault → Type 0
 Opens medium (Ok s) = Opened medium s
 Opens medium (Err fault) = Unopened medium fault
+
+-- ---- in the place of what a session held
+
+-- a session on this medium was opened, or why not; then the session is as it was
+abbrev pub TurnsTo : {T : Type 0} → Medium → Result T Fault → Session → Session → Type 0
+TurnsTo medium (Ok x) old new = Opened medium new
+TurnsTo medium (Err fault) old new = Unopened medium fault × (new ≡ old)
+
+-- The file could not be had, or the volume on it was looked for. What the file has no clause can know: it is whatever blocks the
+-- drive's reads agree with.
+abbrev pub OpensFile : {T : Type 0} → Result T Fault → Session → Session → Type 0
+OpensFile outcome old new =
+    ((outcome ≡ Err Device) × (new ≡ old))
+    ⊎ ((image : List (List ℕ)) × (drive : FileDrive) × BeginsWith image drive × (capacity_of drive ≡ GREATEST_CAPACITY) × TurnsTo (Image drive) outcome old new)
+
+-- No such volume can be made, or it was made in memory and looked for.
+abbrev pub OpensMemory : {T : Type 0} → List ℕ → ℕ → ℕ → Result T Fault → Session → Session → Type 0
+OpensMemory label moment capacity outcome old new =
+    ((fault : Fault) × (outcome ≡ Err fault) × IsNotMade label moment capacity fault × (new ≡ old))
+    ⊎ ((drive : MemDrive) × IsMadeInMemory label moment capacity drive × TurnsTo (Memory drive) outcome old new)

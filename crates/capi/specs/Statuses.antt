@@ -15,4 +15,4 @@ pub record TellsStatus (journal : List Event) (honest : Bool) (store : Store) (t
   pub directories : told.directories ≡ store.vat.directories
   pub clients : told.clients ≡ length store.vat.sessions.records.items
   pub label : take told.label_length told.label ≡ store.vat.label
-  pub moment : IsTrue honest → (entry : TableEntry) × IsEntryAt (held journal) store.at entry × (told.moment ≡ entry.moment)
+  pub moment : IsTrue honest → (entry : TableEntry) × IsEntryAt (held journal) store.vat_icb_address entry × (told.moment ≡ entry.moment)

@@ -1,15 +1,28 @@
 //! The calls of C, on the session that a handle stands for: each outcome as its number.
 
 ghost use Rattle.std.specs.Prelude.{◌≡◌};
-ghost use Rattle.capi.specs.Calls.{AnswersBytes, Counts, ShowsBlock, GivesBlock, Ended, shown};
+ghost use Rattle.capi.specs.Calls.{OpensVolume, OpensNewVolume, AnswersBytes, Counts, ShowsBlock, GivesBlock, Ended, shown};
+ghost use Rattle.capi.specs.Commits.{AsksCommit};
 ghost use Rattle.capi.specs.Questions.{LastNumber};
 ghost use Rattle.capi.specs.StatusCalls.{AsksStatus};
 ghost use Rattle.capi.specs.Sessions.{Took};
 
 use crate::fault::{Fault, status_of};
 use crate::session::Session;
-use crate::told::Status;
+use crate::told::{CommitStatus, Status};
 use limits::Block;
+
+pub(crate) fn open_fd(session: &mut Session, fd: i32) -> i32
+    ensures { OpensVolume result session.old session.new }
+{
+    status_of(session.open_file(fd))
+}
+
+pub(crate) fn open_memory(session: &mut Session, label: &[u8], moment: u64, capacity: u32) -> i32
+    ensures { OpensNewVolume label.now moment capacity result session.old session.new }
+{
+    status_of(session.open_memory(label, moment, capacity))
+}
 
 pub(crate) fn answer(session: &mut Session, bytes: &[u8]) -> i32
     ensures { AnswersBytes bytes.now result session.old session.new }
@@ -57,6 +70,12 @@ pub(crate) fn status(session: &mut Session, told: &mut Status) -> i32
     ensures { AsksStatus result told.old told.new session.old session.new }
 {
     status_of(session.status(told))
+}
+
+pub(crate) fn log(session: &mut Session, after: u32, told: &mut CommitStatus) -> i32
+    ensures { AsksCommit after result told.old told.new session.old session.new }
+{
+    status_of(session.commit_before(after, told))
 }
 
 pub(crate) fn end(session: &mut Session)

@@ -9,17 +9,17 @@ ghost use Rattle.capi.specs.declared.session.Session.{Session};
 ghost use Rattle.capi.specs.contracts.session.Session.{the_row};
 ghost use Rattle.capi.specs.Numbers.{status};
 ghost use Rattle.capi.specs.Formats.{FormatsFile};
-ghost use Rattle.capi.specs.Calls.{AnswersBytes, Counts, ShowsBlock, GivesBlock, Ended};
+ghost use Rattle.capi.specs.Calls.{OpensVolume, OpensNewVolume, AnswersBytes, Counts, ShowsBlock, GivesBlock, Ended};
+ghost use Rattle.capi.specs.Commits.{AsksCommit};
 ghost use Rattle.capi.specs.Questions.{LastNumber};
 ghost use Rattle.capi.specs.StatusCalls.{AsksStatus};
 ghost use Rattle.capi.specs.Sessions.{Took};
 
 use crate::calls;
 use crate::fault::{Fault, status_of};
-use crate::medium::Medium;
 use crate::session::Session;
-use crate::told::Status;
-use crate::volumes::{drive_of, format_file, format_memory};
+use crate::told::{CommitStatus, Status};
+use crate::volumes::format_file;
 use limits::Block;
 use std::alloc::Global;
 
@@ -38,43 +38,47 @@ pub extern "C" fn udfburn_core_format_fd(
     status_of(format_file(alloc, fd, label, moment, capacity))
 }
 
-/// Opens the volume on the file under a descriptor, which is the session's from then on, also where this is refused.
+/// Gives C the box of a session that has ended. One of the next two calls opens a volume in it.
 #[unsafe(no_mangle)]
-pub extern "C" fn udfburn_core_open_fd(alloc: Global, fd: i32, out: &mut *mut u8) -> i32 {
-    match drive_of(fd, limits::GREATEST_CAPACITY) {
-        Ok(drive) => give(alloc, Medium::Image(drive), out),
-        Err(fault) => status_of(Err(fault)),
-    }
-}
-
-/// Opens a new volume in memory, whose blocks the caller takes.
-#[unsafe(no_mangle)]
-pub extern "C" fn udfburn_core_open_memory(
-    alloc: Global,
-    label: &[u8],
-    moment: u64,
-    capacity: u32,
-    out: &mut *mut u8,
-) -> i32 {
-    match format_memory(alloc, label, moment, capacity) {
-        Ok(drive) => give(alloc, Medium::Memory(drive), out),
-        Err(fault) => status_of(Err(fault)),
-    }
-}
-
-/// Gives C the box of a session on a medium.
-fn give(alloc: Global, medium: Medium, out: &mut *mut u8) -> i32 {
-    let session = match Session::open(alloc, medium) {
-        Ok(session) => session,
-        Err(fault) => return status_of(Err(fault)),
-    };
-    match Box::new(alloc, session) {
+pub extern "C" fn udfburn_core_new(alloc: Global, out: &mut *mut u8) -> i32 {
+    match Box::new(alloc, Session::ended(alloc)) {
         Ok(made) => {
             *out = Box::into_raw(made).cast::<u8>();
             status_of(Ok(()))
         }
         Err(_) => status_of(Err(Fault::Memory)),
     }
+}
+
+/// Opens the volume on the file under a descriptor, which is the session's from then on. Where this is refused the descriptor
+/// is closed, and the session stays as it was.
+#[unsafe(no_mangle)]
+pub unsafe extern "C" fn udfburn_core_open_fd(handle: *mut u8, fd: i32) -> i32
+    ghost held: { Session }
+    requires* { sem 𝓛 (points_to the_row handle held) }
+    ensures* { sem 𝓛 (fex ((s : Session) × OpensVolume result held s) (λ s. points_to the_row handle s.0)) }
+{
+    calls::open_fd(unsafe { &mut *handle.cast::<Session>() }, fd)
+}
+
+/// Opens a new volume in memory, whose blocks the caller takes.
+#[unsafe(no_mangle)]
+pub unsafe extern "C" fn udfburn_core_open_memory(
+    handle: *mut u8,
+    label: &[u8],
+    moment: u64,
+    capacity: u32,
+) -> i32
+    ghost held: { Session }
+    requires* { sem 𝓛 (points_to the_row handle held) }
+    ensures* { sem 𝓛 (fex ((s : Session) × OpensNewVolume label.now moment capacity result held s) (λ s. points_to the_row handle s.0)) }
+{
+    calls::open_memory(
+        unsafe { &mut *handle.cast::<Session>() },
+        label,
+        moment,
+        capacity,
+    )
 }
 
 /// Takes bytes of the stream of messages, and answers those that are whole.
@@ -153,6 +157,20 @@ pub unsafe extern "C" fn udfburn_core_status(handle: *mut u8, told: &mut Status)
     ensures* { sem 𝓛 (fex ((s : Session) × AsksStatus result told.old told.new held s) (λ s. points_to the_row handle s.0)) }
 {
     calls::status(unsafe { &mut *handle.cast::<Session>() }, told)
+}
+
+/// The newest commit after 0, or the one before that whose VAT ICB stands at an address.
+#[unsafe(no_mangle)]
+pub unsafe extern "C" fn udfburn_core_log(
+    handle: *mut u8,
+    after: u32,
+    told: &mut CommitStatus,
+) -> i32
+    ghost held: { Session }
+    requires* { sem 𝓛 (points_to the_row handle held) }
+    ensures* { sem 𝓛 (fex ((s : Session) × AsksCommit after result told.old told.new held s) (λ s. points_to the_row handle s.0)) }
+{
+    calls::log(unsafe { &mut *handle.cast::<Session>() }, after, told)
 }
 
 /// Ends the session: C then frees the handle.

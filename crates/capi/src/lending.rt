@@ -9,12 +9,14 @@ ghost use Rattle.store.specs.declared.store.Store.{Store};
 ghost use Rattle.engine.specs.Situation.{IsReady, IsOpen};
 ghost use Rattle.engine.specs.Steps.{HoldsState};
 ghost use Rattle.engine.specs.Served.{Answering, AnswersSome};
+ghost use Rattle.capi.specs.Commits.{IsLogged, IsUnlogged};
 ghost use Rattle.capi.specs.Statuses.{TellsStatus};
 ghost use Rattle.capi.specs.Media.{seen_by, in_memory, journal_on, writes_on, capacity_on, honest_on};
 
+use crate::commits::opened_commit;
 use crate::medium::Medium;
 use crate::questions::opened_status;
-use crate::told::Status;
+use crate::told::{CommitStatus, Status};
 use engine::{Engine, answer_held};
 use request::Frames;
 use std::alloc::{AllocError, Global};
@@ -83,5 +85,29 @@ pub(crate) fn status_by(
     match medium {
         Medium::Image(drive) => opened_status(alloc, engine, drive),
         Medium::Memory(drive) => opened_status(alloc, engine, drive),
+    }
+}
+
+/// The newest commit, or the one before that whose VAT ICB stands at an address.
+pub(crate) fn commit_by(
+    alloc: Global,
+    medium: &mut Medium,
+    engine: &mut Engine,
+    after: u32,
+) -> Result<CommitStatus, StoreFault>
+    requires { IsReady (seen_by engine.old medium.old) }
+    ensures reported { IfOk result (λ told. IsLogged after told (seen_by engine.new medium.new)) }
+    ensures refused { IfErr result (λ fault. IsUnlogged after fault (seen_by engine.old medium.old) (seen_by engine.new medium.new)) }
+    ensures holds { (volume : ℕ) (S : State) → IsTrue (honest_on medium.new) → HoldsState volume S (seen_by engine.old medium.old) → HoldsState volume S (seen_by engine.new medium.new) }
+    ensures journal { journal_on medium.new ≡ journal_on medium.old }
+    ensures writes { writes_on medium.new ≡ writes_on medium.old }
+    ensures capacity { capacity_on medium.new ≡ capacity_on medium.old }
+    ensures honest { IsTrue (honest_on medium.new) → IsTrue (honest_on medium.old) }
+    ensures ready { IsReady (seen_by engine.new medium.new) }
+    ensures kind { in_memory medium.new ≡ in_memory medium.old }
+{
+    match medium {
+        Medium::Image(drive) => opened_commit(alloc, engine, drive, after),
+        Medium::Memory(drive) => opened_commit(alloc, engine, drive, after),
     }
 }

@@ -2,6 +2,7 @@
 #![tactic(auto)]
 
 mod calls;
+mod commits;
 mod exports;
 mod fault;
 mod lending;
@@ -13,6 +14,7 @@ mod volumes;
 
 pub use exports::{
     udfburn_core_answer, udfburn_core_answered, udfburn_core_end, udfburn_core_format_fd,
-    udfburn_core_last_number, udfburn_core_next_block, udfburn_core_open_fd,
-    udfburn_core_open_memory, udfburn_core_status, udfburn_core_take, udfburn_core_took,
+    udfburn_core_last_number, udfburn_core_log, udfburn_core_new, udfburn_core_next_block,
+    udfburn_core_open_fd, udfburn_core_open_memory, udfburn_core_status, udfburn_core_take,
+    udfburn_core_took,
 };

@@ -6,10 +6,11 @@ ghost use Rattle.capi.specs.Media.{seen_by};
 ghost use Rattle.capi.specs.Ready.{ready_prop};
 
 use crate::fault::{Fault, fault_of};
-use crate::lending::{answer_on, open_on, status_by};
+use crate::lending::{answer_on, commit_by, open_on, status_by};
 use crate::medium::Medium;
 use crate::questions::last_of;
-use crate::told::Status;
+use crate::told::{CommitStatus, Status};
+use crate::volumes::{drive_of, format_memory};
 use drive::MemDrive;
 use engine::Engine;
 use limits::Block;
@@ -40,7 +41,8 @@ impl Session {
     ghost use Rattle.capi.specs.declared.fault.Fault.TheVariants as faults;
     ghost use Rattle.capi.specs.Sessions.{seen, waiting, blocks, SameVolume, AnswersAll, StopsBy, Answered, Took, Shows, Gives};
     ghost use Rattle.capi.specs.Media.{seen_by, in_memory};
-    ghost use Rattle.capi.specs.Opens.{Opens};
+    ghost use Rattle.capi.specs.Commits.{CommitIs};
+    ghost use Rattle.capi.specs.Opens.{Opened, Unopened, Opens, OpensFile, OpensMemory};
     ghost use Rattle.capi.specs.Questions.{Asked, Refused, TellsNumber};
     ghost use Rattle.capi.specs.StatusCalls.{StatusIs};
     ghost use Rattle.engine.specs.Situation.{IsOpen};
@@ -55,6 +57,59 @@ impl Session {
         match open_on(alloc, &mut medium, &mut engine) {
             Ok(()) => Ok(Session::of(alloc, medium, engine)),
             Err(fault) => Err(fault_of(fault)),
+        }
+    }
+
+    /// Opens the volume on the file under a descriptor, in the place of what the session held. The file is closed where this is
+    /// refused, and the session is then as it was.
+    pub fn open_file(&mut self, fd: i32) -> Result<(), Fault>
+        ensures { OpensFile result self.old self.new }
+    {
+        match drive_of(fd, limits::GREATEST_CAPACITY) {
+            Ok(drive) => self.turn_to(Medium::Image(drive)),
+            Err(fault) => Err(fault),
+        }
+    }
+
+    /// Opens a new volume in memory, in the place of what the session held. Where this is refused the session is as it was.
+    pub fn open_memory(&mut self, label: &[u8], moment: u64, capacity: u32) -> Result<(), Fault>
+        ensures { OpensMemory label.now moment capacity result self.old self.new }
+    {
+        match format_memory(self.alloc, label, moment, capacity) {
+            Ok(drive) => self.turn_to(Medium::Memory(drive)),
+            Err(fault) => Err(fault),
+        }
+    }
+
+    /// Opens the volume on a medium, in the place of what the session held.
+    fn turn_to(&mut self, medium: Medium) -> Result<(), Fault>
+        ensures opened { OnOk result (Opened medium self.new) }
+        ensures refused { IfErr result (λ fault. Unopened medium fault × (self.new ≡ self.old)) }
+    {
+        match Session::open(self.alloc, medium) {
+            Ok(session) => {
+                *self = session;
+                Ok(())
+            }
+            Err(fault) => Err(fault),
+        }
+    }
+
+    /// A session that holds nothing, and refuses each message.
+    pub(crate) fn ended(alloc: Global) -> Session
+        ensures medium { blocks result ≡ [] }
+        ensures ended { result.ended ≡ Some faults.Device }
+        ensures waiting { waiting result ≡ [] }
+    {
+        Session {
+            alloc,
+            medium: Medium::Memory(MemDrive::new(alloc, 0, Vec::new(alloc))),
+            engine: Engine::new(),
+            frames: Frames::new(alloc),
+            answers: Vec::new(alloc),
+            taken: 0,
+            given: 0,
+            ended: Some(Fault::Device),
         }
     }
 
@@ -224,18 +279,26 @@ impl Session {
         }
     }
 
+    /// The newest commit, or the one before that whose VAT ICB stands at an address. A refusal leaves what is there.
+    pub fn commit_before(&mut self, after: u32, told: &mut CommitStatus) -> Result<(), Fault>
+        ensures commit { CommitIs after result told.old told.new self.old self.new }
+        ensures asked { Asked self.old self.new }
+    {
+        match commit_by(self.alloc, &mut self.medium, &mut self.engine, after) {
+            Ok(found) => {
+                *told = found;
+                Ok(())
+            }
+            Err(fault) => Err(fault_of(fault)),
+        }
+    }
+
     /// Lets all go that the session holds, so that a file is closed and unlocked, and no memory is kept.
     pub fn end(&mut self)
         ensures medium { blocks self.new ≡ [] }
         ensures ended { self.new.ended ≡ Some faults.Device }
         ensures waiting { waiting self.new ≡ [] }
     {
-        self.medium = Medium::Memory(MemDrive::new(self.alloc, 0, Vec::new(self.alloc)));
-        self.engine = Engine::new();
-        self.frames = Frames::new(self.alloc);
-        self.answers = Vec::new(self.alloc);
-        self.taken = 0;
-        self.given = 0;
-        self.ended = Some(Fault::Device);
+        *self = Session::ended(self.alloc);
     }
 }

@@ -1,11 +1,9 @@
 //! New volumes, and drives over the descriptors of a caller.
 
-ghost use Rattle.std.specs.Prelude.{◌≡◌, ◌≤◌, ◌<◌, ℕ, List, [], Err, IfOk, IfErr, IsUtf8};
+ghost use Rattle.std.specs.Prelude.{◌≡◌, ◌<◌, ℕ, List, IfOk, IfErr};
 ghost use Rattle.drive.specs.FileDrive.{capacity_of, BeginsWith};
-ghost use Rattle.drive.specs.MemDrive as memory;
-ghost use Rattle.formatting.specs.NewVolume.{words_on, IsFormatted};
 ghost use Rattle.capi.specs.declared.fault.Fault.TheVariants as faults;
-ghost use Rattle.capi.specs.Formats.{FormatsFile, FormatsOn, Makes};
+ghost use Rattle.capi.specs.Formats.{FormatsFile, FormatsOn, IsMadeInMemory, IsNotMade, Makes};
 
 use crate::fault::{Fault, fault_of};
 use drive::{Drive, FileDrive, MemDrive};
@@ -67,7 +65,8 @@ pub(crate) fn format_memory(
     moment: u64,
     capacity: u32,
 ) -> Result<MemDrive, Fault>
-    ensures { IfOk result (λ drive. IsFormatted capacity (words_on capacity label.now moment) [] (memory.journal_of drive) (memory.honest_of drive) × (memory.capacity_of drive ≡ capacity)) }
+    ensures made { IfOk result (IsMadeInMemory label.now moment capacity) }
+    ensures refused { IfErr result (IsNotMade label.now moment capacity) }
 {
     let Ok(text) = std::str::from_utf8(label) else {
         return Err(Fault::Text);

@@ -18,7 +18,7 @@ returns-clause-reported g c =
       label = c.in-Ok-put_label.ensures.1 ∙ ap (λ (v : Vat). v.label) c.newest-vat.ensures;
       moment = λ honest. (
         entry,
-        subst (λ (J : List Event). IsEntryAt (held J) c.args.store.now.at entry) c.next.ensures.journal
+        subst (λ (J : List Event). IsEntryAt (held J) c.args.store.now.vat_icb_address entry) c.next.ensures.journal
             (subst (λ (at : ℕ). IsEntryAt (held (g.D.Drive.journal c.next.new.self)) at entry) c.table.ensures (c.in-Ok-table_entry.ensures.found honest)),
         c.moment-moment.ensures.value,
       );
