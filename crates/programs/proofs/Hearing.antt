@@ -1,5 +1,5 @@
 -- Connections of a listener that are served one after another.
-use Rattle.std.proofs.Common.{◌≡◌, inl, inr, ℕ, ◌+◌, ◌-◌, ◌^◌, min, List, [], ◌∷◌, ◌++◌, length, Option, Some, None, Result, Ok, Err, refl, sym, ap, ◌∙◌, subst, arith, append_assoc, append-nil, length-append, true, Bool}
+use Rattle.std.proofs.Common.{◌≡◌, ◌⊎◌, inl, inr, ℕ, ◌+◌, ◌-◌, ◌^◌, min, List, [], ◌∷◌, ◌++◌, length, Option, Some, None, Result, Ok, Err, refl, sym, ap, ◌∙◌, subst, arith, append_assoc, append-nil, length-append, true, Bool}
 use Rattle.std.specs.Prelude.{IfErr, IfNone, IfSome, IsSomeAnd, OnOk}
 use Rattle.std.specs.List.{flat_map}
 use Rattle.drive.specs.Journal.{Event, counted}
