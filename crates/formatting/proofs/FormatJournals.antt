@@ -274,6 +274,14 @@ module _ (capacity : ℕ) (words : Words) (low : 512 ≤ words.volume) (high : w
       writes_are = ap (λ (ws : List (List Block)). seen.blocks ∷ ws) (alone.writes_are ∙ ap (λ (write : List Block). alone.before ++ write ∷ []) last_is);
     }
 
+    nothing_before : RecoversToNothing udf (held before)
+    nothing_before other_capacity other_volume state stands =
+        let none : AddsPrefix before (next_of before) (drop (next_of before) all) before = (0, omega arith, sym (append-nil before)) in
+        let whole : take (length before) before ≡ before = take-length before in
+        (holds_fronts capacity words all before before all_are fits (omega (arith, short, next-is)) none (there_before honestly)).nothing (length before) other_capacity other_volume state (omega arith)
+        (subst (λ (K : List Event). next_of K < 262) (sym whole) (omega (arith, next-is, are.long, ap length ends, length-append front (last ∷ []))))
+        (subst (λ (K : List Event). RecoversTo udf other_capacity other_volume (held K) state) (sym whole) stands)
+
     torn_is : (left : List Block) → IsLeft added left
         → RecoversToNothing udf (held (before ++ written (next_of before) left)) ⊎ RecoversTo udf capacity words.volume (held (before ++ written (next_of before) left)) (formatted words.moment)
     torn_is left cut =
@@ -295,7 +303,7 @@ module _ (capacity : ℕ) (words : Words) (low : 512 ≤ words.volume) (high : w
         record {
           added = sends.added;
           writes_are = sends.writes ∙ ap (λ (ws : List (List Block)). ws ++ sends.added) kept;
-          torn = inr (λ honestly. torn_is some.0 some.1 some.2 sends.added sends.others sends.alone honestly);
+          torn = inr (λ honestly. (nothing_before some.0 some.1 some.2 sends.added sends.others sends.alone honestly, torn_is some.0 some.1 some.2 sends.added sends.others sends.alone honestly));
         }
   ]
 

@@ -111,13 +111,13 @@ pub record IsFormatCutShort (capacity : ℕ) (words : Words) (before behind : Li
   pub journal : AddsPrefix before (next_of before) (drop (next_of before) blocks) behind
   pub fronts : IsTrue honest → HoldsPrefixes capacity words blocks before behind
 
--- The writes that a call added. It added none, or whatever a power loss leaves of them after what was there, nothing
--- stands, whatever drive and volume it is read in, or the new volume does.
+-- The writes that a call added. It added none, or nothing stood before, and whatever a power loss leaves of them after what
+-- was there, nothing stands, whatever drive and volume it is read in, or the new volume does.
 pub record FormatSurvivesPowerLoss (capacity : ℕ) (words : Words) (before : List Event) (writes behind : List (List Block)) (honest : Bool) : Type 0 where
   pub added : List (List Block)
   pub writes_are : behind ≡ writes ++ added
-  pub torn : (added ≡ []) ⊎ (IsTrue honest → (left : List Block) → IsLeft added left
-      → RecoversToNothing udf (held (before ++ written (next_of before) left)) ⊎ RecoversTo udf capacity words.volume (held (before ++ written (next_of before) left)) (formatted words.moment))
+  pub torn : (added ≡ []) ⊎ (IsTrue honest → RecoversToNothing udf (held before) × ((left : List Block) → IsLeft added left
+      → RecoversToNothing udf (held (before ++ written (next_of before) left)) ⊎ RecoversTo udf capacity words.volume (held (before ++ written (next_of before) left)) (formatted words.moment)))
 
 -- What each refusal leaves. Where the drive is honest, `NotBlank` says that it has other blocks than these words give.
 abbrev pub IsFormatRefused : ℕ → Words → List Event → List Event → Bool → StoreFault → Type 0

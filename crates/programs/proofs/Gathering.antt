@@ -66,8 +66,8 @@ module _ (i l o v w : Option (List ℕ)) (kept : Keeps v w) where
   makes_kept label moment capacity (Err (Stream streams.Memory)) J K honest h = h
 
   made_on_kept : {T : Type 0} (label : List ℕ) (moment capacity : ℕ) (outcome : Result T Fault) (before behind : Situation) → MakesOn label moment capacity outcome before behind o v → MakesOn label moment capacity outcome before behind o w
-  made_on_kept label moment capacity outcome before behind (inl k) = inl (record { refused = k.refused; why = k.why; journal = k.journal; unwritten = keeps_trans o v w k.unwritten kept })
-  made_on_kept label moment capacity outcome before behind (inr k) = inr (k.0, makes_kept label moment capacity outcome before.journal behind.journal behind.honest k.1)
+  made_on_kept label moment capacity outcome before behind (inl k) = inl (record { refused = k.refused; why = k.why; journal = k.journal; writes = k.writes; unwritten = keeps_trans o v w k.unwritten kept })
+  made_on_kept label moment capacity outcome before behind (inr k) = inr (k.0, makes_kept label moment capacity outcome before.journal behind.journal behind.honest k.1, k.2)
 
   serves_kept : (before behind : Situation) → ServesAll before behind i l o v → ServesAll before behind i l o w
   serves_kept before behind h = record {
@@ -203,9 +203,9 @@ module _ (old new : Images) (i l o v w : Option (List ℕ)) (kept : Keeps v w) w
   shown_kept : {T : Type 0} (question : Question) (image : List ℕ) (outcome : Result T Fault) → ShowsImage question image outcome old new o v → ShowsImage question image outcome old new o w
   shown_kept question image outcome (inl h) = inl (unopened_kept outcome h)
   shown_kept question image outcome (inr h) =
-      inr (on_image IsThere 450000 image (λ before behind. (behind.journal ≡ before.journal) × PrintsAnswer question outcome before.capacity before.journal behind.honest o v)
-      (λ before behind. (behind.journal ≡ before.journal) × PrintsAnswer question outcome before.capacity before.journal behind.honest o w) old new
-      (λ before behind k. (k.0, shows_kept i l o v w kept question outcome before.capacity before.journal behind.honest k.1)) h)
+      inr (on_image IsThere 450000 image (λ before behind. (behind.journal ≡ before.journal) × (behind.writes ≡ before.writes) × PrintsAnswer question outcome before.capacity before.journal behind.honest o v)
+      (λ before behind. (behind.journal ≡ before.journal) × (behind.writes ≡ before.writes) × PrintsAnswer question outcome before.capacity before.journal behind.honest o w) old new
+      (λ before behind k. (k.0, k.1, shows_kept i l o v w kept question outcome before.capacity before.journal behind.honest k.2)) h)
 
   path_kept : {T : Type 0} (question : tree.Path → Question) (image text : List ℕ) (outcome : Result T Fault) → ShowsPath question image text outcome old new o v → ShowsPath question image text outcome old new o w
   path_kept question image text outcome (inl (h, same, k)) = inl (h, same, keeps_trans o v w k kept)

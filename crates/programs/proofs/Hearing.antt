@@ -1,18 +1,121 @@
 -- Connections of a listener that are served one after another.
-use Rattle.std.proofs.Common.{◌≡◌, inl, inr, ℕ, ◌+◌, ◌-◌, ◌^◌, min, List, [], ◌∷◌, ◌++◌, length, Option, Some, None, Result, Ok, Err, refl, sym, ap, ◌∙◌, subst, arith, append_assoc, append-nil, length-append, true, Bool}
+use Rattle.std.proofs.Common.{◌≡◌, ◌⊎◌, inl, inr, ℕ, ◌+◌, ◌-◌, ◌^◌, min, List, [], ◌∷◌, ◌++◌, length, Option, Some, None, Result, Ok, Err, refl, sym, ap, ◌∙◌, subst, arith, append_assoc, append-nil, length-append, true, Bool}
 use Rattle.std.specs.Prelude.{IfErr, IfNone, IfSome, IsSomeAnd, OnOk}
 use Rattle.std.specs.List.{flat_map}
 use Rattle.drive.specs.Journal.{Event, counted}
 use Rattle.drive.specs.Reads.{CountsFailures}
-use Rattle.engine.specs.Served.{ServesAll}
+use Rattle.std.proofs.Math.Seq.{take-length}
+use Rattle.request.specs.declared.answer.Answer.{Answer}
+use Rattle.request.specs.declared.message.Message.{Message}
+use Rattle.engine.specs.Served.{AllAnswered, ServesAll, ServesUntil, frames_of}
 use Rattle.engine.specs.Situation.{Situation, situation}
+use Rattle.engine.specs.declared.serving.ServeFault.{ServeFault}
+use Rattle.engine.specs.declared.serving.ServeFault.TheVariants as streams
+use Rattle.engine.proofs.Messages.{answered_append}
+use Rattle.engine.proofs.Served.{served_holds, served_withstand}
 use Rattle.store.specs.declared.store.Store as stored
 use Rattle.programs.specs.declared.fault.Fault.{Fault}
 use Rattle.programs.specs.declared.fault.Fault.TheVariants.{Usage, Path, Socket, Store, Stream}
 use Rattle.programs.specs.Connections.{ServesMessages, LeavesStream}
-use Rattle.programs.specs.Listening.{EndsBy, EndsOne, Heard, LetsGo, ServesList, ServesOne}
+use Rattle.programs.specs.Listening.{AllHeard, EndsBy, EndsOne, Heard, IsHeard, IsOneRun, LetsGo, ServesList, ServesOne}
 use Rattle.programs.specs.Outputs.{IsBlank, known}
+use Rattle.programs.specs.Tasks.{IsPrefixOf}
+use Rattle.programs.proofs.Copying.{whole_front}
 use Rattle.programs.proofs.Going.{goes_none}
+
+-- ---- the messages that connections bring
+
+prefix_self : (w : Option (List ℕ)) → IsPrefixOf w w
+prefix_self None = tt
+prefix_self (Some bytes) = (length bytes, sym (take-length bytes))
+
+module _ (before behind : Situation) (input written : Option (List ℕ)) where
+  abbrev Heard_of : Type 0
+  Heard_of = (messages : List Message) × (answers : List Answer) × AllAnswered messages before answers behind × IsHeard input written messages answers
+
+  all_heard : (left output gathered : Option (List ℕ)) → IsBlank output → IsPrefixOf gathered written → ServesAll before behind input left output gathered → Heard_of
+  all_heard left output gathered blank is h = (
+    h.serving.messages,
+    h.serving.answers,
+    h.serving.answered,
+    inr (record {
+      left = left;
+      output = output;
+      gathered = gathered;
+      blank = blank;
+      bytes = h.serving.bytes;
+      reader = h.reader;
+      consumed = h.serving.consumed;
+      messages_are = h.serving.messages_are;
+      front = whole_front output gathered (frames_of h.serving.answers) h.serving.told;
+      written_is = is;
+    }),
+  )
+
+  some_heard : (fault : ServeFault) (left output gathered : Option (List ℕ)) → IsBlank output → IsPrefixOf gathered written → ServesUntil fault before behind input left output gathered → Heard_of
+  some_heard fault left output gathered blank is h = (
+    h.some.messages,
+    h.some.answers,
+    h.some.answered,
+    inr (record {
+      left = left;
+      output = output;
+      gathered = gathered;
+      blank = blank;
+      bytes = h.some.bytes;
+      reader = h.some.reader;
+      consumed = h.some.consumed;
+      messages_are = h.some.messages_are;
+      front = h.some.front;
+      written_is = is;
+    }),
+  )
+
+  front_heard : (fault : ServeFault) (left output gathered : Option (List ℕ)) → IsBlank output → IsPrefixOf gathered written
+      → ServesUntil fault before behind input left output gathered ⊎ ((fault ≡ streams.Write) × ServesAll before behind input left output gathered) → Heard_of
+  front_heard fault left output gathered blank is (inl h) = some_heard fault left output gathered blank is h
+  front_heard fault left output gathered blank is (inr h) = all_heard left output gathered blank is h.1
+
+  ended_heard : {T : Type 0} (outcome : Result T Fault) (left output : Option (List ℕ)) → IsBlank output → EndsBy outcome before behind input left output written → Heard_of
+  ended_heard (Ok x) left output blank h = all_heard left output written blank (prefix_self written) h
+  ended_heard (Err Usage) left output blank h = absurd h
+  ended_heard (Err Path) left output blank h = absurd h
+  ended_heard (Err Socket) left output blank h = ([], [], h.0, inl (refl, refl, inr (subst IsBlank (sym h.1) blank)))
+  ended_heard (Err (Store fault)) left output blank h = absurd h
+  ended_heard (Err (Stream fault)) left output blank h = front_heard fault left output h.gathered blank h.front h.serves
+
+  one_heard : {T : Type 0} (outcome : Result T Fault) (left output : Option (List ℕ)) → IsBlank output → EndsBy outcome before behind input left output written ⊎ ((written ≡ None) × LetsGo outcome before behind) → Heard_of
+  one_heard outcome left output blank (inl h) = ended_heard outcome left output blank h
+  one_heard outcome left output blank (inr h) = ([], [], h.1.1, inl (refl, refl, inl h.0))
+
+list_heard : (inputs outputs : List (Option (List ℕ))) (before behind : Situation) → ServesList inputs outputs before behind
+    → (messages : List Message) × (answers : List Answer) × AllAnswered messages before answers behind × AllHeard inputs outputs messages answers
+list_heard [] [] before behind h = ([], [], h, (refl, refl))
+list_heard [] (w ∷ outputs) before behind h = absurd h
+list_heard (i ∷ inputs) [] before behind h = absurd h
+list_heard (i ∷ inputs) (w ∷ outputs) before behind (during, one, rest) =
+    let first = one_heard before during i w one.0 one.1.left one.1.output one.1.blank one.1.ends in
+    let later = list_heard inputs outputs during behind rest in (
+      first.0 ++ later.0,
+      first.1 ++ later.1,
+      answered_append first.0 first.1 later.0 later.1 before during behind first.2 later.2,
+      (first.0, later.0, first.1, later.1, refl, refl, first.3, later.3),
+    )
+
+-- connections that were served one after another are one run
+pub one_run : (inputs outputs : List (Option (List ℕ))) (before behind : Situation) → ServesList inputs outputs before behind → IsOneRun inputs outputs before behind
+one_run inputs outputs before behind h =
+    let all = list_heard inputs outputs before behind h in
+    record {
+      messages = all.0;
+      answers = all.1;
+      heard = all.3;
+      answered = all.2;
+      holds = served_holds all.0 before all.1 behind all.2;
+      withstands = served_withstand all.0 before all.1 behind all.2;
+    }
+
+-- ---- so far
 
 -- what was served so far, of so many connections, in so many tries
 pub record Hearing (connections left tries : ℕ) (old new : Heard) (before behind : Situation) : Type 0 where
@@ -21,6 +124,7 @@ pub record Hearing (connections left tries : ℕ) (old new : Heard) (before behi
   pub given : new.given ≡ old.given ++ inputs
   pub ended : new.ended ≡ old.ended ++ flat_map known outputs
   pub served : ServesList inputs outputs before behind
+  pub run : IsOneRun inputs outputs before behind
   pub failed : ℕ
   pub missed : CountsFailures failed old.missed new.missed
   pub total : length inputs + failed ≡ tries
@@ -33,6 +137,7 @@ hearing_none connections heard before = record {
   given = sym (append-nil heard.given);
   ended = sym (append-nil heard.ended);
   served = refl;
+  run = one_run [] [] before before refl;
   failed = 0;
   missed = λ low. omega arith;
   total = refl;
@@ -58,6 +163,7 @@ hearing_missed connections left tries old now next before during h given ended m
   given = given ∙ h.given;
   ended = ended ∙ h.ended;
   served = h.served;
+  run = h.run;
   failed = h.failed + 1;
   missed = λ low. one_more old.missed now.missed next.missed h.failed h.missed missed low;
   total = omega (arith, h.total);
@@ -85,6 +191,7 @@ hearing_more outcome connections left less tries old now between next before dur
   given = one.given ∙ given ∙ ap (λ (l : List (Option (List ℕ))). l ++ input ∷ []) h.given ∙ append_assoc old.given h.inputs (input ∷ []);
   ended = one.ended ∙ ap (λ (l : List (List ℕ)). l ++ known one.written) (ended ∙ h.ended) ∙ append_assoc old.ended (flat_map known h.outputs) (known one.written) ∙ ap (λ (l : List (List ℕ)). old.ended ++ l) (known_more h.outputs one.written);
   served = serves_more h.inputs h.outputs input one.written before during behind h.served (outcome, one.is);
+  run = one_run (h.inputs ++ input ∷ []) (h.outputs ++ one.written ∷ []) before behind (serves_more h.inputs h.outputs input one.written before during behind h.served (outcome, one.is));
   failed = h.failed;
   missed = subst (λ (n : ℕ). CountsFailures h.failed old.missed n) (sym (one.missed ∙ missed)) h.missed;
   total = omega (arith, h.total, length-append h.inputs (input ∷ []));

@@ -3,7 +3,7 @@ use Rattle.std.proofs.Common.{◌≡◌, ℕ, List, Bool, Option, None, Result, 
 use Rattle.std.specs.Prelude.{IsErrAnd}
 use Rattle.drive.specs.Journal.{Event}
 use Rattle.drive.specs.declared.Drive.{Ghosts}
-use Rattle.formatting.specs.NewVolume.{words_on, IsFormatted, IsFormatRefused}
+use Rattle.formatting.specs.NewVolume.{FormatSurvivesPowerLoss, words_on, IsFormatted, IsFormatRefused}
 use Rattle.recover.specs.declared.fault.StoreFault.{StoreFault}
 use Rattle.engine.specs.Situation.{situation_on}
 use Rattle.engine.specs.declared.serving.ServeFault.TheVariants as streams
@@ -35,18 +35,22 @@ makes_refused {T} label moment capacity (Err f) J K honest o fault is refused =
 
 -- what is left there after the last whole block is refused, by the fault of the command
 pub unbegun_on : {T D : Type 0} (drive : Ghosts D) (label : List ℕ) (moment : ℕ) (outcome : Result T Fault) (fault : Fault) (d e : D) (o : Option (List ℕ)) → IsErrAnd outcome (λ f. f ≡ fault) → IsUnbegun (drive.capacity d) label moment (drive.journal d) fault
-    → drive.journal e ≡ drive.journal d → MakesOn label moment (drive.capacity d) outcome (situation_on drive None d) (situation_on drive None e) o o
-unbegun_on drive label moment (Ok x) fault d e o is why journal = absurd is
-unbegun_on drive label moment (Err f) fault d e o is why journal =
-    inl (record { refused = refl; why = subst (λ (g : Fault). IsUnbegun (drive.capacity d) label moment (drive.journal d) g) (sym is) why; journal = journal; unwritten = keeps_self o })
+    → drive.journal e ≡ drive.journal d → drive.writes e ≡ drive.writes d → MakesOn label moment (drive.capacity d) outcome (situation_on drive None d) (situation_on drive None e) o o
+unbegun_on drive label moment (Ok x) fault d e o is why journal writes = absurd is
+unbegun_on drive label moment (Err f) fault d e o is why journal writes =
+    inl (record { refused = refl; why = subst (λ (g : Fault). IsUnbegun (drive.capacity d) label moment (drive.journal d) g) (sym is) why; journal = journal; writes = writes; unwritten = keeps_self o })
 
-pub makes_on : {T D : Type 0} (drive : Ghosts D) (label : List ℕ) (moment room : ℕ) (outcome : Result T Fault) (before : List Event) (d e : D) (o w : Option (List ℕ)) → room ≡ drive.capacity d → before ≡ drive.journal d
+pub makes_on : {T D : Type 0} (drive : Ghosts D) (label : List ℕ) (moment room : ℕ) (outcome : Result T Fault) (before : List Event) (written : List (List (List ℕ))) (d e : D) (o w : Option (List ℕ)) → room ≡ drive.capacity d → before ≡ drive.journal d → written ≡ drive.writes d
     → HasFormatPrefix (drive.capacity d) label moment (drive.journal d) → MakesVolume label moment room outcome before (drive.journal e) (drive.honest e) o w
+    → FormatSurvivesPowerLoss room (words_on room label moment) before written (drive.writes e) (drive.honest e)
     → MakesOn label moment (drive.capacity d) outcome (situation_on drive None d) (situation_on drive None e) o w
-makes_on drive label moment room outcome before d e o w same journal begun h = inr (
+makes_on drive label moment room outcome before written d e o w same journal writes begun h withstands = inr (
   begun,
   subst (λ (n : ℕ). MakesVolume label moment n outcome (drive.journal d) (drive.journal e) (drive.honest e) o w) same
       (subst (λ (j : List Event). MakesVolume label moment room outcome j (drive.journal e) (drive.honest e) o w) journal h),
+  subst (λ (n : ℕ). FormatSurvivesPowerLoss n (words_on n label moment) (drive.journal d) (drive.writes d) (drive.writes e) (drive.honest e)) same
+      (subst (λ (j : List Event). FormatSurvivesPowerLoss room (words_on room label moment) j (drive.writes d) (drive.writes e) (drive.honest e)) journal
+      (subst (λ (ws : List (List (List ℕ))). FormatSurvivesPowerLoss room (words_on room label moment) before ws (drive.writes e) (drive.honest e)) writes withstands)),
 )
 
 pub makes_image : {T D : Type 0} (drive : Ghosts D) (image label : List ℕ) (moment capacity : ℕ) (outcome : Result T Fault) (d e : D) (before between behind : Images) (o w : Option (List ℕ))

@@ -22,7 +22,7 @@ use Rattle.store.specs.History.{IsHistory, IsHistoryRefused}
 use Rattle.store.specs.Opened.{IsOpenRefused}
 use Rattle.store.specs.Past.{AllRecovered, IsCheckRefused}
 use Rattle.store.specs.Queries.{IsQueryRefused as QueryRefused}
-use Rattle.store.specs.Shows.{PrintsAnswer as TreeShows}
+use Rattle.store.specs.Shows.{HasNodesOf as TreeShows}
 use Rattle.store.proofs.Knowing.{shows}
 use Rattle.store.proofs.Queried.{gets, lists}
 use Rattle.engine.specs.declared.serving.ServeFault.TheVariants as streams
@@ -155,10 +155,10 @@ module _ (capacity : ℕ) (J : List Event) (store : Store) where
 -- ---- on an image
 
 pub shows_image : {T D : Type 0} (drive : Ghosts D) (question : Question) (image : List ℕ) (outcome : Result T Fault) (d e : D) (before between behind : Images) (o w : Option (List ℕ))
-    → IsOpened drive IsThere 450000 image d before between → IsPutBack drive image e between behind → drive.journal e ≡ drive.journal d
+    → IsOpened drive IsThere 450000 image d before between → IsPutBack drive image e between behind → drive.journal e ≡ drive.journal d → drive.writes e ≡ drive.writes d
     → PrintsAnswer question outcome (drive.capacity d) (drive.journal d) (drive.honest e) o w → ShowsImage question image outcome before behind o w
-shows_image drive question image outcome d e before between behind o w opened back journal h =
-    inr (on_media drive IsThere 450000 image (λ first last. (last.journal ≡ first.journal) × PrintsAnswer question outcome first.capacity first.journal last.honest o w) d e before between behind opened back (journal, h))
+shows_image drive question image outcome d e before between behind o w opened back journal writes h =
+    inr (on_media drive IsThere 450000 image (λ first last. (last.journal ≡ first.journal) × (last.writes ≡ first.writes) × PrintsAnswer question outcome first.capacity first.journal last.honest o w) d e before between behind opened back (journal, writes, h))
 
 pub shows_path : {T : Type 0} (question : Path → Question) (image text : List ℕ) (path : Path) (outcome : Result T Fault) (before behind : Images) (o w : Option (List ℕ)) → IsPath path × (text ≡ path_text path)
     → ShowsImage (question path) image outcome before behind o w → ShowsPath question image text outcome before behind o w

@@ -3,8 +3,9 @@ use Rattle.std.proofs.Common.{◌≡◌, inl, inr, ℕ, zero, suc, ◌<◌, Bool
 use Rattle.std.specs.Prelude.{bytes_eq}
 use Rattle.std.proofs.Math.Seq.{take-append_seam}
 use Rattle.std.proofs.lemmas.Option.{none-some}
-use Rattle.std.proofs.lemmas.List.{drop_all, take_all}
+use Rattle.std.proofs.lemmas.List.{append_cancel_left, drop_all, take_all}
 use Rattle.drive.specs.Journal.{Event, Once, held, next_of, written}
+use Rattle.drive.specs.Writes.{IsLeft}
 use Rattle.request.specs.declared.answer.Answer.{Answer}
 use Rattle.request.specs.declared.message.Message.{Message}
 use Rattle.media.specs.Held.{SameOrMade, begun}
@@ -22,24 +23,24 @@ use Rattle.formatting.specs.NewVolume as new_volumes
 use Rattle.formatting.proofs.NewVolumes.{format_long}
 use Rattle.recover.specs.declared.fault.StoreFault.{StoreFault}
 use Rattle.recover.specs.declared.fault.StoreFault.TheVariants as stores
-use Rattle.engine.specs.Losses.{AreCut, IsRunCutShort, Life, Survives}
+use Rattle.engine.specs.Losses.{AreCut, IsLost, IsRunCutShort, IsStreamCut, Life, Survives}
 use Rattle.engine.specs.Said.{model_answers}
-use Rattle.engine.specs.Served.{brought, frames_of}
-use Rattle.engine.specs.Situation.{Situation, situation}
+use Rattle.engine.specs.Served.{AllAnswered, ServedHolds, ServedWithstands, brought, frames_of}
+use Rattle.engine.specs.Situation.{Situation, situation, with_store}
 use Rattle.engine.specs.Steps.{HoldsState}
 use Rattle.engine.specs.declared.serving.ServeFault.TheVariants as streams
-use Rattle.engine.proofs.Losses.{losses_reach}
+use Rattle.engine.proofs.Losses.{losses_reach, served_reach}
 use Rattle.engine.proofs.Running.{runs_begin}
 use Rattle.engine.proofs.Withstanding.{held_stands}
 use Rattle.programs.specs.declared.fault.Fault.{Fault}
 use Rattle.programs.specs.declared.fault.Fault.TheVariants.{Usage, Path, Socket, Store, Stream}
 use Rattle.programs.specs.Applied.{AppliesStream, AppliesToImage}
-use Rattle.programs.specs.Connections.{AreOneRun}
+use Rattle.programs.specs.CutShort.{CutOnMedia, IsTaskCut, LosesApply, LosesDaemon, LosesFormat, LosesReading, LosesServing}
 use Rattle.programs.specs.Images.{AreUntouched, Images, IsThere, IsThereOrMade, OnMedia, Unopened}
-use Rattle.programs.specs.Listening.{Heard, ServesRun}
+use Rattle.programs.specs.Listening.{Heard, ServesEach}
 use Rattle.programs.specs.NewVolumes.{MakesVolume, MakesOn, MakesOnImage}
-use Rattle.programs.specs.Processes.{AllDid, AllRan, AnswersInput, Did, Process, ProcessesAreRuns, Ran, RanCommand, life_of}
-use Rattle.programs.specs.Processes.Process.{Command, Daemon}
+use Rattle.programs.specs.Processes.{AllDid, AllRan, AnswersInput, Did, IsLifeCut, Process, ProcessesAreRuns, Ran, RanCommand, RanUntil, life_of}
+use Rattle.programs.specs.Processes.Process.{Command, CutCommand, CutDaemon, Daemon}
 use Rattle.programs.specs.Questions.{Question, PrintsAnswer, ShowsImage, ShowsPath}
 use Rattle.programs.specs.Questions.Question.{Names_at, Bytes_at, Commits, Soundness}
 use Rattle.programs.specs.Tasks.{IsTaskDone, Task}
@@ -78,9 +79,21 @@ module _ (old new : Images) (honest : IsTrue new.honest) where
   does_honest (Check image) outcome i l o w h = image_honest Soundness image outcome o w h.1
   does_honest Send outcome i l o w h = untouched_honest h.0
 
+  cut_honest : (task : Task) (i l o w : Option (List ℕ)) → IsTaskCut task old new i l o w → IsTrue old.honest
+  cut_honest (Format image label moment capacity) i l o w h = h.honest honest
+  cut_honest (Apply_to_image image) i l o w h = h.honest honest
+  cut_honest (Apply_in_memory capacity) i l o w h = untouched_honest h
+  cut_honest (List_names image path) i l o w h = h.honest honest
+  cut_honest (Get_bytes image path) i l o w h = h.honest honest
+  cut_honest (Log image) i l o w h = h.honest honest
+  cut_honest (Check image) i l o w h = h.honest honest
+  cut_honest Send i l o w h = untouched_honest h
+
   did_honest : (process : Process) → Did process old new → IsTrue old.honest
   did_honest (Command task outcome i l o w) h = does_honest task outcome i l o w h
   did_honest (Daemon image connections before behind) h = h.honest honest
+  did_honest (CutCommand task i l o w) h = cut_honest task i l o w h
+  did_honest (CutDaemon image before behind) h = h.honest honest
 
 all_honest : (processes : List Process) (old new : Images) → IsTrue new.honest → AllDid processes old new → IsTrue old.honest
 all_honest [] old new honest h = untouched_honest old new honest h
@@ -162,6 +175,21 @@ makes_none label moment capacity (Err (Stream streams.Read)) before behind hones
 makes_none label moment capacity (Err (Stream streams.Write)) before behind honest o w volume S stands sure h = formatted_same capacity volume (words_on capacity label moment) S before behind honest stands sure h.0
 makes_none label moment capacity (Err (Stream streams.Memory)) before behind honest o w volume S stands sure h = absurd h
 
+-- a power loss loses nothing of what made no write
+lost_same : (before next : Situation) (lost : List Event) → next.writes ≡ before.writes → IsLost before next lost → lost ≡ before.journal
+lost_same before next lost same l =
+    let none : [] ≡ l.added = append_cancel_left before.writes [] l.added (append-nil before.writes ∙ sym same ∙ l.are) in
+    let empty : l.left ≡ [] = subst (λ (ws : List (List (List ℕ))). IsLeft ws l.left) (sym none) l.is_left in
+    l.lost_is ∙ ap (λ (bs : List (List ℕ)). before.journal ++ written (length before.journal) bs) empty ∙ append-nil before.journal
+
+-- a format makes none where a state stands
+format_lost : (label : List ℕ) (moment capacity : ℕ) (before next : Situation) (lost : List Event) (volume : ℕ) (S : State) → RecoversTo udf 450000 volume (held before.journal) S → IsTrue next.honest
+    → LosesFormat label moment capacity before next lost → lost ≡ before.journal
+format_lost label moment capacity before next lost volume S stands sure (survives, loses) = elim survives.torn [
+  | inl none ↦ lost_same before next lost (survives.writes_are ∙ ap (λ (ws : List (List (List ℕ))). before.writes ++ ws) none ∙ append-nil before.writes) loses
+  | inr torn ↦ absurd ((torn sure).0 450000 volume S stands)
+]
+
 -- the messages of an input that were answered, on an image where a state stands
 record Run (volume : ℕ) (S : State) (before behind : List Event) (Are : List Message → List Answer → Type 0) : Type 0 where
   pub messages : List Message
@@ -173,19 +201,16 @@ module _ (volume : ℕ) (S : State) (J : List Event) (once : Once J) (stands : R
   at_start : HoldsState volume S (situation None J 0 450000 true [])
   at_start = (runs_begin volume S J 0 450000 true [] once stands).0
 
-  applies_run : {T : Type 0} (outcome : Result T Fault) (i l o w : Option (List ℕ)) → AppliesStream outcome (situation None J 0 450000 true []) last i l o w → Run volume S J last.journal (λ messages answers. AnswersInput i l o w (life_of messages answers))
+  applies_run : {T : Type 0} (outcome : Result T Fault) (i l o w : Option (List ℕ)) → AppliesStream outcome (situation None J 0 450000 true []) last i l o w → Run volume S J last.journal (AnswersInput i l o w)
   applies_run (Ok x) i l o w (kept, h) = record {
     messages = h.serving.messages;
     answers = h.serving.answers;
     are = record {
       bytes = h.serving.bytes;
-      messages = h.serving.messages;
-      answers = h.serving.answers;
       reader = h.reader;
       consumed = h.serving.consumed;
       messages_are = h.serving.messages_are;
       front = whole_front o w (frames_of h.serving.answers) h.serving.told;
-      is = refl;
     };
     holds = h.holds volume S honest at_start;
   }
@@ -198,13 +223,10 @@ module _ (volume : ℕ) (S : State) (J : List Event) (once : Once J) (stands : R
     answers = h.some.answers;
     are = record {
       bytes = h.some.bytes;
-      messages = h.some.messages;
-      answers = h.some.answers;
       reader = h.some.reader;
       consumed = h.some.consumed;
       messages_are = h.some.messages_are;
       front = h.some.front;
-      is = refl;
     };
     holds = h.some.holds volume S honest at_start;
   }
@@ -215,6 +237,10 @@ module _ (path : List ℕ) (volume : ℕ) (S : State) (J : List Event) (once : O
 
   untouched_stays : (Are : List Life → Type 0) → AreUntouched old new → Are [] → Left path volume S J new Are
   untouched_stays Are h are = stays Are (h.same path ∙ there) are
+
+  cut_off : (Are : List Life → Type 0) (life : Life) (K : List Event) → IsRunCutShort 450000 volume S J life K → new.held path ≡ Some K → Are (life ∷ []) → Left path volume S J new Are
+  cut_off Are life K cut held_is are =
+      record { lives = life ∷ []; done = (cut.run.holds.committed ++ life.under) ++ []; behind = K; are = are; cuts = (K, cut, [], refl, (refl, refl)); held_is = held_is }
 
   ran : (Are : List Life → Type 0) (messages : List Message) (answers : List Answer) (K : List Event) → HoldsOnJournal udf (need spelled) 450000 volume S J K (brought messages) (model_answers answers) → new.held path ≡ Some K
       → Are (life_of messages answers ∷ []) → Left path volume S J new Are
@@ -227,7 +253,34 @@ module _ (path : List ℕ) (volume : ℕ) (S : State) (J : List Event) (once : O
         few = inl refl;
         advances = advances_none volume (after S committed) (after S (committed ++ [])) K run.once (subst (λ (D : List Request). RecoversTo udf 450000 volume (held K) (after S D)) (sym (append-nil committed)) ends);
       } in
-      record { lives = life_of messages answers ∷ []; done = (committed ++ []) ++ []; behind = K; are = are; cuts = (K, cut, [], refl, (refl, refl)); held_is = held_is }
+      cut_off Are (life_of messages answers) K cut held_is are
+
+  -- the power was lost while messages were answered
+  lost_serving : (Are : List Life → Type 0) (messages : List Message) (answers : List Answer) (last : Situation) (all : AllAnswered messages (situation None J 0 450000 true []) answers last) → IsTrue last.honest
+      → ServedHolds messages (situation None J 0 450000 true []) answers last → ServedWithstands messages (situation None J 0 450000 true []) answers last all
+      → (lost : List Event) → LosesServing messages (situation None J 0 450000 true []) answers last all lost → new.held path ≡ Some lost
+      → ((life : Life) → IsLifeCut messages answers life → Are (life ∷ [])) → Left path volume S J new Are
+  lost_serving Are messages answers last all sure holds withstands lost (inl same) held_is are =
+      ran Are messages answers lost (subst (λ (K : List Event). HoldsOnJournal udf (need spelled) 450000 volume S J K (brought messages) (model_answers answers)) (sym same) (holds volume S sure (at_start volume S J once stands last sure))) held_is
+      (are (life_of messages answers) (inl refl))
+  lost_serving Are messages answers last all sure holds withstands lost (inr loses) held_is are =
+      let start : Situation = situation None J 0 450000 true [] in
+      let at : HoldsState volume S start = at_start volume S J once stands last sure in
+      let each = withstands volume S sure at in
+      let c : IsStreamCut 450000 volume S J messages answers lost = served_reach volume messages S start answers last at all each.0 each.1 lost loses in
+      let life : Life = record { said = brought c.done; answers = model_answers c.given; under = c.under } in
+      cut_off Are life lost c.cut held_is (are life (inr (record {
+        done = c.done;
+        now = c.now;
+        later = c.later;
+        order = c.order;
+        given = c.given;
+        others = c.others;
+        answers_are = c.answers_are;
+        under = c.under;
+        asked = c.asked;
+        is = refl;
+      })))
 
   -- ---- on the drive of an image
 
@@ -251,6 +304,25 @@ module _ (path : List ℕ) (volume : ℕ) (S : State) (J : List Event) (once : O
       | inr apart ↦ stays Are (elsewhere apart.0) are
     ]
 
+  -- the same where a power loss cut it off
+  module _ (Finds : Option (List Event) → List Event → Type 0) (same : (image : Option (List Event)) (journal : List Event) → Finds image journal → image ≡ Some J → journal ≡ J) (capacity : ℕ) (image : List ℕ) (Loses : Situation → Situation → List Event → Type 0) (h : CutOnMedia Finds capacity image Loses old new) where
+    loses_here : path ≡ image → Loses (situation None J 0 capacity true []) h.last h.lost
+    loses_here here =
+        let at : h.journal ≡ J = same (old.held image) h.journal (h.found honest) (subst (λ (p : List ℕ). old.held p ≡ Some J) here there) in
+        subst (λ (j : List Event). Loses (situation None j 0 capacity true []) h.last h.lost) at h.loses
+
+    lost_here : path ≡ image → new.held path ≡ Some h.lost
+    lost_here here = ap new.held here ∙ h.left
+
+    lost_elsewhere : bytes_eq path image ≡ false → new.held path ≡ Some J
+    lost_elsewhere apart = h.others path apart ∙ there
+
+    lost_quiet : (Are : List Life → Type 0) → (Loses (situation None J 0 capacity true []) h.last h.lost → h.lost ≡ J) → Are [] → Left path volume S J new Are
+    lost_quiet Are unchanged are = elim (bytes_cases path image) [
+      | inl here ↦ stays Are (lost_here here.1 ∙ ap (λ (j : List Event). Some j) (unchanged (loses_here here.1))) are
+      | inr apart ↦ stays Are (lost_elsewhere apart.0) are
+    ]
+
   same_there : (image : Option (List Event)) (journal : List Event) → IsThere image journal → image ≡ Some J → journal ≡ J
   same_there image journal is was = some_same journal J (sym is ∙ was)
 
@@ -261,7 +333,7 @@ module _ (path : List ℕ) (volume : ℕ) (S : State) (J : List Event) (once : O
 
   shown : {T : Type 0} (question : Question) (image : List ℕ) (outcome : Result T Fault) (o w : Option (List ℕ)) (Are : List Life → Type 0) → ShowsImage question image outcome old new o w → Are [] → Left path volume S J new Are
   shown question image outcome o w Are (inl h) are = untouched_stays Are h.untouched are
-  shown question image outcome o w Are (inr h) are = quiet IsThere same_there 450000 image (λ first last. (last.journal ≡ first.journal) × PrintsAnswer question outcome first.capacity first.journal last.honest o w) h Are (λ did. did.0) are
+  shown question image outcome o w Are (inr h) are = quiet IsThere same_there 450000 image (λ first last. (last.journal ≡ first.journal) × (last.writes ≡ first.writes) × PrintsAnswer question outcome first.capacity first.journal last.honest o w) h Are (λ did. did.0) are
 
   shown_at : {T : Type 0} (question : tree.Path → Question) (image text : List ℕ) (outcome : Result T Fault) (o w : Option (List ℕ)) (Are : List Life → Type 0) → ShowsPath question image text outcome old new o w → Are [] → Left path volume S J new Are
   shown_at question image text outcome o w Are (inl h) are = untouched_stays Are h.1 are
@@ -281,30 +353,70 @@ module _ (path : List ℕ) (volume : ℕ) (S : State) (J : List Event) (once : O
       (λ did. elim did [ inl unbegun ↦ unbegun.journal | inr makes ↦ makes_none label moment capacity outcome J h.last.journal h.last.honest o w volume S stands (h.drive_honest honest) makes.1 ]) are
 
   applied : {T : Type 0} (image : List ℕ) (outcome : Result T Fault) (i l o w : Option (List ℕ)) (Are : List Life → Type 0) → AppliesToImage image outcome old new i l o w → (Unopened outcome old new o w → Are []) → ((path ≡ image → ⊥) → Are [])
-      → (path ≡ image → (life : Life) → AnswersInput i l o w life → Are (life ∷ [])) → Left path volume S J new Are
+      → (path ≡ image → (messages : List Message) (answers : List Answer) → AnswersInput i l o w messages answers → Are (life_of messages answers ∷ [])) → Left path volume S J new Are
   applied image outcome i l o w Are (inl (h, same)) unopened apart here = untouched_stays Are h.untouched (unopened h)
   applied image outcome i l o w Are (inr h) unopened apart here = elim (bytes_cases path image) [
     | inl is ↦ (
         let run = applies_run volume S J once stands h.last (h.drive_honest honest) outcome i l o w (did_here IsThere same_there 450000 image (λ first last. AppliesStream outcome first last i l o w) h is.1) in
-        ran Are run.messages run.answers h.last.journal run.holds (left_here IsThere same_there 450000 image (λ first last. AppliesStream outcome first last i l o w) h is.1) (here is.1 (life_of run.messages run.answers) run.are)
+        ran Are run.messages run.answers h.last.journal run.holds (left_here IsThere same_there 450000 image (λ first last. AppliesStream outcome first last i l o w) h is.1) (here is.1 run.messages run.answers run.are)
         )
     | inr other ↦ stays Are (elsewhere IsThere same_there 450000 image (λ first last. AppliesStream outcome first last i l o w) h other.0) (apart other.1)
   ]
 
-  served : (image : List ℕ) (connections : ℕ) (before behind : Heard) → OnMedia IsThere 450000 image (ServesRun connections before behind) old new → Left path volume S J new (Ran path (Daemon image connections before behind))
+  served : (image : List ℕ) (connections : ℕ) (before behind : Heard) → OnMedia IsThere 450000 image (ServesEach connections before behind) old new → Left path volume S J new (Ran path (Daemon image connections before behind))
   served image connections before behind h = elim (bytes_cases path image) [
     | inl is ↦ (
-        let did : AreOneRun (situation None J 0 450000 true []) h.last = (did_here IsThere same_there 450000 image (ServesRun connections before behind) h is.1).0 in
-        ran (Ran path (Daemon image connections before behind)) did.1.messages did.1.answers h.last.journal (did.1.holds volume S (h.drive_honest honest) (at_start volume S J once stands h.last (h.drive_honest honest)))
-        (left_here IsThere same_there 450000 image (ServesRun connections before behind) h is.1) (inr (is.1, (did.1.messages, did.1.answers, refl)))
+        let did : ServesEach connections before behind (situation None J 0 450000 true []) h.last = did_here IsThere same_there 450000 image (ServesEach connections before behind) h is.1 in
+        ran (Ran path (Daemon image connections before behind)) did.run.messages did.run.answers h.last.journal (did.run.holds volume S (h.drive_honest honest) (at_start volume S J once stands h.last (h.drive_honest honest)))
+        (left_here IsThere same_there 450000 image (ServesEach connections before behind) h is.1)
+        (inr (is.1, (did.run.messages, did.run.answers, record { inputs = did.inputs; outputs = did.outputs; given = did.given; ended = did.ended; heard = did.run.heard }, life_of did.run.messages did.run.answers, refl, refl)))
         )
-    | inr other ↦ stays (Ran path (Daemon image connections before behind)) (elsewhere IsThere same_there 450000 image (ServesRun connections before behind) h other.0) (inl (refl, other.1))
+    | inr other ↦ stays (Ran path (Daemon image connections before behind)) (elsewhere IsThere same_there 450000 image (ServesEach connections before behind) h other.0) (inl (refl, other.1))
   ]
+
+  cut_served : (image : List ℕ) (before behind : Heard) → CutOnMedia IsThere 450000 image (LosesDaemon before behind) old new → Left path volume S J new (Ran path (CutDaemon image before behind))
+  cut_served image before behind h = elim (bytes_cases path image) [
+    | inl is ↦ (
+        let did : LosesDaemon before behind (situation None J 0 450000 true []) h.last h.lost = loses_here IsThere same_there 450000 image (LosesDaemon before behind) h is.1 in
+        lost_serving (Ran path (CutDaemon image before behind)) did.run.messages did.run.answers (with_store did.kept h.last) did.run.answered (h.drive_honest honest) did.run.holds did.run.withstands h.lost did.loses
+        (lost_here IsThere same_there 450000 image (LosesDaemon before behind) h is.1)
+        (λ life cut. inr (is.1, (did.run.messages, did.run.answers, record { inputs = did.inputs; outputs = did.outputs; given = did.given; ended = did.ended; heard = did.run.heard }, life, cut, refl)))
+        )
+    | inr other ↦ stays (Ran path (CutDaemon image before behind)) (lost_elsewhere IsThere same_there 450000 image (LosesDaemon before behind) h other.0) (inl (refl, other.1))
+  ]
+
+  cut_applied : (image : List ℕ) (i l o w : Option (List ℕ)) → CutOnMedia IsThere 450000 image (LosesApply i l o w) old new → Left path volume S J new (RanUntil path (Apply_to_image image) i l o w)
+  cut_applied image i l o w h = elim (bytes_cases path image) [
+    | inl is ↦ (
+        let did : LosesApply i l o w (situation None J 0 450000 true []) h.last h.lost = loses_here IsThere same_there 450000 image (LosesApply i l o w) h is.1 in
+        let some = did.serves in
+        lost_serving (RanUntil path (Apply_to_image image) i l o w) some.messages some.answers (with_store did.kept h.last) some.answered (h.drive_honest honest) some.holds some.withstands h.lost did.loses
+        (lost_here IsThere same_there 450000 image (LosesApply i l o w) h is.1)
+        (λ life cut. inr (is.1, (some.messages, some.answers, record { bytes = some.bytes; reader = some.reader; consumed = some.consumed; messages_are = some.messages_are; front = some.front }, life, cut, refl)))
+        )
+    | inr other ↦ stays (RanUntil path (Apply_to_image image) i l o w) (lost_elsewhere IsThere same_there 450000 image (LosesApply i l o w) h other.0) (inl (refl, other.1))
+  ]
+
+  cut_reading : (image : List ℕ) (Are : List Life → Type 0) → CutOnMedia IsThere 450000 image LosesReading old new → Are [] → Left path volume S J new Are
+  cut_reading image Are h are = lost_quiet IsThere same_there 450000 image LosesReading h Are (λ loses. lost_same (situation None J 0 450000 true []) h.last h.lost loses.0 loses.1) are
+
+  cut_does : (task : Task) (i l o w : Option (List ℕ)) → IsTaskCut task old new i l o w → Left path volume S J new (RanUntil path task i l o w)
+  cut_does (Format image label moment capacity) i l o w h =
+      lost_quiet IsThereOrMade same_made capacity image (LosesFormat label moment capacity) h (RanUntil path (Format image label moment capacity) i l o w)
+      (λ loses. format_lost label moment capacity (situation None J 0 capacity true []) h.last h.lost volume S stands (h.drive_honest honest) loses) refl
+  cut_does (Apply_to_image image) i l o w h = cut_applied image i l o w h
+  cut_does (Apply_in_memory capacity) i l o w h = untouched_stays (RanUntil path (Apply_in_memory capacity) i l o w) h refl
+  cut_does (List_names image text) i l o w h = cut_reading image (RanUntil path (List_names image text) i l o w) h refl
+  cut_does (Get_bytes image text) i l o w h = cut_reading image (RanUntil path (Get_bytes image text) i l o w) h refl
+  cut_does (Log image) i l o w h = cut_reading image (RanUntil path (Log image) i l o w) h refl
+  cut_does (Check image) i l o w h = cut_reading image (RanUntil path (Check image) i l o w) h refl
+  cut_does Send i l o w h = untouched_stays (RanUntil path Send i l o w) h refl
 
   does : (task : Task) (outcome : Result (Unit {0}) Fault) (i l o w : Option (List ℕ)) → IsTaskDone task outcome old new i l o w → Left path volume S J new (RanCommand path task outcome i l o w)
   does (Format image label moment capacity) outcome i l o w h = made image label moment capacity outcome o w (RanCommand path (Format image label moment capacity) outcome i l o w) h.1 refl
   does (Apply_to_image image) outcome i l o w h =
-      applied image outcome i l o w (RanCommand path (Apply_to_image image) outcome i l o w) h (λ none. inl (refl, inl none.fault)) (λ apart. inl (refl, inr apart)) (λ here life is. inr (here, (life, refl, is)))
+      applied image outcome i l o w (RanCommand path (Apply_to_image image) outcome i l o w) h (λ none. inl (refl, none.fault)) (λ apart. inr (inl (refl, apart)))
+      (λ here messages answers is. inr (inr (here, (messages, answers, is, life_of messages answers, refl, refl))))
   does (Apply_in_memory capacity) outcome i l o w h = untouched_stays (RanCommand path (Apply_in_memory capacity) outcome i l o w) h.0 refl
   does (List_names image text) outcome i l o w h = shown_at Names_at image text outcome o w (RanCommand path (List_names image text) outcome i l o w) h.1 refl
   does (Get_bytes image text) outcome i l o w h = shown_at Bytes_at image text outcome o w (RanCommand path (Get_bytes image text) outcome i l o w) h.1 refl
@@ -315,6 +427,8 @@ module _ (path : List ℕ) (volume : ℕ) (S : State) (J : List Event) (once : O
   did : (process : Process) → Did process old new → Left path volume S J new (Ran path process)
   did (Command task outcome i l o w) h = does task outcome i l o w h
   did (Daemon image connections before behind) h = served image connections before behind h
+  did (CutCommand task i l o w) h = cut_does task i l o w h
+  did (CutDaemon image before behind) h = cut_served image before behind h
 
 -- ---- one process after another
 

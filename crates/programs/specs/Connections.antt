@@ -2,8 +2,7 @@
 use Rattle.std.specs.Prelude.{◌≡◌, ◌⊎◌, ⊤, ℕ, List, Option}
 use Rattle.request.specs.declared.answer.Answer.{Answer}
 use Rattle.request.specs.declared.message.Message.{Message}
-use Rattle.store.specs.declared.store.Store.{Store}
-use Rattle.engine.specs.Situation.{Situation, with_store}
+use Rattle.engine.specs.Situation.{Situation}
 use Rattle.engine.specs.Served.{AllAnswered, ServedHolds, ServedWithstands, ServesAll, ServesUntil}
 use Rattle.engine.specs.declared.serving.ServeFault.{ServeFault}
 use Rattle.engine.specs.declared.serving.ServeFault.TheVariants as streams
@@ -21,10 +20,6 @@ pub record ServesMessages (before behind : Situation) : Type 0 where
   pub answered : AllAnswered messages before answers behind
   pub holds : ServedHolds messages before answers behind
   pub withstands : ServedWithstands messages before answers behind answered
-
--- which store is open after the last is not told
-abbrev pub AreOneRun : Situation → Situation → Type 0
-AreOneRun before behind = (kept : Option Store) × ServesMessages before (with_store kept behind)
 
 -- The first messages of a connection were answered up to where this fault came, or all were and then the output failed; and
 -- of what was written with that a front is there.

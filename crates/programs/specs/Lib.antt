@@ -14,4 +14,5 @@ pub mod Questions
 pub mod Tasks
 pub mod Counting
 pub mod Counted
+pub mod CutShort
 pub mod Processes

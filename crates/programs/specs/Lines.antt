@@ -24,7 +24,7 @@ names_text names = flat_map name_line names
 
 -- a commit in a line
 abbrev pub commit_line : Commit → List ℕ
-commit_line c = decimal c.commit ++ codes " " ++ decimal c.at ++ codes " " ++ decimal c.files ++ codes " " ++ decimal c.directories ++ codes "\n"
+commit_line c = decimal c.commit ++ codes " " ++ decimal c.vat_icb_address ++ codes " " ++ decimal c.files ++ codes " " ++ decimal c.directories ++ codes "\n"
 
 -- commits, each in a line
 abbrev pub commits_text : List Commit → List ℕ

@@ -1,16 +1,22 @@
 -- What became of the connections of a listener, one after another.
 use Rattle.std.specs.Prelude.{◌≡◌, ◌⊎◌, ℕ, ◌+◌, ◌-◌, ◌^◌, ◌<◌, List, [], ◌∷◌, ◌++◌, length, Option, None, Result, Ok, Err}
 use Rattle.std.specs.List.{flat_map}
+use Rattle.std.specs.Io.KnownBytes.{Consumes}
 use Rattle.drive.specs.Reads.{CountsFailures}
 use Rattle.recover.specs.declared.fault.StoreFault.TheVariants.{Memory}
+use Rattle.request.specs.declared.answer.Answer.{Answer}
+use Rattle.request.specs.declared.message.Message.{Message}
+use Rattle.request.specs.Frames.{MessagesAre}
 use Rattle.store.specs.declared.store.Store as stored
 use Rattle.engine.specs.Situation.{Situation, with_store}
-use Rattle.engine.specs.Served.{ServesAll}
+use Rattle.engine.specs.Served.{AllAnswered, ServedHolds, ServedWithstands, ServesAll, frames_of}
+use Rattle.engine.specs.Streams.{PutsPrefix}
 use Rattle.programs.specs.declared.listening.Listener.{Ghosts}
 use Rattle.programs.specs.declared.fault.Fault.{Fault}
 use Rattle.programs.specs.declared.fault.Fault.TheVariants.{Usage, Path, Socket, Store, Stream}
-use Rattle.programs.specs.Connections.{AreOneRun, ServesMessages, ServesPrefix}
+use Rattle.programs.specs.Connections.{ServesMessages, ServesPrefix}
 use Rattle.programs.specs.Outputs.{IsBlank, known}
+use Rattle.programs.specs.Tasks.{IsPrefixOf}
 
 -- How a connection ended, by the outcome. All messages of what its client sends were answered, or the first ones and a prefix of
 -- their answers was written; or nothing was done, since the connection could not be had or memory was short.
@@ -44,6 +50,48 @@ ServesList [] (written ∷ outputs) before behind = ⊥
 ServesList (input ∷ inputs) [] before behind = ⊥
 ServesList (input ∷ inputs) (written ∷ outputs) before behind = (during : Situation) × ServesOne input written before during × ServesList inputs outputs during behind
 
+-- ---- the messages that connections bring
+
+-- A connection's client sends this. These messages, the first of what was read of it, were answered; and a prefix of the answers'
+-- frames was written.
+pub record AnswersConnection (input written : Option (List ℕ)) (messages : List Message) (answers : List Answer) : Type 0 where
+  pub left : Option (List ℕ)
+  pub output : Option (List ℕ)
+  pub gathered : Option (List ℕ)
+  pub blank : IsBlank output
+  pub bytes : List ℕ
+  pub reader : Option (List ℕ)
+  pub consumed : Consumes input left bytes
+  pub messages_are : MessagesAre bytes messages reader
+  pub front : PutsPrefix output gathered (frames_of answers)
+  pub written_is : IsPrefixOf gathered written
+
+-- or none was answered, and nothing was written on it
+abbrev pub IsHeard : Option (List ℕ) → Option (List ℕ) → List Message → List Answer → Type 0
+IsHeard input written messages answers = ((messages ≡ []) × (answers ≡ []) × ((written ≡ None) ⊎ IsBlank written)) ⊎ AnswersConnection input written messages answers
+
+-- those of all of them, in order
+abbrev pub AllHeard : List (Option (List ℕ)) → List (Option (List ℕ)) → List Message → List Answer → Type 0
+AllHeard [] [] messages answers = (messages ≡ []) × (answers ≡ [])
+AllHeard [] (written ∷ outputs) messages answers = ⊥
+AllHeard (input ∷ inputs) [] messages answers = ⊥
+AllHeard (input ∷ inputs) (written ∷ outputs) messages answers =
+    (first later : List Message) × (given others : List Answer) × (messages ≡ first ++ later) × (answers ≡ given ++ others) × IsHeard input written first given × AllHeard inputs outputs later others
+
+-- The messages that connections brought were answered in turn, and nothing else was done. On an honest drive where a state
+-- stands, what stands at each prefix of what was written is the state after the first of the requests that were committed, and
+-- whatever a power loss leaves of the writes for a message, the state after all that were committed by then stands, or the one
+-- after its request.
+pub record IsOneRun (inputs outputs : List (Option (List ℕ))) (before behind : Situation) : Type 0 where
+  pub messages : List Message
+  pub answers : List Answer
+  pub heard : AllHeard inputs outputs messages answers
+  pub answered : AllAnswered messages before answers behind
+  pub holds : ServedHolds messages before answers behind
+  pub withstands : ServedWithstands messages before answers behind answered
+
+-- ---- a listener
+
 -- What the clients of a listener's connections send, what was written on those that ended, and how often it had none to give.
 pub record Heard : Type 0 where
   pub given : List (Option (List ℕ))
@@ -66,7 +114,7 @@ abbrev pub AreEnough : ℕ → ℕ → ℕ → ℕ → Type 0
 AreEnough connections served missed now =
     (served ≡ connections) ⊎ ((served < connections) × ((failed : ℕ) × (served + failed ≡ 2 ^ 64 - 1) × CountsFailures failed missed now))
 
--- So many connections of a listener were served, with one engine that was new.
+-- So many connections of a listener were served, with one engine that was new, and all of them are one run.
 pub record ServesEach (connections : ℕ) (old new : Heard) (before behind : Situation) : Type 0 where
   pub inputs : List (Option (List ℕ))
   pub outputs : List (Option (List ℕ))
@@ -74,8 +122,5 @@ pub record ServesEach (connections : ℕ) (old new : Heard) (before behind : Sit
   pub ended : new.ended ≡ old.ended ++ flat_map known outputs
   pub kept : Option stored.Store
   pub served : ServesList inputs outputs before (with_store kept behind)
+  pub run : IsOneRun inputs outputs before (with_store kept behind)
   pub enough : AreEnough connections (length inputs) old.missed new.missed
-
--- and all of them are one run
-abbrev pub ServesRun : ℕ → Heard → Heard → Situation → Situation → Type 0
-ServesRun connections old new before behind = AreOneRun before behind × ServesEach connections old new before behind

@@ -6,7 +6,7 @@ use Rattle.drive.specs.Journal.{Event, next_of}
 use Rattle.osta.specs.FirstFault.{first_text_fault}
 use Rattle.osta.specs.Label.{label_faults}
 use Rattle.recover.specs.declared.fault.StoreFault.TheVariants as stores
-use Rattle.formatting.specs.NewVolume.{Words, words_on, IsFormatOf, IsFormatted, IsFormatRefused}
+use Rattle.formatting.specs.NewVolume.{FormatSurvivesPowerLoss, Words, words_on, IsFormatOf, IsFormatted, IsFormatRefused}
 use Rattle.engine.specs.Streams.{PutsPrefix}
 use Rattle.engine.specs.declared.serving.ServeFault.TheVariants as stream
 use Rattle.engine.specs.Situation.{Situation}
@@ -65,13 +65,16 @@ pub record Unbegun {T : Type 0} (label : List ℕ) (moment capacity : ℕ) (outc
   pub refused : IsErr outcome
   pub why : IfErr outcome (IsUnbegun capacity label moment before.journal)
   pub journal : behind.journal ≡ before.journal
+  pub writes : behind.writes ≡ before.writes
   pub unwritten : Keeps output written
 
--- a volume was made, or what is left after the last whole block of the image was refused
+-- A volume was made, by writes of which a power loss leaves nothing or the new volume; or what is left after the last whole
+-- block of the image was refused.
 abbrev pub MakesOn : {T : Type 0} → List ℕ → ℕ → ℕ → Result T Fault → Situation → Situation → Option (List ℕ) → Option (List ℕ) → Type 0
 MakesOn label moment capacity outcome before behind output written =
     Unbegun label moment capacity outcome before behind output written
-    ⊎ (HasFormatPrefix capacity label moment before.journal × MakesVolume label moment capacity outcome before.journal behind.journal behind.honest output written)
+    ⊎ (HasFormatPrefix capacity label moment before.journal × MakesVolume label moment capacity outcome before.journal behind.journal behind.honest output written
+    × FormatSurvivesPowerLoss capacity (words_on capacity label moment) before.journal before.writes behind.writes behind.honest)
 
 -- the same on the image at a path, which is made where it is missing
 abbrev pub MakesOnImage : {T : Type 0} → List ℕ → List ℕ → ℕ → ℕ → Result T Fault → Images → Images → Option (List ℕ) → Option (List ℕ) → Type 0

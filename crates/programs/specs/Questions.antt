@@ -87,11 +87,11 @@ PrintsAnswer question (Err (faults.Stream stream.Read)) capacity journal honest 
 PrintsAnswer question (Err (faults.Stream stream.Write)) capacity journal honest output written = PrintsPrefix question capacity journal honest output written
 PrintsAnswer question (Err (faults.Stream stream.Memory)) capacity journal honest output written = ⊥
 
--- the same on the image at a path, to which nothing is written
+-- the same on the image at a path, to which no write is made
 abbrev pub ShowsImage : {T : Type 0} → Question → List ℕ → Result T Fault → Images → Images → Option (List ℕ) → Option (List ℕ) → Type 0
 ShowsImage question image outcome old new output written =
     Unopened outcome old new output written
-    ⊎ OnMedia IsThere GREATEST_CAPACITY image (λ before behind. (behind.journal ≡ before.journal) × PrintsAnswer question outcome before.capacity before.journal behind.honest output written) old new
+    ⊎ OnMedia IsThere GREATEST_CAPACITY image (λ before behind. (behind.journal ≡ before.journal) × (behind.writes ≡ before.writes) × PrintsAnswer question outcome before.capacity before.journal behind.honest output written) old new
 
 -- The text is that of no path, or there was no memory for it.
 abbrev pub IsUnread : {T : Type 0} → List ℕ → Result T Fault → Type 0

@@ -6,7 +6,7 @@ ghost use Rattle.engine.specs.Situation.{IsReady, seen_on, situation_on};
 ghost use Rattle.engine.specs.Served.{ServesAll};
 ghost use Rattle.programs.specs.Connections.{ServesMessages, LeavesConnection, LeavesStream};
 ghost use Rattle.programs.specs.Images.{IsUnchanged, images_on};
-ghost use Rattle.programs.specs.Listening.{EndsOne, LetsGo, ServesRun, heard_on};
+ghost use Rattle.programs.specs.Listening.{EndsOne, LetsGo, ServesEach, heard_on};
 ghost use Rattle.programs.specs.Outputs.{IsBlank};
 ghost use Rattle.programs.specs.Refusals.{OnAsked, RefusesDaemon, ReportsFaults, ServesImage, ReportsRefusal};
 ghost use Rattle.programs.specs.Status.{IsRefusal};
@@ -47,7 +47,7 @@ where
     ensures status { result ≤ 2 }
     // Where it ends by itself, its words are those of a daemon, and so many connections as they say were served on the image
     // that they name, one after another, as one run.
-    ensures run { result ≡ 0 → OnAsked (map (λ w. w.now) words.now) (λ asked. ServesRun (unwrap_or asked.connections (2 ^ 64 - 1)) (heard_on L.Listener listener.old) (heard_on L.Listener listener.new)) (images_on M.Media media.old) (images_on M.Media media.new) }
+    ensures run { result ≡ 0 → OnAsked (map (λ w. w.now) words.now) (λ asked. ServesEach (unwrap_or asked.connections (2 ^ 64 - 1)) (heard_on L.Listener listener.old) (heard_on L.Listener listener.new)) (images_on M.Media media.old) (images_on M.Media media.new) }
     // What it said then is why connections could not be had, or were left.
     ensures described { result ≡ 0 → ReportsFaults (E.contents errors.old) (E.contents errors.new) }
     // Where it was refused, it said why, and nothing else, and asked for no connection.
@@ -71,7 +71,7 @@ where
     L: Listener,
     R: Clock + AllocGlobal,
     E: Write,
-    ensures run { OnOk result (OnAsked (map (λ w. w.now) words.now) (λ asked. ServesRun (unwrap_or asked.connections (2 ^ 64 - 1)) (heard_on L.Listener listener.old) (heard_on L.Listener listener.new)) (images_on M.Media media.old) (images_on M.Media media.new)) }
+    ensures run { OnOk result (OnAsked (map (λ w. w.now) words.now) (λ asked. ServesEach (unwrap_or asked.connections (2 ^ 64 - 1)) (heard_on L.Listener listener.old) (heard_on L.Listener listener.new)) (images_on M.Media media.old) (images_on M.Media media.new)) }
     ensures described { OnOk result (ReportsFaults (E.contents errors.old) (E.contents errors.new)) }
     ensures refused { IfErr result (λ fault. RefusesDaemon (map (λ w. w.now) words.now) fault (images_on M.Media media.old) (images_on M.Media media.new)) }
     ensures unreported { OnErr result (E.contents errors.new ≡ E.contents errors.old) }
@@ -97,7 +97,7 @@ where
     L: Listener,
     R: Clock + AllocGlobal,
     E: Write,
-    ensures serves { ServesImage asked.now.image.now (ServesRun (unwrap_or asked.now.connections (2 ^ 64 - 1)) (heard_on L.Listener listener.old) (heard_on L.Listener listener.new)) result (images_on M.Media media.old) (images_on M.Media media.new) }
+    ensures serves { ServesImage asked.now.image.now (ServesEach (unwrap_or asked.now.connections (2 ^ 64 - 1)) (heard_on L.Listener listener.old) (heard_on L.Listener listener.new)) result (images_on M.Media media.old) (images_on M.Media media.new) }
     ensures described { OnOk result (ReportsFaults (E.contents errors.old) (E.contents errors.new)) }
     ensures unreported { OnErr result (E.contents errors.new ≡ E.contents errors.old) }
     ensures unheard { OnErr result (heard_on L.Listener listener.new ≡ heard_on L.Listener listener.old) }
@@ -123,7 +123,7 @@ where
     E: Write,
     ensures refused { IfErr result (λ fault. fault ≡ Fault.Socket) }
     ensures unchanged { OnErr result (IsUnchanged (situation_on D.Drive None drive.old) (situation_on D.Drive None drive.new)) }
-    ensures run { OnOk result (ServesRun (unwrap_or asked.now.connections (2 ^ 64 - 1)) (heard_on L.Listener listener.old) (heard_on L.Listener listener.new) (situation_on D.Drive None drive.old) (situation_on D.Drive None drive.new)) }
+    ensures run { OnOk result (ServesEach (unwrap_or asked.now.connections (2 ^ 64 - 1)) (heard_on L.Listener listener.old) (heard_on L.Listener listener.new) (situation_on D.Drive None drive.old) (situation_on D.Drive None drive.new)) }
     ensures described { OnOk result (ReportsFaults (E.contents errors.old) (E.contents errors.new)) }
     ensures unreported { OnErr result (E.contents errors.new ≡ E.contents errors.old) }
     ensures unheard { OnErr result (heard_on L.Listener listener.new ≡ heard_on L.Listener listener.old) }
@@ -152,7 +152,7 @@ where
     R: Clock + AllocGlobal,
     D: Drive,
     E: Write,
-    ensures run { ServesRun connections (heard_on L.Listener listener.old) (heard_on L.Listener listener.new) (situation_on D.Drive None drive.old) (situation_on D.Drive None drive.new) }
+    ensures run { ServesEach connections (heard_on L.Listener listener.old) (heard_on L.Listener listener.new) (situation_on D.Drive None drive.old) (situation_on D.Drive None drive.new) }
     ensures described { ReportsFaults (E.contents errors.old) (E.contents errors.new) }
 {
     let mut engine = Engine::new();

@@ -4,7 +4,7 @@ ghost use Rattle.std.specs.Prelude.{◌≡◌, ◌≤◌, ◌-◌, ◌^◌, unwr
 ghost use Rattle.command_line.specs.Commands.{Asks};
 ghost use Rattle.programs.specs.FaultLines.{ReportsOutcome};
 ghost use Rattle.programs.specs.Images.{AreUntouched, images_on};
-ghost use Rattle.programs.specs.Listening.{ServesRun, heard_on};
+ghost use Rattle.programs.specs.Listening.{ServesEach, heard_on};
 ghost use Rattle.programs.specs.Refusals.{IsDaemonReported, IsEarly, OnAsked, ReportsFaults, ReportsEarly};
 ghost use Rattle.programs.specs.Tasks.{Ends, HasPrefix, IsPartlyDone, IsWhollyDone, IsPrefixOf, task_of};
 
@@ -73,7 +73,7 @@ where
     ensures status { result ≤ 2 }
     // Where it ends by itself, there are words of a daemon, and as many connections as they say were served on the image that
     // they name, as one run.
-    ensures run { result ≡ 0 → (words : _) × OnAsked words (λ asked. ServesRun (unwrap_or asked.connections (2 ^ 64 - 1)) (heard_on L.Listener listener.old) (heard_on L.Listener listener.new)) (images_on M.Media media.old) (images_on M.Media media.new) }
+    ensures run { result ≡ 0 → (words : _) × OnAsked words (λ asked. ServesEach (unwrap_or asked.connections (2 ^ 64 - 1)) (heard_on L.Listener listener.old) (heard_on L.Listener listener.new)) (images_on M.Media media.old) (images_on M.Media media.new) }
     // What it said then is why connections could not be had, or were left.
     ensures described { result ≡ 0 → ReportsFaults (E.contents errors.old) (E.contents errors.new) }
     // Where it was refused, it said why, and nothing else, and asked for no connection.
@@ -183,7 +183,7 @@ where
     E: Write,
     ensures unreported { IfErr result (λ _. E.contents errors.new ≡ E.contents errors.old) }
     ensures status { IfOk result (λ status. status ≤ 2) }
-    ensures run { IfOk result (λ status. status ≡ 0 → (words : _) × OnAsked words (λ asked. ServesRun (unwrap_or asked.connections (2 ^ 64 - 1)) (heard_on L.Listener listener.old) (heard_on L.Listener listener.new)) (images_on M.Media media.old) (images_on M.Media media.new)) }
+    ensures run { IfOk result (λ status. status ≡ 0 → (words : _) × OnAsked words (λ asked. ServesEach (unwrap_or asked.connections (2 ^ 64 - 1)) (heard_on L.Listener listener.old) (heard_on L.Listener listener.new)) (images_on M.Media media.old) (images_on M.Media media.new)) }
     ensures unopened { OnErr result (AreUntouched (images_on M.Media media.old) (images_on M.Media media.new)) }
     ensures described { IfOk result (λ status. status ≡ 0 → ReportsFaults (E.contents errors.old) (E.contents errors.new)) }
     ensures refused { IfErr result IsEarly }

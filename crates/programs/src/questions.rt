@@ -94,6 +94,7 @@ fn list<D: Drive, O: Write>(
     ensures refusal { IfErr result IsRefusal }
     ensures prints { PrintsAnswer (Names_at path.now) result (D.capacity drive.old) (D.journal drive.old) (D.honest drive.new) (O.contents output.old) (O.contents output.new) }
     ensures journal { D.journal drive.new ≡ D.journal drive.old }
+    ensures writes { D.writes drive.new ≡ D.writes drive.old }
     ensures honest { IsTrue (D.honest drive.new) → IsTrue (D.honest drive.old) }
 {
     let mut store = Store::open(alloc, drive)?;
@@ -112,6 +113,7 @@ fn get<D: Drive, O: Write>(
     ensures refusal { IfErr result IsRefusal }
     ensures prints { PrintsAnswer (Bytes_at path.now) result (D.capacity drive.old) (D.journal drive.old) (D.honest drive.new) (O.contents output.old) (O.contents output.new) }
     ensures journal { D.journal drive.new ≡ D.journal drive.old }
+    ensures writes { D.writes drive.new ≡ D.writes drive.old }
     ensures honest { IsTrue (D.honest drive.new) → IsTrue (D.honest drive.old) }
 {
     let mut store = Store::open(alloc, drive)?;
@@ -125,6 +127,7 @@ fn log<D: Drive, O: Write>(alloc: Global, drive: &mut D, output: &mut O) -> Resu
     ensures refusal { IfErr result IsRefusal }
     ensures prints { PrintsAnswer Commits result (D.capacity drive.old) (D.journal drive.old) (D.honest drive.new) (O.contents output.old) (O.contents output.new) }
     ensures journal { D.journal drive.new ≡ D.journal drive.old }
+    ensures writes { D.writes drive.new ≡ D.writes drive.old }
     ensures honest { IsTrue (D.honest drive.new) → IsTrue (D.honest drive.old) }
 {
     let store = Store::open(alloc, drive)?;
@@ -138,6 +141,7 @@ fn check<D: Drive, O: Write>(alloc: Global, drive: &mut D, output: &mut O) -> Re
     ensures refusal { IfErr result IsRefusal }
     ensures prints { PrintsAnswer Soundness result (D.capacity drive.old) (D.journal drive.old) (D.honest drive.new) (O.contents output.old) (O.contents output.new) }
     ensures journal { D.journal drive.new ≡ D.journal drive.old }
+    ensures writes { D.writes drive.new ≡ D.writes drive.old }
     ensures honest { IsTrue (D.honest drive.new) → IsTrue (D.honest drive.old) }
 {
     let store = Store::open(alloc, drive)?;

@@ -2,7 +2,7 @@
 
 ghost use Rattle.std.specs.Prelude.{◌≡◌, ◌<◌, IfErr, OnOk};
 ghost use Rattle.engine.specs.Situation.{situation_on};
-ghost use Rattle.formatting.specs.NewVolume.{words_on};
+ghost use Rattle.formatting.specs.NewVolume.{FormatSurvivesPowerLoss, words_on};
 ghost use Rattle.programs.specs.Images.{images_on};
 ghost use Rattle.programs.specs.NewVolumes.{BeginsBlock, HasFormatPrefix, IsNoPart, IsUnbegun, MakesVolume, MakesOn, MakesOnImage};
 ghost use Rattle.programs.specs.Status.{IsRefusal};
@@ -65,6 +65,7 @@ fn make<D: Drive, O: Write>(
     requires { moment < 4_102_444_800_000_000 }
     ensures refusal { IfErr result IsRefusal }
     ensures makes { MakesVolume label.now moment (D.capacity drive.old) result (D.journal drive.old) (D.journal drive.new) (D.honest drive.new) (O.contents output.old) (O.contents output.new) }
+    ensures withstands { FormatSurvivesPowerLoss (D.capacity drive.old) (words_on (D.capacity drive.old) label.now moment) (D.journal drive.old) (D.writes drive.old) (D.writes drive.new) (D.honest drive.new) }
 {
     format(alloc, drive, label, moment)?;
     put(output, b"formatted\n")
@@ -82,6 +83,7 @@ fn require_beginning<M: Media>(
     requires { moment < 4_102_444_800_000_000 }
     ensures refusal { IfErr result IsRefusal }
     ensures journal { M.Drive.journal drive.new ≡ M.Drive.journal drive.old }
+    ensures writes { M.Drive.writes drive.new ≡ M.Drive.writes drive.old }
     ensures capacity { M.Drive.capacity drive.new ≡ M.Drive.capacity drive.old }
     ensures honest { M.Drive.honest drive.new ≡ M.Drive.honest drive.old }
     ensures begun { OnOk result (HasFormatPrefix (M.Drive.capacity drive.old) label.now moment (M.Drive.journal drive.old)) }

@@ -1,6 +1,5 @@
 use Rattle.std.proofs.Common.{None, ◌-◌, ◌^◌}
 use Rattle.engine.specs.Situation.{IsReady, seen_on, situation_on}
-use Rattle.programs.specs.Connections.{ServesMessages}
 use Rattle.programs.specs.Listening.{heard_on}
 use Rattle.programs.specs.Refusals.{ReportsFaults}
 use Rattle.programs.proofs.Hearing.{Hearing}
@@ -8,8 +7,6 @@ use Rattle.programs.proofs.daemons.serve_each.Given as goal
 
 abbrev pub invariant-loop-left : goal.invariant-loop-left
 invariant-loop-left g l = record {
-  goes : ServesMessages (situation_on g.D.Drive None l.fn.drive)
-      (seen_on g.D.Drive l.engine l.drive);
   hears : Hearing l.fn.connections l.left l.tries (heard_on g.L.Listener l.fn.listener) (heard_on g.L.Listener l.listener) (situation_on g.D.Drive None l.fn.drive)
       (seen_on g.D.Drive l.engine l.drive);
   ready : IsReady (seen_on g.D.Drive l.engine l.drive);

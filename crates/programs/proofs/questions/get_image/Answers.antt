@@ -17,4 +17,4 @@ returns-in_err-drive-clause-prints g c =
 pub returns-clause-prints : goal.returns-clause-prints
 returns-clause-prints g c =
     shows_path Bytes_at c.args.image.now c.args.path.now c.in_ok-path.path c.get-shown.result _ _ _ _ c.in_ok-path.ensures.found
-    (shows_image g.M.Drive.Drive (Bytes_at c.in_ok-path.path) c.args.image.now c.get-shown.result _ _ _ _ _ _ _ c.in_ok-drive.ensures.opened c.put_back.ensures c.get-shown.ensures.journal c.get-shown.ensures.prints)
+    (shows_image g.M.Drive.Drive (Bytes_at c.in_ok-path.path) c.args.image.now c.get-shown.result _ _ _ _ _ _ _ c.in_ok-drive.ensures.opened c.put_back.ensures c.get-shown.ensures.journal c.get-shown.ensures.writes c.get-shown.ensures.prints)

@@ -17,4 +17,4 @@ returns-in_err-drive-clause-prints g c =
 pub returns-clause-prints : goal.returns-clause-prints
 returns-clause-prints g c =
     shows_path Names_at c.args.image.now c.args.path.now c.in_ok-path.path c.list-shown.result _ _ _ _ c.in_ok-path.ensures.found
-    (shows_image g.M.Drive.Drive (Names_at c.in_ok-path.path) c.args.image.now c.list-shown.result _ _ _ _ _ _ _ c.in_ok-drive.ensures.opened c.put_back.ensures c.list-shown.ensures.journal c.list-shown.ensures.prints)
+    (shows_image g.M.Drive.Drive (Names_at c.in_ok-path.path) c.args.image.now c.list-shown.result _ _ _ _ _ _ _ c.in_ok-drive.ensures.opened c.put_back.ensures c.list-shown.ensures.journal c.list-shown.ensures.writes c.list-shown.ensures.prints)
