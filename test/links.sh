@@ -127,15 +127,9 @@ done >> "$room/defined"
 # What the header of the C library declares.
 grep -o -w 'udfburn_[a-z_]*' library/udfburn.h | sort -u >> "$room/defined"
 
-passed=0
-failed=0
-pass() {
-    passed=$((passed + 1))
-}
-fail() {
-    failed=$((failed + 1))
-    echo "links: FAILED: $1"
-}
+suite=links
+# shellcheck source=test/shell.sh
+. test/shell.sh
 
 # heading FILE NAME: whether a heading of the file is shown under this name.
 heading() {
@@ -218,5 +212,4 @@ done < "$room/named"
 if [ "$passed" -eq 0 ]; then
     fail "nothing is named in the documents"
 fi
-echo "links: $passed passed, $failed failed"
-[ "$failed" -eq 0 ]
+counted

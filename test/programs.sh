@@ -5,11 +5,9 @@
 # Its last line is 'programs: N passed, M failed'. It takes a POSIX shell and the tools of a base system.
 set -u
 
-# absolute FILE: its path from any folder.
-absolute() {
-    echo "$(cd "$(dirname "$1")" && pwd)/$(basename "$1")"
-}
-
+suite=programs
+# shellcheck source=test/shell.sh
+. "$(dirname "$0")/shell.sh"
 udfburn=$(absolute "$1")
 udfburnd=$(absolute "$2")
 room=$(mktemp -d) || exit 1
@@ -29,20 +27,9 @@ trap 'exit 1' HUP INT PIPE TERM
 # A socket's path is short, so it is named from here.
 cd "$room" || exit 1
 
-passed=0
-failed=0
 image=disc.img
 socket=disc.socket
 : > none
-
-pass() {
-    passed=$((passed + 1))
-}
-
-fail() {
-    failed=$((failed + 1))
-    echo "programs: FAILED: $1"
-}
 
 # run WORD..: runs udfburn on these words. Its input is the file that `input` names.
 input=none
@@ -328,5 +315,4 @@ if [ -c /dev/full ]; then
     holds 'it was committed once' blocks full.img 273
 fi
 
-echo "programs: $passed passed, $failed failed"
-[ "$failed" -eq 0 ]
+counted

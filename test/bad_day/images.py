@@ -41,7 +41,8 @@ class Damage(NamedTuple):
 
 def requests(chance: random.Random) -> List[Message]:
     """Directories, files of all sizes, some replaced, renamed and removed, and at last a manifest of them all."""
-    model, sent = Volume(), []
+    model = Volume()
+    sent: List[Message] = []
 
     def send(kind: type, *fields: object) -> None:
         message = kind(7, len(sent) + 1, 1_600_000_000_000_000 + len(sent), *fields)

@@ -104,7 +104,8 @@ class Ledger:
                 base.close()
                 self._make(wanted)
                 base, client = self._begin(wanted)
-            assert client is not None
+            if client is None:
+                raise ValueError("it has no client, though it was just made")
             return base, client
         except (sqlite3.DatabaseError, TypeError, ValueError) as error:
             raise self._unusable(error) from error
@@ -225,7 +226,8 @@ class Ledger:
             self._base.executemany("INSERT INTO found VALUES (?, ?, ?, ?)", [(made, number, *reply) for number, reply in replies.items()])
             self._base.execute(BOUND, (way, made))
         found = self.volume(way)
-        assert found
+        if found is None:
+            raise RuntimeError("the volume that was just added is not in the ledger")
         return found
 
     def bind(self, way: Union[str, bytes], volume: Volume) -> Volume:

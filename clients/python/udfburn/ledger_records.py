@@ -131,7 +131,8 @@ def row_origin(row: "tuple[object, ...]") -> Optional[Origin]:
     local, start, size, modified = row
     if local is None:
         return None
-    assert isinstance(local, bytes) and isinstance(start, int) and isinstance(size, int) and isinstance(modified, int)
+    if not (isinstance(local, bytes) and isinstance(start, int) and isinstance(size, int) and isinstance(modified, int)):
+        raise ValueError(f"no origin of data: {row!r}")
     return Origin(os.fsdecode(local), start, size, modified)
 
 
@@ -157,9 +158,11 @@ def row_facts(path: str, row: "tuple[object, ...]") -> Optional[Facts]:
     to = path_of(str(target)) if target is not None else ()
     whole = None
     if whole_path is not None:
-        assert isinstance(whole_size, int) and isinstance(whole_sha256, bytes)
+        if not (isinstance(whole_size, int) and isinstance(whole_sha256, bytes)):
+            raise ValueError(f"no facts of a file in parts: {row!r}")
         whole = Whole(path_of(str(whole_path)), whole_size, whole_sha256)
-    assert isinstance(kind, int) and isinstance(size, int) and isinstance(moment, int) and (sha256 is None or isinstance(sha256, bytes))
+    if not (isinstance(kind, int) and isinstance(size, int) and isinstance(moment, int) and (sha256 is None or isinstance(sha256, bytes))):
+        raise ValueError(f"no facts of a request: {row!r}")
     return Facts(Deed(Kind(kind), path_of(path), to, size, moment), sha256, whole)
 
 

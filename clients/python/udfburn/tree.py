@@ -7,19 +7,20 @@ from contextlib import closing, suppress
 from typing import TYPE_CHECKING, Callable, Deque, Iterable, Iterator, List, Optional, Tuple, Type
 
 from .ahead import Ahead
-from .client import Client, refusal
 from .connection import find_program
 from .errors import Differs, DoesNotFit, SourceError, UsageError
 from .jobs import Job, Options, Summary, reads_back, same_parts
 from .operations import Operation, Outcome, now
 from .preflight import Plan, Present, plan, refuse_sizes
 from .protocol import AnyRequest, Code, Create, Get, MakeDir, Node, NodeKind, Path, Replace, Stat, limits, show
+from .refusals import refusal
 from .sources import Folder, Scan, delete, origin_of, scan, shown
 from .split import stored_paths
 from .stale import Stale, find_stale
 from .walk import Told, look, quiet, remove_paths, remove_tree, walk
 
 if TYPE_CHECKING:
+    from .client import Client
     from .blocks import Space
 
 CHUNK = 64
@@ -90,12 +91,12 @@ class Importer:
 
     def _space(self) -> Optional[Space]:
         """What the image has left, where there is one to look at."""
-        way = self.client.way
-        image = self.options.image or (way.path if way.kind == "image" else None)
+        endpoint = self.client.endpoint
+        image = self.options.image or (endpoint.path if endpoint.kind == "image" else None)
         if image is None:
             return None
         try:
-            program = find_program(way.program)
+            program = find_program(endpoint.program)
         except UsageError:
             return None
         # A dry run opens no ledger, and reckons with one client more: 0 is nobody's number.

@@ -240,7 +240,7 @@ def resume(arguments: argparse.Namespace) -> int:
     progress = progress_of(arguments)
     with writer(arguments) as client:
         if arguments.dry_run:
-            known = client.session().ledger.volume(client.way.key())
+            known = client.session().ledger.volume(client.endpoint.key())
             for waiting in client.session().ledger.pending(known) if known else ():
                 progress.say(f"would send number {waiting.number} again: {waiting.path}", did="would send", number=waiting.number, path=waiting.path)
             return 0

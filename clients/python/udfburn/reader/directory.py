@@ -159,7 +159,8 @@ class Reading:
             self.faults += met
             return self._mend(at, piece)
         name = said_by(piece, self.first)
-        assert name is not None
+        if name is None:
+            raise ValueError("an identifier without a fault names nothing")
         if not piece.use and piece.name:
             self.known.keep(piece, name)
         return self._take(piece, name)

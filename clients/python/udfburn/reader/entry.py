@@ -195,7 +195,8 @@ def place_faults(block: bytes, fields: Fields, kind: Kind) -> Iterator[Fault]:
 
 def write_entry(entry: Entry) -> bytes:
     """The block of an entry, as docs/FORMAT.md has it. Its moment has to be known."""
-    assert entry.moment is not None
+    if entry.moment is None:
+        raise ValueError("the moment of the entry is not known")
     stamp = write_timestamp(entry.moment)
     if entry.inside is not None:
         flags, blocks, allocation = EMBEDDED, 0, entry.inside

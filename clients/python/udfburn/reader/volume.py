@@ -112,7 +112,8 @@ class Volume:
 
     def table_of(self, address: int, entry: Entry) -> Optional[Table]:
         """The table of an entry; None where its head cannot be used, which is noted."""
-        assert entry.first is not None
+        if entry.first is None:
+            raise ValueError("the entry has no extent")
         start, number = entry.first + PARTITION, address - PARTITION
         run = self.medium.run(start, 1)
         head = read_head(run.data)
@@ -332,7 +333,8 @@ class State:
             directory, faults = read_directory(run.data, node.size, node.data - PARTITION)
             self.volume.notes.extend(node.data, faults)
             self._seen.directories[node.data, node.size] = directory
-        assert directory is not None
+        if directory is None:
+            raise RuntimeError("a directory that was seen before has no names")
         if directory.parent != node.above:
             self.volume.notes.add(node.data, Cause.IDENTITY, f"the directory above {show(node.path)} is another than it says")
         if node.links != 1 + sum(name.is_directory for name in directory.names):
