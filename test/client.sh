@@ -2,7 +2,7 @@
 # The Python client: its unit tests, and its tests over the built programs.
 #
 # usage: test/client.sh [UDFBURN UDFBURND]
-# KILLS of the environment is how often clients and daemons are killed (200). TIMES=1 tells which tests take long.
+# KILLS of the environment is how often clients and daemons are killed (200). TIMES=1 reports which tests take long.
 # Its last line is 'client: N passed, M failed'. It takes a POSIX shell, Python 3.9 or later (PYTHON names another) and a C
 # compiler, cc, for the library by which the client's calls are followed.
 set -u

@@ -287,8 +287,8 @@ asked() {
     done
 }
 
-# supervise MORE WORD..: starts the daemon as the unit does, with MORE behind it and these words before each command, and sends it a
-# request. It is killed, or ends by itself where MORE says so: behind strace it is a process of strace's, which would stay.
+# supervise MORE WORD..: starts the daemon as the unit does, with MORE after it and these words before each command, and sends it a
+# request. It is killed, or ends by itself where MORE says so: after strace it is a process of strace's, which would stay.
 supervise() {
     more=$1
     shift
@@ -354,7 +354,7 @@ if command -v systemd-analyze > "$room/which"; then
     fi
 fi
 
-# The prefix, behind the use of what it has.
+# The prefix, after the use of what it has.
 holds 'the prefix is left' ./install.sh --uninstall "$prefix"
 holds 'nothing is left in it' [ -z "$(find "$prefix" -type f)" ]
 

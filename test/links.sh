@@ -10,10 +10,10 @@
 #   [text](FILE#heading)     a link: the file is there, and has the heading
 #   `crates/NAME/src/x.rt`   a path from the top of the repository, in code: it is there
 #   src/x.rt, specs/X.antt   a file of some crate, in the text
-#   `FILE`, `name`           a file and what it defines: the name stands in the file
+#   `FILE`, `name`           a file and what it defines: the name is in the file
 #   `src/x.rt`, `X.edit`     below a heading that is a crate's name, a file of that crate and an edit that it must refuse
 #   `a::b`, `CamelCase`, `snake_case`   in a document on the code, a name: some source defines the last part
-#   ```antt FILE             a quotation: each line stands in the file, in this order; '..' is for lines left out
+#   ```antt FILE             a quotation: each line is in the file, in this order; '..' is for lines left out
 set -u
 
 cd "$(dirname "$0")/.." || exit 1
@@ -158,7 +158,7 @@ while IFS="$tab" read -r document line kind first second; do
             fi
             ;;
         path)
-            # A path begins with what stands at the top; other words with a slash are no paths of the repository.
+            # A path begins with what is at the top; other words with a slash are no paths of the repository.
             if ! [ -e "${first%%/*}" ]; then
                 continue
             fi
@@ -196,7 +196,7 @@ while IFS="$tab" read -r document line kind first second; do
             if [ -e "$first" ]; then pass; else fail "$where: no file $first"; fi
             ;;
         line)
-            # The first line behind the one before that has this text.
+            # The first line after the one before that has this text.
             at=$(TEXT=$second awk -v from="$from" 'NR > from && index($0, ENVIRON["TEXT"]) { print NR; exit }' "$first" 2> "$room/errors")
             if [ -n "$at" ]; then
                 from=$at

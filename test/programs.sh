@@ -38,7 +38,7 @@ run() {
     "$udfburn" "$@" < "$input" > output 2> errors || status=$?
 }
 
-# told NAME STATUS OUTPUT ERRORS: whether the last run told this, where OUTPUT and ERRORS are formats of printf.
+# told NAME STATUS OUTPUT ERRORS: whether the last run printed this, where OUTPUT and ERRORS are formats of printf.
 told() {
     printf "$3" > output.wanted
     printf "$4" > errors.wanted
@@ -78,7 +78,7 @@ connects() {
     "$udfburn" send "$socket" < none > connected 2>&1
 }
 
-# serve WORD..: starts the daemon on the image and the socket, with these words behind them.
+# serve WORD..: starts the daemon on the image and the socket, with these words after them.
 serve() {
     "$udfburnd" "$image" "$socket" "$@" 2> daemon.errors &
     daemon=$!
@@ -163,7 +163,7 @@ told 'an empty root' 0 '' ''
 run ls empty.img /
 told 'an empty image' 1 '' 'udfburn: 66 NotFormatted\n'
 
-# A request over the socket, and a daemon that is killed behind it.
+# A request over the socket, and a daemon that is killed after it.
 serve
 input=create
 run send "$socket"
@@ -238,7 +238,7 @@ case $line in
 esac
 crash
 
-# A daemon that ends by itself: behind the connection by which it was seen to listen it takes one more.
+# A daemon that ends by itself: after the connection by which it was seen to listen it takes one more.
 serve --connections 2
 run send "$socket"
 told 'the last connection' 0 "$second" ''

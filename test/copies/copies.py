@@ -2,9 +2,9 @@
 
 usage: copies.py UDFBURN UDFBURND ROOM [SEED [REQUESTS]]
 
-A client sends requests one behind another; the daemon is killed now and then, and started again. Meanwhile the image is copied
-by cp, dd and rsync, and by a follower that appends what is new. Each copy must be sound, and must be the state behind one of
-the run's commits: none before the last answer that the client had when the copy began, none behind what it had sent when the
+A client sends requests one after another; the daemon is killed now and then, and started again. Meanwhile the image is copied
+by cp, dd and rsync, and by a follower that appends what is new. Each copy must be sound, and must be the state after one of
+the run's commits: none before the last answer that the client had when the copy began, none after what it had sent when the
 copy was done.
 """
 
@@ -31,14 +31,14 @@ from protocol import (  # noqa: E402
 )
 
 CAPACITY = 200_000
-# Seconds behind which what did not come counts as missing: more than any machine takes.
+# Seconds after which what did not come counts as missing: more than any machine takes.
 PATIENCE = 300
 FORMAT_MOMENT = 77
-# Seconds without a word behind which the client leaves before the daemon lets it go, which does so behind 60.
+# Seconds without a word after which the client leaves before the daemon lets it go, which does so after 60.
 SILENCE = 20
 # As many replies as a volume keeps of a client: so many requests may be under way without one that gets lost.
 UNDER_WAY = 4
-# Behind so many the rest of the requests is sent without.
+# After so many the rest of the requests is sent without.
 MOST_COPIES = 80
 
 
@@ -186,13 +186,13 @@ def by_rsync(image: Path, copy: Path) -> None:
 
 
 def by_following(image: Path, copy: Path) -> None:
-    """Appends what is behind the copy's last whole block."""
+    """Appends what is after the copy's last whole block."""
     have = copy.stat().st_size // BLOCK if copy.exists() else 0
     run("dd", "if=%s" % image, "of=%s" % copy, "bs=%d" % BLOCK, "skip=%d" % have, "seek=%d" % have, "conv=notrunc")
 
 
 class Replay:
-    """The tree behind a commit, by doing its requests again."""
+    """The tree after a commit, by doing its requests again."""
 
     def __init__(self, sent: List[Request]) -> None:
         self.sent = sent
@@ -235,7 +235,7 @@ class Copies:
         self.sums: Dict[int, List[Tuple[bytes, str]]] = {}
 
     def remember(self, name: str, copy: Path) -> None:
-        """Keeps what a copy was, to be held against the whole image."""
+        """Keeps what a copy was, to be compared with the whole image."""
         blocks = copy.stat().st_size // BLOCK
         with open(copy, "rb") as stream:
             digest = hashlib.sha256(stream.read(blocks * BLOCK)).digest()
@@ -257,7 +257,7 @@ class Copies:
                         print("copies: FAILED: %s is no front of the image" % name)
 
     def judge(self, name: str, copy: Path, least: int, most: int) -> None:
-        """A copy is sound, is the state behind one of these commits, and questions to it change nothing."""
+        """A copy is sound, is the state after one of these commits, and questions to it change nothing."""
         before = copy.stat().st_size
         try:
             told = run(self.udfburn, "check", str(copy)).split()
@@ -343,7 +343,7 @@ def main() -> int:
     print("copies: %d copies, %d of them inside a commit, %d kills" % (made, copies.within, writer.kills), flush=True)
 
     copies.compare(image)
-    # Fronts of the whole image, at any byte: the last commit whose table's entry is whole.
+    # Fronts of the whole image, at any byte: the last commit whose VAT ICB is whole.
     data = image.read_bytes()
     addresses = {}
     for line in run(udfburn, "log", str(image)).decode().splitlines():

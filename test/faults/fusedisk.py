@@ -1,4 +1,4 @@
-"""A file whose writes and flushes are logged in order: a disk for a loop device, of which every state behind a loss of power can be
+"""A file whose writes and flushes are logged in order: a disk for a loop device, of which every state after a power loss can be
 made again. A write of chosen blocks may be made to fail. It is served by FUSE, in the protocol of the kernel's fuse.h, and takes root."""
 from __future__ import annotations
 
@@ -25,7 +25,7 @@ _EVENT = struct.Struct("<cQI")
 
 
 class Event(NamedTuple):
-    """What reached the disk: a write of `data` at `offset`, or a flush. `end` is the size of the log behind it."""
+    """What reached the disk: a write of `data` at `offset`, or a flush. `end` is the size of the log after it."""
 
     end: int
     is_flush: bool
@@ -148,7 +148,7 @@ class FuseDisk:
         self._libc = libc
 
     def fail(self, blocks: bytes) -> None:
-        """Makes the next write of one of these blocks fail. What the system writes of its own accord, as it does behind half a minute,
+        """Makes the next write of one of these blocks fail. What the system writes of its own accord, as it does after half a minute,
         is none of them."""
         self.failing.write_bytes(blocks)
 

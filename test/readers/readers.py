@@ -1,4 +1,4 @@
-"""Makes volumes by the program, and compares what other readers tell of them with what the requests say.
+"""Makes volumes by the program, and compares what other readers report about them with what the requests say.
 
 usage: readers.py UDFBURN ROOM [--guest FILE] [--kernel FOLDER] [--here] [--tools NAME..] [--absent NAME..]
        readers.py --may-mount GUEST ROOM
@@ -26,12 +26,12 @@ from protocol import Tree  # noqa: E402
 from volumes import PLANS, Maker, Volume  # noqa: E402
 
 # A path that is too long for the fixed room that it has ends udfclient. It takes no image of less than 300 blocks, and takes
-# the byte behind a label of 30 letters for a letter more.
+# the byte after a label of 30 letters for a letter more.
 UDFCLIENT_LEAVES = ("deepest",)
 UDFCLIENT_LEAST = 300
 # Up to Linux 6.12 a table whose head is longer than a block is refused, as it is with 39 clients and more.
 LINUX_LEAVES = ("allclients",)
-# Linux looks for the table's entry in the last four blocks, and where a drive tells the size alone in the last three.
+# Linux looks for the VAT ICB in the last four blocks, and where a drive reports the size alone in the last three.
 LINUX_LOOKS_BACK = 3
 
 
@@ -59,7 +59,7 @@ def mounts(volumes: List[Volume], discs: bool) -> List[Tuple[str, linux.Job, Tre
             continue
         if volume.behind <= LINUX_LOOKS_BACK:
             out.append((volume.name, linux.Job(volume.image), volume.tree))
-        # What a cut left behind the table's entry is passed by where the entry's address is said.
+        # What a cut left behind the VAT ICB is passed by where the entry's address is said.
         for address, tree in [(volume.last, volume.tree)] + volume.earlier:
             out.append(("%s at %d" % (volume.name, address), linux.Job(volume.image, address), tree))
         if discs and volume.behind < LINUX_LOOKS_BACK and volume.name in ("names", "sizes", "die", "cut1", "cut2"):

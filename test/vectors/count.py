@@ -39,7 +39,7 @@ DROPPED = {
 
 
 def functions(source: str) -> "dict[str, int]":
-    """The test functions of a file, each with the assertions that stand in it."""
+    """The test functions of a file, each with the assertions that are in it."""
     found = {}
     pieces = re.split(r"^#\[test\]\n", source, flags=re.MULTILINE)[1:]
     for piece in pieces:

@@ -168,7 +168,7 @@ class Many(WithServer):
 
 
 class Lost(WithServer):
-    """Conversations that are lost behind each byte."""
+    """Conversations that are lost after each byte."""
 
     def test_behind_each_byte(self) -> None:
         self.behind_each_byte(True)
@@ -526,7 +526,7 @@ class Turns(WithServer):
 
         self.server.before = before
         client = self.client()
-        # The clock counts what the server was asked. A turn is over behind 5 answers: then at most 6 requests with a question each were
+        # The clock counts what the server was asked. A turn is over after 5 answers: then at most 6 requests with a question each were
         # sent, or 20 questions, however far the server is ahead.
         clock = SimpleNamespace(monotonic=lambda: now[0], sleep=time.sleep)
         with mock.patch("udfburn.retrying.TURN", 4), mock.patch("udfburn.retrying.time", clock):
@@ -560,7 +560,7 @@ class Ahead(WithServer):
 
         self.server.before, self.server.together = before, False
         self.assertEqual([outcome.number for outcome in self.client().run(operations())], list(range(1, 21)))
-        # Of four under way the first is at work, and at most two are taken behind them.
+        # Of four under way the first is at work, and at most two are taken after them.
         self.assertIn(max(ahead), range(4, 6))
 
     def test_two_go_out_while_two_are_under_way(self) -> None:

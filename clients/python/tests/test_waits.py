@@ -93,7 +93,7 @@ class Stopped(WithPrograms):
                 client.close()
 
     def test_a_program_that_is_stopped(self) -> None:
-        """Its end is not awaited for ever: it is killed, as by a loss of power, and what it answered stays."""
+        """Its end is not awaited for ever: it is killed, as by a power loss, and what it answered stays."""
         with self.on_image(patience=1.0) as client:
             client.line.timeout = 1.0
             began = time.monotonic()

@@ -26,10 +26,10 @@ class Client:
     with the C library (`library:PATH`).
 
     `ledger` is the file that keeps numbers, frames and replies; it is opened with the first request, and made where
-    it is missing. A `Ledger` that is open already is taken too, and closed with the client. `client` is this ledger's number at the volume, which is drawn once where none is given. A volume
+    it is missing. A `Ledger` that is open already is taken too, and closed with the client. `client` is this ledger's number at the volume, which is chosen at random once if none is given. A volume
     keeps 64 clients for its life, so use one ledger a machine.
 
-    A conversation is begun with a call and ended behind it, since a daemon serves one after another; `held` keeps it
+    A conversation is begun with a call and ended after it, since a daemon serves one after another; `held` keeps it
     for several calls. The library holds an image from the first call until `close`.
     """
 

@@ -244,7 +244,7 @@ class ImageConnection(Connection):
         return self.process.pid
 
     def _await_end(self) -> None:
-        """Waits for the program's end. One that does not come is killed, as by a loss of power: what it answered stays."""
+        """Waits for the program's end. One that does not come is killed, as by a power loss: what it answered stays."""
         import subprocess
 
         try:

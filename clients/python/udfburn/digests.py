@@ -105,7 +105,7 @@ def moved(path: Path, old: Path, new: Path) -> Path:
 
 
 def known_files(ledger: Ledger, way: Union[str, bytes]) -> Optional[Files]:
-    """What a ledger knows of the files of the volume at a way; None where it knows no volume there."""
+    """What a ledger knows of the files of the volume at an endpoint; None where it knows no volume there."""
     volume = ledger.volume(way)
     return Files(ledger, volume) if volume is not None else None
 

@@ -1,4 +1,4 @@
-"""What a ledger keeps, as values: volumes, requests, replies, and what tells one volume from another."""
+"""What a ledger keeps, as values: volumes, requests, replies, and what distinguishes one volume from another."""
 
 from __future__ import annotations
 
@@ -24,7 +24,7 @@ class Identity(NamedTuple):
 
 
 class Mark(NamedTuple):
-    """A commit of an image: its number, the address of its table's entry, and the SHA-256 of all blocks that it wrote."""
+    """A commit of an image: its number, the address of its VAT ICB, and the SHA-256 of all blocks that it wrote."""
 
     commit: int
     address: int
@@ -95,7 +95,7 @@ class Sent(NamedTuple):
 
 
 def facts_of(request: AnyRequest, sha256: Optional[bytes] = None, whole: Optional[Whole] = None) -> Facts:
-    """The facts of a request. The SHA-256 of its data is reckoned where it is not given."""
+    """The facts of a request. The SHA-256 of its data is computed where it is not given."""
     deed = deed_of(request)
     if not isinstance(request, (Create, Replace)):
         return Facts(deed)

@@ -30,7 +30,7 @@ PART = limits.REPLIES // 2
 """Requests that are kept and sent as one. While their replies and the next ones are kept, the program works on the others."""
 
 AT_ONCE = 1 << 17
-"""Bytes of requests under way and of those behind them up to which the answers to a part are likely to come as one piece."""
+"""Bytes of requests under way and of those after them up to which the answers to a part are likely to come as one piece."""
 
 
 Done = Dict[int, Tuple[Deed, Committed]]
@@ -40,7 +40,7 @@ Done = Dict[int, Tuple[Deed, Committed]]
 class InFlightRequest:
     """A request under way, with a question for each of its paths, and what came back: its reply, and payloads of answers.
 
-    All that can be reckoned before the reply comes is reckoned here, while the program is at work.
+    All that can be computed before the reply comes is computed here, while the program is at work.
     """
 
     def __init__(self, operation: Operation, client: int, number: int):
@@ -97,7 +97,7 @@ class RequestQueue:
         self.ahead: Deque[InFlightRequest] = deque()
 
     def look_ahead(self, last: int) -> None:
-        """Makes ready what is sent next, behind the request of this number."""
+        """Makes ready what is sent next, after the request of this number."""
         while len(self.ahead) < PART and self._take(last + len(self.ahead) + 1):
             pass
 
@@ -106,7 +106,7 @@ class RequestQueue:
         flights: List[InFlightRequest] = []
         while len(flights) < count and (self.ahead or self._take(number)):
             flight = self.ahead.popleft()
-            # Behind a conversation that was lost the next number may be another one.
+            # After a conversation that was lost the next number may be another one.
             if flight.number() != number:
                 flight = InFlightRequest(flight.operation, self.client, number)
             flights.append(flight)
@@ -186,7 +186,7 @@ class Session:
             self.line.get()
         finally:
             self._forgetting = False
-        # Not before, since where the volume cannot be asked nobody would be told what was dropped.
+        # Not before, since where the volume cannot be asked nobody would learn what was dropped.
         if known and known.id != self.volume().id:
             self.ledger.withdraw(known)
         return [pending.path for pending in waiting]
@@ -293,7 +293,7 @@ class Session:
         )
 
     def _confirm(self, connection: Connection, done: Done) -> None:
-        """Sees that the tree has what replies say that came behind a lost conversation."""
+        """Sees that the tree has what replies say that came after a lost conversation."""
         wanted = after_all([(deed, reply.code) for deed, reply in done.values()])
         for path, expected in wanted.items():
             connection.send(frame(encode_message(Stat(path))))

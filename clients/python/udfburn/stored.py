@@ -69,7 +69,7 @@ class Tree:
         return found
 
     def beside(self, at: Path, names: Sequence[Name], split: bool) -> List[Stored]:
-        """The files of a directory, and those whose parts stand in it."""
+        """The files of a directory, and those whose parts are in it."""
         whole: Dict[str, List[str]] = {}
         rest = [name.name for name in names]
         if split:
@@ -79,7 +79,7 @@ class Tree:
         return [self.of(at + (name,), [at + (part,) for part in parts], []) for name, parts in groups]
 
     def in_folders(self, at: Path, names: Sequence[Name]) -> List[Stored]:
-        """The files whose parts stand in folders of parts in this directory. One beside a file or a directory of its name is none."""
+        """The files whose parts are in folders of parts in this directory. One beside a file or a directory of its name is none."""
         known = {name.name for name in names}
         found: List[Stored] = []
         for name in names:

@@ -13,11 +13,11 @@ if TYPE_CHECKING:
     from .client import Client
 
 Told = Callable[[str, Path, int, int], None]
-"""Is told of each step: what was done, the path, its bytes, its commit."""
+"""Is called for each step: what was done, the path, its bytes, its commit."""
 
 
 def quiet(*_: object) -> None:
-    """Tells nobody."""
+    """Does nothing."""
 
 
 def walk(client: Client, path: Path) -> Iterator[Tuple[Path, Tuple[Name, ...]]]:

@@ -45,7 +45,7 @@ class Directory(NamedTuple):
 
 
 class Piece(NamedTuple):
-    """An identifier as it stands: its place in the data, its bytes, its fields, its implementation use and its name's spelling."""
+    """An identifier as it is: its place in the data, its bytes, its fields, its implementation use and its name's spelling."""
 
     at: int
     data: bytes
@@ -148,7 +148,7 @@ class Reading:
         self.complete = True
 
     def step(self, at: int) -> int:
-        """Reads what stands at a place, and gives the next one."""
+        """Reads what is at a place, and gives the next one."""
         if at:
             after = self.known.run(self.data, at, self.size, self.first, self.names)
             if after > at:
@@ -174,7 +174,7 @@ class Reading:
 
     def _add(self, name: Identifier) -> None:
         if name.name in self.names:
-            self.faults.append(Fault(Cause.TWICE, f"the name {name.name!r} stands twice"))
+            self.faults.append(Fault(Cause.TWICE, f"the name {name.name!r} is there twice"))
         else:
             self.names[name.name] = name
 
