@@ -14,6 +14,7 @@
 #   `src/x.rt`, `X.edit`     below a heading that is a crate's name, a file of that crate and an edit that it must refuse
 #   `a::b`, `CamelCase`, `snake_case`   in a document on the code, a name: some source defines the last part
 #   ```antt FILE             a quotation: each line is in the file, in this order; '..' is for lines left out
+#   a paragraph              has 700 characters at most, a line 1,000
 set -u
 
 cd "$(dirname "$0")/.." || exit 1
@@ -104,6 +105,24 @@ while read -r document; do
     awk -f "$room/named.awk" "$document"
 done < "$room/documents" > "$room/named"
 
+# The paragraphs and lines that are too long, and how many were looked at. A row of a table is no paragraph, an item of a list is one.
+cat > "$room/long.awk" <<'AWK'
+function ended() {
+    if (size > 700) printf "%s\t%d\ta paragraph of %d characters\n", FILENAME, first, size
+    if (size > 0) paragraphs++
+    size = 0
+}
+length($0) > 1000 { printf "%s\t%d\ta line of %d characters\n", FILENAME, FNR, length($0) }
+/^ *```/ { ended(); fenced = !fenced; next }
+fenced || /^#/ || /^\|/ || /^ *$/ || (/^    / && size == 0) { ended(); next }
+/^ *([-*]|[0-9]+\.) / { ended() }
+{ if (size == 0) first = FNR; size += length($0) + (size > 0) }
+END { ended(); printf "%s\t%d\t\n", FILENAME, paragraphs }
+AWK
+while read -r document; do
+    LC_ALL=C.UTF-8 awk -f "$room/long.awk" "$document"
+done < "$room/documents" > "$room/long"
+
 # What the sources define: items, fields, variants, clauses, and the definitions and lemmas of antt.
 find crates \( -name '*.rt' -o -name '*.antt' \) ! -path '*/out/*' -exec cat {} + | awk '
 {
@@ -137,6 +156,9 @@ heading() {
 }
 
 tab=$(printf '\t')
+while IFS="$tab" read -r document line why; do
+    if [ -n "$why" ]; then fail "$document:$line: $why"; else passed=$((passed + line)); fi
+done < "$room/long"
 while IFS="$tab" read -r document line kind first second; do
     where="$document:$line"
     case $kind in
