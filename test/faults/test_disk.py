@@ -162,7 +162,6 @@ class WithDisk(Case):
             served = FuseDisk(folder, disk, log)
         except OSError as fault:
             lacks("nothing can be mounted by FUSE: %s" % fault)
-        said: list[tuple[int, int]] = []
         device = ""
         is_mounted = False
         is_over = threading.Event()
@@ -176,27 +175,7 @@ class WithDisk(Case):
                 lacks("no loop device can be mounted: " + first_line(str(fault)))
             if pushes:
                 pusher.start()
-            self.tell(self.udfburn("format", str(where / "d.img"), "DISC", "0", "1500"), 0, b"formatted\n", b"")
-            said.append((served.size(), 0))
-            model = Model()
-            image = str(where / "d.img")
-            for request in stream if ends else ():
-                assert ends
-                ends(image, request, served)
-                answers = answers_of(self.apply(encode(request), image).output)
-                size = served.size()
-                self.assertEqual(answers, [model.answer(request)])
-                said.append((size, model.commits))
-            with Daemon(self.folder, image, rules=rules) as daemon, daemon.client() as client:
-                for request in () if ends else stream:
-                    if fails:
-                        served.fail(self.blocks_of(image, request))
-                        self.assertEqual(client.ask(encode(request)), Answer(FAULT))
-                        self.assertTrue(served.has_failed())
-                    answer = client.ask(encode(request))
-                    size = served.size()
-                    self.assertEqual(answer, model.answer(request))
-                    said.append((size, model.commits))
+            said = self.served(served, str(where / "d.img"), stream, fails, ends, rules)
         finally:
             is_over.set()
             if pusher.is_alive():
@@ -209,6 +188,31 @@ class WithDisk(Case):
         found = events(log)
         self.assertGreater(len(found), 2 * len(stream))
         return found, said
+
+    def served(self, disk: FuseDisk, image: str, stream: Sequence[Request], fails: bool, ends: Optional[Ends],
+               rules: str) -> list[tuple[int, int]]:
+        """Formats an image and serves the stream, as `recorded` has it: how far the disk was at each acknowledgement."""
+        self.tell(self.udfburn("format", image, "DISC", "0", "1500"), 0, b"formatted\n", b"")
+        said = [(disk.size(), 0)]
+        model = Model()
+        if ends:
+            for request in stream:
+                ends(image, request, disk)
+                answers = answers_of(self.apply(encode(request), image).output)
+                size = disk.size()
+                self.assertEqual(answers, [model.answer(request)])
+                said.append((size, model.commits))
+        with Daemon(self.folder, image, rules=rules) as daemon, daemon.client() as client:
+            for request in () if ends else stream:
+                if fails:
+                    disk.fail(self.blocks_of(image, request))
+                    self.assertEqual(client.ask(encode(request)), Answer(FAULT))
+                    self.assertTrue(disk.has_failed())
+                answer = client.ask(encode(request))
+                size = disk.size()
+                self.assertEqual(answer, model.answer(request))
+                said.append((size, model.commits))
+        return said
 
     def blocks_of(self, image: str, request: Request, rules: str = "") -> bytes:
         """The blocks that this request will write, by a copy of the image; where rules end it, those that it leaves unsynced."""
