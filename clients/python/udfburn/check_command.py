@@ -116,7 +116,7 @@ def in_words(line: str) -> str:
     if found:
         block, cause = (int(number) for number in found.groups() if number is not None)
         kind = {2: "a file entry or the file set descriptor", 3: "the data of a directory", 4: "the data of a table"}.get(cause // 10, "a structure")
-        return f"block {block}: {kind} is damaged, cause {cause}: {CAUSES.get(cause, 'see docs/OPERATIONS.md')}"
+        return f"block {block}: {kind} is damaged, cause {cause}: {CAUSES.get(cause, 'see docs/DAMAGE.md')}"
     if "66 NotFormatted" in line:
         return "holds no volume: no VAT ICB is found in it"
     if "67 Damaged" in line:
