@@ -5,7 +5,7 @@
 # usage: ./install.sh PREFIX
 #        ./install.sh --uninstall PREFIX
 #
-# PREFIX is an absolute path of plain letters, such as /usr/local. DESTDIR is put in front of each path that is written, and is in none of the
+# PREFIX is an absolute path of plain letters, such as /usr/local. DESTDIR is put before each path that is written, and is in none of the
 # files. UDFBURN and UDFBURND name the programs, else those that `rt` built in crates/ are taken. PYTHON_DIR is the folder of the
 # Python package, else PREFIX/lib/udfburn. LIBRARY names the folder in which packaging/library/build.sh built the C library, which
 # goes to LIBDIR, else PREFIX/lib; without it no library is installed. What was installed is listed in PREFIX/share/doc/udfburn/installed, which is what

@@ -7,6 +7,9 @@
 # 'archive: N passed, M failed'. It takes Python 3.11 or later; PYTHON names another than Debian's, which has the driver of PostgreSQL.
 set -u
 home=$(cd "$(dirname "$0")" && pwd)
+suite=archive
+# shellcheck source=test/shell.sh
+. "$home/shell.sh"
 large=
 if [ "${1:-}" = --large ]; then
     large=--large
@@ -14,7 +17,7 @@ if [ "${1:-}" = --large ]; then
 fi
 UDFBURN=${1:-$home/../crates/udfburn/out/udfburn}
 [ $# -eq 0 ] || shift
-UDFBURN=$(cd "$(dirname "$UDFBURN")" && pwd)/$(basename "$UDFBURN")
+UDFBURN=$(absolute "$UDFBURN")
 export UDFBURN
 if ! [ -x "$UDFBURN" ]; then
     echo "archive: $UDFBURN is no program"
@@ -62,14 +65,4 @@ case "${1:-test_remotes}" in
 esac
 status=0
 PYTHONDONTWRITEBYTECODE=1 PYTHONUTF8=1 "$python" -m archive $large "$@" > "$output" 2>&1 || status=$?
-sed '$d' "$output"
-last=$(tail -n 1 "$output")
-case $last in
-    *' passed, '*' failed') echo "archive: $last" ;;
-    *)
-        echo "$last"
-        echo 'archive: 0 passed, 1 failed'
-        status=1
-        ;;
-esac
-exit "$status"
+counted_in "$output" "$status"

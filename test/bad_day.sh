@@ -1,5 +1,5 @@
 #!/bin/sh
-# The bad day: damaged images, from which `udfburn-client salvage` gives back what stands, with ddrescue, par2 and dvdisaster.
+# The bad day: damaged images, from which `udfburn-client salvage` gives back what is intact, with ddrescue, par2 and dvdisaster.
 #
 # usage: test/bad_day.sh [UDFBURN [UDFBURND [SEED]]]
 # Its last line is 'bad_day: N passed, M failed'. What is not there is installed from Debian's packages where we may; what cannot be

@@ -2,18 +2,16 @@
 # The Python client: its unit tests, and its tests over the built programs.
 #
 # usage: test/client.sh [UDFBURN UDFBURND]
-# KILLS of the environment is how often clients and daemons are killed (200). TIMES=1 tells which tests take long.
+# KILLS of the environment is how often clients and daemons are killed (200). TIMES=1 reports which tests take long.
 # Its last line is 'client: N passed, M failed'. It takes a POSIX shell, Python 3.9 or later (PYTHON names another) and a C
 # compiler, cc, for the library by which the client's calls are followed.
 set -u
 
 here=$(cd "$(dirname "$0")/.." && pwd)
 
-# absolute FILE: its path from any folder.
-absolute() {
-    echo "$(cd "$(dirname "$1")" && pwd)/$(basename "$1")"
-}
-
+suite=client
+# shellcheck source=test/shell.sh
+. "$here/test/shell.sh"
 UDFBURN=$(absolute "${1:-$here/crates/udfburn/out/udfburn}")
 UDFBURND=$(absolute "${2:-$here/crates/udfburnd/out/udfburnd}")
 export UDFBURN UDFBURND
@@ -40,14 +38,4 @@ cd "$here/clients/python" || exit 1
 status=0
 UDFBURN_LEDGER=/nonexistent/ledger UDFBURN_SOCKET='' PYTHONDONTWRITEBYTECODE=1 PYTHONUTF8=1 \
     "${PYTHON:-python3}" -m tests > "$output" 2>&1 || status=$?
-sed '$d' "$output"
-last=$(tail -n 1 "$output")
-case $last in
-    *' passed, '*' failed') echo "client: $last" ;;
-    *)
-        echo "$last"
-        echo 'client: 0 passed, 1 failed'
-        status=1
-        ;;
-esac
-exit "$status"
+counted_in "$output" "$status"

@@ -9,7 +9,7 @@
 # 'edits: N passed, M failed'. It takes the Rattle kit, a POSIX shell and the tools of a base system.
 #
 # The edits are in test/edits/CRATE, and those that change a definition in test/edits/laws/CRATE. They are tried on a copy of
-# the tree in which they stand in crates/CRATE/must-fail. What rt check keeps for this tree serves the copy too.
+# the tree in which they are in crates/CRATE/must-fail. What rt check keeps for this tree serves the copy too.
 set -u
 
 cd "$(dirname "$0")/.." || exit 1

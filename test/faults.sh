@@ -6,11 +6,10 @@
 # kernel that is not there says that it was left out, and why. With CI=true only what the machine truly lacks may be left out.
 set -eu
 
-absolute() {
-    echo "$(cd "$(dirname "$1")" && pwd)/$(basename "$1")"
-}
-
 home=$(cd "$(dirname "$0")" && pwd)
+suite=faults
+# shellcheck source=test/shell.sh
+. "$home/shell.sh"
 if [ $# -ge 2 ]; then
     udfburn=$(absolute "$1")
     udfburnd=$(absolute "$2")

@@ -6,10 +6,10 @@
 # Its last line is 'install: N passed, M failed'. mandoc, strace, lintian and systemd's commands are installed where they are not there
 # and we may; what cannot be had is said, and is a failure where CI=true.
 set -u
-absolute() {
-    echo "$(cd "$(dirname "$1")" && pwd)/$(basename "$1")"
-}
 cd "$(dirname "$0")/.." || exit 1
+suite=install
+# shellcheck source=test/shell.sh
+. test/shell.sh
 UDFBURN=$(absolute "${1:-crates/udfburn/out/udfburn}")
 UDFBURND=$(absolute "${2:-crates/udfburnd/out/udfburnd}")
 export UDFBURN UDFBURND
@@ -20,22 +20,6 @@ trap 'rm -rf "$room"' EXIT
 trap 'exit 1' HUP INT PIPE TERM
 PATH=$PATH:/usr/sbin:/sbin
 unset DESTDIR PYTHON_DIR LIBRARY LIBDIR
-passed=0
-failed=0
-
-# holds NAME COMMAND..: whether the command succeeds.
-holds() {
-    name=$1
-    shift
-    if "$@" > "$room/told" 2>&1; then
-        passed=$((passed + 1))
-    else
-        failed=$((failed + 1))
-        echo "install: FAILED: $name"
-        head -n 20 "$room/told"
-    fi
-}
-
 # absent NAME: what cannot be tried.
 absent() {
     echo "install: not tried: $1 is not there"
@@ -303,8 +287,8 @@ asked() {
     done
 }
 
-# supervise MORE WORD..: starts the daemon as the unit does, with MORE behind it and these words before each command, and sends it a
-# request. It is killed, or ends by itself where MORE says so: behind strace it is a process of strace's, which would stay.
+# supervise MORE WORD..: starts the daemon as the unit does, with MORE after it and these words before each command, and sends it a
+# request. It is killed, or ends by itself where MORE says so: after strace it is a process of strace's, which would stay.
 supervise() {
     more=$1
     shift
@@ -370,9 +354,8 @@ if command -v systemd-analyze > "$room/which"; then
     fi
 fi
 
-# The prefix, behind the use of what it has.
+# The prefix, after the use of what it has.
 holds 'the prefix is left' ./install.sh --uninstall "$prefix"
 holds 'nothing is left in it' [ -z "$(find "$prefix" -type f)" ]
 
-echo "install: $passed passed, $failed failed"
-[ "$failed" -eq 0 ]
+counted

@@ -7,10 +7,9 @@
 # valgrind and libburn-dev.
 set -eu
 
-absolute() {
-    echo "$(cd "$(dirname "$1")" && pwd)/$(basename "$1")"
-}
-
+suite=library
+# shellcheck source=test/shell.sh
+. "$(dirname "$0")/shell.sh"
 [ $# -ge 3 ] || { echo 'usage: test/library.sh CORE UDFBURN UDFBURND [MODULE..]' >&2; exit 2; }
 core=$(absolute "$1")
 udfburn=$(absolute "$2")

@@ -10,10 +10,11 @@
 #   [text](FILE#heading)     a link: the file is there, and has the heading
 #   `crates/NAME/src/x.rt`   a path from the top of the repository, in code: it is there
 #   src/x.rt, specs/X.antt   a file of some crate, in the text
-#   `FILE`, `name`           a file and what it defines: the name stands in the file
+#   `FILE`, `name`           a file and what it defines: the name is in the file
 #   `src/x.rt`, `X.edit`     below a heading that is a crate's name, a file of that crate and an edit that it must refuse
 #   `a::b`, `CamelCase`, `snake_case`   in a document on the code, a name: some source defines the last part
-#   ```antt FILE             a quotation: each line stands in the file, in this order; '..' is for lines left out
+#   ```antt FILE             a quotation: each line is in the file, in this order; '..' is for lines left out
+#   a paragraph              has 700 characters at most, a line 1,000
 set -u
 
 cd "$(dirname "$0")/.." || exit 1
@@ -104,6 +105,24 @@ while read -r document; do
     awk -f "$room/named.awk" "$document"
 done < "$room/documents" > "$room/named"
 
+# The paragraphs and lines that are too long, and how many were looked at. A row of a table is no paragraph, an item of a list is one.
+cat > "$room/long.awk" <<'AWK'
+function ended() {
+    if (size > 700) printf "%s\t%d\ta paragraph of %d characters\n", FILENAME, first, size
+    if (size > 0) paragraphs++
+    size = 0
+}
+length($0) > 1000 { printf "%s\t%d\ta line of %d characters\n", FILENAME, FNR, length($0) }
+/^ *```/ { ended(); fenced = !fenced; next }
+fenced || /^#/ || /^\|/ || /^ *$/ || (/^    / && size == 0) { ended(); next }
+/^ *([-*]|[0-9]+\.) / { ended() }
+{ if (size == 0) first = FNR; size += length($0) + (size > 0) }
+END { ended(); printf "%s\t%d\t\n", FILENAME, paragraphs }
+AWK
+while read -r document; do
+    LC_ALL=C.UTF-8 awk -f "$room/long.awk" "$document"
+done < "$room/documents" > "$room/long"
+
 # What the sources define: items, fields, variants, clauses, and the definitions and lemmas of antt.
 find crates \( -name '*.rt' -o -name '*.antt' \) ! -path '*/out/*' -exec cat {} + | awk '
 {
@@ -127,15 +146,9 @@ done >> "$room/defined"
 # What the header of the C library declares.
 grep -o -w 'udfburn_[a-z_]*' library/udfburn.h | sort -u >> "$room/defined"
 
-passed=0
-failed=0
-pass() {
-    passed=$((passed + 1))
-}
-fail() {
-    failed=$((failed + 1))
-    echo "links: FAILED: $1"
-}
+suite=links
+# shellcheck source=test/shell.sh
+. test/shell.sh
 
 # heading FILE NAME: whether a heading of the file is shown under this name.
 heading() {
@@ -143,6 +156,9 @@ heading() {
 }
 
 tab=$(printf '\t')
+while IFS="$tab" read -r document line why; do
+    if [ -n "$why" ]; then fail "$document:$line: $why"; else passed=$((passed + line)); fi
+done < "$room/long"
 while IFS="$tab" read -r document line kind first second; do
     where="$document:$line"
     case $kind in
@@ -164,7 +180,7 @@ while IFS="$tab" read -r document line kind first second; do
             fi
             ;;
         path)
-            # A path begins with what stands at the top; other words with a slash are no paths of the repository.
+            # A path begins with what is at the top; other words with a slash are no paths of the repository.
             if ! [ -e "${first%%/*}" ]; then
                 continue
             fi
@@ -202,7 +218,7 @@ while IFS="$tab" read -r document line kind first second; do
             if [ -e "$first" ]; then pass; else fail "$where: no file $first"; fi
             ;;
         line)
-            # The first line behind the one before that has this text.
+            # The first line after the one before that has this text.
             at=$(TEXT=$second awk -v from="$from" 'NR > from && index($0, ENVIRON["TEXT"]) { print NR; exit }' "$first" 2> "$room/errors")
             if [ -n "$at" ]; then
                 from=$at
@@ -218,5 +234,4 @@ done < "$room/named"
 if [ "$passed" -eq 0 ]; then
     fail "nothing is named in the documents"
 fi
-echo "links: $passed passed, $failed failed"
-[ "$failed" -eq 0 ]
+counted

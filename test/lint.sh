@@ -10,21 +10,9 @@ top=$PWD
 room=$(mktemp -d) || exit 1
 trap 'rm -rf "$room"' EXIT
 trap 'exit 1' HUP INT PIPE TERM
-passed=0
-failed=0
-
-# silent NAME COMMAND..: whether the command succeeds; if not, what it says.
-silent() {
-    name=$1
-    shift
-    if "$@" > "$room/said" 2>&1; then
-        passed=$((passed + 1))
-    else
-        failed=$((failed + 1))
-        echo "lint: FAILED: $name"
-        head -n 40 "$room/said"
-    fi
-}
+suite=lint
+# shellcheck source=test/shell.sh
+. test/shell.sh
 
 # have COMMAND PACKAGE: whether the command is there, once its package is.
 have() {
@@ -48,25 +36,33 @@ apart() {
     (typed "$@")
 }
 
+# all_are_looked_at: whether each Python file is in a folder that mypy looks at below.
+all_are_looked_at() {
+    find . -name '*.py' ! -path '*/out/*' | sed 's|^\./||' | grep -v -E '^(clients/python/(udfburn|tests)/|clients/python/bench(_calls)?\.py$|test/(faults|vectors|archive|library|bad_day|copies|readers|documents)/|test/protocol\.py$|bench/[a-z]+/)' > "$room/others"
+    cat "$room/others"
+    ! [ -s "$room/others" ]
+}
+
 if have mypy mypy; then
-    silent 'the client is typed' apart clients/python . -p udfburn
-    silent "the client's tests are typed" apart clients/python . -p tests
-    silent "the client's measurements are typed" apart clients/python . bench.py bench_calls.py
-    silent 'the fault tests are typed' apart test . -p faults
-    silent 'what writes the vectors is typed' apart test/vectors . make.py count.py
-    silent 'the tests of the archive are typed' apart test "$top/test:$top/clients/python:$top/test/readers" --config-file ../clients/python/pyproject.toml --python-version 3.11 -p archive
-    silent 'the tests of the library are typed' apart test "$top/test:$top/clients/python" --config-file ../clients/python/pyproject.toml -p library
-    for file in test/copies/*.py test/readers/*.py test/documents/*.py bench/apply/*.py bench/cold/*.py; do
-        silent "$file is typed" apart "$top" "$top/test:$top/test/readers:$top/bench/apply" "$file"
+    holds 'no Python file is left out' all_are_looked_at
+    holds 'the client is typed' apart clients/python . -p udfburn
+    holds "the client's tests are typed" apart clients/python . -p tests
+    holds "the client's measurements are typed" apart clients/python . bench.py bench_calls.py
+    holds 'the fault tests are typed' apart test . -p faults
+    holds 'what writes the vectors is typed' apart test/vectors . make.py count.py
+    holds 'the tests of the archive are typed' apart test "$top/test:$top/clients/python:$top/test/readers" --config-file ../clients/python/pyproject.toml --python-version 3.11 -p archive
+    holds 'the tests of the library are typed' apart test "$top/test:$top/clients/python" --config-file ../clients/python/pyproject.toml -p library
+    holds 'the tests of damaged images are typed' apart test/bad_day "$top/clients/python:$top/test" --config-file ../../clients/python/pyproject.toml bad_day.py images.py
+    for file in test/protocol.py test/copies/*.py test/readers/*.py test/documents/*.py bench/*/*.py; do
+        holds "$file is typed" apart "$top" "$top/test:$top/test/readers:$top/bench/apply" "$file"
     done
 fi
 if have pyflakes3 pyflakes3; then
-    silent 'nothing in Python is unused' pyflakes3 clients test bench
+    holds 'nothing in Python is unused' pyflakes3 .
 fi
 if have shellcheck shellcheck; then
     for file in .ci/run test/quick install.sh packaging/deb/build.sh packaging/deb/postinst packaging/deb/prerm packaging/library/*.sh test/*.sh bench/run bench/small bench/*/run; do
-        silent "$file is clean" shellcheck -S warning "$file"
+        holds "$file is clean" shellcheck -x -S warning "$file"
     done
 fi
-echo "lint: $passed passed, $failed failed"
-[ "$failed" -eq 0 ]
+counted

@@ -5,7 +5,7 @@
 # usage: test/packages.sh --suites      those that a suite asks for whose command is not there
 #        test/packages.sh PACKAGE..     these
 #        test/packages.sh --lists       the lists of packages alone
-# The status is 0 where all was installed. What cannot be had is told by the suite that takes it.
+# The status is 0 where all was installed. What cannot be had is reported by the suite that takes it.
 set -u
 PATH=$PATH:/usr/sbin:/sbin
 
@@ -14,7 +14,7 @@ install() {
     DEBIAN_FRONTEND=noninteractive apt-get -q -y --no-install-recommends --no-remove -o DPkg::Lock::Timeout=300 install "$@" 9<&-
 }
 
-# update: takes in the lists of packages, behind whoever does so just now, as a machine of its own accord.
+# update: takes in the lists of packages, after whoever does so just now, as a machine of its own accord.
 update() {
     tries=60
     while told=$(LC_ALL=C apt-get -q update 2>&1 9<&-); echo "$told"; do

@@ -5,11 +5,9 @@
 # Its last line is 'programs: N passed, M failed'. It takes a POSIX shell and the tools of a base system.
 set -u
 
-# absolute FILE: its path from any folder.
-absolute() {
-    echo "$(cd "$(dirname "$1")" && pwd)/$(basename "$1")"
-}
-
+suite=programs
+# shellcheck source=test/shell.sh
+. "$(dirname "$0")/shell.sh"
 udfburn=$(absolute "$1")
 udfburnd=$(absolute "$2")
 room=$(mktemp -d) || exit 1
@@ -29,20 +27,9 @@ trap 'exit 1' HUP INT PIPE TERM
 # A socket's path is short, so it is named from here.
 cd "$room" || exit 1
 
-passed=0
-failed=0
 image=disc.img
 socket=disc.socket
 : > none
-
-pass() {
-    passed=$((passed + 1))
-}
-
-fail() {
-    failed=$((failed + 1))
-    echo "programs: FAILED: $1"
-}
 
 # run WORD..: runs udfburn on these words. Its input is the file that `input` names.
 input=none
@@ -51,7 +38,7 @@ run() {
     "$udfburn" "$@" < "$input" > output 2> errors || status=$?
 }
 
-# told NAME STATUS OUTPUT ERRORS: whether the last run told this, where OUTPUT and ERRORS are formats of printf.
+# told NAME STATUS OUTPUT ERRORS: whether the last run printed this, where OUTPUT and ERRORS are formats of printf.
 told() {
     printf "$3" > output.wanted
     printf "$4" > errors.wanted
@@ -91,7 +78,7 @@ connects() {
     "$udfburn" send "$socket" < none > connected 2>&1
 }
 
-# serve WORD..: starts the daemon on the image and the socket, with these words behind them.
+# serve WORD..: starts the daemon on the image and the socket, with these words after them.
 serve() {
     "$udfburnd" "$image" "$socket" "$@" 2> daemon.errors &
     daemon=$!
@@ -176,7 +163,7 @@ told 'an empty root' 0 '' ''
 run ls empty.img /
 told 'an empty image' 1 '' 'udfburn: 66 NotFormatted\n'
 
-# A request over the socket, and a daemon that is killed behind it.
+# A request over the socket, and a daemon that is killed after it.
 serve
 input=create
 run send "$socket"
@@ -251,7 +238,7 @@ case $line in
 esac
 crash
 
-# A daemon that ends by itself: behind the connection by which it was seen to listen it takes one more.
+# A daemon that ends by itself: after the connection by which it was seen to listen it takes one more.
 serve --connections 2
 run send "$socket"
 told 'the last connection' 0 "$second" ''
@@ -328,5 +315,4 @@ if [ -c /dev/full ]; then
     holds 'it was committed once' blocks full.img 273
 fi
 
-echo "programs: $passed passed, $failed failed"
-[ "$failed" -eq 0 ]
+counted

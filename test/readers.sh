@@ -1,6 +1,6 @@
 #!/bin/sh
 # Volumes that the programs wrote, as other programs read them: a Linux kernel's udf, udfinfo, blkid and udfclient. Every path,
-# size, moment and byte is compared with what the requests say, behind the last commit and, by lastblock=, behind earlier ones.
+# size, moment and byte is compared with what the requests say, after the last commit and, by lastblock=, after earlier ones.
 #
 # usage: test/readers.sh [UDFBURN [UDFBURND]]
 # Its last line is 'readers: N passed, M failed'. What is not there is installed from Debian's packages where we may; what cannot

@@ -27,7 +27,7 @@ kit=$(dirname "$(dirname "$(realpath "$(command -v rt)")")")
 room=$(mktemp -d) || exit 1
 trap 'rm -rf "$room"' EXIT
 trap 'exit 1' HUP INT PIPE TERM
-mkdir -p "$room/kit/bin" "$room/kit/toolchain/bin" "$room/kept"
+mkdir -p "$(dirname "$out")" "$room/kit/bin" "$room/kit/toolchain/bin" "$room/kept"
 
 # link FOLDER EXCEPT: links all of a folder of the kit into the copy, except what is to differ there.
 link() {

@@ -58,7 +58,7 @@ class Tools(NamedTuple):
     room: str
     checks: Checks
     rounds: int
-    # What a sync may take, in microseconds, before and behind a round that counts.
+    # What a sync may take, in microseconds, before and after a round that counts.
     quiet: float
 
     def path(self, name: str) -> str:
@@ -66,7 +66,7 @@ class Tools(NamedTuple):
 
 
 class Case(NamedTuple):
-    """A stream, and how it is told."""
+    """A stream, and how it is reported."""
 
     files: str
     names: int

@@ -1,4 +1,4 @@
-"""Streams of frames of one client, and what the tree has behind them, reckoned here. The frames are those of docs/PROTOCOL.md."""
+"""Streams of frames of one client, and what the tree has after them, computed here. The frames are those of docs/PROTOCOL.md."""
 from __future__ import annotations
 
 import random

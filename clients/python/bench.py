@@ -4,7 +4,7 @@ usage: bench.py [--files N] [--size BYTES] [--rsync] [--rounds N] [--quiet US] [
 Rounds in turn; prints each, and the ratios of the medians and of the least times. There are 1,000 files of 4 KiB where nothing else
 is said. The client reads the files from a folder, keeps each request and reply in its ledger, and confirms each reply by Stat;
 `apply` gets the frames of the requests alone. With --rsync the client is compared with `rsync -a --fsync` of the folder. Beside the
-times stands what the client wrote: its ledger, since the daemon writes the image. --before names the folder clients/python of
+times is what the client wrote: its ledger, since the daemon writes the image. --before names the folder clients/python of
 another state, whose client takes its turn too. On a disk that others use, --quiet 250 counts only the rounds before, within and
 after which a block was written and synced in 250 microseconds, and tries 20 times as many rounds at most.
 """

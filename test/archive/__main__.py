@@ -16,7 +16,7 @@ from typing import List
 
 
 class Result(unittest.TextTestResult):
-    """Counts, and tells which tests take long."""
+    """Counts, and prints which tests take long. The client's tests have the same class: they run without this folder."""
 
     passed = 0
 

@@ -27,7 +27,7 @@ SIZE = 4096
 ROWS, ROWS_POSTGRESQL = 10_000_000, 2_000_000
 VOLUMES = 50
 
-Endpoint = Callable[[], float]
+Way = Callable[[], float]
 
 
 class Room(unittest.TestCase):
@@ -60,7 +60,7 @@ def together(processes: "List[subprocess.Popen[bytes]]") -> float:
 
 # ---- rates
 
-def adding(room: str, source: str, url: str, count: int, *words: str) -> Endpoint:
+def adding(room: str, source: str, url: str, count: int, *words: str) -> Way:
     """Stores a tree by so many processes, each a part of it, and gives the seconds."""
     def measured() -> float:
         folders = [tempfile.mkdtemp(dir=room) for _ in range(count if url else 1)]
@@ -108,7 +108,7 @@ def rates(case: Room, room: str, rounds: int) -> None:
     for part in range(8):
         make_flat(os.path.join(source, f"part{part}"), FILES // 8, part)
     server = Server(case)
-    ways: Dict[str, Endpoint] = {"`add --each`, SQLite, 1 process": adding(room, source, "", 1, "--each")}
+    ways: Dict[str, Way] = {"`add --each`, SQLite, 1 process": adding(room, source, "", 1, "--each")}
     for count in (1, 2, 4):
         ways[f"`add`, SQLite, {count} {'process' if count == 1 else 'processes'}"] = adding(room, source, "", count)
     for count in (1, 2, 4):

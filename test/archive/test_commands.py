@@ -109,7 +109,7 @@ class Commands(WithArchive):
         self.add()
         changed = os.path.join(self.source, "d0", "e0", "file 7.bin")
         status = os.stat(changed)
-        # The same size and the same moment: only its bytes tell.
+        # The same size and the same moment: only its bytes show it.
         write(changed, bytes(255 - byte for byte in open(changed, "rb").read()))
         os.utime(changed, ns=(status.st_mtime_ns, status.st_mtime_ns))
         last = self.add().last()
@@ -117,7 +117,7 @@ class Commands(WithArchive):
         self.assertEqual(self.get_all(), digests(self.source))
 
     def test_find_looks_nothing_up(self) -> None:
-        """What is printed stands side by side, so no hit takes a read of its own: the other tables may as well be missing."""
+        """What is printed is side by side, so no hit takes a read of its own: the other tables may as well be missing."""
         self.init()
         paths = [os.path.join(f"d{index}", f"name-{index}.bin") for index in range(100)]
         for path in paths:
@@ -272,7 +272,7 @@ class Deleting(WithArchive):
     def test_same_files_only_where_the_volume_shows_them(self) -> None:
         self.init()
         make_tree(self.source, 20, 6)
-        # Longer than what stands inside an entry, so that its data has no checksum on the medium.
+        # Longer than what is inside an entry, so that its data has no checksum on the medium.
         write(os.path.join(self.source, "d0", "e0", "file 3.bin"), os.urandom(5000))
         before = digests(self.source)
         self.add()

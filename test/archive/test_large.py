@@ -1,4 +1,4 @@
-"""Trees of many files, and files of many parts. What takes minutes is behind --large."""
+"""Trees of many files, and files of many parts. What takes minutes is after --large."""
 
 from __future__ import annotations
 

@@ -9,6 +9,7 @@ from typing import Any, Callable, List, Sequence
 from .servers import Server
 from .support import WithArchive, make_tree, write
 
+# The tables as version 1 had them. They stay as they are, whatever the client has now.
 VERSION_1 = """
 CREATE TABLE archive (id {text} PRIMARY KEY, version INTEGER NOT NULL, label {text} NOT NULL, next_volume BIGINT NOT NULL);
 CREATE TABLE holder (id {text} PRIMARY KEY, host {text} NOT NULL, place {text} NOT NULL);

@@ -1,4 +1,4 @@
-"""Damaged images with the real tools: whatever stands comes out byte by byte, and what does not is named."""
+"""Damaged images with the real tools: whatever is intact comes out byte by byte, and what is not is named."""
 
 from __future__ import annotations
 
@@ -87,7 +87,7 @@ def files_of(folder: str) -> Dict[str, bytes]:
 
 
 def compare(sound: Sound, damage: Damage, found: Salvaged) -> None:
-    """Each file that stands is there, each that does not is named, and nothing that is wrong has the name of a whole file."""
+    """Each intact file is there, each other one is named, and nothing that is wrong has the name of a whole file."""
     end = found.lines[-1]
     assert end["did"] == "salvage" and end["status"] == found.status, end
     wanted = sound.files[damage.commit]

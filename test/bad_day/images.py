@@ -1,4 +1,4 @@
-"""A volume of files that can be told apart, and copies of it with damages of a fixed seed."""
+"""A volume of files that can be distinguished, and copies of it with damages of a fixed seed."""
 
 from __future__ import annotations
 
@@ -21,7 +21,7 @@ DIRECTORIES = ("letters", "photos", "letters/old", "a directory with a long name
 
 
 class Sound(NamedTuple):
-    """A volume as it was written: its bytes, the files behind each commit, where each file's bytes lie, and its structures."""
+    """A volume as it was written: its bytes, the files after each commit, where each file's bytes lie, and its structures."""
 
     image: bytes
     files: List[Dict[Path, bytes]]
@@ -41,7 +41,8 @@ class Damage(NamedTuple):
 
 def requests(chance: random.Random) -> List[Message]:
     """Directories, files of all sizes, some replaced, renamed and removed, and at last a manifest of them all."""
-    model, sent = Volume(), []
+    model = Volume()
+    sent: List[Message] = []
 
     def send(kind: type, *fields: object) -> None:
         message = kind(7, len(sent) + 1, 1_600_000_000_000_000 + len(sent), *fields)
@@ -66,7 +67,7 @@ def requests(chance: random.Random) -> List[Message]:
 
 
 def states(sent: List[Message]) -> Iterator[Dict[Path, bytes]]:
-    """The files behind each commit."""
+    """The files after each commit."""
     model = Volume()
     yield {}
     for message in sent:
@@ -83,7 +84,7 @@ def make(program: str, image: str, seed: int) -> Sound:
     with open(image, "rb") as file:
         data = file.read()
     files = list(states(sent))
-    # Files have random bytes, so that each stands once at most in its newest form.
+    # Files have random bytes, so that each is there once at most in its newest form.
     places = {path: data.rfind(found) for path, found in files[-1].items()}
     assert min(places.values()) > 257 * BLOCK, "the bytes of each file are found"
     return Sound(data, files, places, [int(line.split()[1]) for line in reversed(log.splitlines())], structures_of(image))

@@ -2,9 +2,9 @@
 
 usage: copies.py UDFBURN UDFBURND ROOM [SEED [REQUESTS]]
 
-A client sends requests one behind another; the daemon is killed now and then, and started again. Meanwhile the image is copied
-by cp, dd and rsync, and by a follower that appends what is new. Each copy must be sound, and must be the state behind one of
-the run's commits: none before the last answer that the client had when the copy began, none behind what it had sent when the
+A client sends requests one after another; the daemon is killed now and then, and started again. Meanwhile the image is copied
+by cp, dd and rsync, and by a follower that appends what is new. Each copy must be sound, and must be the state after one of
+the run's commits: none before the last answer that the client had when the copy began, none after what it had sent when the
 copy was done.
 """
 
@@ -31,14 +31,14 @@ from protocol import (  # noqa: E402
 )
 
 CAPACITY = 200_000
-# Seconds behind which what did not come counts as missing: more than any machine takes.
+# Seconds after which what did not come counts as missing: more than any machine takes.
 PATIENCE = 300
 FORMAT_MOMENT = 77
-# Seconds without a word behind which the client leaves before the daemon lets it go, which does so behind 60.
+# Seconds without a word after which the client leaves before the daemon lets it go, which does so after 60.
 SILENCE = 20
 # As many replies as a volume keeps of a client: so many requests may be under way without one that gets lost.
 UNDER_WAY = 4
-# Behind so many the rest of the requests is sent without.
+# After so many the rest of the requests is sent without.
 MOST_COPIES = 80
 
 
@@ -186,13 +186,13 @@ def by_rsync(image: Path, copy: Path) -> None:
 
 
 def by_following(image: Path, copy: Path) -> None:
-    """Appends what is behind the copy's last whole block."""
+    """Appends what is after the copy's last whole block."""
     have = copy.stat().st_size // BLOCK if copy.exists() else 0
     run("dd", "if=%s" % image, "of=%s" % copy, "bs=%d" % BLOCK, "skip=%d" % have, "seek=%d" % have, "conv=notrunc")
 
 
 class Replay:
-    """The tree behind a commit, by doing its requests again."""
+    """The tree after a commit, by doing its requests again."""
 
     def __init__(self, sent: List[Request]) -> None:
         self.sent = sent
@@ -235,7 +235,7 @@ class Copies:
         self.sums: Dict[int, List[Tuple[bytes, str]]] = {}
 
     def remember(self, name: str, copy: Path) -> None:
-        """Keeps what a copy was, to be held against the whole image."""
+        """Keeps what a copy was, to be compared with the whole image."""
         blocks = copy.stat().st_size // BLOCK
         with open(copy, "rb") as stream:
             digest = hashlib.sha256(stream.read(blocks * BLOCK)).digest()
@@ -254,10 +254,10 @@ class Copies:
                         self.passed += 1
                     else:
                         self.failed += 1
-                        print("copies: FAILED: %s is no front of the image" % name)
+                        print("copies: FAILED: %s is no prefix of the image" % name)
 
     def judge(self, name: str, copy: Path, least: int, most: int) -> None:
-        """A copy is sound, is the state behind one of these commits, and questions to it change nothing."""
+        """A copy is sound, is the state after one of these commits, and questions to it change nothing."""
         before = copy.stat().st_size
         try:
             told = run(self.udfburn, "check", str(copy)).split()
@@ -266,11 +266,11 @@ class Copies:
             tree = self.replay.behind(commit)
             wrong = differences(self.udfburn, copy, tree)
             if told != [b"sound", b"%d" % commit]:
-                wrong.append("check tells %r, log %d" % (told, commit))
+                wrong.append("check prints %r, log %d" % (told, commit))
             if not least <= commit <= most:
                 wrong.append("it has commit %d, not one from %d to %d" % (commit, least, most))
             if (files, folders) != tree.count() or len(log) != commit + 1:
-                wrong.append("its log tells %r" % log[0])
+                wrong.append("its log prints %r" % log[0])
             if copy.stat().st_size != before:
                 wrong.append("it was %d bytes long, and is %d" % (before, copy.stat().st_size))
             self.within += before != (address + 1) * BLOCK
@@ -283,6 +283,83 @@ class Copies:
         print("copies: FAILED: %s" % name)
         for line in wrong[:5]:
             print("    " + line)
+
+
+Way = Callable[[Path, Path], None]
+"""Makes a copy of an image at a path."""
+
+
+def ways_to_copy(copies: Copies, room: Path) -> List[Tuple[str, Way, Path]]:
+    """The ways in which copies are made, each with its name and the path of its copies."""
+    ways: List[Tuple[str, Way, Path]] = [
+        ("cp", by_cp, room / "cp.img"), ("cp of bytes", by_cp_of_bytes, room / "bytes.img"), ("dd", by_dd, room / "dd.img"),
+        ("a follower", by_following, room / "followed.img"),
+    ]
+    if shutil.which("rsync"):
+        return ways + [("rsync", by_rsync, room / "rsync.img")]
+    print("copies: not tried: rsync is not there")
+    if os.environ.get("CI") == "true":
+        copies.failed += 1
+    return ways
+
+
+def copy_while(writer: Writer, copies: Copies, ways: List[Tuple[str, Way, Path]], die: random.Random) -> int:
+    """Makes copies while the writer is at work, and judges each. Gives how many there were."""
+    made = 0
+    while writer.is_alive() and made < MOST_COPIES:
+        name, way, copy = ways[made % len(ways)]
+        made += 1
+        if name == "a follower" and copy.exists() and die.randrange(3) == 0:
+            # It was killed while it wrote, or the copy was cut somewhere.
+            os.truncate(copy, max(0, copy.stat().st_size - die.randrange(9000)))
+        writer.busy.set()
+        time.sleep(die.uniform(0, 0.02))
+        least = writer.answered
+        try:
+            way(writer.image, copy)
+        except RuntimeError as fault:
+            copies.failed += 1
+            print("copies: FAILED: %s" % fault)
+            continue
+        most = writer.sent
+        writer.busy.clear()
+        # What is asked of a copy must not make it another one: questions go to one of their own.
+        asked = writer.room / "asked.img"
+        shutil.copyfile(copy, asked)
+        copies.remember("%s, copy %d" % (name, made), asked)
+        copies.judge("%s, copy %d" % (name, made), asked, least, most)
+    return made
+
+
+def judge_prefixes(copies: Copies, image: Path, room: Path, die: random.Random) -> None:
+    """Prefixes of the whole image, at any byte: each has the last commit whose VAT ICB is whole."""
+    data = image.read_bytes()
+    addresses = {}
+    for line in run(copies.udfburn, "log", str(image)).decode().splitlines():
+        commit, address, _, _ = map(int, line.split())
+        addresses[commit] = address
+    for turn in range(40):
+        length = die.randrange((addresses[0] + 1) * BLOCK, len(data) + 1)
+        if turn % 4 == 0:
+            length = (addresses[die.randrange(len(addresses))] + die.randrange(2)) * BLOCK
+        if length < (addresses[0] + 1) * BLOCK:
+            continue
+        commit = max(commit for commit, address in addresses.items() if (address + 1) * BLOCK <= length)
+        prefix = room / "prefix.img"
+        prefix.write_bytes(data[:length])
+        copies.judge("a prefix of %d bytes" % length, prefix, commit, commit)
+
+
+def copy_whole(copies: Copies, image: Path, ways: List[Tuple[str, Way, Path]]) -> None:
+    """A copy of the image at the end has its bytes, in whatever way it is made."""
+    data = image.read_bytes()
+    for name, way, copy in ways:
+        way(image, copy)
+        if copy.read_bytes() != data:
+            copies.failed += 1
+            print("copies: FAILED: %s of the whole image has other bytes" % name)
+        else:
+            copies.passed += 1
 
 
 def main() -> int:
@@ -298,42 +375,11 @@ def main() -> int:
     copies = Copies(udfburn, sent)
     image = room / "disc.img"
     run(udfburn, "format", str(image), "COPIES", str(FORMAT_MOMENT), str(CAPACITY))
-    ways: List[Tuple[str, Callable[[Path, Path], None], Path]] = [
-        ("cp", by_cp, room / "cp.img"), ("cp of bytes", by_cp_of_bytes, room / "bytes.img"), ("dd", by_dd, room / "dd.img"),
-        ("a follower", by_following, room / "followed.img"),
-    ]
-    if shutil.which("rsync"):
-        ways.append(("rsync", by_rsync, room / "rsync.img"))
-    else:
-        print("copies: not tried: rsync is not there")
-        if os.environ.get("CI") == "true":
-            copies.failed += 1
+    ways = ways_to_copy(copies, room)
     writer = Writer(udfburnd, room, image, sent, random.Random(seed + 1))
     writer.start()
-    made = 0
     try:
-        while writer.is_alive() and made < MOST_COPIES:
-            name, way, copy = ways[made % len(ways)]
-            made += 1
-            if name == "a follower" and copy.exists() and die.randrange(3) == 0:
-                # It was killed while it wrote, or the copy was cut somewhere.
-                os.truncate(copy, max(0, copy.stat().st_size - die.randrange(9000)))
-            writer.busy.set()
-            time.sleep(die.uniform(0, 0.02))
-            least = writer.answered
-            try:
-                way(image, copy)
-            except RuntimeError as fault:
-                copies.failed += 1
-                print("copies: FAILED: %s" % fault)
-                continue
-            most = writer.sent
-            writer.busy.clear()
-            # What is asked of a copy must not make it another one: questions go to one of their own.
-            asked = room / "asked.img"
-            shutil.copyfile(copy, asked)
-            copies.remember("%s, copy %d" % (name, made), asked)
-            copies.judge("%s, copy %d" % (name, made), asked, least, most)
+        made = copy_while(writer, copies, ways, die)
     finally:
         writer.busy.set()
         writer.join()
@@ -341,31 +387,9 @@ def main() -> int:
         copies.failed += 1
         print("copies: FAILED: the run: %s, %d answers" % (writer.fault, writer.answered))
     print("copies: %d copies, %d of them inside a commit, %d kills" % (made, copies.within, writer.kills), flush=True)
-
     copies.compare(image)
-    # Fronts of the whole image, at any byte: the last commit whose table's entry is whole.
-    data = image.read_bytes()
-    addresses = {}
-    for line in run(udfburn, "log", str(image)).decode().splitlines():
-        commit, address, _, _ = map(int, line.split())
-        addresses[commit] = address
-    for turn in range(40):
-        length = die.randrange((addresses[0] + 1) * BLOCK, len(data) + 1)
-        if turn % 4 == 0:
-            length = (addresses[die.randrange(count + 1)] + die.randrange(2)) * BLOCK
-        if length < (addresses[0] + 1) * BLOCK:
-            continue
-        commit = max(commit for commit, address in addresses.items() if (address + 1) * BLOCK <= length)
-        front = room / "front.img"
-        front.write_bytes(data[:length])
-        copies.judge("a front of %d bytes" % length, front, commit, commit)
-    for name, way, copy in ways:
-        way(image, copy)
-        if copy.read_bytes() != data:
-            copies.failed += 1
-            print("copies: FAILED: %s of the whole image has other bytes" % name)
-        else:
-            copies.passed += 1
+    judge_prefixes(copies, image, room, die)
+    copy_whole(copies, image, ways)
     print("copies: %d passed, %d failed" % (copies.passed, copies.failed))
     return 0 if copies.failed == 0 and copies.passed > 0 else 1
 

@@ -2,8 +2,8 @@
 
 usage: documents.py UDFBURN UDFBURND ROOM DOCUMENT..
 
-A walk is a block of indented lines of which the first begins with `$ `: commands, and behind each what it prints. The walks of a
-document are run one behind another, in one folder and one bash.
+A walk is a block of indented lines of which the first begins with `$ `: commands, and after each what it prints. The walks of a
+document are run one after another, in one folder and one bash.
 """
 
 from __future__ import annotations
@@ -22,7 +22,7 @@ from typing import Dict, List, Tuple
 
 HOME = Path(__file__).resolve().parent.parent.parent
 SPAN = re.compile(r"`([^`]*)`|(\w+) zero bytes")
-# Seconds behind which what did not come counts as missing: more than any machine takes.
+# Seconds after which what did not come counts as missing: more than any machine takes.
 PATIENCE = 300
 NUMBERS = {word: at for at, word in enumerate("no one two three four five six seven eight nine ten".split())}
 
@@ -40,7 +40,7 @@ def check(name: str, found: object, wanted: object) -> None:
 
 
 def section(text: str, title: str) -> str:
-    """What stands below a heading, up to the next one of its rank."""
+    """What is below a heading, up to the next one of its rank."""
     mark = "\n## %s\n" % title
     if mark not in text:
         return ""
@@ -67,7 +67,7 @@ def rows(text: str) -> List[List[str]]:
 
 
 def halves(line: str) -> Tuple[str, str]:
-    """What stands before the first colon that is in no span, and what behind it."""
+    """What is before the first colon that is in no span, and what after it."""
     within = False
     for at, letter in enumerate(line):
         within ^= letter == "`"
@@ -130,7 +130,7 @@ def read_answer(line: socket.socket) -> bytes:
 def protocol(udfburn: str, udfburnd: str, room: Path) -> None:
     text = (HOME / "docs/PROTOCOL.md").read_text()
     shown = example(section(text, "An example"))
-    # The last of them ends the conversation, so it comes behind all others.
+    # The last of them ends the conversation, so it comes after all others.
     talk = shown[:-1] + conversation(section(text, "A conversation")) + shown[-1:]
     check("PROTOCOL.md has an example and a conversation", len(shown) > 4 and len(talk) > len(shown) + 9, True)
     for name, sent, wanted in talk[:-1]:
@@ -146,7 +146,7 @@ def protocol(udfburn: str, udfburnd: str, room: Path) -> None:
     for name, sent, wanted in talk:
         check("an image: %s" % name, run(udfburn, "apply", image, given=sent), wanted)
 
-    # A daemon, one message behind another.
+    # A daemon, one message after another.
     image = str(room / "daemon.img")
     path = str(room / "socket")
     run(udfburn, "format", image, "DISC", "0", "3000")

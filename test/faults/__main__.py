@@ -1,7 +1,7 @@
 """Runs the fault tests: python3 -m faults [--jobs N] UDFBURN UDFBURND [MODULE..], in the folder `test`.
 
 Modules are `test_*.py` and `load_*.py` beside this file. Each runs in a process of its own, some of them at once. What was left out
-is told with its reason. The last line is `faults: N passed, M failed, K skipped`; the status is 1 where something failed.
+is reported with its reason. The last line is `faults: N passed, M failed, K skipped`; the status is 1 where something failed.
 """
 from __future__ import annotations
 

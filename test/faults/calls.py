@@ -1,8 +1,8 @@
 """What the log of calls must show, over all processes as one: nothing is answered before it is on the disk.
 
 The rules are those of docs/OPERATIONS.md: an image is synced, and the system made to forget what it keeps of it, before it is read
-for writing, and its folder is synced before an answer; a table's entry goes out alone, behind a finished sync of all that it leads to; an answer goes out behind the sync of its entry; and
-behind a failed write or sync the file is cut back to the length that it had, and synced, before anything else.
+for writing, and its folder is synced before an answer; a VAT ICB goes out alone, after a finished sync of all that it leads to; an answer goes out after the sync of its entry; and
+after a failed write or sync the file is cut back to the length that it had, and synced, before anything else.
 """
 from __future__ import annotations
 
@@ -18,12 +18,12 @@ EINTR = 4
 
 
 def is_entry(block: bytes, at: int) -> bool:
-    """Whether this is the entry of a table that stands at this address (docs/FORMAT.md): its tag, its place and its file type."""
+    """Whether this is a VAT ICB that is at this address (docs/FORMAT.md): its tag, its place and its file type."""
     return (len(block) == BLOCK and block[:2] == b"\x05\x01" and block[27] == 248
             and int.from_bytes(block[12:16], "little") == at - 257)
 
 
-# Answers that tell of a commit, which must be on the disk: committed ones, and what a query tells of the tree.
+# Answers that report a commit, which must be on the disk: committed ones, and what a query shows of the tree.
 TELLING = set(range(11)) | {64, 65, 66, 96, 97, 98, 32, 33}
 
 
@@ -62,7 +62,7 @@ class Discipline:
         self.faults: list[str] = []
         # What is acknowledged ends here. Nothing is written over it, and no cut takes it away.
         self.acknowledged = 0 if is_format else length
-        # The length before the last write, to which a failure behind its sync may cut the file back too.
+        # The length before the last write, to which a failure after its sync may cut the file back too.
         self.before_write = length
         self.may_cut = False
         # What a test may count, so that it cannot pass by seeing nothing.
@@ -124,7 +124,7 @@ class Discipline:
         if kind == "fsync":
             self.synced_now(index, record.error)
         if kind == "fstat" and failed:
-            # The file was looked at behind a write, and what came of that counts as a failure of the write.
+            # The file was looked at after a write, and what came of that counts as a failure of the write.
             self.may_cut = True
 
     def wrote(self, index: int, record: Record) -> None:
@@ -147,7 +147,7 @@ class Discipline:
             self.must_cut, self.is_cut = self.synced, False
 
     def entries(self, index: int, record: Record) -> None:
-        """A table's entry is the one block of its write, and nothing waits for a sync then."""
+        """A VAT ICB is the one block of its write, and nothing waits for a sync then."""
         for start in range(0, len(record.data), BLOCK):
             if record.offset % BLOCK or not is_entry(record.data[start:start + BLOCK], (record.offset + start) // BLOCK):
                 continue

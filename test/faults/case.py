@@ -108,7 +108,7 @@ class Case(unittest.TestCase):
         return path
 
     def tell(self, ran: Ran, status: int, output: bytes, errors: bytes) -> None:
-        """The program told exactly this."""
+        """The program reported exactly this."""
         self.assertEqual(ran, Ran(status, output, errors))
 
     def sound(self, image: str = "d.img") -> int:

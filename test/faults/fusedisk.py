@@ -1,4 +1,4 @@
-"""A file whose writes and flushes are logged in order: a disk for a loop device, of which every state behind a loss of power can be
+"""A file whose writes and flushes are logged in order: a disk for a loop device, of which every state after a power loss can be
 made again. A write of chosen blocks may be made to fail. It is served by FUSE, in the protocol of the kernel's fuse.h, and takes root."""
 from __future__ import annotations
 
@@ -25,7 +25,7 @@ _EVENT = struct.Struct("<cQI")
 
 
 class Event(NamedTuple):
-    """What reached the disk: a write of `data` at `offset`, or a flush. `end` is the size of the log behind it."""
+    """What reached the disk: a write of `data` at `offset`, or a flush. `end` is the size of the log after it."""
 
     end: int
     is_flush: bool
@@ -64,11 +64,59 @@ def _is_to_fail(failing: str, data: bytes) -> bool:
         return False
 
 
+class _Server:
+    """Answers the kernel's requests on a file. The next write of a block of the file `failing` is a failure, and that file goes."""
+
+    def __init__(self, backing: str, size: int, log: str, failing: str):
+        self.disk = os.open(backing, os.O_RDWR)
+        self.log = os.open(log, os.O_WRONLY | os.O_CREAT | os.O_APPEND, 0o600)
+        self.size = size
+        self.failing = failing
+
+    def answer(self, operation: int, node: int, body: bytes) -> bytes:
+        """What a request is answered; an `OSError` is its error."""
+        if operation == INIT:
+            _, _, ahead, _ = struct.unpack_from("<IIII", body)
+            # Version 7.31; writes of up to `LARGEST` bytes (FUSE_BIG_WRITES, FUSE_MAX_PAGES).
+            return struct.pack("<IIIIHHIIHHI28x", 7, 31, ahead, (1 << 5) | (1 << 22), 16, 12, LARGEST, 1, 256, 0, 0)
+        if operation == LOOKUP:
+            if body.split(b"\0")[0] != NAME:
+                raise OSError(errno.ENOENT, "no such file")
+            return struct.pack("<QQQQII", DISK, 0, 1000, 1000, 0, 0) + _attributes(DISK, self.size)
+        if operation in (GETATTR, SETATTR):
+            return struct.pack("<QII", 1000, 0, 0) + _attributes(node, self.size)
+        if operation == OPEN:
+            return struct.pack("<QII", 1, 1, 0)
+        if operation == READ:
+            _, offset, length = struct.unpack_from("<QQI", body)
+            return os.pread(self.disk, length, offset)
+        if operation == WRITE:
+            return self.write(body)
+        if operation == FSYNC:
+            os.write(self.log, _EVENT.pack(b"F", 0, 0))
+            return b""
+        if operation == STATFS:
+            blocks = self.size // 4096
+            return struct.pack("<QQQQQIIII24x", blocks, blocks, blocks, 10, 10, 4096, 255, 4096, 0)
+        if operation in (FLUSH, RELEASE, OPENDIR_RELEASE, DESTROY):
+            return b""
+        raise OSError(errno.ENOSYS, "no such request")
+
+    def write(self, body: bytes) -> bytes:
+        """Writes, and logs it; or fails, where that is wanted of this data."""
+        _, offset, length = struct.unpack_from("<QQI", body)
+        data = body[40:40 + length]
+        if _is_to_fail(self.failing, data):
+            os.unlink(self.failing)
+            raise OSError(errno.EIO, "a write that is to fail")
+        os.write(self.log, _EVENT.pack(b"W", offset, length) + data)
+        os.pwrite(self.disk, data, offset)
+        return struct.pack("<II", length, 0)
+
+
 def _serve(device: int, backing: str, size: int, log: str, failing: str) -> NoReturn:
-    """Answers the kernel's requests until the folder is unmounted. The next write of a block of the file `failing` is a failure, and
-    that file goes."""
-    disk = os.open(backing, os.O_RDWR)
-    logged = os.open(log, os.O_WRONLY | os.O_CREAT | os.O_APPEND, 0o600)
+    """Answers the kernel's requests until the folder is unmounted."""
+    server = _Server(backing, size, log, failing)
     while True:
         try:
             request = os.read(device, LARGEST + 4096)
@@ -77,42 +125,13 @@ def _serve(device: int, backing: str, size: int, log: str, failing: str) -> NoRe
                 os._exit(0)
             continue
         _, operation, unique, node = struct.unpack_from("<IIQQ", request)
-        body, error, answer = request[40:], 0, b""
         if operation in WITHOUT_ANSWER:
             continue
-        if operation == INIT:
-            _, _, ahead, _ = struct.unpack_from("<IIII", body)
-            # Version 7.31; writes of up to `LARGEST` bytes (FUSE_BIG_WRITES, FUSE_MAX_PAGES).
-            answer = struct.pack("<IIIIHHIIHHI28x", 7, 31, ahead, (1 << 5) | (1 << 22), 16, 12, LARGEST, 1, 256, 0, 0)
-        elif operation == LOOKUP:
-            if body.split(b"\0")[0] == NAME:
-                answer = struct.pack("<QQQQII", DISK, 0, 1000, 1000, 0, 0) + _attributes(DISK, size)
-            else:
-                error = -errno.ENOENT
-        elif operation in (GETATTR, SETATTR):
-            answer = struct.pack("<QII", 1000, 0, 0) + _attributes(node, size)
-        elif operation == OPEN:
-            answer = struct.pack("<QII", 1, 1, 0)
-        elif operation == READ:
-            _, offset, length = struct.unpack_from("<QQI", body)
-            answer = os.pread(disk, length, offset)
-        elif operation == WRITE:
-            _, offset, length = struct.unpack_from("<QQI", body)
-            data = body[40:40 + length]
-            if _is_to_fail(failing, data):
-                os.unlink(failing)
-                error = -errno.EIO
-            else:
-                os.write(logged, _EVENT.pack(b"W", offset, length) + data)
-                os.pwrite(disk, data, offset)
-                answer = struct.pack("<II", length, 0)
-        elif operation == FSYNC:
-            os.write(logged, _EVENT.pack(b"F", 0, 0))
-        elif operation == STATFS:
-            blocks = size // 4096
-            answer = struct.pack("<QQQQQIIII24x", blocks, blocks, blocks, 10, 10, 4096, 255, 4096, 0)
-        elif operation not in (FLUSH, RELEASE, OPENDIR_RELEASE, DESTROY):
-            error = -errno.ENOSYS
+        error, answer = 0, b""
+        try:
+            answer = server.answer(operation, node, request[40:])
+        except OSError as fault:
+            error = -(fault.errno or errno.EIO)
         try:
             os.write(device, struct.pack("<IiQ", 16 + len(answer), error, unique) + answer)
         except OSError:
@@ -148,7 +167,7 @@ class FuseDisk:
         self._libc = libc
 
     def fail(self, blocks: bytes) -> None:
-        """Makes the next write of one of these blocks fail. What the system writes of its own accord, as it does behind half a minute,
+        """Makes the next write of one of these blocks fail. What the system writes of its own accord, as it does after half a minute,
         is none of them."""
         self.failing.write_bytes(blocks)
 

@@ -24,7 +24,7 @@ from protocol import (
     MALFORMED, NAMES, NO_NODE, Answer, Model, Request, answers_of, committed, data_answer, encode, frame, paths_of, query,
 )
 
-# Seconds without a byte behind which a client is let go (docs/OPERATIONS.md).
+# Seconds without a byte after which a client is let go (docs/OPERATIONS.md).
 SILENCE = 60.0
 EMPTY_ROOT = Answer(NAMES, b"\0\0")
 TOO_LONG = Answer(MALFORMED, struct.pack("<H", 51))
@@ -55,10 +55,10 @@ class Serving(Case):
 
 
 class Rude(Serving):
-    """Clients that do not keep to the protocol, each on a daemon that serves others before and behind it."""
+    """Clients that do not keep to the protocol, each on a daemon that serves others before and after it."""
 
     def with_daemon(self, rude: Callable[[Daemon], None], lines: int) -> None:
-        """At most so many lines are told of it, each of a stream that was left."""
+        """At most so many lines are reported of it, each of a stream that was left."""
         self.fresh(capacity=20000)
         with Daemon(self.folder) as daemon:
             self.next_is_served(daemon)
@@ -99,7 +99,7 @@ class Rude(Serving):
         self.with_daemon(rude, 0)
 
     def test_reset_with_answers_unread(self) -> None:
-        """A client that goes away with answers waiting resets the stream. What it had committed stands."""
+        """A client that goes away with answers waiting resets the stream. What it had committed stays."""
         def rude(daemon: Daemon) -> None:
             for number in range(10):
                 with daemon.client() as client:
@@ -309,7 +309,7 @@ class Many(Serving):
 
 
 class Descriptors(Serving):
-    """Where a connection cannot be taken this is told once and waited out, and counts as none."""
+    """Where a connection cannot be taken this is reported once and waited out, and counts as none."""
 
     def lines_are(self, daemon: Daemon, most: int) -> None:
         lines = daemon.errors().splitlines(True)
@@ -318,7 +318,7 @@ class Descriptors(Serving):
         self.assertEqual(set(lines), {b"udfburnd: 94 Socket\n"})
 
     def rests(self, process: int) -> None:
-        """It takes next to no processor time, in one of some stretches: a machine may reckon its own time to a process."""
+        """It takes next to no processor time, in one of some stretches: a machine may count its own time to a process."""
         for _ in range(5):
             before = seconds_of(process)
             time.sleep(2.0)
@@ -338,7 +338,7 @@ class Descriptors(Serving):
                 with daemon.client() as client:
                     request = self.request(b"before")
                     self.assertEqual(client.ask(encode(request)), self.model.answer(request))
-                    # The connection has the lowest number that was free, so behind it none is.
+                    # The connection has the lowest number that was free, so after it none is.
                     (number,) = set(descriptors_of(process)) - set(idle)
                     resource.prlimit(process, resource.RLIMIT_NOFILE, (number, limits[1]))
                 request = self.request(b"late")
@@ -380,7 +380,7 @@ class Descriptors(Serving):
     def test_too_few_from_the_start(self) -> None:
         """Where there are fewer descriptors than a start takes the daemon ends, and says why."""
         self.fresh()
-        # One is left, which the image takes, so that its folder finds none. Behind that the socket takes the folder's.
+        # One is left, which the image takes, so that its folder finds none. After that the socket takes the folder's.
         ran = self.program([built().udfburnd, "d.img", "s"], preexec_fn=lambda: resource.setrlimit(resource.RLIMIT_NOFILE, (4, 4)))
         self.tell(ran, 1, b"", b"udfburnd: 64 Device\n")
         self.assertFalse(self.path("s").exists())
@@ -470,7 +470,7 @@ class Stall:
     def __init__(self, folder: Path, name: str, stall: Callable[[Client], None]) -> None:
         self.name = name
         self.daemon = Daemon(folder, name + ".img", socket_name=name)
-        # Not behind the client's last byte, since this process may be kept waiting between the two.
+        # Not after the client's last byte, since this process may be kept waiting between the two.
         self.begin = time.monotonic()
         self.stalling = self.daemon.client()
         stall(self.stalling)
@@ -495,7 +495,7 @@ class Stall:
 
 
 class Waiting(Case):
-    """Clients that stall: they are let go behind a minute of silence, and then the next is served. All wait at once."""
+    """Clients that stall: they are let go after a minute of silence, and then the next is served. All wait at once."""
 
     def silent(self, client: Client) -> None:
         pass
@@ -565,7 +565,7 @@ class Waiting(Case):
         finally:
             for stall in stalls:
                 stall.end()
-        # What was committed stands, what was not whole does not.
+        # What was committed stays, what was not whole does not.
         for name, path, size in (("silent", "/never", 0), ("half", "/never", 0), ("done", "/kept", 5000), ("unread", "/kept", 1_000_000),
                                  ("many", "/kept", 100), ("little", "/kept", 1_000_000), ("slow", "/slow", 5000)):
             expected = data_answer(b"x" * size) if size else Answer(NO_NODE)

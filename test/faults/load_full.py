@@ -1,4 +1,4 @@
-"""A disk that is full at each place of a commit: 36, and the state is the old one; behind a repeat with room it is the new one.
+"""A disk that is full at each place of a commit: 36, and the state is the old one; after a repeat with room it is the new one.
 
 Streams that are full are there too, where the other modules do not look: `apply` and `send`.
 """
@@ -92,7 +92,7 @@ class Full(Disk):
                     (answer,) = answers_of(ran.output)
                     if answer == Answer(FAULT):
                         faults += 1
-                        # Behind the old one there are whole blocks at most, which are nothing without the last.
+                        # After the old one there are whole blocks at most, which are nothing without the last.
                         found = image.read_bytes()
                         self.assertEqual(found[:len(self.before)], self.before)
                         self.assertEqual(len(found) % BLOCK, 0)
@@ -123,7 +123,7 @@ class Full(Disk):
                         if answer != Answer(FAULT):
                             break
                     else:
-                        # Queries are answered by the state that stands.
+                        # Queries are answered by the state that is recovered.
                         for path in paths_of(BEFORE + asked):
                             self.assertEqual(client.ask(query("get", path)), model.get(path))
                             self.assertEqual(client.ask(query("list", path)), model.names(path))
@@ -161,7 +161,7 @@ class Full(Disk):
 
 
 class Output(Case):
-    """An output that takes no bytes: 92, and what was committed stands."""
+    """An output that takes no bytes: 92, and what was committed stays."""
 
     def setUp(self) -> None:
         super().setUp()
@@ -180,7 +180,7 @@ class Output(Case):
         request = Request("create", 7, 1, "/a", b"x" * 100_000)
         for _ in range(2):
             self.tell(self.full(["apply", "d.img"], encode(request)), 1, b"", b"udfburn: 92 Write\n")
-        # It was committed once, and the repeat that has an output tells how it went.
+        # It was committed once, and the repeat that has an output reports how it went.
         expected = self.model.answer(request)
         self.assertEqual(self.sound(), 1)
         self.tell(self.full(["apply", "d.img"], query("get", "/a") * 3), 1, b"", b"udfburn: 92 Write\n")

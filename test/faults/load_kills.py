@@ -1,6 +1,6 @@
-"""A daemon that is killed, stopped or told to end in the middle of commits: each request is done once, and what was acknowledged stands.
+"""A daemon that is killed, stopped or told to end in the middle of commits: each request is done once, and what was acknowledged stays.
 
-The model is that of py, which knows nothing of blocks. Behind each end it must agree, for one count of commits that is not
+The model is that of py, which knows nothing of blocks. After each end it must agree, for one count of commits that is not
 below what was acknowledged and not above what was sent.
 """
 from __future__ import annotations
@@ -30,14 +30,14 @@ class Run(Case):
         self.fresh(capacity=400000)
         self.die = Die(seed)
         self.fall = random.Random(seed + 1)
-        # The state behind the last request whose answer came, and what was sent behind it.
+        # The state after the last request whose answer came, and what was sent after it.
         self.model = Model()
         self.sent: list[Request] = []
         # The last requests that were answered.
         self.answered: list[Request] = []
 
     def ahead(self) -> list[Model]:
-        """The states behind the answered requests, and behind each that was sent since."""
+        """The states after the answered requests, and after each that was sent since."""
         states = [self.model]
         for request in self.sent:
             state = states[-1].copy()
@@ -121,7 +121,7 @@ class Run(Case):
 
 class Kills(Run):
     def one(self, rules: str, delay: Optional[float], before: int = 0) -> bool:
-        """A daemon from its start to its kill, by a rule or behind so many bunches and a delay. Whether a rule killed it."""
+        """A daemon from its start to its kill, by a rule or after so many bunches and a delay. Whether a rule killed it."""
         with Daemon(self.folder, rules=rules) as daemon:
             client = connect_or_none(daemon)
             if client is not None:
@@ -290,7 +290,7 @@ class Signals(Run):
                         self.sent.append(request)
                         client.send(encode(request))
                     self.assertTrue(await_true(lambda: state_of(daemon.process.pid) == "T"), "the rule came to nothing")
-                    # Readers see what stands, as it is, while the writer rests.
+                    # Readers see what is there, as it is, while the writer rests.
                     self.look()
                     daemon.process.send_signal(signal.SIGCONT)
                     while self.sent:

@@ -1,7 +1,7 @@
-"""Each allocation refused in turn: never a crash, the answers and lines of docs/PROTOCOL.md and docs/OPERATIONS.md, and behind repeats
+"""Each allocation refused in turn: never a crash, the answers and lines of docs/PROTOCOL.md and docs/OPERATIONS.md, and after repeats
 the same volume as without.
 
-Want of memory writes nothing: so behind the repeats the image has the same bytes as that of a run in which nothing was refused.
+Lack of memory writes nothing: so after the repeats the image has the same bytes as that of a run in which nothing was refused.
 """
 from __future__ import annotations
 
@@ -85,13 +85,13 @@ class Refusing(Case):
         return found
 
     def rules(self, count: int) -> list[dict[str, int]]:
-        """Each alone, each with all behind it, and each so many-th, one more than there are included."""
+        """Each alone, each with all after it, and each so many-th, one more than there are included."""
         numbers = range(1, count + 2)
         return ([{"fail": number} for number in numbers] + [{"from": number} for number in numbers]
                 + [{"every": number} for number in range(2, min(count, 60) + 1)])
 
     def told(self, ran: Ran, name: bytes = b"udfburn") -> Optional[bytes]:
-        """The line of a run, or None where it had status 0 and told nothing."""
+        """The line of a run, or None where it had status 0 and reported nothing."""
         if ran.status == 0:
             self.assertEqual(ran.errors, b"")
             return None
@@ -142,7 +142,7 @@ class Reading(Refusing):
         self.each(["check", "d.img"], b"sound 3\n")
 
     def test_faults_of_words(self) -> None:
-        """Where memory is short, that is told, or what is wrong with the words."""
+        """Where memory is short, that is reported, or what is wrong with the words."""
         for words, line in ((["ls", "none.img", "/"], b"64 Device"), (["get", "d.img", "/none"], b"96 NotFound"),
                             (["ls", "d.img", "/old"], b"98 NotDirectory"), (["ls", "d.img", "x"], b"55 Path")):
             self.volume("d.img")
@@ -189,7 +189,7 @@ class Applying(Refusing):
         self.whole = self.path("whole.img").read_bytes()
 
     def follow(self, model: Model, answers: list[Answer]) -> None:
-        """The answers are those that are due, or 37, behind which the request was not run."""
+        """The answers are those that are due, or 37, after which the request was not run."""
         self.assertEqual(answers, expect_answers(model, MESSAGES, answers))
 
     def test_apply(self) -> None:

@@ -1,4 +1,4 @@
-"""Readers beside a writer: each reading is the state behind some commit, and no commit is disturbed, also where the reader may not write."""
+"""Readers beside a writer: each reading is the state after some commit, and no commit is disturbed, also where the reader may not write."""
 from __future__ import annotations
 
 import os
@@ -25,7 +25,7 @@ WATCHED = "/watched"
 
 
 class Reading(Case):
-    """A list of requests, and the state behind each of them."""
+    """A list of requests, and the state after each of them."""
 
     def begin(self, seed: int, count: int) -> None:
         self.fresh(capacity=400000)
@@ -44,7 +44,7 @@ class Reading(Case):
             self.states.append(state.copy())
 
     def expected(self, words: list[str], state: Model) -> Ran:
-        """What a reading tells of a state."""
+        """What a reading shows of a state."""
         if words[0] == "ls":
             return Ran(0, listing(state, "/"), b"")
         if words[0] == "check":
@@ -121,7 +121,7 @@ class Beside(Reading):
         if faults:
             raise faults[0]
         self.assertEqual(set(counts), {"ls", "get", "log", "check"})
-        # Readings without a commit beside them would tell nothing.
+        # Readings without a commit beside them would show nothing.
         self.assertGreater(moved, 20)
         self.assertEqual(self.sound(), len(self.requests))
 
@@ -202,7 +202,7 @@ class Beside(Reading):
             reader.wait()
 
     def test_beside_a_write_that_fails(self) -> None:
-        """A reader that found blocks which are cut away behind it tells the state, or that a read failed; the next tells the state."""
+        """A reader that found blocks which are cut away after it reports the state, or that a read failed; the next reports the state."""
         need_shim()
         self.begin(7025, 20)
         request = Request("create", 7, 1, "/never", b"n" * 200_000)
@@ -229,8 +229,8 @@ class Beside(Reading):
 
     def test_beside_a_last_sync_that_fails(self) -> None:
         """A commit is whole in the file, and its last sync failed: a reader shows it, though it is answered 36. One that goes on when it
-        was taken back, and another commit stands behind its other blocks, tells that state, or the one before, or that a block is not
-        what it was. The next one tells the state."""
+        was taken back, and another commit is after its other blocks, reports that state, or the one before, or that a block is not
+        what it was. The next one reports the state."""
         need_shim()
         self.begin(7026, 20)
         taken = Request("replace", 7, 1, WATCHED, b"t" * 20_000)
@@ -267,7 +267,7 @@ class Beside(Reading):
                     self.is_a_state(words, self.udfburn(*words), 21, 21)
 
     def test_what_a_reader_shows_is_no_answer(self) -> None:
-        """A program is killed before its last sync: readers show the commit, of which no answer told, and a loss of power takes it."""
+        """A program is killed before its last sync: readers show the commit, which no answer acknowledged, and a power loss takes it."""
         need_shim()
         before = self.fresh().read_bytes()
         request = Request("create", 7, 1, WATCHED, b"w" * 5000)

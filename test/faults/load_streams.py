@@ -38,11 +38,11 @@ LARGE: list[Message] = [
     Request("create", 7, 2, "/m", b"behind"),
     ("list", "/"),
 ]
-# A payload of a kind that there is not, an empty one, and a length too large, with their answers; nothing is read behind the last.
+# A payload of a kind that there is not, an empty one, and a length too large, with their answers; nothing is read after the last.
 BAD_FRAMES = frame(b"\x09rest") + frame(b"")
 MALFORMED_ANSWERS = [Answer(MALFORMED, b"\x34\0"), Answer(MALFORMED, b"\x35\0")]
 TOO_LONG = b"\xff\xff\xff\xff"
-# Seconds without an answer, below those behind which a daemon that waits for more lets its client go.
+# Seconds without an answer, below those after which a daemon that waits for more lets its client go.
 LONGEST_WAIT = 50.0
 TOO_LONG_ANSWER = Answer(MALFORMED, b"\x33\0")
 
@@ -53,7 +53,7 @@ def pieces(data: bytes, size: int) -> Iterator[bytes]:
 
 
 def send_parts(parts: list[bytes], pause: Callable[[int], float], give: Callable[[bytes], None]) -> None:
-    """Gives the parts in turn, with a pause behind each."""
+    """Gives the parts in turn, with a pause after each."""
     for number, part in enumerate(parts):
         give(part)
         wait = pause(number)
@@ -67,7 +67,7 @@ class Cuts(Case):
         self.fresh("new.img", capacity=4000)
 
     def stream(self, messages: list[Message]) -> tuple[bytes, list[Answer], Model]:
-        """The frames, with malformed ones between and a length at the end that is too large; their answers; the state behind."""
+        """The frames, with malformed ones between and a length at the end that is too large; their answers; the state after."""
         model = Model()
         frames, answers = b"", []
         for number, message in enumerate(messages):
@@ -157,7 +157,7 @@ class Cuts(Case):
         self.tree_is(model, ["/", "/a", "/d", "/d/a", "/d/b"], "s.img")
 
     def test_any_front(self) -> None:
-        """Where the stream ends early the whole frames in front of its end are answered, and nothing else is done."""
+        """Where the stream ends early the whole frames before its end are answered, and nothing else is done."""
         frames, _, _ = self.stream(MESSAGES[:9])
         fall = random.Random(7112)
         cuts = sorted(set(fall.sample(range(len(frames) - 4), 60)) | set(range(40)))

@@ -42,7 +42,7 @@ def in_pairs(work: Callable[[Item], None], items: Iterable[Item]) -> None:
 
 @contextlib.contextmanager
 def during(what: str) -> Iterator[None]:
-    """Tells in which round of many a failure came. The rounds behind it would tell nothing more."""
+    """Reports in which round of many a failure came. The rounds after it would show nothing more."""
     try:
         yield
     except AssertionError as fault:
@@ -80,7 +80,7 @@ def _brief(value: object) -> str:
 
 
 class Case(case.Case):
-    """A test that tells in few words what differs: what is compared here may be long, and unittest would seek for hours."""
+    """A test that reports in few words what differs: what is compared here may be long, and unittest would seek for hours."""
 
     def assertEqual(self, first: Any, second: Any, msg: Any = None) -> None:
         if first == second:
@@ -215,7 +215,7 @@ class Applying(Writer):
 
 
 class Serving(Writer):
-    """A daemon that ends behind its first connection."""
+    """A daemon that ends after its first connection."""
 
     name = "udfburnd"
 
@@ -285,7 +285,7 @@ def converse(send: Callable[[], None], take: Callable[[], Optional[Answer]]) -> 
 
 
 class Die:
-    """Requests over few paths, so that they meet, by a seed that a failure tells."""
+    """Requests over few paths, so that they meet, by a seed that a failure reports."""
 
     def __init__(self, seed: int, clients: int = 3) -> None:
         self.random = random.Random(seed)
@@ -328,7 +328,7 @@ def log_lines(ran: Ran) -> list[tuple[int, int, int, int]]:
 
 
 def expect_answers(model: Model, messages: Sequence[Union[Request, tuple[str, str]]], answers: Sequence[Answer]) -> list[Answer]:
-    """What these messages must have been answered, by a model that goes on with each request that was not refused for want of memory.
+    """What these messages must have been answered, by a model that goes on with each request that was not refused for lack of memory.
 
     A message is a request or a query, of a kind and a path. The answers may end before the messages do."""
     found = []

@@ -1,6 +1,6 @@
 """A file over a page cache whose machine may lose power: what of a log of calls is on the disk then.
 
-Of what was not synced any subset of pages may be there, each as it was behind any of its writes; the file's length is any between the
+Of what was not synced any subset of pages may be there, each as it was after any of its writes; the file's length is any between the
 synced one and the present one, and what was never written reads as zeros. A failed sync leaves its pages clean: any subset of them was
 written, the others never will be, though the cache still shows them.
 """
@@ -24,7 +24,7 @@ class Disk:
         self.page = page
         self.cache = bytearray(content)
         self.disk = bytearray(content)
-        # Unsynced pages, each with what it held behind each of its writes.
+        # Unsynced pages, each with what it held after each of its writes.
         self.dirty: dict[int, list[bytes]] = {}
         # The least length that a truncation made since the last sync.
         self.cut: Optional[int] = None
@@ -102,7 +102,7 @@ class Disk:
         disk.extend(bytes(length - len(disk)))
 
     def left(self, keeps: Choice, length: int, random_version: Optional[random.Random] = None, is_cut: bool = True) -> bytes:
-        """The file behind a loss of power now, with such a length."""
+        """The file after a power loss now, with such a length."""
         disk = bytearray(self.disk)
         if is_cut and self.cut is not None:
             del disk[self.cut:]
@@ -141,7 +141,7 @@ def losses(disk: Disk, chance: random.Random, count: int) -> Iterator[Loss]:
     for number in range(count):
         share = chance.choice((0.1, 0.5, 0.9))
         low, high = min(synced, present, disk.cut if disk.cut is not None else present), max(synced, present)
-        # The file mostly grew as far as it is; a length in between cuts off what is behind it.
+        # The file mostly grew as far as it is; a length in between cuts off what is after it.
         length = chance.choice((synced, present, present, present, chance.randint(low, high)))
         left = disk.left(lambda n: [chance.random() < share for _ in range(n)], length, chance, chance.random() < 0.5)
         yield Loss("at random %d, length %d" % (number, length), left)
@@ -171,7 +171,7 @@ def choices(pages: int, chance: random.Random, count: int) -> Iterator[tuple[str
 
 
 def run_losses(disk: Disk, chance: random.Random, count: int) -> Iterator[Loss]:
-    """What a loss of power leaves of a run: any subset of its pages, where the file has its present length; and the synced length, one in
+    """What a power loss leaves of a run: any subset of its pages, where the file has its present length; and the synced length, one in
     between, and all pages with that one."""
     synced, present = len(disk.disk), len(disk.cache)
     if disk.is_clean():

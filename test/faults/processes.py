@@ -23,7 +23,7 @@ def await_true(question: Callable[[], bool], patience: float = PATIENCE, pause: 
 
 
 def fields_of(process: int) -> list[str]:
-    # The name in brackets may hold anything, so the fields are counted from behind it.
+    # The name in brackets may hold anything, so the fields are counted from after it.
     return Path("/proc/%d/stat" % process).read_text().rpartition(")")[2].split()
 
 

@@ -29,7 +29,7 @@ class Serving(Case):
         return answer, most
 
     def run_with(self, rules: str, requests: Sequence[Request], most: int = 12) -> tuple[list[Record], int]:
-        """A daemon under these rules serves the requests, each until it is done. Everything is as it must be behind it: the answers,
+        """A daemon under these rules serves the requests, each until it is done. Everything is as it must be after it: the answers,
         the order of calls, the tree, and the tree on a disk that kept nothing that a sync did not promise. How many were faults."""
         before = self.fresh(capacity=self.capacity).read_bytes()
         model = Model()
@@ -44,7 +44,7 @@ class Serving(Case):
         followed = Discipline(len(before), self.folder).follow(records, daemon=True)
         self.assertEqual(followed.faults, [])
         self.tree_is(model, paths_of(requests))
-        # A failed sync kept nothing, and the power goes right behind the last answer.
+        # A failed sync kept nothing, and the power goes right after the last answer.
         disk = Disk(before, 4096)
         for record in records:
             disk.call(record)

@@ -13,12 +13,12 @@
             S100    does at most 100 bytes, and says so
             P100E5  does at most 100 bytes, and then fails with errno 5
             P100K   does at most 100 bytes, and then the process is killed
-            K, k    the process is killed before the call, behind it
+            K, k    the process is killed before the call, after it
             H       the process stops itself (SIGSTOP) before the call
             D50     waits 50 ms before the call
             L       lies: says that it was done, and neither does it nor logs it
 
-   A record is written behind its call: its result is what was done, its error what the program is told, or 0. What goes out
+   A record is written after its call: its result is what was done, its error what the program gets, or 0. What goes out
    (`send`, `stdout`) is logged before its call, as all the bytes that were to go: from there on they may be seen. A call that a
    rule kills before has no record. */
 #define _GNU_SOURCE
@@ -78,7 +78,7 @@ __attribute__((constructor)) static void start(void) {
 static int of_image(int descriptor) { return descriptor >= 0 && descriptor < DESCRIPTORS && is_image[descriptor]; }
 static int of_folder(int descriptor) { return descriptor >= 0 && descriptor < DESCRIPTORS && is_folder[descriptor]; }
 
-/* The error that the program is told: that of the action, or that of the call. */
+/* The error that the program gets: that of the action, or that of the call. */
 static int told(const char *action, int64_t result) {
     if (*action == 'A') return atoi(action + 1);
     if (*action == 'P') {
@@ -154,7 +154,7 @@ static int before(const char *action, size_t *length, ssize_t *result) {
     return 0;
 }
 
-/* What an action does behind its call, which is in the log by then: the result that the program sees. */
+/* What an action does after its call, which is in the log by then: the result that the program sees. */
 static ssize_t behind(const char *action, ssize_t result) {
     if (*action == 'k') end_here();
     if (*action == 'P' && strchr(action, 'K') == action + 1 + strspn(action + 1, "0123456789")) end_here();

@@ -1,8 +1,8 @@
 """Faults of several kinds together, as a die falls: failing calls and kills over some processes, and power that is lost at the end.
 
 Two things are tried on a real disk alone (test_disk.py), since only the system knows what it dropped and reads anew: a process that
-ends between a failure and the cut of the file, and a sync of an opening that fails behind a kill. Runs where they happen are held
-against the tree alone, and not against the loss of power.
+ends between a failure and the cut of the file, and a sync of an opening that fails after a kill. Runs where they happen are held
+against the tree alone, and not against the power loss.
 """
 from __future__ import annotations
 

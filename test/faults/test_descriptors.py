@@ -56,7 +56,7 @@ class Descriptors(Case):
         return self.udfburn(*words, stdin=stdin, preexec_fn=closing(closed), **others)
 
     def told(self, ran: Ran, closed: set[int], status: int, output: bytes, line: bytes) -> None:
-        """What is told where it can be."""
+        """What is reported where it can be."""
         self.assertEqual(ran, Ran(status, b"" if 1 in closed else output, b"" if 2 in closed else line))
 
     def reading(self, output: bytes, *words: str) -> None:
@@ -93,7 +93,7 @@ class Descriptors(Case):
         self.reading(data, "get", "d.img", "/a")
 
     def test_refusals(self) -> None:
-        """Where there is nothing to write but a line, its status is told also without the descriptors."""
+        """Where there is nothing to write but a line, its status is reported also without the descriptors."""
         for words, status, line in (
             (("get", "d.img", "/none"), 1, b"udfburn: 96 NotFound\n"),
             (("ls", "d.img", "x"), 1, b"udfburn: 55 Path\n"),
@@ -151,7 +151,7 @@ class Descriptors(Case):
                 with Daemon(self.folder) as daemon:
                     daemon.client().close()
                     ran = self.without(closed, "send", "s", stdin=CREATE)
-                    # Connections are served one after another: behind this one the other is over.
+                    # Connections are served one after another: after this one the other is over.
                     with daemon.client() as client:
                         self.assertIsNotNone(client.ask(query("list", "/")))
                 left = self.path("d.img").read_bytes()
@@ -290,7 +290,7 @@ class Streams(Case):
                     self.assertIsNotNone(client.ask(query("list", "/")))
 
     def test_errors_that_wait(self) -> None:
-        """A pipe that is full keeps the daemon waiting once it has a line to say. What was answered stands, and the next client is
+        """A pipe that is full keeps the daemon waiting once it has a line to say. What was answered stays, and the next client is
         served when somebody reads."""
         self.fresh()
         read, write = os.pipe()

@@ -1,7 +1,7 @@
 """Power lost under a real file system, at each write and flush that reaches its disk: ext4 with a journal and without, XFS and btrfs.
 
 The file system lies on a loop device over a file that logs what reaches it (fusedisk.py). The disk keeps what was written before its
-last flush, and of what was written behind it any part. Of each such disk the file system is mended and mounted, as behind a loss of
+last flush, and of what was written after it any part. Of each such disk the file system is mended and mounted, as after a loss of
 power, and each acknowledged file is looked at.
 """
 from __future__ import annotations
@@ -113,7 +113,7 @@ def need_kind(kind: Kind) -> None:
 
 
 def mend(disk: Path) -> None:
-    """As at the start of a machine: what a loss of power left is mended where it can be (status 1), and nothing is left open."""
+    """As at the start of a machine: what a power loss left is mended where it can be (status 1), and nothing is left open."""
     done = subprocess.run(["e2fsck", "-f", "-y", str(disk)], capture_output=True, text=True)
     if done.returncode not in (0, 1, 2):
         raise OSError("e2fsck: %d: %s" % (done.returncode, done.stdout + done.stderr))
@@ -142,7 +142,7 @@ class WithDisk(Case):
     @staticmethod
     def mount(kind: Kind, device: str, where: Path, more: str = "") -> None:
         if kind.name == "btrfs":
-            # Else it takes a disk for one that it knows, by its number, and refuses what it has forgotten by a loss of power.
+            # Else it takes a disk for one that it knows, by its number, and refuses what it has forgotten by a power loss.
             run("btrfs", "device", "scan", "--forget")
         run("mount", "-t", kind.name, "-o", kind.options + more, device, str(where))
 
@@ -162,7 +162,6 @@ class WithDisk(Case):
             served = FuseDisk(folder, disk, log)
         except OSError as fault:
             lacks("nothing can be mounted by FUSE: %s" % fault)
-        said: list[tuple[int, int]] = []
         device = ""
         is_mounted = False
         is_over = threading.Event()
@@ -176,27 +175,7 @@ class WithDisk(Case):
                 lacks("no loop device can be mounted: " + first_line(str(fault)))
             if pushes:
                 pusher.start()
-            self.tell(self.udfburn("format", str(where / "d.img"), "DISC", "0", "1500"), 0, b"formatted\n", b"")
-            said.append((served.size(), 0))
-            model = Model()
-            image = str(where / "d.img")
-            for request in stream if ends else ():
-                assert ends
-                ends(image, request, served)
-                answers = answers_of(self.apply(encode(request), image).output)
-                size = served.size()
-                self.assertEqual(answers, [model.answer(request)])
-                said.append((size, model.commits))
-            with Daemon(self.folder, image, rules=rules) as daemon, daemon.client() as client:
-                for request in () if ends else stream:
-                    if fails:
-                        served.fail(self.blocks_of(image, request))
-                        self.assertEqual(client.ask(encode(request)), Answer(FAULT))
-                        self.assertTrue(served.has_failed())
-                    answer = client.ask(encode(request))
-                    size = served.size()
-                    self.assertEqual(answer, model.answer(request))
-                    said.append((size, model.commits))
+            said = self.served(served, str(where / "d.img"), stream, fails, ends, rules)
         finally:
             is_over.set()
             if pusher.is_alive():
@@ -209,6 +188,31 @@ class WithDisk(Case):
         found = events(log)
         self.assertGreater(len(found), 2 * len(stream))
         return found, said
+
+    def served(self, disk: FuseDisk, image: str, stream: Sequence[Request], fails: bool, ends: Optional[Ends],
+               rules: str) -> list[tuple[int, int]]:
+        """Formats an image and serves the stream, as `recorded` has it: how far the disk was at each acknowledgement."""
+        self.tell(self.udfburn("format", image, "DISC", "0", "1500"), 0, b"formatted\n", b"")
+        said = [(disk.size(), 0)]
+        model = Model()
+        if ends:
+            for request in stream:
+                ends(image, request, disk)
+                answers = answers_of(self.apply(encode(request), image).output)
+                size = disk.size()
+                self.assertEqual(answers, [model.answer(request)])
+                said.append((size, model.commits))
+        with Daemon(self.folder, image, rules=rules) as daemon, daemon.client() as client:
+            for request in () if ends else stream:
+                if fails:
+                    disk.fail(self.blocks_of(image, request))
+                    self.assertEqual(client.ask(encode(request)), Answer(FAULT))
+                    self.assertTrue(disk.has_failed())
+                answer = client.ask(encode(request))
+                size = disk.size()
+                self.assertEqual(answer, model.answer(request))
+                said.append((size, model.commits))
+        return said
 
     def blocks_of(self, image: str, request: Request, rules: str = "") -> bytes:
         """The blocks that this request will write, by a copy of the image; where rules end it, those that it leaves unsynced."""
@@ -258,7 +262,7 @@ class WithDisk(Case):
 
     def disks(self, before: Sectors, found: Sequence[Event], last: int,
               chance: random.Random) -> Iterator[tuple[int, str, Optional[Sectors]]]:
-        """Each disk that a loss of power up to the last acknowledgement leaves, with the size of the log that it has seen. None is the
+        """Each disk that a power loss up to the last acknowledgement leaves, with the size of the log that it has seen. None is the
         one before once more: all that was written, which is flushed now."""
         flushed = dict(before)
         waiting: list[tuple[int, bytes]] = []
@@ -305,7 +309,7 @@ class WithDisk(Case):
 
     def problems(self, kind: Kind, stream: Sequence[Request], pushes: bool = False, fails: bool = False, ends: Optional[Ends] = None,
                  rules: str = "") -> list[str]:
-        """What is wrong with any of the disks that a loss of power leaves, where the daemon runs under these rules."""
+        """What is wrong with any of the disks that a power loss leaves, where the daemon runs under these rules."""
         disk = self.made(kind)
         before = read_sectors(disk)
         found, said = self.recorded(disk, kind, stream, pushes, fails, ends, rules)
@@ -321,7 +325,7 @@ class WithDisk(Case):
         seen: set[tuple[int, bytes]] = set()
         looked = 0
         for size, how, content in self.disks(before, found, said[-1][0], chance):
-            # What was acknowledged before anything behind this was written.
+            # What was acknowledged before anything after this was written.
             acknowledged = max((commit for at, commit in said if at <= size), default=-1)
             if content is not None:
                 image = self.image_of(content, kind)
@@ -378,7 +382,7 @@ class Disks(WithDisk):
         self.lose(JOURNAL, ends=self.dies)
 
     def test_a_start_whose_sync_failed(self) -> None:
-        """The same behind a start that ended with `64 Device`, since what the process before it had written could not be synced."""
+        """The same after a start that ended with `64 Device`, since what the process before it had written could not be synced."""
         need_shim()
         self.lose(JOURNAL, ends=self.refused)
 

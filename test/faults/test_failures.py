@@ -101,7 +101,7 @@ class Failures(Serving):
         self.assertFalse(meanwhile & {"pread", "pwrite"}, meanwhile)
 
     def test_for_ever(self) -> None:
-        """A disk that takes nothing any more: 36 each time, and the tree stands as it was."""
+        """A disk that takes nothing any more: 36 each time, and the tree stays as it was."""
         for rules in ("pwrite:3+:E28", "fsync:4+:E5", "pwrite:3+:E5;ftruncate:*:E5", "pwrite:3+:P100E28"):
             with self.subTest(rules):
                 self.fresh()
@@ -257,7 +257,7 @@ class Failures(Serving):
                         self.assertEqual(answers_of(ran.output), [committed(0, 1)])
                         self.assertEqual(self.sound(), 1)
                         if cut:
-                            # Where the cut failed too, a real disk tells what it has (test_disk.py).
+                            # Where the cut failed too, a real disk reports what it has (test_disk.py).
                             continue
                         disk = Disk(before, 4096)
                         for record in read_log(self.log_path()):

@@ -1,4 +1,4 @@
-"""Killed before, inside and behind each call, and then the same frames again: each request once, and nothing answered before it is on
+"""Killed before, inside and after each call, and then the same frames again: each request once, and nothing answered before it is on
 the disk, over all processes as one."""
 from __future__ import annotations
 
@@ -90,13 +90,13 @@ class Kills(Case):
                         self.again(length, model, wanted)
 
     def test_at_the_cut(self) -> None:
-        """Killed at the cut of a file behind a failure, and at the sync of the cut. Where the process goes before the cut, a real disk
-        tells what a failed sync dropped (test_disk.py)."""
+        """Killed at the cut of a file after a failure, and at the sync of the cut. Where the process goes before the cut, a real disk
+        reports what a failed sync dropped (test_disk.py)."""
         model, wanted = self.wanted()
         counts = self.counts(("pwrite", "fsync"))
         for kind, calls in counts.items():
             for number in range(1 if kind == "pwrite" else 2, calls + 1):
-                # The sync of the cut is the next one behind the failed call.
+                # The sync of the cut is the next one after the failed call.
                 syncs = self.syncs_before_write[number - 1] if kind == "pwrite" else number
                 for failure in ("E28", "P3000E28") if kind == "pwrite" else ("E5", "A5"):
                     for end in ("ftruncate:1:K", "ftruncate:1:k", "sync"):
@@ -149,7 +149,7 @@ class Kills(Case):
                         self.tree_is(model, paths_of(STREAM))
 
     def test_a_format(self) -> None:
-        """Killed at each call of a format: its words finish it, with the same bytes, and `formatted` tells of what is on the disk."""
+        """Killed at each call of a format: its words finish it, with the same bytes, and `formatted` reports what is on the disk."""
         words = ("format", "d.img", "DISC", "0", "600")
         self.tell(self.udfburn(*words, log=self.new_log()), 0, b"formatted\n", b"")
         whole = self.path("d.img").read_bytes()

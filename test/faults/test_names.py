@@ -66,7 +66,7 @@ class Names(Case):
                     with open(self.path("d.img"), "ab") as file:
                         file.write(more)
                 self.refused_behind(lengthen)
-                # It ends as the other one left it, and what was committed stands in it.
+                # It ends as the other one left it, and what was committed is in it.
                 self.assertTrue(self.path("d.img").read_bytes().endswith(more))
                 self.assertEqual(self.sound(), 1)
                 with Daemon(self.folder) as daemon, daemon.client() as client:

@@ -12,7 +12,7 @@ from protocol import BLOCK, Model, Request, answers_of, committed, encode, paths
 
 MEBIBYTE = 1 << 20
 
-# Before each commit of `COMMITS` these stand.
+# Before each commit of `COMMITS` these are.
 BEFORE = [
     Request("create", 1, 1, "/a", b"first"),
     Request("mkdir", 1, 2, "/d"),
@@ -20,7 +20,7 @@ BEFORE = [
     Request("create", 1, 4, "/d/x", b"second"),
 ]
 
-# Each kind of commit, and how many blocks it takes at least: its last one is the table's entry.
+# Each kind of commit, and how many blocks it takes at least: its last one is the VAT ICB.
 COMMITS = {
     "create an empty file": Request("create", 2, 1, "/b"),
     "create a small file": Request("create", 2, 1, "/b", b"hello"),
@@ -41,7 +41,7 @@ COMMITS = {
 
 
 def entry_for(block: bytes, number: int) -> bytes:
-    """The entry of a table, sealed for another block: its location, and the sum over the tag (docs/FORMAT.md)."""
+    """The VAT ICB, sealed for another block: its location, and the sum over the tag (docs/FORMAT.md)."""
     sealed = bytearray(block)
     sealed[12:16] = number.to_bytes(4, "little")
     sealed[4] = 0
@@ -93,7 +93,7 @@ class Order(Case):
                 self.tree_is(model, paths_of([*BEFORE, request]))
 
     def test_a_stream_of_commits(self) -> None:
-        """All of them behind each other, over one connection and in one stream."""
+        """All of them one after another, over one connection and in one stream."""
         stream, number = list(BEFORE), 0
         for request in COMMITS.values():
             number += 1
@@ -114,7 +114,7 @@ class Order(Case):
                 self.tree_is(model, paths_of(stream))
 
     def test_a_commit_over_a_gap(self) -> None:
-        """Data that would be a table's entry where it would stand goes one block further, and a block of zeros stands before it."""
+        """Data that would be a VAT ICB where it would be goes one block further, and a block of zeros is before it."""
         image = self.fresh()
         made = image.read_bytes()
         imitation = entry_for(made[(FORMATTED_BLOCKS - 1) * BLOCK:], FORMATTED_BLOCKS - 257)
@@ -132,7 +132,7 @@ class Order(Case):
         self.tree_is(model, ["/", "/a"])
 
     def test_a_repeat(self) -> None:
-        """A kept reply tells of a commit, so that it waits for the sync of the opening, and it writes nothing."""
+        """A kept reply reports a commit, so that it waits for the sync of the opening, and it writes nothing."""
         request = Request("create", 7, 1, "/a", b"hello")
         self.fresh()
         self.apply(encode(request))
@@ -147,7 +147,7 @@ class Order(Case):
         self.assertEqual(self.path("d.img").read_bytes(), before)
 
     def test_a_query(self) -> None:
-        """What a query tells is on the disk too."""
+        """What a query reports is on the disk too."""
         request = Request("create", 7, 1, "/a", b"hello")
         length = self.fresh().stat().st_size
         self.assertEqual(self.apply(encode(request), rules="fsync:2:K", log=self.log_path()).status, -9)

@@ -1,6 +1,6 @@
 """Power lost at every call of a stream of commits, on a model of a page cache: no acknowledged file is lost, and no volume is damaged.
 
-The log of a run is made again call by call, and behind each call the file is what some loss of power leaves of it (pages.py). Such an
+The log of a run is made again call by call, and after each call the file is what some power loss leaves of it (pages.py). Such an
 image must be a state of the run, and not one before the last acknowledged commit.
 """
 from __future__ import annotations
@@ -32,7 +32,7 @@ STREAM = [
 
 
 def states_of(requests: Sequence[Request]) -> list[Model]:
-    """The model before the first commit and behind each."""
+    """The model before the first commit and after each."""
     model = Model()
     states = [model.copy()]
     for request in requests:
@@ -149,7 +149,7 @@ class Power(Case):
         self.assertGreater(self.images, 100)
 
     def test_a_file_that_was_cut_inside_a_block(self) -> None:
-        """The stream begins behind a part of a block that an earlier loss of power left."""
+        """The stream begins after a part of a block that an earlier power loss left."""
         requests = STREAM[:4]
         for left in (1, 700, 2047):
             before = self.fresh().read_bytes() + bytes([255]) * left

@@ -218,7 +218,7 @@ class Loser(Case):
 
     def problems(self, before: bytes, records: Sequence[Record], states: Sequence[list[Answer]], paths: Sequence[str], daemon: bool,
                  count: int) -> list[str]:
-        """What is wrong with any of the images that a loss of power leaves."""
+        """What is wrong with any of the images that a power loss leaves."""
         said = {index: answer.commit for index, answer in told_by(records, daemon) if answer.is_commit}
         first = min(said.values()) - 1 if said else 0
         base = len(before) // 4096 * 4096
@@ -256,7 +256,7 @@ class Power(Loser):
         need_shim()
 
     def served(self, requests: Sequence[Request], rules: str = "") -> tuple[bytes, list[Record], list[list[Answer]], list[str]]:
-        """The image before, the calls of `apply` on requests that come thrice each, so that one which fails is done, and what can be told
+        """The image before, the calls of `apply` on requests that come thrice each, so that one which fails is done, and what can be reported
         of the tree after each commit."""
         before = self.fresh(capacity=CAPACITY).read_bytes()
         paths, model = paths_of(requests), Model()

@@ -87,7 +87,7 @@ class Played(Case):
                 self.tell(self.play(b"".join(FRAMES[:count]), answer), 0, answer, b"")
 
     def test_fewer_answers(self) -> None:
-        """None, or some, and each part of one: what came is copied, and the status tells that it is not all."""
+        """None, or some, and each part of one: what came is copied, and the status reports that it is not all."""
         whole = b"".join(ANSWERS)
         for length in range(len(whole)):
             with self.subTest(length=length):
@@ -121,7 +121,7 @@ class Played(Case):
                 self.tell(self.play(sent, b""), 1, b"", READ)
 
     def test_a_frame_that_is_too_long(self) -> None:
-        """It gets the last answer, and what is behind it none."""
+        """It gets the last answer, and what is after it none."""
         for behind in (b"", b"x", FRAMES[1] * 3):
             with self.subTest(behind=len(behind)):
                 whole = ANSWERS[0] + TOO_LONG_ANSWER
@@ -146,7 +146,7 @@ class Played(Case):
         self.tell(self.play(frame(b"") * 3, answer * 2), 1, answer * 2, READ)
 
     def test_a_daemon_that_reads_a_part(self) -> None:
-        """It goes in the middle of what it is sent: the status is 1, with a line that tells of the stream."""
+        """It goes in the middle of what it is sent: the status is 1, with a line that reports the stream."""
         frames = encode(CREATE._replace(data=b"x" * 1000000)) * 4
         for reads in (0, 1, 100000):
             for answer in (b"", ANSWERS[0][:5], ANSWERS[0]):
@@ -220,7 +220,7 @@ class Killed(Case):
 
     def test_as_many_as_wait(self) -> None:
         """Answers that the daemon gives one by one, as many as docs/OPERATIONS.md says that the socket holds."""
-        # What a kernel reckons for a message differs.
+        # What a kernel computes for a message differs.
         count = waiting(250)
         if count < 100:
             lacks("a socket holds no more than %d answers" % count)
@@ -232,7 +232,7 @@ class Killed(Case):
             self.assertEqual([answer.commit for answer in answers_of(ran.output)], list(range(1, count + 1)))
 
     def test_more_than_wait(self) -> None:
-        """Neither side goes on, until the daemon lets go: that is told, and what was answered is done. The next parts go on from there."""
+        """Neither side goes on, until the daemon lets go: that is reported, and what was answered is done. The next parts go on from there."""
         if waiting(len(self.LARGE)) == len(self.LARGE):
             lacks("a socket holds more answers than are asked for")
         self.fresh(capacity=60000)

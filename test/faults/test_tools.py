@@ -1,4 +1,4 @@
-"""What the tests stand on: frames by the examples of docs/PROTOCOL.md, the model by its conversation, and the shim seen from a program."""
+"""What the tests build on: frames by the examples of docs/PROTOCOL.md, the model by its conversation, and the shim seen from a program."""
 from __future__ import annotations
 
 import unittest

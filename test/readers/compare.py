@@ -1,4 +1,4 @@
-"""What readers tell of a volume, held against the tree that its requests make. Each function lists what differs."""
+"""What readers report about a volume, compared with the tree that its requests make. Each function lists what differs."""
 
 from __future__ import annotations
 

@@ -1,11 +1,11 @@
 /*
- * Mounts images by the kernel's udf driver, and writes down all that it tells of their trees.
+ * Mounts images by the kernel's udf driver, and writes down all that it reports about their trees.
  *
  *   guest JOBS OUTPUT      on this kernel, as root
  *   guest                  as the first process of a virtual machine: loads /modules/NN, reads /jobs, writes to /dev/vdb
  *
  * A line of JOBS is `loop FILE OFFSET BYTES OPTIONS` or `disc TARGET 0 0 OPTIONS`: a read-only loop device of sectors of
- * 2,048 bytes over these bytes of a file, or the disc in a drive; OPTIONS is `-` for none. All bytes are told as they are:
+ * 2,048 bytes over these bytes of a file, or the disc in a drive; OPTIONS is `-` for none. All bytes are printed as they are:
  * what they ought to be is not known here.
  */
 #define _GNU_SOURCE
@@ -179,7 +179,7 @@ static int find(const char *target, char *name)
 				continue;
 			to[size] = 0;
 			if ((size_t)size > strlen(wanted) && !strcmp(to + size - strlen(wanted), wanted)) {
-				/* The kernel tells of a drive a moment before its node is there. */
+				/* The kernel reports a drive a moment before its node is there. */
 				int device;
 				sprintf(name, "/dev/sr%d", drive);
 				device = open(name, O_RDONLY | O_CLOEXEC | O_NONBLOCK);

@@ -14,7 +14,7 @@ MODULES = ("virtio_pci", "virtio_blk", "virtio_scsi", "sr_mod", "loop", "udf")
 
 @dataclass
 class Found:
-    """What the kernel tells of a node."""
+    """What the kernel reports about a node."""
 
     kind: str
     failure: int
@@ -91,7 +91,7 @@ def member(name: str, mode: int, data: bytes) -> bytes:
 
 
 def modules(folder: Path) -> List[Path]:
-    """The files of MODULES and of all that they need, each behind what it needs."""
+    """The files of MODULES and of all that they need, each after what it needs."""
     files = {path.name.split(".")[0].replace("-", "_"): path for path in sorted(folder.rglob("*.ko"))}
     out: List[Path] = []
 
@@ -160,7 +160,7 @@ def mount_in_machine(guest: Path, kernel: Path, jobs: List[Job], room: Path, sec
     words = ["qemu-system-x86_64", "-nodefaults", "-no-user-config", "-display", "none", "-no-reboot", "-m", "768"]
     words += ["-machine", "q35,accel=tcg", "-cpu", "max", "-serial", "stdio"]
     words += ["-kernel", str(image), "-initrd", str(room / "archive")]
-    # Beside other work the machine may stand still just when the kernel looks whether its timer ticks.
+    # Beside other work the machine may stall just when the kernel looks whether its timer ticks.
     words += ["-append", "console=ttyS0 quiet panic=-1 no_timer_check random.trust_cpu=on"]
     words += ["-device", "virtio-scsi-pci"]
     for at, name in enumerate(("disk", "output")):

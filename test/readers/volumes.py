@@ -20,7 +20,7 @@ NAMES = (
     "z" * 250 + ".end", "\u00fc" * 100, "mixed \u00e9 and \u20ac",
 )
 
-# Names whose UTF-8 is longer than the 254 bytes that Linux shows: it cuts them, and puts a check of the name behind.
+# Names whose UTF-8 is longer than the 254 bytes that Linux shows: it cuts them, and puts a check of the name after.
 LONG_NAMES = ("\u4e2d" * 127, "\u20ac" * 100, "\u00ff" * 254, "\u4e2d" * 120 + ".txt", "\u00e4" * 200 + ".jpeg")
 
 # On both sides of a block, of what an entry holds, and at the greatest size of a file.
@@ -32,10 +32,10 @@ class Volume:
     name: str
     script: Script
     image: Path
-    # The tree behind the last commit, and those behind earlier ones by the address of their table's entry.
+    # The tree after the last commit, and those after earlier ones by the address of their VAT ICB.
     tree: Tree
     earlier: List[Tuple[int, Tree]] = field(default_factory=list)
-    # The blocks of a commit that was cut, behind the last table's entry.
+    # The blocks of a commit that was cut, after the last VAT ICB.
     behind: int = 0
     last: int = 0
 
@@ -201,7 +201,7 @@ class Maker:
             raise RuntimeError("%s: the answers are not those of the requests" % image.name)
 
     def addresses(self, image: Path) -> Dict[int, int]:
-        """The address of the table's entry of each commit."""
+        """The address of the VAT ICB of each commit."""
         out = {}
         for line in self.run("log", str(image)).decode().splitlines():
             commit, address, _, _ = map(int, line.split())
@@ -227,7 +227,7 @@ class Maker:
         return volume
 
     def cut(self) -> List[Volume]:
-        """Volumes whose last commit was cut behind each of its blocks, and ones that went on behind such cuts."""
+        """Volumes whose last commit was cut after each of its blocks, and ones that went on after such cuts."""
         out = []
         script = Script("\u00ff" * 30, moment=5)
         script.make(("d",))
@@ -259,7 +259,7 @@ class Maker:
         return out
 
     def nested(self) -> Volume:
-        """Files of the bytes of a volume of the same kind, and of tables' entries for the places where data would go."""
+        """Files of the bytes of a volume of the same kind, and of VAT ICBs for the places where data would go."""
         script = Script("NESTED")
         inner = self.room / "inner.img"
         self.format(inner, Script("INNER"))
@@ -269,7 +269,7 @@ class Maker:
         self.apply(image, script)
         done = script.commits
         entry = image.read_bytes()[-BLOCK:]
-        # A table's entry for each place of a run of them: wherever the file would begin, one block imitates its place.
+        # A VAT ICB for each place of a run of them: wherever the file would begin, one block imitates its place.
         start = image.stat().st_size // BLOCK - FRONT
         script.create(("tables",), b"".join(sealed(entry, start + 2 * at) for at in range(40)))
         self.apply(image, script, done)

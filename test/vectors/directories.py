@@ -26,7 +26,7 @@ def files(*names: str) -> "list[tuple[str, str, int, int]]":
 
 
 def letters(last: str) -> bytes:
-    """48 names of a letter, which fill 1,960 bytes behind the parent's, and one more."""
+    """48 names of a letter, which fill 1,960 bytes after the parent's, and one more."""
     return lay(files(*LETTERS, last))
 
 

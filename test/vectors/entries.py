@@ -180,7 +180,7 @@ def _order(v: Vectors) -> None:
 
 
 def _damaged(block: bytes, changes: Changes, end: int = 192, location: int = 1, identifier: int = ENTRY) -> bytes:
-    """The block with these changes, sealed again behind those that are not in the tag."""
+    """The block with these changes, sealed again after those that are not in the tag."""
     data = resealed(block, [change for change in changes if change[0] >= 16], end, location, identifier)
     return changed(data, [change for change in changes if change[0] < 16])
 

@@ -71,7 +71,7 @@ def _kinds(v: Vectors) -> None:
 
 
 def edited(at: int, put: bytes, behind: bytes = b"") -> bytes:
-    """The create with other bytes from a place on, and bytes behind it."""
+    """The create with other bytes from a place on, and bytes after it."""
     return CREATE[:at] + put + CREATE[at + len(put) :] + behind
 
 

@@ -1,4 +1,4 @@
-"""Fronts of volumes (front.txt)."""
+"""Volume headers (front.txt)."""
 
 import layouts
 from layouts import Changes, PARTITION_START, changed, front, front_block, seal
@@ -14,7 +14,7 @@ CHECKS = [(16, 0x7770), (32, 0x2224), (33, 0xB46D), (34, 0x1F53), (35, 0xF879), 
 
 
 def resealed(block: bytes, identifier: int, location: int, changes: Changes) -> bytes:
-    """The descriptor of 512 bytes with these changes, sealed again behind those that are not in the tag."""
+    """The descriptor of 512 bytes with these changes, sealed again after those that are not in the tag."""
     data = changed(block, [change for change in changes if change[0] >= 16])
     return changed(seal(identifier, location, data[:512]) + data[512:], [change for change in changes if change[0] < 16])
 
@@ -86,7 +86,7 @@ def _faults(v: Vectors) -> None:
         _front(v, f"block-{number}-{name}", of, [_put(number, block)], f"fault block {told} byte {at}")
 
 
-# Changes of a block of the front: the block, the descriptor, the bytes, and where the fault is told.
+# Changes of a block of the volume header: the block, the descriptor, the bytes, and where the fault is reported.
 CHANGED: "list[tuple[int, int, Changes, int, int]]" = [
     (32, 1, [(380, 13)], 32, 376), (32, 1, [(28, ord("K"))], 32, 4), (32, 1, [(24, 7)], 32, 24), (34, 5, [(192, 254), (193, 0)], 34, 192),
     (34, 5, [(192, 0xD0), (193, 0xDC), (194, 6)], 34, 192), (34, 5, [(192, 0xB6)], 50, 4), (34, 5, [(192, 0xCF), (193, 0xDC), (194, 6)], 50, 4),

@@ -39,7 +39,7 @@ def seal(identifier: int, location: int, descriptor: bytes) -> bytes:
 
 
 def fill(data: bytes, size: int) -> bytes:
-    """The bytes with zeros behind them, so that they are so many."""
+    """The bytes with zeros after them, so that they are so many."""
     if len(data) > size:
         raise ValueError(f"{len(data)} bytes do not fit into {size}")
     return data + bytes(size - len(data))
@@ -99,13 +99,13 @@ def extent(length: int, location: int) -> bytes:
 
 
 def long_ad(length: int, number: int, partition: int = 0, unique: int = 0) -> bytes:
-    """A long_ad (ECMA-167 4/14.14.2); a unique ID stands behind two bytes of flags (UDF 2.01 2.3.4.3)."""
+    """A long_ad (ECMA-167 4/14.14.2); a unique ID is after two bytes of flags (UDF 2.01 2.3.4.3)."""
     return struct.pack("<IIHHI", length, number, partition, 0, unique)
 
 
 def file_entry(kind: str, links: int, unique: int, size: int, first: "int | bytes | None", location: int,
                moment: int = 0) -> bytes:
-    """The block of a file entry (ECMA-167 4/14.9). Where `first` is bytes they stand inside it."""
+    """The block of a file entry (ECMA-167 4/14.9). Where `first` is bytes they are inside it."""
     file_type = {"directory": 4, "file": 5, "table": 248}[kind]
     inside = isinstance(first, bytes)
     blocks = 0 if inside or first is None else -(-size // BLOCK)
@@ -192,7 +192,7 @@ def table(entries: "list[int]", previous: int = 4, files: int = 0, directories: 
 
 
 def front_block(number: int, label: str, moment: int, capacity: int) -> bytes:
-    """A block of the front (ECMA-167 2/9.1, 3/10; UDF 2.01 2.2)."""
+    """A block of the volume header (ECMA-167 2/9.1, 3/10; UDF 2.01 2.2)."""
     if number in (16, 17, 18):
         return block(b"\0" + (b"BEA01", b"NSR03", b"TEA01")[number - 16] + b"\x01")
     if 32 <= number < 38 or 48 <= number < 54:

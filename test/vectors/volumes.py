@@ -43,7 +43,7 @@ def used(entries_: "list[int]", previous: int = 4, files: int = 1, count: int = 
 
 A = ("a", "file", 2, 16)
 
-# A format behind the front, at the addresses 257 to 261.
+# A format after the volume header, at the addresses 257 to 261.
 FORMATTED = [file_set(), directory(1, 1), root_entry(1, 40, 1), block(table([0, 2], NONE, commits=0)), entry_of_table(204, 3, 4)]
 
 # What a commit writes that makes a file `a` in the root, at the addresses 262 to 266.
@@ -119,7 +119,7 @@ def _sound(v: Vectors) -> None:
 
 
 def nested(depth: int) -> "tuple[list[bytes], int]":
-    """Directories that lie each in the one before, so many below the root, and the address of the table's entry."""
+    """Directories that lie each in the one before, so many below the root, and the address of the VAT ICB."""
     blocks: "list[bytes]" = []
     above = []
     for level in range(depth, -1, -1):
@@ -265,7 +265,7 @@ D = ("d", "directory", 2, 16)
 
 def below(root: "list[tuple[str, str, int, int]]", links: int, names: "list[tuple[str, str, int, int]]", above: int = 1) -> "list[bytes]":
     """A root with these names of directories, the first of which has this link count and these names. Its data are at 262, its
-    entry at 263, and those of the root behind them."""
+    entry at 263, and those of the root after them."""
     return [directory(5, above, *names), directory_entry(16, links, 40 + 40 * len(names), 5, 2), directory(7, 1, *root),
             root_entry(1 + len(root), 40 + 40 * len(root), 7), used([0, 8, 6], 4, 0, 2), entry_of_table(208, 9, 10)]
 
@@ -359,7 +359,7 @@ def _sets(v: Vectors) -> None:
 
 
 def _table(v: Vectors, name: str, of: str, data: bytes, cause: "int | None", said: str = "") -> None:
-    """The volume whose last commit is the one of `created` with these bytes as its table's data, at 265, and a table behind it."""
+    """The volume whose last commit is the one of `created` with these bytes as its table's data, at 265, and a table after it."""
     count = -(-len(data) // BLOCK)
     at = 265 + count
     blocks = data + bytes(-len(data) % BLOCK) + entry_of_table(len(data), 8, 8 + count)

@@ -78,11 +78,11 @@ class Vectors:
         self.text += "\n" + "".join(f"# {line}\n" for line in textwrap.wrap(text, WIDTH - 2))
 
     def let(self, name: str, words: str) -> None:
-        """A name that stands for bytes in the lines behind it."""
+        """A name that stands for bytes in the lines after it."""
         self.text += "\n" + wrapped(f"let {name} {words}") + "\n"
 
     def words(self, name: str, words: str) -> None:
-        """A name that stands for words in the answers behind it."""
+        """A name that stands for words in the answers after it."""
         self.text += "\n" + wrapped(f"words {name} {words}") + "\n"
 
     def case(self, name: str, of: str, *lines: str) -> None:

@@ -9,7 +9,7 @@ import unittest
 
 
 class Result(unittest.TextTestResult):
-    """Counts, and tells which tests take long."""
+    """Counts, and reports which tests take long."""
 
     passed = 0
 

@@ -3,7 +3,7 @@
    WATCHED      the folder, as an absolute path without links
    WATCHED_LOG  the log: for each call that was done a struct record, the path, and the bytes
 
-   A record is written behind its call, with what the call did. */
+   A record is written after its call, with what the call did. */
 #define _GNU_SOURCE
 #include <dlfcn.h>
 #include <errno.h>

@@ -1,3 +1,4 @@
+-- A ledger that a client of version 2 wrote. It stays as it is, whatever the tables are now.
 BEGIN TRANSACTION;
 CREATE TABLE found (
     volume INTEGER NOT NULL REFERENCES volume (id),

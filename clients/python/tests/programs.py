@@ -19,7 +19,7 @@ UDFBURN = os.environ.get("UDFBURN", "")
 UDFBURND = os.environ.get("UDFBURND", "")
 PACKAGE = os.path.abspath(os.path.join(os.path.dirname(__file__), ".."))
 PATIENCE = 300.0
-"""Seconds behind which what did not come counts as missing. It is more than any machine takes."""
+"""Seconds after which what did not come counts as missing. It is more than any machine takes."""
 
 
 class Daemon:

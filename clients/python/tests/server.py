@@ -78,7 +78,7 @@ class Server:
                 return
             unsent += said
             if self.lost_behind is not None:
-                # Behind so many bytes of answers the conversation is lost.
+                # After so many bytes of answers the conversation is lost.
                 kept, self.lost_behind = said[: self.lost_behind], self.lost_behind - len(said)
                 if self.lost_behind <= 0:
                     self.lost_behind = None

@@ -182,7 +182,7 @@ class Checked(WithPrograms):
         """Which commits wrote the older files is not known then, so the ledger's digests are not compared with them; manifests are."""
         lines = [list(map(int, line.split())) for line in self.udfburn("log", self.image).split(b"\n") if line]
         with open(self.image, "r+b") as file:
-            # The file type of the entry of a table.
+            # The file type of a VAT ICB.
             file.seek(lines[20][1] * 2048 + 27)
             file.write(b"\0")
         *failures, last = self.check(status=1)
@@ -199,7 +199,7 @@ class Checked(WithPrograms):
             return dict(base.execute("SELECT path, commit_number FROM request WHERE sha256 IS NOT NULL"))
 
     def test_a_commit_that_is_missing(self) -> None:
-        """The last table's entry is damaged: it looks like a commit that was cut short, and the ledger knows better."""
+        """The last VAT ICB is damaged: it looks like a commit that was cut short, and the ledger knows better."""
         address = int(self.udfburn("log", self.image).split()[1])
         image = shutil.copy(self.image, os.path.join(self.room, "cut.img"))
         with open(image, "r+b") as file:
@@ -220,6 +220,13 @@ class Checked(WithPrograms):
         self.assertIn("the program udfburn is not on the PATH", done.stderr)
         self.assertIn("41 files", done.stdout)
         self.assertIn("all that digests cover are as they were stored", done.stdout)
+
+    def test_what_is_said_without_the_program(self) -> None:
+        """The reader's view of the newest state is no damage, and no word on the earlier ones."""
+        environment = {**self.environment(), "UDFBURN": "", "PATH": "/usr/bin:/bin"}
+        done = subprocess.run(self.words("check", self.image, where=[]), capture_output=True, text=True, env=environment, check=False)
+        self.assertEqual(done.returncode, 1)
+        self.assertRegex(done.stdout, "its newest state, after commit [0-9]+, is as it must be; the earlier states were not checked$")
 
     def test_a_ledger_that_is_in_use(self) -> None:
         from udfburn.ledger import Ledger

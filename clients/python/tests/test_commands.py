@@ -170,7 +170,7 @@ class Commands(Local):
             self.assertEqual(cli.main(["ls", "/"]), 2)
 
     def test_seconds_and_clients(self) -> None:
-        """What is no count of seconds, and no client, is told as that, before anything is done."""
+        """What is no count of seconds, and no client, is reported as that, before anything is done."""
         told = StringIO()
         for wait in ("nan", "inf", "-inf", "-1", "-0.001", "1e999", "soon", ""):
             with self.assertRaises(SystemExit) as raised, redirect_stderr(told):
@@ -190,7 +190,7 @@ class Commands(Local):
             self.words("ls", f"--wait={wait}")
 
     def test_help(self) -> None:
-        """Each command tells what it does, and what each of its words and options is."""
+        """Each command reports what it does, and what each of its words and options is."""
         for name in cli.parser().get_default("names"):
             output = StringIO()
             with self.assertRaises(SystemExit) as raised, redirect_stdout(output), mock.patch.dict(os.environ, {"COLUMNS": "1000"}):

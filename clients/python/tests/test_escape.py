@@ -117,7 +117,7 @@ class ByCommand(WithPrograms):
 
 class NotKept(WithPrograms):
     def put(self, *words: str) -> "tuple[str, Dict[str, object]]":
-        """What a person is told of what is not kept, and what a program is."""
+        """What a person is told about what is not kept, and what a program is."""
         folder = os.path.join(self.room, "source")
         told = self.run_command("put", "-r", folder, f"/{len(words)}p", *words, where=["--image", self.image])
         lines = [line.split("not kept: ", 1)[1] for line in told.splitlines() if "not kept" in line]
@@ -162,7 +162,7 @@ class NotKept(WithPrograms):
 
 class Rewritten(WithPrograms):
     def test_only_what_changed(self) -> None:
-        """Also where neither the size nor the time of a file tells of its change."""
+        """Also where neither the size nor the time of a file shows its change."""
         folder, where = os.path.join(self.room, "source"), ["--image", self.image]
         for index in range(20):
             os.utime(self.write(f"source/{index}", b"%04d" % index), (1_000_000_000, 1_000_000_000))

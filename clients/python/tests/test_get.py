@@ -63,7 +63,8 @@ class Killed(WithPrograms):
                         self.assertEqual(file.read(), os.path.basename(path).encode() * 1000)
                 if program is UNNAMED:
                     self.assertEqual(self.left(), [], "nothing is left of a file without a name")
-                self.assertIn(f"got {60 - len(whole)} files, ", self.finished())
+                left = 60 - len(whole)
+                self.assertIn(f"got {left} file{'' if left == 1 else 's'}, ", self.finished())
                 self.assertEqual({path: os.stat(path).st_ino for path in whole}, whole)
 
     def test_what_a_killed_one_left_is_removed(self) -> None:
@@ -255,7 +256,7 @@ class Goes(Local):
 
 class SyncCall(unittest.TestCase):
     def test_of_this_system(self) -> None:
-        """Linux tells of failed writes by syncfs from 5.8 on."""
+        """Linux reports failed writes by syncfs from 5.8 on."""
         for release, there in (("5.7.19", False), ("5.8.0-1-amd64", True), ("4.19.0", False), ("6.18.44-fc", True), ("10.0", True)):
             with mock.patch("udfburn.disk.os.uname", lambda release=release: mock.Mock(sysname="Linux", release=release)):
                 self.assertEqual(disk.find_call() is not None, there, release)

@@ -13,8 +13,9 @@ from typing import List
 from unittest import mock
 
 from udfburn import errors as e, past
-from udfburn.connection import Connection, Endpoint
-from udfburn.line import BEGINNINGS, TURN, RetryingConnection
+from udfburn.connection import Connection
+from udfburn.endpoint import Endpoint
+from udfburn.retrying import BEGINNINGS, TURN, RetryingConnection
 
 
 class Image(unittest.TestCase):
@@ -54,7 +55,7 @@ class Image(unittest.TestCase):
             nonlocal now
             now += took
 
-        with mock.patch("udfburn.line.time", SimpleNamespace(monotonic=lambda: now, sleep=time.sleep)):
+        with mock.patch("udfburn.retrying.time", SimpleNamespace(monotonic=lambda: now, sleep=time.sleep)):
             for took, turn in ((0.0, TURN), (TURN / 8, TURN), (3 * TURN, 3 * TURN * BEGINNINGS)):
                 line = self.line()
                 line.greet = greet

@@ -91,7 +91,7 @@ class Ledgers(WithServer):
         self.assertEqual(len(drawn), 20)
 
     def test_what_is_no_ledger(self) -> None:
-        """It is told, stays as it was, and gets nothing beside it."""
+        """It is reported, stays as it was, and gets nothing beside it."""
         room = os.path.join(self.room, "beside")
         os.mkdir(room)
 
@@ -292,7 +292,7 @@ class Ledgers(WithServer):
         return lengths
 
     def test_the_log_grows_once(self) -> None:
-        """Behind the first transactions of an import it is written in place, whatever comes."""
+        """After the first transactions of an import it is written in place, whatever comes."""
         with closing(Ledger(self.ledger)) as ledger:
             volume = ledger.learn("way", 0)
             ledger.record(volume, [], [Pending(1, b"one", "/one")])
@@ -303,7 +303,7 @@ class Ledgers(WithServer):
             self.assertEqual(len(ledger.history(volume)), 401)
 
     def test_the_log_as_a_crash_leaves_it(self) -> None:
-        """Zeros behind its last page are none, also where it was written from its front again."""
+        """Zeros after its last page are none, also where it was written from its beginning again."""
         with closing(Ledger(self.ledger)) as ledger:
             volume = ledger.learn("way", 0)
             for count in (4, 60, 200):
@@ -403,7 +403,7 @@ class Ledgers(WithServer):
         return made
 
     def test_a_way_that_leads_to_one_of_two(self) -> None:
-        """The same was stored on both, so nothing tells which one is at a path that is not known."""
+        """The same was stored on both, so nothing shows which one is at a path that is not known."""
         os.mkdir(os.path.join(self.room, "two"))
         other = Server(os.path.join(self.room, "two"))
         self.addCleanup(other.close)

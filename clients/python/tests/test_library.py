@@ -17,8 +17,8 @@ from unittest import mock
 
 from udfburn import Client, errors as e, library
 from udfburn.cli import main
-from udfburn.connection import Endpoint
-from udfburn.line import TURN, RetryingConnection
+from udfburn.endpoint import Endpoint
+from udfburn.retrying import TURN, RetryingConnection
 
 STUB = """
 #include <stdint.h>
@@ -75,9 +75,9 @@ class Found(WithStub):
             Client(f"library:{self.image}")
 
     def test_its_version(self) -> None:
-        way = Endpoint(f"library:{self.image}")
-        assert way.library
-        self.assertEqual((way.library.name, way.library.version()), (os.environ["UDFBURN_LIBRARY"], "9.8.7"))
+        endpoint = Endpoint(f"library:{self.image}")
+        assert endpoint.library
+        self.assertEqual((endpoint.library.name, endpoint.library.version()), (os.environ["UDFBURN_LIBRARY"], "9.8.7"))
 
     def test_one_way_in_a_ledger(self) -> None:
         """With the program and with the library, an image is the same volume."""
@@ -106,7 +106,7 @@ class Found(WithStub):
         line = RetryingConnection(Endpoint(f"library:{self.image}"))
         self.addCleanup(line.drop)
         line.get()
-        with mock.patch("udfburn.line.time", SimpleNamespace(monotonic=lambda: time.monotonic() + 1000 * TURN)):
+        with mock.patch("udfburn.retrying.time", SimpleNamespace(monotonic=lambda: time.monotonic() + 1000 * TURN)):
             self.assertFalse(line.over())
 
     def test_words(self) -> None:
@@ -160,12 +160,12 @@ class Statuses(WithStub):
 
     def test_a_child(self) -> None:
         """A child neither writes nor closes what its parent opened."""
-        assert (way := Endpoint(f"library:{self.image}")).library
+        assert (endpoint := Endpoint(f"library:{self.image}")).library
         with mock.patch("os.getpid", return_value=1):
-            volume = library.OpenVolume(way.library, self.image)
+            volume = library.OpenVolume(endpoint.library, self.image)
         with self.assertRaisesRegex(e.UsageError, "before the fork"):
             volume.answer(b"")
-        with mock.patch.object(way.library.calls, "udfburn_close") as closed:
+        with mock.patch.object(endpoint.library.calls, "udfburn_close") as closed:
             volume.close()
         closed.assert_not_called()
 

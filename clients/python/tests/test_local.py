@@ -40,7 +40,7 @@ class Local(WithServer):
             return put_all(client, [(self.folder, ("x",))], Options(recursive=True, **options))  # type: ignore[arg-type]
 
     def refused(self, **options: object) -> str:
-        """What is told against an import; and nothing was sent."""
+        """What is reported against an import; and nothing was sent."""
         commits = self.volume.commits
         with self.assertRaises(e.DoesNotFit) as raised:
             self.put(**options)
@@ -391,7 +391,7 @@ class Changes(Local):
         self.assertEqual(self.volume.files()[("x", "a")], b"mine")
 
     def test_lists_of_requests(self) -> None:
-        """Files are stored as one list, by 64 where something is done behind them, and never too many bytes at once."""
+        """Files are stored as one list, by 64 where something is done after them, and never too many bytes at once."""
         status = os.stat(self.write("a", bytes(10)))
         source = Source(self.folder, (), Identity.of(status))
 
@@ -566,7 +566,7 @@ class Left(Local):
         self.assertEqual(os.listdir(self.folder), [])
 
     def test_files_that_were_stored_before(self) -> None:
-        """A file that is no first part is none that an earlier file left, nor are those behind it."""
+        """A file that is no first part is none that an earlier file left, nor are those after it."""
         for name in ("log.000", "log.001", "log.002"):
             self.write(name, name.encode())
         self.put(split=True, delete_source=True)
@@ -592,7 +592,7 @@ class Left(Local):
                         stack.enter_context(mock.patch.object(tree.Importer, "_remove_stale"))
                     self.put(split=True)
                 told = self.put(split=True, **options).skipped
-                # Behind a part that is shorter by now nobody can tell what was left from a file of its own.
+                # After a part that is shorter by now nobody can distinguish what was left from a file of its own.
                 doubtful = ["big.002"] if options and before > size > full else []
                 self.assertEqual(sorted(self.files()), left + doubtful)
                 self.assertEqual([line.split(":")[0] for line in told], [f"/x/{name}" for name in doubtful])

@@ -54,7 +54,7 @@ def read_calls(log: str) -> Iterator[Call]:
 
 
 class Kept:
-    """A file: what a loss of power leaves for certain, and the writes and cuts since, of which it may leave any."""
+    """A file: what a power loss leaves for certain, and the writes and cuts since, of which it may leave any."""
 
     def __init__(self) -> None:
         self.certain = bytearray()
@@ -81,7 +81,7 @@ Files = Dict[str, bytes]
 
 
 class Disk:
-    """The files in a folder, as a loss of power may leave them. A file that is renamed has its old name or its new one until
+    """The files in a folder, as a power loss may leave them. A file that is renamed has its old name or its new one until
     the folder is synchronised."""
 
     def __init__(self, folder: str) -> None:
@@ -153,7 +153,7 @@ class Order(WithServer):
         return list(read_calls(log))
 
     def asked(self, files: Files, words: str) -> List[Tuple[object, ...]]:
-        """What a ledger has that is opened behind a loss of power."""
+        """What a ledger has that is opened after a power loss."""
         room = os.path.join(self.room, "after")
         os.makedirs(room, exist_ok=True)
         for name in ("ledger.sqlite", "ledger.sqlite-wal"):

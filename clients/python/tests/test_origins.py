@@ -1,7 +1,7 @@
 """Large data, of which the ledger keeps the digest and where it can be read again.
 
 A request without a reply is sent again byte for byte, or not at all: where its source changed or is gone its number is used up by
-another request, and the reply tells whether the volume had it before.
+another request, and the reply reports whether the volume had it before.
 """
 
 from __future__ import annotations
@@ -78,7 +78,7 @@ class WithSource(WithServer):
         return [request for request in map(request_of, self.server.payloads) if request is not None]  # type: ignore[misc]
 
     def resumed(self) -> "tuple[List[tuple[int, str, p.Code, int]], List[str]]":
-        """What another process finishes, and what it tells was not stored."""
+        """What another process finishes, and what it reports was not stored."""
         with self.client() as client:
             return client.resume(), list(client.take_not_stored().values())
 
@@ -293,7 +293,7 @@ class Sources(WithSource):
         self.assertNotIn("not stored", self.told("mkdir", *words, "/other"))
 
     def told(self, *words: str) -> str:
-        """What a command tells, which ends well."""
+        """What a command reports, which ends well."""
         output, errors = io.StringIO(), io.StringIO()
         with redirect_stdout(output), redirect_stderr(errors):
             self.assertEqual(cli.main(list(words)), 0)

@@ -22,7 +22,7 @@ MEBIBYTE = p.limits.FILE
 
 
 class Paths(unittest.TestCase):
-    """Where parts stand, by README.md."""
+    """Where parts are, by README.md."""
 
     def test_up_to_400_parts_stand_beside_others(self) -> None:
         paths = split.stored_paths(("a", "b"), 400 * MEBIBYTE, True)
@@ -48,7 +48,7 @@ class Paths(unittest.TestCase):
         self.assertEqual(len(split.joined_folder(("b.parts",), names, sizes)), 401)
         self.assertEqual(split.joined_folder(("b.parts",), names, {**sizes, parts[200]: 5}), [])
         self.assertEqual(split.joined_folder(("b.parts",), names, dict.fromkeys(parts[:400], MEBIBYTE)), [])
-        # One with fewer parts is not all there: it would stand beside others.
+        # One with fewer parts is not all there: it would be beside others.
         fewer = {("b.parts",): ["00"], ("b.parts", "00"): names[("b.parts", "00")]}
         self.assertEqual(split.joined_folder(("b.parts",), fewer, dict.fromkeys(parts[:400], MEBIBYTE)), [])
         for path, more in ((("b.parts",), ["00", "01", "note"]), (("b.parts", "01"), ["000", "002"])):
@@ -56,7 +56,7 @@ class Paths(unittest.TestCase):
 
 
 class Folders(Local):
-    """The same by small numbers: parts of a mebibyte, of which up to two stand beside others, and two in each folder."""
+    """The same by small numbers: parts of a mebibyte, of which up to two are beside others, and two in each folder."""
 
     def setUp(self) -> None:
         super().setUp()
@@ -243,7 +243,7 @@ class Folders(Local):
 
 class Reckoned(WithPrograms):
     def test_the_blocks_of_the_parts_that_changed(self) -> None:
-        """They are reckoned exactly, and an image that has no room for more takes them."""
+        """They are computed exactly, and an image that has no room for more takes them."""
         data = bytearray(random.Random(7).randbytes(3 * MEBIBYTE + 5))
         local, image = self.write("source/big", bytes(data)), os.path.join(self.room, "tight.img")
         # A program asks for twice the blocks of a part before it writes one.
@@ -287,7 +287,7 @@ class Long(WithPrograms):
         self.assertEqual(subprocess.run(["cmp", local, one], check=False).returncode, 0)
         self.assertIn("all are there", self.run_command("verify", "--split", local, "/x/big"))
         os.unlink(one)
-        # One part less, and they stand beside others.
+        # One part less, and they are beside others.
         os.truncate(local, 400 * MEBIBYTE)
         self.run_command("put", "-r", "--split", "--quiet", folder, "/x", status=0)
         self.assertEqual([name.name for name in self.client().list("/x")], [f"big.{index:03}" for index in range(400)])

@@ -129,7 +129,7 @@ class Folders(WithPrograms):
         self.assertEqual(os.path.getsize(self.image), before, "nothing was written")
         self.run_command("get", "-r", "/x", os.path.join(self.room, "back"))
         self.assertEqual(subprocess.run(["diff", "-r", local, os.path.join(self.room, "back")], check=False).returncode, 0)
-        # Whatever is told to differ, differs.
+        # Whatever is reported to differ, differs.
         with open(os.path.join(local, "a"), "ab") as file:
             file.write(b"x")
         os.unlink(os.path.join(local, "A"))
@@ -209,7 +209,7 @@ class Paths(WithPrograms):
         super().setUp()
         self.odd = os.path.join(self.room, os.fsdecode(b"r\xff\xc3"))
         os.mkdir(self.odd)
-        # The programs take no such words, and are told of the folder by a link.
+        # The programs take no such words, and get the folder by a link.
         self.link = os.path.join(self.room, "link")
         os.symlink(self.odd, self.link)
         self.local = os.path.join(self.odd, os.fsdecode(b"local\xe9"))
@@ -277,7 +277,7 @@ class Limits(WithPrograms):
             client.close()
 
     def test_preflight_tells_where_the_last_one_does_not_fit(self) -> None:
-        """The reckoning refuses exactly what the program refuses."""
+        """The computation refuses exactly what the program refuses."""
         for count in range(30, 60):
             image = os.path.join(self.room, "tight.img")
             if os.path.exists(image):

@@ -42,7 +42,7 @@ class Basics(unittest.TestCase):
         self.assertEqual(basics.read_dstring(basics.write_dstring("DISC", 32)), "DISC")
 
     def test_terminating_descriptor(self) -> None:
-        """Its tag, reckoned by hand: the CRC of zeros is zero."""
+        """Its tag, computed by hand: the CRC of zeros is zero."""
         block = front.blocks_of_front("DISC", 0, 3000)[37]
         self.assertEqual(block[:16].hex(), "08000300220001000000f00125000000")
 
@@ -92,7 +92,7 @@ class Reader(unittest.TestCase):
             os.unlink(self.image)
 
     def test_every_state(self) -> None:
-        """The state after each commit is the one that stood there."""
+        """The state after each commit is the one that was there."""
         format_image(self.image)
         writer = Writer(99)
         states = []
@@ -127,7 +127,7 @@ class Reader(unittest.TestCase):
         self.assertEqual(volume.check().all(), [])
 
     def test_a_file_that_imitates_a_table(self) -> None:
-        """A file may have the bytes of a table's entry, and is none."""
+        """A file may have the bytes of a VAT ICB, and is none."""
         format_image(self.image)
         with open(self.image, "rb") as file:
             file.seek(261 * 2048)

@@ -1,4 +1,4 @@
-"""The recipes of README.md, by the lines that stand there, over the programs; and a command that a user interrupts."""
+"""The recipes of README.md, by the lines that are there, over the programs; and a command that a user interrupts."""
 
 from __future__ import annotations
 

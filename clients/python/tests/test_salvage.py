@@ -171,7 +171,7 @@ class Salvaging(Damaged):
     # ---- lost blocks
 
     def test_a_lost_listing(self) -> None:
-        """Names come from the listing before, with the commit behind their paths; what that does not have is in lost+found."""
+        """Names come from the listing before, with the commit after their paths; what that does not have is in lost+found."""
         self.fill()
         _, data, _ = self.node("d")
         assert data is not None
@@ -288,7 +288,7 @@ class Salvaging(Damaged):
     # ---- what imitates
 
     def test_stale_entries(self) -> None:
-        """A block of an older table's entry, where the newest should be, is not taken for it: its location tells."""
+        """A block of an older VAT ICB, where the newest should be, is not taken for it: its location shows it."""
         self.fill()
         with Medium(self.image) as medium:
             chain = Volume(medium).chain()

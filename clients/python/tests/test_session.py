@@ -19,9 +19,10 @@ from unittest import mock
 
 from udfburn import Client, cli, errors as e
 from udfburn import protocol as p
-from udfburn.connection import PIECE, Connection, ImageConnection, Endpoint
+from udfburn.connection import PIECE, Connection, ImageConnection
+from udfburn.endpoint import Endpoint
 from udfburn.ledger import Ledger, Pending, Reply
-from udfburn.line import RetryingConnection
+from udfburn.retrying import RetryingConnection
 from udfburn.operations import Operation
 from udfburn.session import InFlightRequest
 
@@ -47,7 +48,7 @@ class WithServer(unittest.TestCase):
         self.room = tempfile.mkdtemp()
         self.addCleanup(shutil.rmtree, self.room)
         # No pause of a loaded machine ends a turn: tests of turns set their own.
-        turn = mock.patch("udfburn.line.TURN", PATIENCE)
+        turn = mock.patch("udfburn.retrying.TURN", PATIENCE)
         turn.start()
         self.addCleanup(turn.stop)
         self.server = Server(self.room)
@@ -61,7 +62,7 @@ class WithServer(unittest.TestCase):
 
     def direct(self, client: Client, most: int = PIECE) -> Any:
         """A client's conversations are held with the volume itself meanwhile, whose answers come in pieces of at most so many bytes."""
-        return mock.patch.object(client.way, "open", lambda *_: Direct(self.volume, most))
+        return mock.patch.object(client.endpoint, "open", lambda *_: Direct(self.volume, most))
 
     @property
     def volume(self) -> Volume:
@@ -167,7 +168,7 @@ class Many(WithServer):
 
 
 class Lost(WithServer):
-    """Conversations that are lost behind each byte."""
+    """Conversations that are lost after each byte."""
 
     def test_behind_each_byte(self) -> None:
         self.behind_each_byte(True)
@@ -387,7 +388,7 @@ class Two(WithServer):
 
         threads = [threading.Thread(target=work, args=(name,)) for name in "ab"]
         # So short that they come in turn.
-        with mock.patch("udfburn.line.TURN", 0.01):
+        with mock.patch("udfburn.retrying.TURN", 0.01):
             for thread in threads:
                 thread.start()
             for thread in threads:
@@ -525,10 +526,10 @@ class Turns(WithServer):
 
         self.server.before = before
         client = self.client()
-        # The clock counts what the server was asked. A turn is over behind 5 answers: then at most 6 requests with a question each were
+        # The clock counts what the server was asked. A turn is over after 5 answers: then at most 6 requests with a question each were
         # sent, or 20 questions, however far the server is ahead.
         clock = SimpleNamespace(monotonic=lambda: now[0], sleep=time.sleep)
-        with mock.patch("udfburn.line.TURN", 4), mock.patch("udfburn.line.time", clock):
+        with mock.patch("udfburn.retrying.TURN", 4), mock.patch("udfburn.retrying.time", clock):
             list(client.run(creates(60)))
             imports = self.server.conversations
             self.assertGreaterEqual(imports, 60 / 6)
@@ -559,7 +560,7 @@ class Ahead(WithServer):
 
         self.server.before, self.server.together = before, False
         self.assertEqual([outcome.number for outcome in self.client().run(operations())], list(range(1, 21)))
-        # Of four under way the first is at work, and at most two are taken behind them.
+        # Of four under way the first is at work, and at most two are taken after them.
         self.assertIn(max(ahead), range(4, 6))
 
     def test_two_go_out_while_two_are_under_way(self) -> None:
@@ -593,7 +594,7 @@ class Ahead(WithServer):
         self.server.before = before
         done: List[p.Path] = []
         # Each turn is over at once, also by a clock that stands still.
-        with mock.patch("udfburn.line.TURN", -1.0), self.assertRaisesRegex(e.EmptyVolume, "empty .*up to 2 .*--forget"):
+        with mock.patch("udfburn.retrying.TURN", -1.0), self.assertRaisesRegex(e.EmptyVolume, "empty .*up to 2 .*--forget"):
             done.extend(outcome.operation.path for outcome in client.run(creates(7)))
         self.assertEqual(done, [("f0",), ("f1",)])
         self.assertEqual((first.commits, self.volume.commits), (4, 0))

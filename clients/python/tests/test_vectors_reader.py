@@ -44,7 +44,7 @@ def table_said(data: bytes) -> List[str]:
 
 
 def entries_said(entries: List[int]) -> List[str]:
-    """The entries; eight and more that are unused behind one another are a run."""
+    """The entries; eight and more that are unused one after another are a run."""
     said: List[str] = []
     unused = 0
     for number in entries + [-1]:

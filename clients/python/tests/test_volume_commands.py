@@ -105,7 +105,7 @@ class Status(Volumes):
             state = self.state(*words)
             self.assertEqual([state[name] for name in ("nodes", "files", "directories", "bytes")], [4, 2, 2, 5])
             self.assertEqual([state[name] for name in ("label", "moment", "commits", "capacity", "left", "clients")], [None] * 6)
-        self.assertIn("label, moment of the format, commits, blocks, clients: no answer of a daemon tells them", self.command("status", self.path))
+        self.assertIn("label, moment of the format, commits, blocks, clients: no answer of a daemon has them", self.command("status", self.path))
 
     def test_what_is_no_volume(self) -> None:
         self.command("status", os.path.join(self.room, "missing"), status=1)
@@ -128,7 +128,7 @@ class Check(Volumes):
         self.assertEqual((found["commits"], found["status"], found["failures"]), (1, 0, []))
 
     def test_damaged(self) -> None:
-        """The program's line is told in words, by block and cause."""
+        """The program's line is reported in words, by block and cause."""
         client = self.on_image()
         client.put("/a", b"hello")
         client.close()
@@ -161,7 +161,7 @@ class Check(Volumes):
         self.assertIn("2 blocks after commit 0 belong to no commit", self.command("check", self.image))
 
     def test_with_an_expectation(self) -> None:
-        """A last table's entry that was damaged looks like a commit that was cut."""
+        """A last VAT ICB that was damaged looks like a commit that was cut."""
         client = self.on_image()
         client.put("/a", b"first")
         client.put("/a", b"second")

@@ -133,7 +133,7 @@ class Which(WithPrograms):
             self.assertEqual(client.forget(), [])
 
     def test_volumes_with_one_identity(self) -> None:
-        """Both formatted at one moment: their commits tell them apart."""
+        """Both formatted at one moment: their commits distinguish them."""
         self.store("/a")
         other = self.format_as(self.named("other"), moment=7)
         self.place(other)
@@ -305,7 +305,7 @@ class Images(WithPrograms):
             self.assertEqual((volume.latest, volume.identity and volume.identity.label, len(client.session().ledger.ways(volume))), (2, "TEST", 2))
 
     def test_the_mark_is_that_of_the_last_commit(self) -> None:
-        """By its address and the blocks that it wrote, reckoned here from the lines of `udfburn log`."""
+        """By its address and the blocks that it wrote, computed here from the lines of `udfburn log`."""
         with self.on_image() as client:
             client.create("/a", b"x" * 5000)
             client.create("/b", b"")
@@ -356,7 +356,7 @@ class Images(WithPrograms):
 
 
 class Sockets(Which):
-    """The same over the socket of a daemon, by what the protocol tells."""
+    """The same over the socket of a daemon, by what the protocol reports."""
 
     def setUp(self) -> None:
         super().setUp()
@@ -390,7 +390,7 @@ class Sockets(Which):
         super().test_both_ways_to_a_volume()
 
     def goes_on_after_others(self) -> None:
-        """It cannot be told from another volume, so the user says that paths are shared."""
+        """It cannot be distinguished from another volume, so the user says that paths are shared."""
         self.refused(e.OtherVolume, "--shared.* Expected: /a: a file of 4 bytes, moment 5. Found: /a: nothing")
         self.assertEqual([self.store(path, shared=True) for path in ("/c", "/d", "/e", "/f")], [3, 4, 5, 6])
         # Only what the last four requests made is compared.

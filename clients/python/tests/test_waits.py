@@ -81,7 +81,7 @@ class Stopped(WithPrograms):
                 client = Client(f"unix:{self.path}", patience=0.5, timeout=0.5)
                 waiting.append(client)
                 try:
-                    client.line._connection = client.way.open(0.5)
+                    client.line._connection = client.endpoint.open(0.5)
                 except Exception as error:  # pylint: disable=broad-except
                     self.assertRegex(str(error), "took no conversation|temporarily unavailable")
                     break
@@ -93,7 +93,7 @@ class Stopped(WithPrograms):
                 client.close()
 
     def test_a_program_that_is_stopped(self) -> None:
-        """Its end is not awaited for ever: it is killed, as by a loss of power, and what it answered stays."""
+        """Its end is not awaited for ever: it is killed, as by a power loss, and what it answered stays."""
         with self.on_image(patience=1.0) as client:
             client.line.timeout = 1.0
             began = time.monotonic()
@@ -144,7 +144,7 @@ class FullDisks(Local):
     def test_of_the_image(self) -> None:
         self.server.before = lambda payload: p.FAULT if request_of(payload) else None
         for left, kind, told in ((1000, e.DiskFull, "the disk is full that .*disc.img is on: 1,000 bytes are left"), (10**9, e.DriveFailed, "the drive fails")):
-            with self.client(patience=0.1) as client, mock.patch("udfburn.line.room_left", lambda path, left=left: left):
+            with self.client(patience=0.1) as client, mock.patch("udfburn.retrying.room_left", lambda path, left=left: left):
                 client.line.image = "/somewhere/disc.img"
                 with self.assertRaisesRegex(kind, told):
                     client.create("/a", b"")
@@ -182,7 +182,7 @@ class FullDaemon(WithPrograms):
             self.addCleanup(daemon.kill)
             daemon.await_socket()
             for left, kind in ((1000, e.DiskFull), (10**9, e.DriveFailed)):
-                with self.client(patience=0.3) as client, mock.patch("udfburn.line.room_left", lambda path, left=left: left):
+                with self.client(patience=0.3) as client, mock.patch("udfburn.retrying.room_left", lambda path, left=left: left):
                     with self.assertRaisesRegex(kind, self.image):
                         client.create("/a", bytes(5000))
                 with suppress(FileNotFoundError):

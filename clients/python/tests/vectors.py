@@ -89,7 +89,7 @@ class Cases:
             self.changed = True
 
     def read(self, data: bytes, words: Sequence[str]) -> bytes:
-        """The bytes with those behind them that the words say."""
+        """The bytes with those after them that the words say."""
         pieces = [data]
         size = len(data)
         for word in words:
@@ -104,7 +104,7 @@ class Cases:
         return b"".join(pieces)
 
     def answer(self, words: Sequence[str]) -> List[str]:
-        """The words of an answer, with those for which names stand."""
+        """The words of an answer, with those for which there are names."""
         return [said for word in words for said in (self.spoken[word[1:-1]] if word.startswith("{") else [word])]
 
 

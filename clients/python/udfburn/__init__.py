@@ -7,6 +7,6 @@
 from .client import Client
 from .errors import UdfburnError
 
-__version__ = "0.2.0"
+__version__ = "0.3.0"
 """The version of the programs, the client and the packages: this is its one place."""
 __all__ = ["Client", "UdfburnError", "__version__"]

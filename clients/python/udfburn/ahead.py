@@ -1,6 +1,6 @@
-"""Files that are read ahead, with their digests reckoned in a thread of its own.
+"""Files that are read ahead, with their digests computed in a thread of its own.
 
-The SHA-256 of a mebibyte takes longer than to write it. So it is reckoned while the program and the disk are at work on what was sent
+The SHA-256 of a mebibyte takes longer than to write it. So it is computed while the program and the disk are at work on what was sent
 before. The files are read here, in the order in which they are stored.
 """
 
@@ -18,14 +18,14 @@ if TYPE_CHECKING:
     from concurrent.futures import ThreadPoolExecutor
 
 ASIDE = 1 << 16
-"""Bytes of a file from which on its digests are reckoned in the thread: they take longer than the thread takes to wake."""
+"""Bytes of a file from which on its digests are computed in the thread: they take longer than the thread takes to wake."""
 
 PARTS = 2
 """Parts that are read ahead: as many as are kept and sent as one."""
 
 
 class Read(NamedTuple):
-    """A part that was read: its file, its number there, its bytes, and what `Job.take` gives for it, once that is reckoned."""
+    """A part that was read: its file, its number there, its bytes, and what `Job.take` gives for it, once that is computed."""
 
     job: Job
     part: int

@@ -1,4 +1,4 @@
-"""How many blocks an import takes, and how many an image has left: reckoned by the layout of docs/FORMAT.md."""
+"""How many blocks an import takes, and how many an image has left: computed by the layout of docs/FORMAT.md."""
 
 from __future__ import annotations
 
@@ -14,7 +14,7 @@ PARTITION = 257
 """The address at which the partition begins."""
 
 INSIDE = 1872
-"""Bytes of a file that stands inside its entry, at most."""
+"""Bytes of a file that is inside its entry, at most."""
 
 PARENT = 40
 """Bytes of the identifier of the directory above."""
@@ -52,7 +52,7 @@ class Layout:
         return self.full + (1 if self.at else 0) + 1
 
     def most(self) -> int:
-        """The blocks that it may take, as the program reckons them."""
+        """The blocks that it may take, as the program computes them."""
         return 2 + self.sum // 1720
 
 
@@ -111,7 +111,7 @@ class Reckoner:
 
 
 def space_of(image: str, program: str, client: Optional[int]) -> Optional[Space]:
-    """What an image has left, by its own blocks; None where it cannot be told."""
+    """What an image has left, by its own blocks; None where it cannot be known."""
     try:
         newest = run_program(program, ["log", os.path.abspath(image)]).split(b"\n", 1)[0].split()
         _, at, files, directories = map(int, newest)

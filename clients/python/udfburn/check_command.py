@@ -85,14 +85,19 @@ def check_twice(image: str, arguments: argparse.Namespace, progress: Progress) -
     """Checks every structure by the program, and the newest state by the client's own reader too: the status, the commits that the
     program found, and what is said."""
     status, count, words, known = 0, None, [], ""
+    is_unchecked = False
     try:
         count = check_structure(image, find_program(arguments.program))
         words.append(f"every structure of {plural(count, 'commit', 'commits')} is as it must be")
     except (Damaged, UsageError) as error:
         # What can be read is looked at all the same, by a reader that needs no program.
         status, known = progress.fail(error), str(error)
+        is_unchecked = isinstance(error, UsageError)
     opinion = opinion_of(image)
-    status = tell(image, opinion, known, progress) or status
+    found = tell(image, opinion, known, progress)
+    if is_unchecked and not found:
+        words.append(f"its newest state, after commit {opinion.commit}, is as it must be; the earlier states were not checked")
+    status = found or status
     return status, opinion.commit if count is None else count, words
 
 
@@ -111,7 +116,7 @@ def in_words(line: str) -> str:
     if found:
         block, cause = (int(number) for number in found.groups() if number is not None)
         kind = {2: "a file entry or the file set descriptor", 3: "the data of a directory", 4: "the data of a table"}.get(cause // 10, "a structure")
-        return f"block {block}: {kind} is damaged, cause {cause}: {CAUSES.get(cause, 'see docs/OPERATIONS.md')}"
+        return f"block {block}: {kind} is damaged, cause {cause}: {CAUSES.get(cause, 'see docs/DAMAGE.md')}"
     if "66 NotFormatted" in line:
         return "holds no volume: no VAT ICB is found in it"
     if "67 Damaged" in line:

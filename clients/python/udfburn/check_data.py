@@ -11,7 +11,7 @@ from .protocol import Path, show
 from .reader import Kind, Node
 
 Found = Callable[[str, str, Optional[int]], None]
-"""Is told of each file that is not as it should be: its path, how it differs, and the commit that wrote it."""
+"""Is called for each file that is not as it should be: its path, how it differs, and the commit that wrote it."""
 
 
 class Result:
@@ -50,13 +50,13 @@ def is_below(path: Path, top: Path) -> bool:
 
 
 def tell(result: Result, found: Found, path: Path, how: str, commit: Optional[int]) -> None:
-    """Counts what is not as it should be, and tells of it."""
+    """Counts what is not as it should be, and reports it."""
     result.damaged += 1
     found(show(path), how, commit)
 
 
 def in_order(coverage: Coverage, path: Path) -> Iterator[Node]:
-    """The files at or below a path, in the order of their bytes on the medium: a disc is read once, from its front on."""
+    """The files at or below a path, in the order of their bytes on the medium: a disc is read once, from its beginning on."""
     files = [node for node in coverage.nodes.values() if node.kind is Kind.FILE and is_below(node.path, path)]
     yield from sorted(files, key=lambda node: node.data if node.data is not None else node.address)
 

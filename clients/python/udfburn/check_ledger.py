@@ -6,7 +6,7 @@ import argparse
 from contextlib import contextmanager
 from typing import TYPE_CHECKING, Iterator, NamedTuple, Optional
 
-from .connection import image_key
+from .endpoint import image_key
 from .errors import Damaged, FileDiffers, LedgerBusy, LedgerError
 from .progress import Progress, plural, printable, size
 from .protocol import path_of, shown

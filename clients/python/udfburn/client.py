@@ -5,14 +5,15 @@ from __future__ import annotations
 from contextlib import contextmanager
 from typing import TYPE_CHECKING, Dict, Generator, Iterable, Iterator, List, Optional, Tuple, Type, Union
 
-from .connection import Endpoint
-from .errors import MISSES, REFUSALS, Exists, IsDirectory, NotDirectory, NotFound, Refused, UdfburnError, UsageError
-from .line import RetryingConnection
+from .endpoint import Endpoint
+from .errors import Exists, IsDirectory, NotDirectory, NotFound, UdfburnError, UsageError
+from .retrying import RetryingConnection
 from .operations import Operation, Outcome, now
 from .protocol import (
-    Answer, AnyRequest, Bare, Code, Create, Data, Get, List as ListQuery, MakeDir, Name, Names, Node, NodeKind, Path, PathLike, Query,
+    Answer, AnyRequest, Code, Create, Data, Get, List as ListQuery, MakeDir, Name, Names, Node, NodeKind, Path, PathLike, Query,
     Remove, Rename, Replace, Stat, path_of, show, shown,
 )
+from .refusals import Answered, commit_of, expected, met
 
 if TYPE_CHECKING:
     from .digests import Files, Known, KnownWhole
@@ -25,10 +26,10 @@ class Client:
     with the C library (`library:PATH`).
 
     `ledger` is the file that keeps numbers, frames and replies; it is opened with the first request, and made where
-    it is missing. A `Ledger` that is open already is taken too, and closed with the client. `client` is this ledger's number at the volume, which is drawn once where none is given. A volume
+    it is missing. A `Ledger` that is open already is taken too, and closed with the client. `client` is this ledger's number at the volume, which is chosen at random once if none is given. A volume
     keeps 64 clients for its life, so use one ledger a machine.
 
-    A conversation is begun with a call and ended behind it, since a daemon serves one after another; `held` keeps it
+    A conversation is begun with a call and ended after it, since a daemon serves one after another; `held` keeps it
     for several calls. The library holds an image from the first call until `close`.
     """
 
@@ -44,8 +45,8 @@ class Client:
     ):
         if not 0 <= patience < float("inf"):
             raise UsageError(f"{patience!r} is no count of seconds: one is a number from 0 on")
-        self.way = Endpoint(connect, program)
-        self.line = RetryingConnection(self.way, patience, timeout)
+        self.endpoint = Endpoint(connect, program)
+        self.line = RetryingConnection(self.endpoint, patience, timeout)
         self._wanted = client
         self._ledger = ledger
         self._patience = patience
@@ -74,7 +75,7 @@ class Client:
             yield self
         finally:
             self._held -= 1
-            if not self._held and self.way.library is None:
+            if not self._held and self.endpoint.library is None:
                 self.line.drop()
 
     def session(self) -> Session:
@@ -188,23 +189,21 @@ class Client:
         with self.held():
             yield from self.line.ask_all(queries)
 
+    def _asked(self, kind: Type[Answered], query: Query) -> Answered:
+        with self.held():
+            return expected(kind, query, self.line.ask(query))
+
     def get(self, path: PathLike) -> bytes:
         """The bytes of a file."""
-        answer = self.ask(Get(path_of(path)))
-        assert isinstance(answer, Data)
-        return answer.data
+        return self._asked(Data, Get(path_of(path))).data
 
     def list(self, path: PathLike = "/") -> Tuple[Name, ...]:
         """The names in a directory, with their kinds, in stored order."""
-        answer = self.ask(ListQuery(path_of(path)))
-        assert isinstance(answer, Names)
-        return answer.names
+        return self._asked(Names, ListQuery(path_of(path))).names
 
     def stat(self, path: PathLike) -> Node:
         """What is known of a path."""
-        answer = self.ask(Stat(path_of(path)))
-        assert isinstance(answer, Node)
-        return answer
+        return self._asked(Node, Stat(path_of(path)))
 
     def find(self, path: PathLike) -> Optional[Node]:
         """What is known of a path, or None where nothing is there."""
@@ -221,9 +220,9 @@ class Client:
         from .digests import Files
 
         ledger = self.session().ledger
-        volume = ledger.volume(self.way.key())
+        volume = ledger.volume(self.endpoint.key())
         if volume is None:
-            raise UsageError(f"{self.way}: the ledger {shown(ledger.path)} knows no volume there")
+            raise UsageError(f"{self.endpoint}: the ledger {shown(ledger.path)} knows no volume there")
         return Files(ledger, volume)
 
     def digest_of(self, path: PathLike) -> Optional[bytes]:
@@ -276,26 +275,4 @@ class Client:
         return remove_tree(self, path_of(path))
 
 
-def commit_of(outcome: Outcome) -> int:
-    """The commit of an operation that was done, or its refusal."""
-    if outcome.code is Code.DONE:
-        return outcome.commit
-    raise refusal(outcome)
-
-
-def refusal(outcome: Outcome) -> Refused:
-    """The exception of an outcome that is a refusal."""
-    operation = outcome.operation
-    at_target = outcome.code in (Code.NO_PARENT, Code.EXISTS, Code.DIRECTORY_FULL)
-    path = operation.to if operation.kind is Rename and at_target else operation.path
-    return REFUSALS[outcome.code](show(path), outcome.commit)
-
-
-def met(query: Query, answer: Answer) -> Answer:
-    """The answer, or the exception of its refusal."""
-    if isinstance(answer, Bare):
-        raise MISSES[answer.code](show(query.path))
-    return answer
-
-
-__all__ = ["Client", "UdfburnError", "commit_of", "met", "refusal"]
+__all__ = ["Client", "UdfburnError"]

@@ -43,12 +43,12 @@ def progress_of(arguments: argparse.Namespace) -> Progress:
 
 
 NOT_STORED = "was not stored, since its source changed or is gone: store it again"
-"""What is told of a request that an earlier command began and that could not be sent again."""
+"""What is reported about a request that an earlier command began and that could not be sent again."""
 
 
 @contextmanager
 def writer(arguments: argparse.Namespace) -> Iterator[Client]:
-    """A client with its ledger. What it could not finish of earlier commands is told at its end."""
+    """A client with its ledger. What it could not finish of earlier commands is reported at its end."""
     with Client(
         way_of(arguments), arguments.client, arguments.ledger, arguments.program, shared=arguments.shared, **patience_of(arguments)
     ) as client:
@@ -63,7 +63,7 @@ def writer(arguments: argparse.Namespace) -> Iterator[Client]:
 @contextmanager
 def reader(arguments: argparse.Namespace) -> Iterator[Client]:
     """A client for queries. An image that is kept by another program, or cannot be written, or is wanted as it was, is
-    read by a copy of its front."""
+    read by a copy of its beginning."""
     commit: Optional[int] = getattr(arguments, "as_of", None)
     connect = way_of(arguments)
     if commit is not None and not arguments.image:

@@ -3,15 +3,17 @@
 from __future__ import annotations
 
 from contextlib import closing
-from typing import Dict, List, Optional, Tuple
+from typing import TYPE_CHECKING, Dict, List, Optional, Tuple
 
-from .client import Client
 from .errors import SourceError
 from .jobs import same_bytes
 from .protocol import Get, NodeKind, Path, show
 from .sources import Scan, Source, scan
 from .split import base_of, part_folders, stored_paths
 from .walk import Told, quiet, walk
+
+if TYPE_CHECKING:
+    from .client import Client
 
 
 class Comparison:

@@ -1,21 +1,17 @@
-"""The ways to a volume: a daemon's socket, or an image with the program `udfburn apply` or the C library."""
+"""Connections to a volume: over a daemon's socket, or to the program `udfburn apply`, which has the image."""
 
 from __future__ import annotations
 
-import errno
 import os
 import select
 import socket
 import struct
 import time
 from contextlib import suppress
-from typing import IO, TYPE_CHECKING, List, Optional, Union
+from typing import IO, List, Optional
 
 from .errors import ProgramFailed, UsageError
 from .protocol import Answer, Frames, decode_answer, is_bytes, shown
-
-if TYPE_CHECKING:
-    from .library import Library
 
 PIECE = 1 << 18
 """Bytes that are read or written at once."""
@@ -230,7 +226,8 @@ class ImageConnection(Connection):
         except OSError as error:
             self.errors.close()
             raise UsageError(f"{program}: {error.strerror or error}: name the program udfburn by --program") from error
-        assert self.process.stdin and self.process.stdout
+        if self.process.stdin is None or self.process.stdout is None:
+            raise RuntimeError("the program has no pipes")
         self.sink, self.source = self.process.stdin.fileno(), self.process.stdout.fileno()
         os.set_blocking(self.sink, False)
         os.set_blocking(self.source, False)
@@ -247,7 +244,7 @@ class ImageConnection(Connection):
         return self.process.pid
 
     def _await_end(self) -> None:
-        """Waits for the program's end. One that does not come is killed, as by a loss of power: what it answered stays."""
+        """Waits for the program's end. One that does not come is killed, as by a power loss: what it answered stays."""
         import subprocess
 
         try:
@@ -284,64 +281,7 @@ class ImageConnection(Connection):
             raise self._ended() from error
 
 
-# ---- connects
-
-class Endpoint:
-    """Where a volume is: behind a daemon's socket (`unix:PATH`), or in an image that is written by the program (`image:PATH`) or by the C
-    library (`library:PATH`). `kind` is `image` for both of these; `library` is None for the program.
-    """
-
-    def __init__(self, connect: str, program: Optional[str] = None):
-        kind, colon, path = connect.partition(":")
-        if not colon or kind not in ("unix", "image", "library") or not path:
-            raise UsageError(f"{connect!r} is neither unix:PATH nor image:PATH nor library:PATH")
-        self.kind = "unix" if kind == "unix" else "image"
-        self.name = kind
-        self.path = os.path.abspath(path)
-        self.library = library() if kind == "library" else None
-        if kind == "image":
-            check_word(self.path)
-        # Without `image:` the program is used only to look at an image: for its history, and for the blocks that are left.
-        self.program = find_program(program) if kind == "image" else program
-
-    def __str__(self) -> str:
-        return f"{self.name}:{shown(self.path)}"
-
-    def key(self) -> Union[str, bytes]:
-        """The way's name in a ledger, by the file behind links; as bytes where these are not UTF-8."""
-        return key_of(self.kind, self.path)
-
-    def open(self, timeout: float = 120.0) -> Connection:
-        """A new conversation, or `Lost`. `timeout` is the longest wait in it, in seconds."""
-        if self.kind == "unix":
-            return UnixConnection(self.path, timeout)
-        if not os.path.isfile(self.path):
-            raise ProgramFailed(f"{shown(self.path)}: {os.strerror(errno.ENOENT)}, or no regular file")
-        if self.library:
-            from .library import LibraryConnection
-
-            return LibraryConnection(self.path, self.library, timeout)
-        assert self.program
-        return ImageConnection(self.path, self.program, timeout)
-
-
-def library() -> Library:
-    """The C library. Its module is loaded only if it is used."""
-    from .library import find_library
-
-    return find_library()
-
-
-def key_of(kind: str, path: str) -> Union[str, bytes]:
-    """The name of a way in a ledger."""
-    key = f"{kind}:{os.path.realpath(path)}"
-    return os.fsencode(key) if is_bytes(key) else key
-
-
-def image_key(path: str) -> Union[str, bytes]:
-    """The name of an image in a ledger."""
-    return key_of("image", path)
-
+# ---- the program
 
 def find_program(program: Optional[str] = None) -> str:
     """The program `udfburn`: as given, of the environment's UDFBURN, or on the PATH."""
@@ -375,4 +315,4 @@ def run_program(program: str, words: List[str]) -> bytes:
     return done.stdout
 
 
-__all__ = ["Connection", "ImageConnection", "Lost", "UnixConnection", "Way", "check_word", "find_program", "image_key", "run_program"]
+__all__ = ["Connection", "ImageConnection", "Lost", "UnixConnection", "check_word", "find_program", "run_program"]

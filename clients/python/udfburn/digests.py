@@ -71,7 +71,8 @@ class Files:
             self._store(sent)
 
     def _store(self, sent: Sent) -> None:
-        assert sent.facts is not None and sent.facts.sha256 is not None and sent.commit is not None
+        if sent.facts is None or sent.facts.sha256 is None or sent.commit is None:
+            raise ValueError(f"request {sent.number} stored a file, and its digest or commit is not known")
         deed, whole = sent.facts.deed, sent.facts.whole
         known = Known(deed.path, deed.size, deed.moment, sent.facts.sha256, sent.commit, sent.number)
         self.now[deed.path] = self.by_commit[sent.commit] = known
@@ -104,7 +105,7 @@ def moved(path: Path, old: Path, new: Path) -> Path:
 
 
 def known_files(ledger: Ledger, way: Union[str, bytes]) -> Optional[Files]:
-    """What a ledger knows of the files of the volume at a way; None where it knows no volume there."""
+    """What a ledger knows of the files of the volume at an endpoint; None where it knows no volume there."""
     volume = ledger.volume(way)
     return Files(ledger, volume) if volume is not None else None
 

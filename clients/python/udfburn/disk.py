@@ -16,7 +16,7 @@ def is_full(error: BaseException) -> bool:
 
 
 def room_left(path: str) -> Optional[int]:
-    """The bytes that this user may still write on the file system of a file or a folder; None where that cannot be told."""
+    """The bytes that this user may still write on the file system of a file or a folder; None where that is not known."""
     try:
         found = os.statvfs(path)
     except OSError:
@@ -40,8 +40,8 @@ def sync_names(folder: str) -> None:
 
 
 def sync_all(descriptor: int) -> bool:
-    """Makes all that a file's file system has durable. False where the system cannot do that, or does not tell of a write that failed:
-    it tells of those since this descriptor was opened."""
+    """Makes all that a file's file system has durable. False where the system cannot do that, or does not report a write that failed:
+    it reports those since this descriptor was opened."""
     call = sync_call()
     if call is None:
         return False
@@ -57,7 +57,7 @@ _call: Any = None
 
 
 def sync_call() -> Optional[Any]:
-    """The call `syncfs` of Linux, which tells of failed writes from 5.8 on; None where there is none."""
+    """The call `syncfs` of Linux, which reports failed writes from 5.8 on; None where there is none."""
     global _call
     if _call is None:
         _call = find_call() or False

@@ -4,10 +4,10 @@ from __future__ import annotations
 
 from typing import Dict, Optional, Type
 
-from .protocol import AnswerCode, BadAnswer, Code, InvalidName, InvalidPath
+from .protocol import AnswerCode, BadAnswer, Code, Committed, InvalidName, InvalidPath
 
 
-DAMAGE = "the image holds no volume or a damaged one: see 'udfburn check IMAGE', and the page on damage in docs/OPERATIONS.md"
+DAMAGE = "the image holds no volume or a damaged one: see 'udfburn check IMAGE', and docs/DAMAGE.md"
 """What is said of an image that cannot be opened as a volume."""
 
 
@@ -95,7 +95,11 @@ MISSES: Dict[AnswerCode, Type[Refused]] = {
 # ---- what the volume or the drive has no room or no health for
 
 class NotCommitted(UdfburnError):
-    """The request is not committed, and its number is free again."""
+    """The request is not committed, and its number is free again. `replies` are those to the requests before it, by number."""
+
+    def __init__(self, *words: object):
+        super().__init__(*words)
+        self.replies: "Dict[int, Committed]" = {}
 
 
 class Full(NotCommitted):

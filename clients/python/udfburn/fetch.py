@@ -5,18 +5,21 @@ from __future__ import annotations
 import os
 import stat
 from contextlib import closing, contextmanager
-from typing import Dict, Iterator, List, NamedTuple, Sequence, Tuple
+from typing import TYPE_CHECKING, Dict, Iterator, List, NamedTuple, Sequence, Tuple
 
-from .client import Client, met
 from .compare import Comparison, verify_tree
 from .disk import sync_names
 from .errors import DiskFull, SourceError
 from .escape import decode
 from .protocol import Data, Get, Path, shown
+from .refusals import expected
 from .saving import PREFIX, Saver, remove_leftovers, save
 from .sources import open_to_read
 from .stored import Stored, Tree, find_file
 from .walk import Told, quiet
+
+if TYPE_CHECKING:
+    from .client import Client
 
 
 @contextmanager
@@ -28,9 +31,7 @@ def parts_of(client: Client, files: Sequence[Stored]) -> Iterator[Iterator[Tuple
 
         def data() -> bytes:
             answer, query = next(asked)
-            got = met(query, answer)
-            assert isinstance(got, Data)
-            return got.data
+            return expected(Data, query, answer).data
 
         yield ((file, (data() for _ in file.parts)) for file in files)
 

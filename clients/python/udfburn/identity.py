@@ -51,7 +51,7 @@ class Looked:
         return table
 
     def _mark(self, table: Table) -> Mark:
-        """The mark of a commit. Its blocks are those after the table's entry before it, to its own."""
+        """The mark of a commit. Its blocks are those after the VAT ICB before it, to its own."""
         from hashlib import sha256
 
         if table.previous is None and table.commit:

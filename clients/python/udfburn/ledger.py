@@ -66,7 +66,7 @@ SELECT max(coalesce((SELECT commit_number FROM request WHERE volume = ? AND code
 """
 
 LOG_PAGES = 128
-"""Pages that the base's log has before they are taken over into the base, and it is written from its front again."""
+"""Pages that the base's log has before they are taken over into the base, and it is written from its beginning again."""
 
 LOG_BYTES = 32 + (LOG_PAGES + 16) * (24 + 4096)
 """Bytes that such a log may take, with what the last transaction adds."""
@@ -104,7 +104,8 @@ class Ledger:
                 base.close()
                 self._make(wanted)
                 base, client = self._begin(wanted)
-            assert client is not None
+            if client is None:
+                raise ValueError("it has no client, though it was just made")
             return base, client
         except (sqlite3.DatabaseError, TypeError, ValueError) as error:
             raise self._unusable(error) from error
@@ -123,7 +124,7 @@ class Ledger:
         return base, client
 
     def _unusable(self, error: Exception) -> LedgerError:
-        """What is told where the base cannot be opened, or is not a ledger's."""
+        """What is reported where the base cannot be opened, or is not a ledger's."""
         if isinstance(error, sqlite3.OperationalError) and not str(error).startswith("no such"):
             return LedgerError(f"{self.path}: cannot be written ({error}): see that its disk is well and has room")
         return LedgerError(f"{self.path}: is no ledger ({error}): name another by --ledger")
@@ -225,7 +226,8 @@ class Ledger:
             self._base.executemany("INSERT INTO found VALUES (?, ?, ?, ?)", [(made, number, *reply) for number, reply in replies.items()])
             self._base.execute(BOUND, (way, made))
         found = self.volume(way)
-        assert found
+        if found is None:
+            raise RuntimeError("the volume that was just added is not in the ledger")
         return found
 
     def bind(self, way: Union[str, bytes], volume: Volume) -> Volume:
@@ -294,12 +296,12 @@ class Ledger:
             self._write(volume, replies, requests)
 
     def foresee(self, volume: Volume, replies: Sequence[Reply], requests: Sequence[Pending]) -> None:
-        """Begins what `record` is likely to be told next, while there is time. Nothing of it is kept before `record` is told the
+        """Begins what `record` is likely to be given next, while there is time. Nothing of it is kept before `record` is given the
         same; whatever else is done with the ledger first sets it back."""
         self.set_back()
         try:
             self.make_room()
-            # Else the log would be taken over at the end of a transaction, behind which the program waits for requests.
+            # Else the log would be taken over at the end of a transaction, after which the program waits for requests.
             if self._logged > LOG_PAGES * 7 // 8:
                 self._base.execute("PRAGMA wal_checkpoint").fetchall()
                 self._logged = 0
@@ -307,18 +309,18 @@ class Ledger:
             self._base.execute("BEGIN IMMEDIATE")
             self._write(volume, replies, requests)
         except sqlite3.Error:
-            # `record` meets the same trouble, and tells of it.
+            # `record` meets the same trouble, and reports it.
             self.set_back()
 
     def make_room(self) -> None:
-        """Lengthens the log once, where it would grow by each transaction. Zeros behind its last page are none to SQLite."""
+        """Lengthens the log once, where it would grow by each transaction. Zeros after its last page are none to SQLite."""
         if self._roomy:
             return
         self._roomy = True
         try:
             lengthen(self.path + "-wal", LOG_BYTES)
         except OSError:
-            # It grows then, or is told of where that fails too.
+            # It grows then, or reports it if that fails too.
             pass
 
     def set_back(self) -> None:
@@ -348,7 +350,7 @@ class Ledger:
 
     @contextmanager
     def _ending(self) -> Iterator[None]:
-        """No transaction is left open behind what is done within."""
+        """No transaction is left open after what is done within."""
         try:
             try:
                 yield

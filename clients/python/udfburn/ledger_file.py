@@ -27,7 +27,7 @@ def sync_folder(path: str) -> None:
 
 
 def make_folder(path: str) -> None:
-    """Makes a folder with those above it, each durable: else a loss of power may take the ledger away with them."""
+    """Makes a folder with those above it, each durable: else a power loss may take the ledger away with them."""
     if os.path.isdir(path):
         return
     make_folder(os.path.dirname(path))

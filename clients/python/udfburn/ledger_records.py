@@ -1,4 +1,4 @@
-"""What a ledger keeps, as values: volumes, requests, replies, and what tells one volume from another."""
+"""What a ledger keeps, as values: volumes, requests, replies, and what distinguishes one volume from another."""
 
 from __future__ import annotations
 
@@ -24,7 +24,7 @@ class Identity(NamedTuple):
 
 
 class Mark(NamedTuple):
-    """A commit of an image: its number, the address of its table's entry, and the SHA-256 of all blocks that it wrote."""
+    """A commit of an image: its number, the address of its VAT ICB, and the SHA-256 of all blocks that it wrote."""
 
     commit: int
     address: int
@@ -95,7 +95,7 @@ class Sent(NamedTuple):
 
 
 def facts_of(request: AnyRequest, sha256: Optional[bytes] = None, whole: Optional[Whole] = None) -> Facts:
-    """The facts of a request. The SHA-256 of its data is reckoned where it is not given."""
+    """The facts of a request. The SHA-256 of its data is computed where it is not given."""
     deed = deed_of(request)
     if not isinstance(request, (Create, Replace)):
         return Facts(deed)
@@ -131,7 +131,8 @@ def row_origin(row: "tuple[object, ...]") -> Optional[Origin]:
     local, start, size, modified = row
     if local is None:
         return None
-    assert isinstance(local, bytes) and isinstance(start, int) and isinstance(size, int) and isinstance(modified, int)
+    if not (isinstance(local, bytes) and isinstance(start, int) and isinstance(size, int) and isinstance(modified, int)):
+        raise ValueError(f"no origin of data: {row!r}")
     return Origin(os.fsdecode(local), start, size, modified)
 
 
@@ -157,9 +158,11 @@ def row_facts(path: str, row: "tuple[object, ...]") -> Optional[Facts]:
     to = path_of(str(target)) if target is not None else ()
     whole = None
     if whole_path is not None:
-        assert isinstance(whole_size, int) and isinstance(whole_sha256, bytes)
+        if not (isinstance(whole_size, int) and isinstance(whole_sha256, bytes)):
+            raise ValueError(f"no facts of a file in parts: {row!r}")
         whole = Whole(path_of(str(whole_path)), whole_size, whole_sha256)
-    assert isinstance(kind, int) and isinstance(size, int) and isinstance(moment, int) and (sha256 is None or isinstance(sha256, bytes))
+    if not (isinstance(kind, int) and isinstance(size, int) and isinstance(moment, int) and (sha256 is None or isinstance(sha256, bytes))):
+        raise ValueError(f"no facts of a request: {row!r}")
     return Facts(Deed(Kind(kind), path_of(path), to, size, moment), sha256, whole)
 
 

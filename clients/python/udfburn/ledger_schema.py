@@ -90,7 +90,8 @@ CREATE TABLE found (
 INSERT INTO way (way, volume) SELECT way, max(id) FROM volume GROUP BY way;
 UPDATE volume SET unsettled = 1;
 """
-"""What makes version 2 of version 1. There a way was of the volume that was met on it last."""
+"""What makes version 2 of version 1. There a way was of the volume that was met on it last. Its two tables are in SCHEMA too: these are
+those of version 2, and stay as they are where a later version changes SCHEMA."""
 
 LAST_FRAMES = """
 SELECT volume, number, payload FROM request JOIN frame ON frame.id = volume * 4 + number % 4

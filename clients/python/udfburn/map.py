@@ -64,7 +64,7 @@ def dstring(field: bytes) -> str:
 
 
 def colour(index: int, count: int) -> str:
-    """The colour of a commit: from blue by violet and red to gold, neighbours told apart by their lightness."""
+    """The colour of a commit: from blue by violet and red to gold, neighbours distinguished by their lightness."""
     part = index / max(count - 1, 1)
     hue = (0.56 + 0.58 * part) % 1.0
     light = (0.46, 0.58, 0.52)[index % 3] + 0.05 * part
@@ -103,7 +103,7 @@ def text(x: float, y: float, words: str, points: float = 13, fill: str = SOFT, a
 
 
 def box(x: float, y: float, width: float, height: float, fill: str, title: str = "") -> str:
-    """A filled box, which tells what it is under the pointer."""
+    """A filled box, which says what it is under the pointer."""
     shape = f'<rect x="{x:.2f}" y="{y:.2f}" width="{max(width, 0.1):.2f}" height="{height:.2f}" fill="{fill}"'
     return f"{shape}><title>{escape(title)}</title></rect>" if title else f"{shape}/>"
 

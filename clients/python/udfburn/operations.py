@@ -1,4 +1,4 @@
-"""Requests before they have a number, and what the tree has behind them."""
+"""Requests before they have a number, and what the tree has after them."""
 
 from __future__ import annotations
 
@@ -42,7 +42,7 @@ class Origin(NamedTuple):
 class Operation(NamedTuple):
     """What a request is to do. `tag` is for whoever made it.
 
-    `sha256` is that of the data, where whoever made it has reckoned it already; else it is reckoned when the request is made. `whole`
+    `sha256` is that of the data, where whoever made it has computed it already; else it is computed when the request is made. `whole`
     is given with the last part of a file in parts. `origin` is given where the data came from a local file: then the ledger keeps large
     data by its digest alone.
     """
@@ -78,7 +78,7 @@ class Outcome(NamedTuple):
     number: int
 
 
-# ---- what the tree must have behind a reply
+# ---- what the tree must have after a reply
 
 class Expected(NamedTuple):
     """What is known of a path: nothing there, or a node of a kind, a size and a moment, where these are known."""
@@ -119,7 +119,7 @@ def paths_of(request: AnyRequest) -> Tuple[Path, ...]:
 
 
 def after(request: AnyRequest) -> Dict[Path, Expected]:
-    """What the tree has right behind a request that was done."""
+    """What the tree has right after a request that was done."""
     if isinstance(request, (Create, Replace)):
         return {request.path: Expected(True, NodeKind.FILE, len(request.data), request.moment)}
     if isinstance(request, MakeDir):
@@ -144,7 +144,7 @@ def refused(request: AnyRequest, code: Code) -> Dict[Path, Expected]:
 
 
 def confirmed(request: AnyRequest, code: Code, answers: Sequence[Answer]) -> bool:
-    """Whether answers to Stat of the request's paths, asked right behind it, agree with its reply."""
+    """Whether answers to Stat of the request's paths, asked right after it, agree with its reply."""
     wanted = after(request) if code is Code.DONE else refused(request, code)
     return all(path not in wanted or wanted[path].agrees(answer) for path, answer in zip(paths_of(request), answers))
 

@@ -1,4 +1,4 @@
-"""A volume as it was: the front of its image up to a commit's last block is a volume of its own."""
+"""A volume as it was: the prefix of its image up to a commit's last block is a volume of its own."""
 
 from __future__ import annotations
 
@@ -21,7 +21,7 @@ PIECE = 1 << 20
 
 
 class Commit(NamedTuple):
-    """A line of `udfburn log`: a commit, the address of its last block, and what the tree had behind it."""
+    """A line of `udfburn log`: a commit, the address of its last block, and what the tree had after it."""
 
     number: int
     address: int
@@ -45,7 +45,7 @@ def address_of(image: str, program: str, commit: int) -> int:
 
 
 def copy_front(source: str, target: str, size: int) -> None:
-    """Copies the front of a file: by shared blocks where the file system has them, else without its blocks of zeros."""
+    """Copies the beginning of a file: by shared blocks where the file system has them, else without its blocks of zeros."""
     with open(source, "rb") as old, open(target, "r+b") as new:
         if not cloned(old.fileno(), new.fileno()):
             left = size
@@ -72,7 +72,7 @@ def cloned(old: int, new: int) -> bool:
 
 @contextmanager
 def front(image: str, program: str, commit: Optional[int]) -> Iterator[str]:
-    """A copy of the image as it was behind a commit, or as it is now; gone at the end."""
+    """A copy of the image as it was after a commit, or as it is now; gone at the end."""
     size = os.path.getsize(image) if commit is None else (address_of(image, program, commit) + 1) * limits.BLOCK
     require_synced(image)
     folder = tempfile.mkdtemp(prefix=".udfburn-", dir=room(image))
@@ -87,7 +87,7 @@ def front(image: str, program: str, commit: Optional[int]) -> Iterator[str]:
 
 
 def require_synced(image: str) -> None:
-    """Has the disk take what the system keeps of the image, and the system forget it, so that a copy tells of what is stored."""
+    """Has the disk take what the system keeps of the image, and the system forget it, so that a copy reports what is stored."""
     descriptor = os.open(image, os.O_RDONLY)
     try:
         try:
@@ -96,7 +96,7 @@ def require_synced(image: str) -> None:
             # A disk that is only read has nothing to take.
             if error.errno not in (errno.EINVAL, errno.EROFS):
                 raise
-        # Behind a synchronisation that failed it may keep what the disk does not have.
+        # After a synchronisation that failed it may keep what the disk does not have.
         os.posix_fadvise(descriptor, 0, 0, os.POSIX_FADV_DONTNEED)
     except OSError as error:
         raise ProgramFailed(f"{image}: {error.strerror or error}: its disk does not have what it shows") from error

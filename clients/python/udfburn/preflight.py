@@ -1,4 +1,4 @@
-"""Whether all of an import fits, told at once and before anything is sent."""
+"""Whether all of an import fits, reported at once and before anything is sent."""
 
 from __future__ import annotations
 
@@ -41,7 +41,7 @@ class Plan:
 
 
 def plan(scan: Scan, present: Present, split: bool, space: Optional[Space]) -> Plan:
-    """Plans an import, with all that stands against it."""
+    """Plans an import, with all that speaks against it."""
     planned = Plan(list(scan.faults))
     planned.kept = scan.kept
     for folder in scan.folders:
@@ -75,7 +75,7 @@ def fault_of(source: Source, split: bool) -> Optional[str]:
         return f"has {size} bytes, and a file has at most {limits.FILE} (--split stores it in parts)"
     if part_count(size) > limits.NODES:
         return f"takes {part_count(size):,} parts, and a volume has at most {limits.NODES:,} files and directories"
-    # All parts have names of one length. What stands whole has a name that was looked at where it was found.
+    # All parts have names of one length. What is whole has a name that was looked at where it was found.
     names = [path[-1] for path in own_paths(source.path, size, split)[1:2]]
     if any(why_not(name) for name in names):
         return "the name of a part takes more than 255 bytes as it is spelled on the medium"

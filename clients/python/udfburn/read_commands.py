@@ -7,13 +7,14 @@ import os
 from contextlib import closing
 from typing import TYPE_CHECKING, Any, Dict, Tuple
 
-from .client import Client, met
+from .client import Client
 from .commands import progress_of, reader
 from .connection import find_program
 from .errors import SourceError, UsageError
 from .escape import decode
 from .progress import Progress, moment, plural, size
 from .protocol import Name, Node, NodeKind, Path, Stat, path_of, show, shown
+from .refusals import expected
 from .tree import walk
 from .words import command, commit_number
 
@@ -138,8 +139,7 @@ def list_names(client: Client, at: Path, names: Tuple[Name, ...], arguments: arg
             if answer is None:
                 progress.say(f"{letter} {name.name}")
                 continue
-            node = met(Stat(path), answer)
-            assert isinstance(node, Node)
+            node = expected(Node, Stat(path), answer)
             progress.say(
                 f"{letter} {node.size:>9} {moment(node.moment)} {name.name}",
                 path=show(path), kind=node.kind.name.lower(), size=node.size, moment=node.moment,

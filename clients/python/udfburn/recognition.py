@@ -1,4 +1,4 @@
-"""Which volume is it? What is at a way is compared with what the ledger has of it, before any request is sent.
+"""Which volume is it? What is at an endpoint is compared with what the ledger has of it, before any request is sent.
 
 Over a conversation a volume says this client's latest number, the replies that it keeps, and the nodes at paths. A repeat is known by
 client and number alone, so each kept reply is asked for by a removal of the root under its number: it commits nothing, and would be
@@ -264,7 +264,7 @@ class Meeting:
         return [volume for volume in others if self.by.has_evidence(volume) and self.by.fault(volume) is None]
 
     def _by_another_way(self) -> Volume:
-        """The volume at a way that the ledger does not know."""
+        """The volume at an endpoint that the ledger does not know."""
         if not self.seen.latest or not self.ledger.volumes():
             return self._learnt()
         agreeing = self._agreeing(None)
@@ -274,7 +274,7 @@ class Meeting:
             ways = ", or ".join(ways_text(self.ledger, volume) for volume in agreeing)
             raise OtherVolume(
                 f"this may be the volume at {ways}: all have the same requests of this client ({self.by.where}). Name it by one of these"
-                " ways, or by --image, which tells them apart. Nothing was sent to it"
+                " ways, or by --image, which distinguishes them. Nothing was sent to it"
             )
         raise self._unknown()
 
@@ -293,7 +293,7 @@ class Meeting:
 
     def _as_another(self, known: Volume, fault: LedgerError) -> LedgerError:
         """The fault of the volume that the ledger has here; where another one of the ledger is here, what says so."""
-        # Of those that a ledger of version 1 had, one may be the front of another.
+        # Of those that a ledger of version 1 had, one may be the beginning of another.
         agreeing = [volume for volume in self._agreeing(known) if not volume.unsettled]
         if len(agreeing) != 1:
             return fault
@@ -307,7 +307,7 @@ class Meeting:
         )
 
     def _settled(self, known: Volume, fault: LedgerError) -> Volume:
-        """The volume of a way of which a ledger of version 1 has the front alone, since it went on by another way: there that
+        """The volume of a way of which a ledger of version 1 has the beginning alone, since it went on by another way: there that
         ledger kept it as another volume."""
         agreeing = self._agreeing(known)
         if len(agreeing) != 1 or not self.by.continues(known, agreeing[0]):

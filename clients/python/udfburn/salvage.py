@@ -28,7 +28,7 @@ STATES = (WHOLE, UNPROVED, EARLIER, NAMELESS, DAMAGED, LOST)
 `whole`: its bytes have the digest that the volume or the ledger keeps of them. `unproved`: all its blocks could be read, and no digest
 covers it. `earlier`: its name or its bytes are those of an earlier commit. `nameless`: its bytes could be read, and no name leads to it.
 `damaged`: some of its bytes are wrong or missing. `lost`: there is nothing of it. Beside these, `unfinished` is a file after the last
-table's entry, which no state has.
+VAT ICB, which no state has.
 """
 
 DAMAGED_SUFFIX = ".damaged"
@@ -285,7 +285,7 @@ class Salvage:
 
 
 def tail_of(item: Item) -> str:
-    """What tells a node from another of the same name."""
+    """What distinguishes a node from another of the same name."""
     return str(item.entry.unique) if item.entry is not None else str(item.virtual)
 
 

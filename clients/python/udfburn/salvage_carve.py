@@ -1,4 +1,4 @@
-"""Files whose entries are lost, by the digests that are kept of them: their blocks end where the entry stood."""
+"""Files whose entries are lost, by the digests that are kept of them: their blocks end where the entry was."""
 
 from __future__ import annotations
 
@@ -23,7 +23,7 @@ class Carver:
         self._left = STARTS
 
     def find(self, address: int, is_kept: IsKept) -> Optional[bytes]:
-        """The bytes of the file whose entry stood at an address, where some that it may have had have a digest that is kept."""
+        """The bytes of the file whose entry was at an address, where some that it may have had have a digest that is kept."""
         low = max(self.chain.floor(address), address - blocks_of(FILE_BYTES))
         run = self.chain.volume.medium.run(low, max(address - low, 0))
         # What is missing is not hashed, so the file begins after it.
@@ -39,7 +39,7 @@ class Carver:
 
 
 def with_digest(data: bytes, is_kept: IsKept) -> Optional[bytes]:
-    """The front of blocks that has a digest which is kept: it ends in the last block, and what is after it is zeros."""
+    """The first bytes of blocks that have a digest which is kept: it ends in the last block, and what is after it is zeros."""
     begin = max(len(data) - BLOCK, 0)
     known = hashlib.sha256(data[:begin])
     for end in range(max(len(data.rstrip(b"\0")), begin + 1), len(data) + 1):

@@ -50,7 +50,7 @@ def commits_of(path: str, volume: Volume, seen: Iterable[Tuple[int, int, Optiona
 
 
 def is_same(identity: Tuple[str, int, int], volume: Volume) -> bool:
-    """Whether a volume may have this identity. What its front does not say is not compared."""
+    """Whether a volume may have this identity. What its volume header does not say is not compared."""
     said = (volume.label, volume.moment, volume.capacity)
     return all(value is None or value == wanted for value, wanted in zip(said, identity))
 

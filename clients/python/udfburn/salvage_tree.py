@@ -23,7 +23,7 @@ DEPTH = 64
 
 
 class Version(NamedTuple):
-    """An entry of a node, its address, and the newest commit behind which it stood: None where that is the one asked for."""
+    """An entry of a node, its address, and the newest commit after which it was valid: None where that is the one asked for."""
 
     entry: Entry
     address: int
@@ -35,7 +35,7 @@ class Item(NamedTuple):
 
     `path` has the names on the volume; of a node without names it begins with `lost+found`. `target` are the names that it is written
     under. `commit` is that of an earlier state that its name or its entry is taken from. `version` is None where it is lost.
-    `is_unfinished` says that the commit that wrote it has no table's entry.
+    `is_unfinished` says that the commit that wrote it has no VAT ICB.
     """
 
     path: Path
@@ -54,7 +54,7 @@ class Item(NamedTuple):
 
 
 class Tree:
-    """The nodes of the state behind the table at a place of the chain, in `items`: directories before what is in them."""
+    """The nodes of the state after the table at a place of the chain, in `items`: directories before what is in them."""
 
     def __init__(self, chain: Chain, index: int):
         self.chain, self.index = chain, index
@@ -153,7 +153,7 @@ class Tree:
         return Version(entry, other, None)
 
     def _rebuilt(self, virtual: int, unique: Optional[int], kind: Optional[Kind], address: Optional[int]) -> Optional[Version]:
-        """A directory whose entry is lost, by its data, which ends where its entry stood."""
+        """A directory whose entry is lost, by its data, which ends where its entry was."""
         if kind is not Kind.DIRECTORY or unique is None or address is None or not self.chain.is_confirmed(virtual, address, self.index):
             return None
         found = data_before(self.medium, address - PARTITION)
@@ -194,7 +194,7 @@ class Tree:
         return number + PARTITION if number != UNUSED else None
 
     def versions(self, virtual: int, after: int) -> Iterator[Tuple[int, int]]:
-        """The entries that were committed for a virtual address below an address, the newest first, and until which commit each stood."""
+        """The entries that were committed for a virtual address below an address, the newest first, and until which commit each was valid."""
         for at in self.survey.nodes(virtual, min(after, self.link.start)):
             place, replaced = self.chain.place_of(at), self.chain.place_of(after)
             if place is None or replaced is None or place < self.index:
@@ -204,7 +204,7 @@ class Tree:
             if is_there and place > replaced:
                 yield at, self.chain.links[replaced + 1].commit
             elif is_there or not self.chain.links[place].adjacent:
-                # It stood for a while, and no table of that while is left.
+                # It was valid for a while, and no table of that while is left.
                 yield at, max(self.chain.links[place].commit - 1, 0)
             else:
                 continue
@@ -338,7 +338,7 @@ class Tree:
 
 
     def _add_unfinished(self) -> None:
-        """Takes the nodes of a commit that has no table's entry: it was cut, or its last block is lost."""
+        """Takes the nodes of a commit that has no VAT ICB: it was cut, or its last block is lost."""
         names = {name.virtual: name for at in self.survey.nodes_after(self.link.address) for name in self._names_at(at)}
         for at in self.survey.nodes_after(self.link.address):
             block = self.medium.block(at)
@@ -352,7 +352,7 @@ class Tree:
             self.items.append(Item(path, path, Kind.FILE, entry.location, Version(entry, at, None), None, why, True))
 
     def _names_at(self, at: int) -> Iterator[Identifier]:
-        """The names of the directory whose entry stands at an address."""
+        """The names of the directory whose entry is at an address."""
         block = self.medium.block(at)
         entry = mend_entry(block, Hint(at - PARTITION)) if block is not None else None
         if entry is not None and entry.kind is Kind.DIRECTORY:

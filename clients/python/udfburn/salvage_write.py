@@ -208,7 +208,7 @@ class Folder:
 
 
 def fitting(name: str, tail: str) -> bytes:
-    """A name as it is written: its beginning alone where it is too long, with the tail behind it."""
+    """A name as it is written: its beginning alone where it is too long, with the tail after it."""
     spelled, end = name.encode(), tail.encode()
     if len(spelled) + len(end) <= NAME_BYTES:
         return spelled + end

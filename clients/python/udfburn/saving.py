@@ -61,7 +61,7 @@ class Saver:
         self._written = []
 
     def save(self, local: str, parts: Iterable[bytes], moment: Optional[int], named: Callable[[int], None]) -> None:
-        """Writes a file. `named` is told its bytes once it has its name."""
+        """Writes a file. `named` is called with its bytes once it has its name."""
         require_place(local, self.force)
         with full_disk(local):
             descriptor, temporary = open_new(local)
@@ -113,7 +113,7 @@ class Saver:
         self._folders = {}
 
     def _sync(self) -> None:
-        """Makes the bytes of all files durable. The first descriptor is told of each write that failed since it was opened."""
+        """Makes the bytes of all files durable. The first descriptor is called for each write that failed since it was opened."""
         devices: Dict[int, int] = {}
         for written in self._written:
             devices.setdefault(os.fstat(written.descriptor).st_dev, written.descriptor)

@@ -12,11 +12,12 @@ from hashlib import sha256
 from typing import Dict, Iterable, Iterator, List, NamedTuple, Optional, Tuple, Type
 
 from . import manifest as m
-from .client import Client, met, refusal
+from .client import Client
 from .digests import Known
 from .errors import Differs, NotDirectory, TooLarge, UsageError
 from .operations import Operation, now
 from .protocol import AnyRequest, Code, Create, Data, Get, Node, NodeKind, Path, Query, Replace, Stat, limits, show
+from .refusals import expected, refusal
 from .walk import Told, quiet, walk
 
 AGENT = "udfburn-client"
@@ -117,9 +118,8 @@ def with_data(client: Client, paths: List[Path]) -> Iterator[Tuple[Path, Node, b
         queries += [Stat(path), Get(path)]
     with closing(client.ask_all(queries)) as answers:
         for path in paths:
-            node, data = met(Stat(path), next(answers)), met(Get(path), next(answers))
-            assert isinstance(node, Node) and isinstance(data, Data)
-            yield path, node, data.data
+            node = expected(Node, Stat(path), next(answers))
+            yield path, node, expected(Data, Get(path), next(answers)).data
 
 
 def require_agreement(found: Found) -> None:
@@ -155,9 +155,9 @@ def plain_files(path: Path, payload: List[Read]) -> Dict[Path, bytes]:
     return {folder + (m.MANIFEST,): m.plain_manifest(lines_of(folder, files)) for folder, files in folders.items()}
 
 
-def lines_of(path: Path, files: Iterable[Read]) -> List[m.RetryingConnection]:
+def lines_of(path: Path, files: Iterable[Read]) -> List[m.Line]:
     """The lines of files, whose paths begin below a directory."""
-    return [m.RetryingConnection(file.sha256, file.path[len(path) :]) for file in files]
+    return [m.Line(file.sha256, file.path[len(path) :]) for file in files]
 
 
 def bag_files(path: Path, found: Found, payload: List[Read]) -> Dict[Path, bytes]:
@@ -175,7 +175,7 @@ def bag_files(path: Path, found: Found, payload: List[Read]) -> Dict[Path, bytes
     outside = [file for file in found if file[len(path)] != m.PAYLOAD or len(file) == len(path) + 1]
     tags = {file: found[file].sha256 for file in outside if not is_tag_manifest(file[len(path) :])}
     tags.update({file: sha256(data).digest() for file, data in wanted.items()})
-    wanted[path + (m.TAG_MANIFEST,)] = m.bag_manifest(m.RetryingConnection(tags[tag], tag[len(path) :]) for tag in sorted(tags))
+    wanted[path + (m.TAG_MANIFEST,)] = m.bag_manifest(m.Line(tags[tag], tag[len(path) :]) for tag in sorted(tags))
     return wanted
 
 

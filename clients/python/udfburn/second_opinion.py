@@ -5,6 +5,7 @@ from __future__ import annotations
 from typing import TYPE_CHECKING, List, NamedTuple
 
 from .errors import Damaged
+from .newest import newest_state
 from .progress import Progress, plural
 from .protocol import shown
 
@@ -16,7 +17,7 @@ MOST = 20
 
 
 class Opinion(NamedTuple):
-    """What the reader finds of an image: what is not as it must be in the front and in the newest state, its commit, and the blocks
+    """What the reader finds of an image: what is not as it must be in the volume header and in the newest state, its commit, and the blocks
     after it, which belong to no commit."""
 
     notes: List[Note]
@@ -25,16 +26,13 @@ class Opinion(NamedTuple):
 
 
 def opinion_of(image: str) -> Opinion:
-    """The reader's opinion on the front and the newest state. Raises `Damaged` where it finds no volume."""
-    from .reader import Medium, NoVolume, Volume
+    """The reader's opinion on the volume header and the newest state. Raises `Damaged` where it finds no volume."""
+    from .reader import Medium, Volume
     from .reader.front import note_front, read_front
 
     with Medium(image) as medium:
         volume = Volume(medium)
-        try:
-            state = volume.state()
-        except NoVolume as error:
-            raise Damaged(f"{shown(image)}: holds no volume: no VAT ICB is found in it") from error
+        state = newest_state(image, volume)
         note_front(medium, read_front(medium), volume.notes)
         state.check()
         return Opinion(volume.notes.all(), state.table.commit, medium.blocks - state.table.address - 1)
@@ -45,7 +43,7 @@ def tell(image: str, opinion: Opinion, known: str, progress: Progress) -> int:
     if opinion.loose:
         progress.note(
             f"{shown(image)}: {plural(opinion.loose, 'block', 'blocks')} after commit {opinion.commit} belong to no commit: to one that was cut"
-            " short, or to one whose last block is damaged (--expect and --ledger tell them apart)", did="loose", blocks=opinion.loose,
+            " short, or to one whose last block is damaged (--expect and --ledger show which)", did="loose", blocks=opinion.loose,
         )
     new = [note for note in opinion.notes if f": block {note.block}:" not in known]
     for note in new[:MOST]:

@@ -17,7 +17,7 @@ from .errors import DAMAGE, ClientsFull, Damaged, ForeignReply, Full, NotCommitt
 from .identity import Looked, looked_at, opened_path
 from .ledger import Ledger
 from .ledger_records import GIVEN_UP, LARGE, Pending, Reply, Volume, digest, facts_of
-from .line import RetryingConnection
+from .retrying import RetryingConnection
 from .operations import Deed, Operation, Outcome, after_all, confirmed, deed_of, paths_of, surely
 from .protocol import (
     CLIENTS_FULL, DAMAGED, FAULT, FULL, MEMORY, Answer, BadAnswer, Code, Committed, Gap, Malformed, Path, Remove, Stale, Stat,
@@ -30,7 +30,7 @@ PART = limits.REPLIES // 2
 """Requests that are kept and sent as one. While their replies and the next ones are kept, the program works on the others."""
 
 AT_ONCE = 1 << 17
-"""Bytes of requests under way and of those behind them up to which the answers to a part are likely to come as one piece."""
+"""Bytes of requests under way and of those after them up to which the answers to a part are likely to come as one piece."""
 
 
 Done = Dict[int, Tuple[Deed, Committed]]
@@ -40,7 +40,7 @@ Done = Dict[int, Tuple[Deed, Committed]]
 class InFlightRequest:
     """A request under way, with a question for each of its paths, and what came back: its reply, and payloads of answers.
 
-    All that can be reckoned before the reply comes is reckoned here, while the program is at work.
+    All that can be computed before the reply comes is computed here, while the program is at work.
     """
 
     def __init__(self, operation: Operation, client: int, number: int):
@@ -64,6 +64,12 @@ class InFlightRequest:
     def size(self) -> int:
         """The bytes that go out."""
         return sum(map(len, self.frames))
+
+    def replied(self) -> Committed:
+        """The reply, once it came."""
+        if self.reply is None:
+            raise RuntimeError(f"request {self.number()} has no reply yet")
+        return self.reply
 
     def agrees(self, reply: Committed) -> bool:
         """Whether the answers to the questions agree with the reply."""
@@ -91,7 +97,7 @@ class RequestQueue:
         self.ahead: Deque[InFlightRequest] = deque()
 
     def look_ahead(self, last: int) -> None:
-        """Makes ready what is sent next, behind the request of this number."""
+        """Makes ready what is sent next, after the request of this number."""
         while len(self.ahead) < PART and self._take(last + len(self.ahead) + 1):
             pass
 
@@ -100,7 +106,7 @@ class RequestQueue:
         flights: List[InFlightRequest] = []
         while len(flights) < count and (self.ahead or self._take(number)):
             flight = self.ahead.popleft()
-            # Behind a conversation that was lost the next number may be another one.
+            # After a conversation that was lost the next number may be another one.
             if flight.number() != number:
                 flight = InFlightRequest(flight.operation, self.client, number)
             flights.append(flight)
@@ -122,7 +128,7 @@ class Session:
         self.line = line
         self.ledger = ledger
         self.shared = shared
-        self.way = line.way.key()
+        self.key = line.endpoint.key()
         self._volume: Optional[Volume] = None
         self._commit = 0
         self._forgetting = False
@@ -141,24 +147,24 @@ class Session:
         """Finds which volume of the ledger this is, before anything else is sent."""
         seen = see(connection, self.ledger.client)
         with self._image(connection) as image:
-            meeting = Meeting(Recognizer(self.ledger, str(self.line.way), connection, seen, image, self.shared), self.way)
+            meeting = Meeting(Recognizer(self.ledger, str(self.line.endpoint), connection, seen, image, self.shared), self.key)
             self._volume = meeting.anew() if self._forgetting else meeting.volume()
         self._commit = self.ledger.last_commit(self._volume)
 
     @contextmanager
     def _image(self, connection: Connection) -> Iterator[Optional[Looked]]:
         """The image that the program of a conversation has; None over a socket."""
-        if self.line.way.kind != "image":
+        if self.line.endpoint.kind != "image":
             yield None
             return
-        with looked_at(opened_path(connection, self.line.way.path)) as image:
+        with looked_at(opened_path(connection, self.line.endpoint.path)) as image:
             yield image
 
     def _part(self, connection: Connection) -> None:
         """Keeps the last commit of an image, while nobody else writes to it: by that it is known again. Where this fails, it is known
         by an earlier one and by the replies."""
         volume = self._volume
-        if volume is None or self.line.way.kind != "image" or volume.mark is not None and volume.mark.commit >= self._commit:
+        if volume is None or self.line.endpoint.kind != "image" or volume.mark is not None and volume.mark.commit >= self._commit:
             return
         try:
             if self.ledger.pending(volume):
@@ -170,8 +176,8 @@ class Session:
             pass
 
     def forget(self) -> List[str]:
-        """Drops what is pending on this way, and learns anew which number the volume knows; gives the dropped paths."""
-        known = self.ledger.volume(self.way)
+        """Drops what is pending at this endpoint, and learns anew which number the volume knows; gives the dropped paths."""
+        known = self.ledger.volume(self.key)
         waiting = self.ledger.pending(known) if known else []
         self._forgetting = True
         self._payloads.clear()
@@ -180,14 +186,15 @@ class Session:
             self.line.get()
         finally:
             self._forgetting = False
-        # Not before, since where the volume cannot be asked nobody would be told what was dropped.
+        # Not before, since where the volume cannot be asked nobody would learn what was dropped.
         if known and known.id != self.volume().id:
             self.ledger.withdraw(known)
         return [pending.path for pending in waiting]
 
     def volume(self) -> Volume:
-        """The volume, once a conversation was begun."""
-        assert self._volume
+        """The volume, once a connection was made."""
+        if self._volume is None:
+            raise RuntimeError("no connection was made yet, so the volume is not known")
         return self._volume
 
     # ---- what is pending
@@ -203,7 +210,7 @@ class Session:
             raise
 
     def _recover(self) -> Dict[int, Committed]:
-        known = self.ledger.volume(self.way)
+        known = self.ledger.volume(self.key)
         if known is None or not self.ledger.pending(known):
             return {}
         done: Done = {}
@@ -219,7 +226,7 @@ class Session:
             except Lost as lost:
                 self.line.lost(str(lost))
             except NotCommitted as error:
-                error.replies = self._confirmed_despite(done)  # type: ignore[attr-defined]
+                error.replies = self._confirmed_despite(done)
                 raise
 
     def _repeat(self, connection: Connection, waiting: Pending, done: Done) -> None:
@@ -248,7 +255,8 @@ class Session:
         if waiting.origin is None:
             return waiting.payload
         facts = waiting.facts
-        assert facts is not None and facts.sha256 is not None
+        if facts is None or facts.sha256 is None:
+            raise RuntimeError(f"the ledger has no digest of the data of request {waiting.number}")
         sent = self._payloads.get(waiting.number, b"")
         if sent.startswith(waiting.payload) and digest(sent[len(waiting.payload) :]) == facts.sha256:
             return sent
@@ -271,22 +279,21 @@ class Session:
                 f"number {waiting.number} of client {self.ledger.client} is not its next one, the volume knows {answer.latest}:"
                 " another ledger with the same client is in use. Take a new ledger with a client of its own (--ledger FILE)"
             )
-        if not (answer in (FULL, CLIENTS_FULL) or isinstance(answer, Malformed)):
+        if answer not in (FULL, CLIENTS_FULL) and not isinstance(answer, Malformed):
             raise BadAnswer(f"{answer!r} is no answer to a request")
         gone = ", ".join(pending.path for pending in self.ledger.withdraw(self.volume()))
+        if isinstance(answer, Malformed):
+            raise Rejected(f"{waiting.path}: the program calls the request malformed, {int(answer.cause)} {answer.cause.name}")
         if answer == FULL:
             raise Full(f"the medium has no room for {waiting.path}, and nothing was written of it (not stored: {gone})."
                        " Smaller files may still fit; else take another image")
-        if answer == CLIENTS_FULL:
-            raise ClientsFull(
-                f"the volume keeps {limits.CLIENTS} clients for its life, and has them: use the ledger of a client that it knows"
-                " (--ledger FILE, or --client with a new ledger where the old one is lost), or take another image"
-            )
-        assert isinstance(answer, Malformed)
-        raise Rejected(f"{waiting.path}: the program calls the request malformed, {int(answer.cause)} {answer.cause.name}")
+        raise ClientsFull(
+            f"the volume keeps {limits.CLIENTS} clients for its life, and has them: use the ledger of a client that it knows"
+            " (--ledger FILE, or --client with a new ledger where the old one is lost), or take another image"
+        )
 
     def _confirm(self, connection: Connection, done: Done) -> None:
-        """Sees that the tree has what replies say that came behind a lost conversation."""
+        """Sees that the tree has what replies say that came after a lost conversation."""
         wanted = after_all([(deed, reply.code) for deed, reply in done.values()])
         for path, expected in wanted.items():
             connection.send(frame(encode_message(Stat(path))))
@@ -329,14 +336,14 @@ class Session:
         with self.line.claim():
             yield from self._run(RequestQueue(iter(operations), self.ledger.client))
 
-    def _run(self, supply: RequestQueue) -> Iterator[Outcome]:
+    def _run(self, queue: RequestQueue) -> Iterator[Outcome]:
         self.recover()
         window: Deque[InFlightRequest] = deque()
         finished: List[InFlightRequest] = []
         try:
             while True:
                 connection = self._connected(window)
-                fresh = self._next(supply, window, finished)
+                fresh = self._next(queue, window, finished)
                 self._keep(finished, fresh)
                 window.extend(fresh)
                 troubled = not self._sent(connection, fresh)
@@ -347,8 +354,8 @@ class Session:
                 if fresh and len(window) < limits.REPLIES and not troubled:
                     continue
                 if not troubled:
-                    supply.look_ahead(window[-1].number())
-                    self._foresee(window, supply)
+                    queue.look_ahead(window[-1].number())
+                    self._foresee(window, queue)
                     finished, troubled = self._received(connection, window)
                 if troubled:
                     yield from self._recovered(finished, window)
@@ -365,20 +372,17 @@ class Session:
             self.line.drop()
         return self.line.get()
 
-    def _next(self, supply: RequestQueue, window: Deque[InFlightRequest], finished: List[InFlightRequest]) -> List[InFlightRequest]:
+    def _next(self, queue: RequestQueue, window: Deque[InFlightRequest], finished: List[InFlightRequest]) -> List[InFlightRequest]:
         """Requests that there is room for, under the next numbers. None where others are to get their turn."""
         if window and self.line.over():
             return []
         last = window[-1] if window else finished[-1] if finished else None
         number = last.number() if last else self.ledger.latest(self.volume())
-        return supply.next(number + 1, min(PART, limits.REPLIES - len(window)))
+        return queue.next(number + 1, min(PART, limits.REPLIES - len(window)))
 
     def _keep(self, finished: List[InFlightRequest], fresh: List[InFlightRequest]) -> None:
         """Makes replies and new requests durable, in one."""
-        replies = []
-        for flight in finished:
-            assert flight.reply
-            replies.append(flight.reply)
+        replies = [flight.replied() for flight in finished]
         self.ledger.record(self.volume(), kept(finished, replies), [flight.pending for flight in fresh])
         for flight in finished:
             self._payloads.pop(flight.number(), None)
@@ -392,10 +396,10 @@ class Session:
         except Lost:
             return False
 
-    def _foresee(self, window: Deque[InFlightRequest], supply: RequestQueue) -> None:
+    def _foresee(self, window: Deque[InFlightRequest], queue: RequestQueue) -> None:
         """Makes ready what is kept next, where the first part of a full window is likely to be done and answered at once."""
         self._foreseen = None
-        first, fresh = list(window)[:PART], list(supply.ahead)
+        first, fresh = list(window)[:PART], list(queue.ahead)
         if len(window) < limits.REPLIES or not fresh:
             return
         if sum([flight.size() for flight in (*window, *fresh)]) > AT_ONCE:
@@ -474,7 +478,7 @@ class Session:
         try:
             replies = self.recover()
         except NotCommitted as failed:
-            replies, error = failed.replies, failed  # type: ignore[attr-defined]
+            replies, error = failed.replies, failed
         for flight in flights:
             reply = replies.get(flight.number())
             if reply is not None:
@@ -497,8 +501,8 @@ def kept(flights: Iterable[InFlightRequest], replies: Iterable[Committed]) -> Li
 
 def outcome(flight: InFlightRequest) -> Outcome:
     """What the reply of a flight says."""
-    assert flight.reply
-    return Outcome(flight.operation, flight.reply.code, flight.reply.commit, flight.number())
+    reply = flight.replied()
+    return Outcome(flight.operation, reply.code, reply.commit, flight.number())
 
 
 __all__ = ["Session"]

@@ -16,7 +16,7 @@ from .protocol import NameFault, Path, is_bytes, limits, name_fault, shown
 
 
 class Identity(NamedTuple):
-    """What tells whether a file is the one that was seen, as it was then."""
+    """What shows whether a file is the one that was seen, as it was then."""
 
     device: int
     inode: int
@@ -26,7 +26,7 @@ class Identity(NamedTuple):
 
     @staticmethod
     def of(status: os.stat_result) -> "Identity":
-        # A link of the same file that goes changes the time of the others, so it tells nothing of them.
+        # A link of the same file that goes changes the time of the others, so it says nothing about them.
         changed = status.st_ctime_ns if status.st_nlink == 1 else None
         return Identity(status.st_dev, status.st_ino, status.st_size, status.st_mtime_ns, changed)
 
@@ -88,7 +88,7 @@ def odd(status: os.stat_result) -> str:
 
 
 def why_not(name: str) -> Optional[str]:
-    """Why a local name may not stand in a directory of a volume."""
+    """Why a local name may not be in a directory of a volume."""
     if is_bytes(name):
         return "its name is not UTF-8"
     fault = name_fault(name)

@@ -1,6 +1,6 @@
 """Files above a mebibyte, in parts of a mebibyte each.
 
-A file of up to 400 parts stands beside others as `NAME.000`, `NAME.001` and on, which `cat NAME.*` joins. A longer one has a
+A file of up to 400 parts is beside others as `NAME.000`, `NAME.001` and on, which `cat NAME.*` joins. A longer one has a
 folder of its own, `NAME.parts`, with folders of 400 parts each: `NAME.parts/00/000` and on, which `cat NAME.parts/*/*` joins. So
 it takes one name of its directory, which has at most 512.
 """
@@ -12,10 +12,10 @@ from typing import Container, Dict, Iterator, List, Mapping, Optional, Sequence,
 from .protocol import NodeKind, Path, limits
 
 PARTS = 1000
-"""Parts that stand beside others, at most: three digits. None above 400 are written so, but earlier programs did."""
+"""Parts that are beside others, at most: three digits. None above 400 are written so, but earlier programs did."""
 
 FLAT = 400
-"""Parts of a file that stand beside others: one with more has a folder of its own."""
+"""Parts of a file that are beside others: one with more has a folder of its own."""
 
 FOLDER = 400
 """Parts of each folder below that, of which only the last may have fewer."""
@@ -28,7 +28,7 @@ SUFFIX = ".parts"
 
 
 def part_name(name: str, index: int) -> str:
-    """The name of a part that stands beside others."""
+    """The name of a part that is beside others."""
     return f"{name}.{index:03}"
 
 
@@ -38,7 +38,7 @@ def index_of(name: str) -> int:
 
 
 def part_count(size: int) -> int:
-    """The parts of a file of this size; 0 where it stands whole."""
+    """The parts of a file of this size; 0 where it is whole."""
     return 0 if size <= limits.FILE else -(-size // limits.FILE)
 
 
@@ -156,7 +156,7 @@ def parts_from(name: str, known: Mapping[str, Optional[int]]) -> List[str]:
 def joined_folder(base: Path, names: Mapping[Path, Sequence[str]], sizes: Mapping[Path, int]) -> List[Path]:
     """The parts in order that a folder of parts has, where they make a whole file; else nothing.
 
-    They do where there is no gap and no other name, all but the last have a mebibyte, and there are more than stand beside others.
+    They do where there is no gap and no other name, all but the last have a mebibyte, and there are more than are beside others.
     """
     whole = base[:-1] + (base[-1][: -len(SUFFIX)],)
     below = sum(1 + len(names.get(base + (folder,), ())) for folder in names.get(base, ()))

@@ -2,13 +2,15 @@
 
 from __future__ import annotations
 
-from typing import Dict, List, Sequence, Set, Tuple
+from typing import TYPE_CHECKING, Dict, List, Sequence, Set, Tuple
 
-from .client import Client
 from .preflight import Present
 from .protocol import Node, NodeKind, Path, Stat, limits, show
 from .sources import Scan, Source
 from .split import base_of, flat_others, folder_others, index_of, own_paths, part_count, part_path, stored_paths
+
+if TYPE_CHECKING:
+    from .client import Client
 
 Stale = Dict[Path, List[Path]]
 """What goes once a file is stored, by the file's path: each directory before what is in it."""

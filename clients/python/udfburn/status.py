@@ -6,7 +6,7 @@ import argparse
 from typing import List, NamedTuple, Optional
 
 from .client import Client
-from .errors import Damaged
+from .newest import newest_state
 from .protocol import NodeKind, Path, Stat, shown
 from .words import patience_of
 
@@ -39,14 +39,11 @@ class Status(NamedTuple):
 
 def of_image(image: str) -> Status:
     """The state of an image, which is only read, also while a daemon writes it. Raises `Damaged` where it holds no volume."""
-    from .reader import Kind, Medium, NoVolume, Volume
+    from .reader import Kind, Medium, Volume
 
     with Medium(image) as medium:
         volume = Volume(medium)
-        try:
-            state = volume.state()
-        except NoVolume as error:
-            raise Damaged(f"{shown(image)}: holds no volume: no VAT ICB is found in it") from error
+        state = newest_state(image, volume)
         table = state.table
         total = sum(node.size for node in state.walk() if node.kind is Kind.FILE)
         left = max(volume.capacity - medium.blocks, 0) if volume.capacity is not None else None
@@ -58,7 +55,7 @@ def of_image(image: str) -> Status:
 
 
 def of_socket(path: str, arguments: argparse.Namespace) -> Status:
-    """The state of a daemon's volume, as far as its answers tell it."""
+    """The state of a daemon's volume, as far as its answers report it."""
     with Client(f"unix:{path}", program=arguments.program, **patience_of(arguments)) as client, client.held():
         files: List[Path] = []
         directories = 0

@@ -3,13 +3,16 @@
 from __future__ import annotations
 
 from contextlib import closing
-from typing import Dict, List, NamedTuple, Sequence
+from typing import TYPE_CHECKING, Dict, List, NamedTuple, Sequence
 
-from .client import Client, met
 from .errors import IsDirectory
 from .protocol import Name, Node, NodeKind, Path, Stat, show
+from .refusals import expected
 from .split import SUFFIX, base_of, joined, joined_folder
 from .walk import walk
+
+if TYPE_CHECKING:
+    from .client import Client
 
 
 class Stored(NamedTuple):
@@ -42,9 +45,7 @@ class Tree:
         files = [at + (name.name,) for name in names if name.kind is NodeKind.FILE]
         with closing(client.ask_all(map(Stat, files))) as answers:
             for path, answer in zip(files, answers):
-                node = met(Stat(path), answer)
-                assert isinstance(node, Node)
-                self.nodes[path] = node
+                self.nodes[path] = expected(Node, Stat(path), answer)
 
     def of(self, path: Path, parts: List[Path], folders: List[Path]) -> Stored:
         """A file by its parts."""
@@ -68,7 +69,7 @@ class Tree:
         return found
 
     def beside(self, at: Path, names: Sequence[Name], split: bool) -> List[Stored]:
-        """The files of a directory, and those whose parts stand in it."""
+        """The files of a directory, and those whose parts are in it."""
         whole: Dict[str, List[str]] = {}
         rest = [name.name for name in names]
         if split:
@@ -78,7 +79,7 @@ class Tree:
         return [self.of(at + (name,), [at + (part,) for part in parts], []) for name, parts in groups]
 
     def in_folders(self, at: Path, names: Sequence[Name]) -> List[Stored]:
-        """The files whose parts stand in folders of parts in this directory. One beside a file or a directory of its name is none."""
+        """The files whose parts are in folders of parts in this directory. One beside a file or a directory of its name is none."""
         known = {name.name for name in names}
         found: List[Stored] = []
         for name in names:

@@ -7,19 +7,20 @@ from contextlib import closing, suppress
 from typing import TYPE_CHECKING, Callable, Deque, Iterable, Iterator, List, Optional, Tuple, Type
 
 from .ahead import Ahead
-from .client import Client, refusal
 from .connection import find_program
 from .errors import Differs, DoesNotFit, SourceError, UsageError
 from .jobs import Job, Options, Summary, reads_back, same_parts
 from .operations import Operation, Outcome, now
 from .preflight import Plan, Present, plan, refuse_sizes
 from .protocol import AnyRequest, Code, Create, Get, MakeDir, Node, NodeKind, Path, Replace, Stat, limits, show
+from .refusals import refusal
 from .sources import Folder, Scan, delete, origin_of, scan, shown
 from .split import stored_paths
 from .stale import Stale, find_stale
 from .walk import Told, look, quiet, remove_paths, remove_tree, walk
 
 if TYPE_CHECKING:
+    from .client import Client
     from .blocks import Space
 
 CHUNK = 64
@@ -34,7 +35,7 @@ class Importer:
     """Stores local files and folders."""
 
     def __init__(self, client: Client, options: Options, told: Told = quiet, stored: Optional[Callable[[Outcome], None]] = None):
-        """`told` is told of each step; `stored`, where it is given, of each file or part in place of that, with its digests."""
+        """`told` is called for each step; `stored`, where it is given, of each file or part in place of that, with its digests."""
         if options.verify and options.dry_run:
             raise UsageError("nothing is read back of a dry run")
         self.client = client
@@ -47,7 +48,7 @@ class Importer:
         self._ahead = Ahead()
 
     def plan(self, jobs: Iterable[Tuple[str, Path]]) -> Plan:
-        """Looks at what is to be stored and at what is there, and raises `DoesNotFit` with all that stands against it."""
+        """Looks at what is to be stored and at what is there, and raises `DoesNotFit` with all that speaks against it."""
         options = self.options
         found = Scan()
         wanted = list(jobs)
@@ -90,15 +91,15 @@ class Importer:
 
     def _space(self) -> Optional[Space]:
         """What the image has left, where there is one to look at."""
-        way = self.client.way
-        image = self.options.image or (way.path if way.kind == "image" else None)
+        endpoint = self.client.endpoint
+        image = self.options.image or (endpoint.path if endpoint.kind == "image" else None)
         if image is None:
             return None
         try:
-            program = find_program(way.program)
+            program = find_program(endpoint.program)
         except UsageError:
             return None
-        # A dry run opens no ledger, and reckons with one client more: 0 is nobody's number.
+        # A dry run opens no ledger, and counts one client more: 0 is nobody's number.
         from .blocks import space_of
 
         return space_of(image, program, 0 if self.options.dry_run else self.client.session().ledger.client)
@@ -228,7 +229,7 @@ class Importer:
         there = self._sized(jobs)
         with closing(self.client.ask_all(Get(job.paths[index]) for job, indexes in there for index in indexes)) as answers:
             for job, indexes in there:
-                # One that cannot be read is told of when it is stored.
+                # One that cannot be read is reported when it is stored.
                 with suppress(SourceError):
                     job.same = same_parts(job.source, len(job.paths), indexes, answers)
         self.same = [job for job, _ in there if len(job.same) == len(job.paths)]
@@ -241,7 +242,7 @@ class Importer:
         found.files = [source for source in found.files if id(source) not in left]
 
     def _sized(self, jobs: List[Job]) -> List[Tuple[Job, List[int]]]:
-        """The files of which the volume has parts of the right sizes, with the numbers of these. What stands whole is one part."""
+        """The files of which the volume has parts of the right sizes, with the numbers of these. What is whole is one part."""
         asked = [(job, [i for i, path in enumerate(job.paths) if self.present.kinds.get(path) is NodeKind.FILE]) for job in jobs]
         sized: List[Tuple[Job, List[int]]] = []
         with closing(self.client.ask_all(Stat(job.paths[index]) for job, indexes in asked for index in indexes)) as answers:

@@ -208,7 +208,7 @@ def lines_of(state: Status) -> List[Tuple[str, str]]:
     if state.clients is not None:
         lines.append(("clients", client_words(state.clients)))
     if state.unknown:
-        lines.append(("unknown", f"{', '.join(state.unknown)}: no answer of a daemon tells them (name the image)"))
+        lines.append(("unknown", f"{', '.join(state.unknown)}: no answer of a daemon has them (name the image)"))
     return lines
 
 
@@ -218,7 +218,7 @@ def block_lines(state: Status) -> List[Tuple[str, str]]:
         return []
     lines = [("blocks", f"{state.written:,} of {state.capacity:,} are written, {state.left:,} are left ({size(state.left * limits.BLOCK)})")]
     if state.loose:
-        lines.append(("loose", f"{plural(state.loose, 'block', 'blocks')} at the end of no commit: of one that was cut short, or one whose last block is damaged ('check --expect' tells)"))
+        lines.append(("loose", f"{plural(state.loose, 'block', 'blocks')} at the end of no commit: of one that was cut short, or one whose last block is damaged ('check --expect' shows which)"))
     return lines
 
 

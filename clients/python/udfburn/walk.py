@@ -2,19 +2,22 @@
 
 from __future__ import annotations
 
-from typing import Callable, Iterable, Iterator, List, Tuple
+from typing import TYPE_CHECKING, Callable, Iterable, Iterator, List, Tuple
 
-from .client import Client, met, refusal
 from .operations import Operation, now
 from .preflight import Present
 from .protocol import Code, List as ListQuery, Name, Names, Node, NodeKind, Path, Remove, Stat
+from .refusals import expected, refusal
+
+if TYPE_CHECKING:
+    from .client import Client
 
 Told = Callable[[str, Path, int, int], None]
-"""Is told of each step: what was done, the path, its bytes, its commit."""
+"""Is called for each step: what was done, the path, its bytes, its commit."""
 
 
 def quiet(*_: object) -> None:
-    """Tells nobody."""
+    """Does nothing."""
 
 
 def walk(client: Client, path: Path) -> Iterator[Tuple[Path, Tuple[Name, ...]]]:
@@ -25,10 +28,9 @@ def walk(client: Client, path: Path) -> Iterator[Tuple[Path, Tuple[Name, ...]]]:
             below: List[Path] = []
             # All answers of a level are taken first, since whoever walks asks for more between.
             for at, answer in zip(level, list(client.ask_all(ListQuery(at) for at in level))):
-                met(ListQuery(at), answer)
-                assert isinstance(answer, Names)
-                yield at, answer.names
-                below += [at + (name.name,) for name in answer.names if name.kind is NodeKind.DIRECTORY]
+                names = expected(Names, ListQuery(at), answer).names
+                yield at, names
+                below += [at + (name.name,) for name in names if name.kind is NodeKind.DIRECTORY]
             level = below
 
 

@@ -56,7 +56,7 @@ def add_put(subs: Subs) -> None:
         " command finishes what was interrupted, and later stores only what has changed.", ledger=True,
     )
     words.add_argument("local", nargs="+", metavar="LOCAL", help="a file, or a folder with -r")
-    words.add_argument("path", metavar="PATH", help="the path of LOCAL on the volume; with a slash at its end, or with several LOCALs, the directory to put them into")
+    words.add_argument("path", metavar="PATH", help="the path of LOCAL on the volume; with a slash at its end, or with several LOCALs, the directory to put them into; a single folder put to / becomes the root")
     words.add_argument("-r", "--recursive", action="store_true", help="store folders with everything in them")
     words.add_argument("-p", "--parents", action="store_true", help="make missing parent directories")
     words.add_argument("--split", action="store_true", help="store files above a mebibyte in parts: NAME.000, NAME.001, ..; above 400 MiB NAME.parts/00/000, ..")
@@ -240,7 +240,7 @@ def resume(arguments: argparse.Namespace) -> int:
     progress = progress_of(arguments)
     with writer(arguments) as client:
         if arguments.dry_run:
-            known = client.session().ledger.volume(client.way.key())
+            known = client.session().ledger.volume(client.endpoint.key())
             for waiting in client.session().ledger.pending(known) if known else ():
                 progress.say(f"would send number {waiting.number} again: {waiting.path}", did="would send", number=waiting.number, path=waiting.path)
             return 0

@@ -14,7 +14,7 @@ from typing import Dict, List, Optional, Tuple
 
 from ..connection import find_program, run_program
 from ..ledger_file import sync_file, sync_folder
-from ..manifest import BAG_DECLARATION, BAG_INFO, DECLARATION, MANIFEST, PAYLOAD, TAG_MANIFEST, RetryingConnection, bag_manifest
+from ..manifest import BAG_DECLARATION, BAG_INFO, DECLARATION, MANIFEST, PAYLOAD, TAG_MANIFEST, Line, bag_manifest
 from ..operations import Operation, now
 from ..protocol import Code, Create, Path, Replace, limits
 from ..sources import shown
@@ -135,7 +135,7 @@ class Closer:
             file = whole.get(node.path)
             if file is not None and file.commit in known and known[file.commit].sha256 != digest:
                 raise VolumeDiffers(f"{volume.image}: {'/'.join(node.path)} has other bytes than were stored: 'rebuild', and store it again")
-            digests.append(RetryingConnection(digest, node.path))
+            digests.append(Line(digest, node.path))
             size += len(data)
         date = stamp(contents.closed() or time.time_ns() // 1000)[:10]
         fields = {

@@ -13,7 +13,7 @@ from .catalogue import Catalogue, Held, versions
 from .commands import config_of, tell_of
 from .get import Getter, Lacking, as_of, require_folder, wanted
 from .names import path_of
-from .status import RetryingConnection, incomplete, lines, room
+from .status import Line, incomplete, lines, room
 from .tell import Tell, plural, shown_path, size
 from .volume import image_of, stamp
 
@@ -216,7 +216,7 @@ def status(arguments: argparse.Namespace) -> int:
     return 0
 
 
-def status_line(line: RetryingConnection, elsewhere: str) -> str:
+def status_line(line: Line, elsewhere: str) -> str:
     """A volume, for people."""
     row = line.row
     full = " ".join(f"{name} {share:.0%}" for name, share in line.fullness.items())
@@ -226,7 +226,7 @@ def status_line(line: RetryingConnection, elsewhere: str) -> str:
     return words + (f", at {elsewhere}" if elsewhere else "")
 
 
-def status_fields(line: RetryingConnection, holders: Dict[str, str]) -> Dict[str, object]:
+def status_fields(line: Line, holders: Dict[str, str]) -> Dict[str, object]:
     """A volume, for programs."""
     row = line.row
     return {

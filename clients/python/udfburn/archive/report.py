@@ -16,7 +16,7 @@ from .close import beside
 from .config import Config, write_file
 from .contents import Contents
 from .errors import VolumeDiffers
-from .status import RetryingConnection, lines
+from .status import Line, lines
 from .tell import shown_path
 from .volume import image_of
 
@@ -26,7 +26,7 @@ PLACE = "/*DATA*/"
 BEGIN = b"<!DOCTYPE html>\n<html lang=\"en\">\n"
 
 
-def ends(config: Config, line: RetryingConnection) -> List[int]:
+def ends(config: Config, line: Line) -> List[int]:
     """The address of the last block of each commit, the format's first; none where nothing of the medium is at hand."""
     image = image_of(config, line.row)
     log = beside(config.path("closed", line.row.label + ".img"), ".log")
@@ -42,7 +42,7 @@ def ends(config: Config, line: RetryingConnection) -> List[int]:
         return []
 
 
-def volume(config: Config, catalogue: Catalogue, line: RetryingConnection, folders: Dict[str, int]) -> Dict[str, Any]:
+def volume(config: Config, catalogue: Catalogue, line: Line, folders: Dict[str, int]) -> Dict[str, Any]:
     """What the page has of a volume. Its files stand in lists of one length, in order of their commits."""
     row = line.row
     rows = catalogue.of_volume(row.number)

@@ -252,7 +252,7 @@ class OpenVolume:
     def _batch(self, copy: str, operations: Callable[[], Iterable[Operation]]) -> Tuple[List[Outcome], Optional[Full]]:
         """Does operations on a copy of the image, adds its tail to the image, and has the ledger keep the replies."""
         ledger = self.client.session().ledger
-        volume = ledger.volume(self.client.way.key())
+        volume = ledger.volume(self.client.endpoint.key())
         if volume is None or not has_room(os.path.dirname(copy), self.tree.space.next * limits.BLOCK):
             raise NoBatch(f"{copy}: no room")
         done: List[Outcome] = []

@@ -1,7 +1,7 @@
 """The protocol of `udfburn` and `udfburnd`: each frame, request, query, answer, fault and limit as a type.
 
 `encode_message` and `encode_answer` give the one payload of a message or an answer; `decode_message` and
-`decode_answer` read it, and tell its first fault. `frame` puts a payload behind its length, `Frames` cuts a
+`decode_answer` read it, and report its first fault. `frame` puts a payload after its length, `Frames` cuts a
 stream into payloads.
 """
 

@@ -210,7 +210,7 @@ def decode_data(fields: Fields) -> Data:
 
 
 def decode_name(fields: Fields) -> Name:
-    """A name: one that may stand in a directory, so that it is safe as a local name too."""
+    """A name: one that may be in a directory, so that it is safe as a local name too."""
     kind = node_kind(fields.number(1))
     try:
         name = fields.take(fields.number(2)).decode()

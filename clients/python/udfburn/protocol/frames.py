@@ -1,4 +1,4 @@
-"""Frames: payloads in a stream, each behind its length."""
+"""Frames: payloads in a stream, each after its length."""
 
 from __future__ import annotations
 

@@ -17,7 +17,7 @@ PathLike = Union[str, Sequence[str]]
 
 
 class NameFault(Enum):
-    """Why a text may not stand in a directory, in the order in which faults are looked for."""
+    """Why a text may not be in a directory, in the order in which faults are looked for."""
 
     EMPTY = "is empty"
     DOTS = "stands for a directory itself or the one above"

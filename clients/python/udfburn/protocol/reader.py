@@ -1,4 +1,4 @@
-"""Fields of a payload, read one behind the other."""
+"""Fields of a payload, read one after the other."""
 
 from __future__ import annotations
 
@@ -11,7 +11,7 @@ class Short(Exception):
 
 
 class Fields:
-    """A payload that is read from its front."""
+    """A payload that is read from its beginning."""
 
     def __init__(self, payload: bytes):
         self.payload = payload

@@ -21,7 +21,7 @@ CHUNK = 256
 
 
 def audit(chain: Chain, index: int) -> None:
-    """Notes what is wrong with the front, and with each structure of the states up to that of a link."""
+    """Notes what is wrong with the volume header, and with each structure of the states up to that of a link."""
     volume = chain.volume
     note_front(volume.medium, read_front(volume.medium), volume.notes)
     run = Audit(chain)

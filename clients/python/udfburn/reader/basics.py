@@ -68,7 +68,7 @@ def read_tag(data: bytes, at: int = 0) -> Tag:
 
 
 def write_tag(identifier: int, body: Union[bytes, memoryview], location: int) -> bytes:
-    """The tag of a descriptor with this body behind it."""
+    """The tag of a descriptor with this body after it."""
     plain = TAG.pack(identifier, 3, 0, 0, 1, crc(body), len(body), location)
     return plain[:4] + bytes([sum(plain) % 256]) + plain[5:]
 

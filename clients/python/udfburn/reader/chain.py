@@ -76,7 +76,7 @@ class Chain:
         return known
 
     def _was_written(self, address: int) -> bool:
-        """Whether something stands, or cannot be read, where a commit's last block would be, and nothing after it."""
+        """Whether something is there, or cannot be read, where a commit's last block would be, and nothing after it."""
         medium = self.volume.medium
         if address >= medium.blocks:
             return False
@@ -84,13 +84,13 @@ class Chain:
         return block is None or address == medium.blocks - 1 and any(block)
 
     def _link(self, address: int) -> Link:
-        """The link of a table's entry that is as it must be."""
+        """The link of a VAT ICB that is as it must be."""
         table = self.volume.table_at(address)
         broken = () if table is not None else ("its data cannot be used",)
         return Link(table.commit if table else 0, address, table, table.commit if table else None, True, broken)
 
     def _mended(self, address: int) -> Optional[Link]:
-        """The link of a table's entry with wrong bytes."""
+        """The link of a VAT ICB with wrong bytes."""
         block, number = self.volume.medium.block(address), address - PARTITION
         entry = mend_entry(block, Hint(number, number, 0, Kind.TABLE)) if block is not None else None
         if entry is None or entry.kind is not Kind.TABLE or entry.first is None or entry.location != number:
@@ -101,7 +101,7 @@ class Chain:
         return None if table is None else Link(table.commit, address, table, table.commit, True, ("its entry has a wrong byte",))
 
     def _headed(self, start: int, address: Optional[int]) -> Optional[Link]:
-        """The link of a table whose data begins there and whose entry is lost. The data ends where the entry stood."""
+        """The link of a table whose data begins there and whose entry is lost. The data ends where the entry was."""
         medium = self.volume.medium
         first = medium.run(start, 1)
         head = read_head(first.data)
@@ -228,7 +228,7 @@ class Chain:
         return max(older, self.survey.entry_below(address) or 0) + 1
 
     def entries(self, index: int) -> "Tuple[array[int], Set[int]]":
-        """The block numbers of virtual addresses behind a commit, and those that were not read but follow from other tables."""
+        """The block numbers of virtual addresses after a commit, and those that were not read but follow from other tables."""
         if index not in self._entries:
             if len(self._entries) >= KEPT:
                 self._entries.clear()

@@ -45,7 +45,7 @@ class Directory(NamedTuple):
 
 
 class Piece(NamedTuple):
-    """An identifier as it stands: its place in the data, its bytes, its fields, its implementation use and its name's spelling."""
+    """An identifier as it is: its place in the data, its bytes, its fields, its implementation use and its name's spelling."""
 
     at: int
     data: bytes
@@ -148,7 +148,7 @@ class Reading:
         self.complete = True
 
     def step(self, at: int) -> int:
-        """Reads what stands at a place, and gives the next one."""
+        """Reads what is at a place, and gives the next one."""
         if at:
             after = self.known.run(self.data, at, self.size, self.first, self.names)
             if after > at:
@@ -159,7 +159,8 @@ class Reading:
             self.faults += met
             return self._mend(at, piece)
         name = said_by(piece, self.first)
-        assert name is not None
+        if name is None:
+            raise ValueError("an identifier without a fault names nothing")
         if not piece.use and piece.name:
             self.known.keep(piece, name)
         return self._take(piece, name)
@@ -173,7 +174,7 @@ class Reading:
 
     def _add(self, name: Identifier) -> None:
         if name.name in self.names:
-            self.faults.append(Fault(Cause.TWICE, f"the name {name.name!r} stands twice"))
+            self.faults.append(Fault(Cause.TWICE, f"the name {name.name!r} is there twice"))
         else:
             self.names[name.name] = name
 

@@ -14,7 +14,7 @@ from .notes import Cause, Fault, Faults
 
 FILE_ENTRY, FILE_SET = 261, 256
 LONG, EMBEDDED = 1, 3
-"""The flags of an entry: its allocation descriptors are long ones, or its bytes stand in their place."""
+"""The flags of an entry: its allocation descriptors are long ones, or its bytes are in their place."""
 
 
 class Kind(IntEnum):
@@ -32,9 +32,9 @@ KINDS = {int(kind): kind for kind in Kind}
 class Entry(NamedTuple):
     """What a file entry says.
 
-    `moment` is None where none can be read. `first` is the number of the first block of the bytes, None where they stand in
+    `moment` is None where none can be read. `first` is the number of the first block of the bytes, None where they are in
     `inside` or where there are none. `location` and `check` are those of the tag: the virtual address of a node or the number of
-    a table's entry, and the CRC. `proved` says that the CRC agrees with the fields.
+    a VAT ICB, and the CRC. `proved` says that the CRC agrees with the fields.
     """
 
     kind: Kind
@@ -50,7 +50,7 @@ class Entry(NamedTuple):
 
 
 class Fields(NamedTuple):
-    """The fields of an entry behind its tag, as they stand."""
+    """The fields of an entry after its tag, as they are."""
 
     direct: int
     strategy: int
@@ -195,7 +195,8 @@ def place_faults(block: bytes, fields: Fields, kind: Kind) -> Iterator[Fault]:
 
 def write_entry(entry: Entry) -> bytes:
     """The block of an entry, as docs/FORMAT.md has it. Its moment has to be known."""
-    assert entry.moment is not None
+    if entry.moment is None:
+        raise ValueError("the moment of the entry is not known")
     stamp = write_timestamp(entry.moment)
     if entry.inside is not None:
         flags, blocks, allocation = EMBEDDED, 0, entry.inside

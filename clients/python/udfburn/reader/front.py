@@ -1,4 +1,4 @@
-"""The front: blocks 0 to 256, which say the label, the moment of the format and the capacity (docs/FORMAT.md, "The front")."""
+"""The volume header: blocks 0 to 256, which say the label, the moment of the format and the capacity (docs/FORMAT.md, "The volume header: blocks 0 to 256")."""
 
 from __future__ import annotations
 
@@ -22,7 +22,7 @@ T = TypeVar("T")
 
 
 class Front(NamedTuple):
-    """What the front says; None where neither sequence says it."""
+    """What the volume header says; None where neither sequence says it."""
 
     label: Optional[str]
     moment: Optional[int]
@@ -71,7 +71,7 @@ def integrity(moment: int, capacity: int) -> bytes:
 
 
 def blocks_of_front(label: str, moment: int, capacity: int) -> Dict[int, bytes]:
-    """The blocks of a front that are not zeros."""
+    """The blocks of a volume header that are not zeros."""
     blocks = {at: (b"\0" + word + b"\1").ljust(BLOCK, b"\0") for at, word in ((16, b"BEA01"), (17, b"NSR03"), (18, b"TEA01"))}
     for at in (MAIN, RESERVE):
         blocks[at] = primary(label, moment, at)
@@ -101,7 +101,7 @@ def label_at(block: bytes) -> Optional[str]:
 
 
 def long_label(start: int) -> Callable[[bytes], Optional[str]]:
-    """The label that stands as a dstring of 128 bytes at a place."""
+    """The label that is as a dstring of 128 bytes at a place."""
     def read(block: bytes) -> Optional[str]:
         label = read_dstring(block[start : start + 128])
         return label if is_label(label) else None
@@ -109,12 +109,12 @@ def long_label(start: int) -> Callable[[bytes], Optional[str]]:
 
 
 def moment_at(start: int) -> Callable[[bytes], Optional[int]]:
-    """The moment whose timestamp stands at a place."""
+    """The moment whose timestamp is at a place."""
     return lambda block: read_timestamp(block[start : start + 12])
 
 
 def capacity_at(start: int) -> Callable[[bytes], Optional[int]]:
-    """The capacity whose partition length stands at a place."""
+    """The capacity whose partition length is at a place."""
     def read(block: bytes) -> Optional[int]:
         capacity = int(struct.unpack_from("<I", block, start)[0]) + PARTITION
         return capacity if LEAST_CAPACITY <= capacity <= GREATEST_CAPACITY else None
@@ -145,7 +145,7 @@ def read_front(medium: Medium) -> Front:
 
 
 def note_front(medium: Medium, front: Front, notes: Notes) -> None:
-    """Notes each block of the front that is not as the three values have it. What is unknown is not compared."""
+    """Notes each block of the volume header that is not as the three values have it. What is unknown is not compared."""
     if front.label is None or front.moment is None or front.capacity is None:
         notes.add(MAIN if front.capacity is not None else MAIN + 2, Cause.FRONT, "the volume header does not give label, moment and capacity")
     known = Front(front.label or "?", front.moment or 0, front.capacity or LEAST_CAPACITY)
@@ -176,4 +176,4 @@ def differences(medium: Medium, expected: Dict[int, bytes], unknown: "set[int]")
             yield at, ""
         elif at not in unknown and block != expected.get(at, zeros):
             place = next(index for index, (a, b) in enumerate(zip(block, expected.get(at, zeros))) if a != b)
-            yield at, f"byte {place} is not that of the front of this label, moment and capacity"
+            yield at, f"byte {place} is not that of the volume header of this label, moment and capacity"

@@ -60,7 +60,7 @@ class RescueMap:
 
 
 def join(ranges: List[Tuple[int, int]], start: int, end: int) -> None:
-    """Puts a range behind others, joined with the last one where they touch."""
+    """Puts a range after others, joined with the last one where they touch."""
     if ranges and ranges[-1][1] == start:
         ranges[-1] = (ranges[-1][0], end)
     else:

@@ -13,7 +13,7 @@ T = TypeVar("T")
 
 
 class Hint(NamedTuple):
-    """What is known of an entry from elsewhere: the block number at which it stands, and what a table and a directory say."""
+    """What is known of an entry from elsewhere: the block number at which it is, and what a table and a directory say."""
 
     number: int
     location: Optional[int] = None
@@ -73,7 +73,7 @@ def candidates(block: bytes, hint: Hint, location: int) -> Iterator[Entry]:
 
 
 def places(block: bytes, fields: Fields, hint: Hint, extent: int, first: int) -> Iterator[Tuple[int, Optional[int], Optional[bytes]]]:
-    """The sizes, and the places of the bytes, that an entry may say. Data ends where its entry stands."""
+    """The sizes, and the places of the bytes, that an entry may say. Data ends where its entry is."""
     if fields.flags != LONG or fields.blocks == 0:
         for size in unlike((fields.size, fields.allocation_length)):
             if 0 < size <= INSIDE:

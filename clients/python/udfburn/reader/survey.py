@@ -1,4 +1,4 @@
-"""A look at every block of a medium: tables' entries, tables' heads and nodes' entries, wherever they lie."""
+"""A look at every block of a medium: VAT ICBs, tables' heads and nodes' entries, wherever they lie."""
 
 from __future__ import annotations
 
@@ -23,7 +23,7 @@ HEAD_AT, TABLE_TYPE = 152, int(Kind.TABLE)
 class Survey:
     """Where structures are, by the blocks themselves. Addresses go up.
 
-    `tables` are tables' entries that are as they must be: the writer leaves no block that is one by chance. `hurt` are blocks that
+    `tables` are VAT ICBs that are as they must be: the writer leaves no block that is one by chance. `hurt` are blocks that
     have something of an entry and are none, `heads` those that have the head of a table.
     """
 
@@ -85,7 +85,7 @@ class Survey:
             yield self.heads[index]
 
     def table_below(self, address: int) -> Optional[int]:
-        """The last table's entry below an address that is as it must be."""
+        """The last VAT ICB below an address that is as it must be."""
         index = bisect_left(self.tables, address)
         return self.tables[index - 1] if index else None
 

@@ -36,7 +36,7 @@ class Client(NamedTuple):
 
 
 class Head(NamedTuple):
-    """The head of a table's data, as it stands."""
+    """The head of a table's data, as it is."""
 
     length: int
     use_length: int
@@ -58,7 +58,7 @@ class Head(NamedTuple):
 class Table(NamedTuple):
     """A table and its entry.
 
-    `address` is that of the table's entry, `previous` that of the entry of the table before (None in the first, and where it
+    `address` is that of the VAT ICB, `previous` that of the entry of the table before (None in the first, and where it
     makes no sense), `check` the CRC in the entry's tag, `first` the number of the first block of the data, `size` its bytes,
     `length` those of its head with the clients' records. Counts are those that the table says, the root counted as a directory.
     """
@@ -132,7 +132,7 @@ def read_entries(data: bytes, at: int) -> "array[int]":
 def table_faults(data: bytes, number: int) -> Iterator[Fault]:
     """All that is not as it must be with the data of a table, in the order in which `udfburn` looks for it.
 
-    `number` is the block number of the table's entry.
+    `number` is the block number of the VAT ICB.
     """
     head = read_head(data)
     if head is None:
@@ -192,7 +192,7 @@ def entries_faults(entries: "array[int]", head: Head, number: int) -> Iterator[F
     """What is wrong with the entries of virtual addresses."""
     used = [entry for entry in entries if entry != UNUSED]
     if used and max(used) >= number or UNUSED in entries[:2]:
-        yield Fault(Cause.ENTRY, "a block number is not below that of the table's entry, or there is no file set or no root")
+        yield Fault(Cause.ENTRY, "a block number is not below that of the VAT ICB, or there is no file set or no root")
     if not 2 <= len(entries) <= NODES + 1:
         yield Fault(Cause.COUNT, f"there are {len(entries)} virtual addresses")
     if len(used) != 1 + head.files + head.directories:

@@ -1,4 +1,4 @@
-"""A volume on a medium: its tables from the newest to the oldest, the tree behind each, and the bytes of files."""
+"""A volume on a medium: its tables from the newest to the oldest, the tree after each, and the bytes of files."""
 
 from __future__ import annotations
 
@@ -20,7 +20,7 @@ ROOT = 1
 
 
 class NoVolume(Exception):
-    """No table's entry is on the medium, or none of the commit that was asked for."""
+    """No VAT ICB is on the medium, or none of the commit that was asked for."""
 
 
 class Node(NamedTuple):
@@ -28,7 +28,7 @@ class Node(NamedTuple):
 
     `path` has its names, `unique` and `virtual` are its unique ID and its virtual address, `address` is that of its entry and
     `moment` microseconds from 1970-01-01 UTC. `size` is the bytes of a file, or of a directory's data. The data is `blocks` blocks
-    from the address `data` on; `data` is None where the bytes stand inside the entry, or where there are none.
+    from the address `data` on; `data` is None where the bytes are inside the entry, or where there are none.
     """
 
     path: Path
@@ -50,7 +50,7 @@ class Node(NamedTuple):
 class Volume:
     """What a medium holds. Nothing is refused for a wrong byte: it is noted in `notes`.
 
-    `label`, `moment` (of the format) and `capacity` (in blocks) are None where neither sequence of the front says them.
+    `label`, `moment` (of the format) and `capacity` (in blocks) are None where neither sequence of the volume header says them.
     """
 
     def __init__(self, medium: Medium):
@@ -68,7 +68,7 @@ class Volume:
         if self._chain is None:
             self._chain = list(self._links())
         if not self._chain:
-            raise NoVolume(f"{self.medium.path}: there is no table's entry")
+            raise NoVolume(f"{self.medium.path}: there is no VAT ICB")
         return self._chain
 
     def table(self, commit: Optional[int] = None) -> Table:
@@ -82,7 +82,7 @@ class Volume:
         raise NoVolume(f"{self.medium.path}: the chain has commits {chain[-1].commit} to {chain[0].commit}, and not {commit}")
 
     def last_entry(self) -> Optional[int]:
-        """The address of the last table's entry that is as it must be."""
+        """The address of the last VAT ICB that is as it must be."""
         # A device may be larger than any volume.
         end = min(self.medium.blocks, GREATEST_CAPACITY)
         for start in range((end - 1) // 512 * 512, -1, -512):
@@ -94,16 +94,16 @@ class Volume:
         return None
 
     def table_at(self, address: int) -> Optional[Table]:
-        """The table whose entry stands at an address; None where there is none that can be used. What is wrong is noted."""
+        """The table whose entry is at an address; None where there is none that can be used. What is wrong is noted."""
         block = self.medium.block(address)
         if block is None:
-            self.notes.add(address, Cause.MISSING, "the table's entry cannot be read")
+            self.notes.add(address, Cause.MISSING, "the VAT ICB cannot be read")
             return None
         number = address - PARTITION
         entry, faults = read_entry(block, number)
         self.notes.extend(address, faults)
         if entry is None or entry.kind is not Kind.TABLE or entry.first is None:
-            self.notes.add(address, Cause.CHAIN, "there is no table's entry")
+            self.notes.add(address, Cause.CHAIN, "there is no VAT ICB")
             return None
         if entry.first + blocks_of(entry.size) > number:
             self.notes.add(address, Cause.RANGE, "the table's data does not lie below its entry")
@@ -112,7 +112,8 @@ class Volume:
 
     def table_of(self, address: int, entry: Entry) -> Optional[Table]:
         """The table of an entry; None where its head cannot be used, which is noted."""
-        assert entry.first is not None
+        if entry.first is None:
+            raise ValueError("the entry has no extent")
         start, number = entry.first + PARTITION, address - PARTITION
         run = self.medium.run(start, 1)
         head = read_head(run.data)
@@ -168,7 +169,7 @@ class Volume:
         return Run(run.data[: node.size], run.missing)
 
     def check(self) -> Notes:
-        """Looks at the front, every table, and every node of every state. The notes, which are empty where all is as it must be."""
+        """Looks at the volume header, every table, and every node of every state. The notes, which are empty where all is as it must be."""
         note_front(self.medium, self._front, self.notes)
         seen = Seen()
         for table in self.chain():
@@ -177,7 +178,7 @@ class Volume:
 
 
 def is_table_entry(block: bytes, number: int) -> bool:
-    """Whether the block is a table's entry at this block number, by its whole descriptor."""
+    """Whether the block is a VAT ICB at this block number, by its whole descriptor."""
     if not is_entry_like(block) or block[27] != Kind.TABLE:
         return False
     entry, faults = read_entry(block, number)
@@ -211,7 +212,7 @@ class Seen:
 
 
 class State:
-    """The tree behind a commit."""
+    """The tree after a commit."""
 
     def __init__(self, volume: Volume, table: Table, seen: Optional[Seen] = None):
         self.volume = volume
@@ -233,7 +234,7 @@ class State:
         return read_clients(self._data, self.table.version, self.table.clients)
 
     def address(self, virtual: int) -> Optional[int]:
-        """The address of what has a virtual address; None where it is unused or does not lie below the table's entry."""
+        """The address of what has a virtual address; None where it is unused or does not lie below the VAT ICB."""
         number = self.entries[virtual] if 0 <= virtual < len(self.entries) else UNUSED
         return number + PARTITION if number < self.table.address - PARTITION else None
 
@@ -302,7 +303,7 @@ class State:
             notes.add(at, Cause.IDENTITY, f"{show(path)} has {entry.links} links, and not 1")
         blocks = blocks_of(entry.size) if entry.first is not None else 0
         if entry.first is not None and entry.first + blocks > self.table.address - PARTITION:
-            notes.add(at, Cause.RANGE, f"the bytes of {show(path)} do not lie below the table's entry")
+            notes.add(at, Cause.RANGE, f"the bytes of {show(path)} do not lie below the VAT ICB")
             return None
         data = entry.first + PARTITION if entry.first is not None else None
         return Node(path, kind, entry.unique, name.virtual, at, entry.moment, entry.size, data, blocks, entry.links, above, entry.check)
@@ -332,7 +333,8 @@ class State:
             directory, faults = read_directory(run.data, node.size, node.data - PARTITION)
             self.volume.notes.extend(node.data, faults)
             self._seen.directories[node.data, node.size] = directory
-        assert directory is not None
+        if directory is None:
+            raise RuntimeError("a directory that was seen before has no names")
         if directory.parent != node.above:
             self.volume.notes.add(node.data, Cause.IDENTITY, f"the directory above {show(node.path)} is another than it says")
         if node.links != 1 + sum(name.is_directory for name in directory.names):

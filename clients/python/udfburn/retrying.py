@@ -1,4 +1,4 @@
-"""A conversation that is taken up again where it was lost, and queries over it."""
+"""A connection that is opened again when it is lost, and queries over it."""
 
 from __future__ import annotations
 
@@ -8,8 +8,9 @@ from contextlib import contextmanager
 from itertools import islice
 from typing import Callable, Deque, Generator, Iterable, Iterator, List, Optional, Tuple, Type
 
-from .connection import Connection, Lost, Endpoint
+from .connection import Connection, Lost
 from .disk import room_left
+from .endpoint import Endpoint
 from .errors import DAMAGE, ConnectionFailed, Damaged, DiskFull, DriveFailed, OutOfMemory, UdfburnError, UsageError
 from .protocol import (
     DAMAGED, FAULT, MEMORY, Answer, BadAnswer, Bare, Data, Gap, Get, List as ListQuery, Malformed, Names, Node, Query, Committed,
@@ -64,13 +65,13 @@ class Patience:
 
 
 class RetryingConnection:
-    """A conversation on a way. `greet` is called on each new one before anything else is said, `part` before it is ended."""
+    """A connection to an endpoint. `greet` is called on each new one before anything else is sent, `part` before it is closed."""
 
-    def __init__(self, way: Endpoint, patience: float = 10.0, timeout: float = 120.0):
-        self.way = way
+    def __init__(self, endpoint: Endpoint, patience: float = 10.0, timeout: float = 120.0):
+        self.endpoint = endpoint
         self.patience = Patience(patience)
         self.timeout = timeout
-        self.image = way.path if way.kind == "image" else None
+        self.image = endpoint.path if endpoint.kind == "image" else None
         self.greet: Callable[[Connection], None] = lambda connection: None
         self.part: Callable[[Connection], None] = lambda connection: None
         self._connection: Optional[Connection] = None
@@ -84,23 +85,23 @@ class RetryingConnection:
             # What was waited for nothing already counts. A moment is left for an answer that comes at once.
             timeout = max(self.timeout - self.patience.spent(), min(self.timeout, LEAST))
             try:
-                connection = self.way.open(timeout)
+                connection = self.endpoint.open(timeout)
             except Lost as lost:
                 self.patience.waited(began)
-                self.patience.wait(ConnectionFailed, f"{self.way}: {lost}")
+                self.patience.wait(ConnectionFailed, f"{self.endpoint}: {lost}")
                 continue
             try:
                 self.greet(connection)
             except Lost as lost:
                 self._end(connection)
-                self.patience.wait(ConnectionFailed, f"{self.way}: {lost}")
+                self.patience.wait(ConnectionFailed, f"{self.endpoint}: {lost}")
                 continue
             except BaseException:
                 connection.close()
                 raise
             self._connection, self._opened = connection, time.monotonic()
             # At a socket it is others who are waited for.
-            self._turn = max(TURN, BEGINNINGS * (self._opened - began)) if self.way.kind == "image" else TURN
+            self._turn = max(TURN, BEGINNINGS * (self._opened - began)) if self.endpoint.kind == "image" else TURN
         return self._connection
 
     def drop(self) -> None:
@@ -122,11 +123,11 @@ class RetryingConnection:
     def lost(self, why: str) -> None:
         """Ends a conversation that was lost, and pauses."""
         self.drop()
-        self.patience.wait(ConnectionFailed, f"{self.way}: {why}")
+        self.patience.wait(ConnectionFailed, f"{self.endpoint}: {why}")
 
     def over(self) -> bool:
         """Whether it is time to let others have a turn. An image that is open with the library stays open until it is closed."""
-        return self._connection is not None and self.way.library is None and time.monotonic() - self._opened > self._turn
+        return self._connection is not None and self.endpoint.library is None and time.monotonic() - self._opened > self._turn
 
     def troubled(self, answer: Answer) -> bool:
         """Pauses where an answer says that the program is troubled: then what was asked is to be asked again."""
@@ -137,9 +138,9 @@ class RetryingConnection:
         self.drop()
         if answer == FAULT:
             kind, why = self._why_fault()
-            self.patience.wait(kind, f"{self.way}: {why}")
+            self.patience.wait(kind, f"{self.endpoint}: {why}")
         else:
-            self.patience.wait(OutOfMemory, f"{self.way}: the program has no memory")
+            self.patience.wait(OutOfMemory, f"{self.endpoint}: the program has no memory")
         return True
 
     def _why_fault(self) -> Tuple[Type[UdfburnError], str]:
