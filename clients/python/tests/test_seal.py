@@ -12,7 +12,7 @@ from unittest import mock
 
 from udfburn import Client, errors as e
 from udfburn import protocol as p
-from udfburn.manifest import RetryingConnection, bag_manifest, plain_manifest, read_manifest
+from udfburn.manifest import Line, bag_manifest, plain_manifest, read_manifest
 from udfburn.seal import seal
 
 from . import bags
@@ -36,7 +36,7 @@ class Lines(unittest.TestCase):
             ("x\ry", "x%0Dy", "x\\ry", "\\"), ("x\\y", "x\\y", "x\\\\y", "\\"), ("x\\n", "x\\n", "x\\\\n", "\\"), ("ü", "ü", "ü", ""),
         )
         for name, bag, plain, mark in cases:
-            line = RetryingConnection(digest, ("data", name))
+            line = Line(digest, ("data", name))
             self.assertEqual(bag_manifest([line]).decode(), f"{digits}  data/{bag}\n")
             self.assertEqual(plain_manifest([line]).decode(), f"{mark}{digits}  data/{plain}\n")
             for form, data in ((True, bag_manifest([line])), (False, plain_manifest([line]))):
@@ -46,15 +46,15 @@ class Lines(unittest.TestCase):
         digits = "ab" * 32
         digest = bytes.fromhex(digits)
         for data in (f"{digits} *./d/f\n", f"{digits.upper()}  d/f\r\n", f"\n{digits}  ./d/./f"):
-            self.assertEqual(read_manifest(data.encode(), False), ([RetryingConnection(digest, ("d", "f"))], []))
+            self.assertEqual(read_manifest(data.encode(), False), ([Line(digest, ("d", "f"))], []))
         for data in (f"{digits}\tdata/f\n", f"{digits}   data/f\n", f"{digits} *data/f\r\n"):
-            self.assertEqual(read_manifest(data.encode(), True), ([RetryingConnection(digest, ("data", "f"))], []))
-        self.assertEqual(read_manifest(f"{digits}  *star\n".encode(), True), ([RetryingConnection(digest, ("*star",))], []))
-        self.assertEqual(read_manifest(f"{digits}  d/%0a%0A%25%41\n".encode(), True)[0], [RetryingConnection(digest, ("d", "\n\n%%41"))])
+            self.assertEqual(read_manifest(data.encode(), True), ([Line(digest, ("data", "f"))], []))
+        self.assertEqual(read_manifest(f"{digits}  *star\n".encode(), True), ([Line(digest, ("*star",))], []))
+        self.assertEqual(read_manifest(f"{digits}  d/%0a%0A%25%41\n".encode(), True)[0], [Line(digest, ("d", "\n\n%%41"))])
         # Only these end a line.
         for end in ("\r\n", "\r", "\n"):
-            self.assertEqual(read_manifest(f"{digits}  a\x0b\u2028\x85b{end}{digits}  c{end}".encode(), True)[0], [RetryingConnection(digest, ("a\x0b\u2028\x85b",)), RetryingConnection(digest, ("c",))])
-        self.assertEqual(read_manifest(f"{digits}  a\x0b\u2028b\n".encode(), False)[0], [RetryingConnection(digest, ("a\x0b\u2028b",))])
+            self.assertEqual(read_manifest(f"{digits}  a\x0b\u2028\x85b{end}{digits}  c{end}".encode(), True)[0], [Line(digest, ("a\x0b\u2028\x85b",)), Line(digest, ("c",))])
+        self.assertEqual(read_manifest(f"{digits}  a\x0b\u2028b\n".encode(), False)[0], [Line(digest, ("a\x0b\u2028b",))])
 
     def test_what_is_no_line(self) -> None:
         digits = "ab" * 32

@@ -18,7 +18,7 @@ DECLARATION = b"BagIt-Version: 1.0\nTag-File-Character-Encoding: UTF-8\n"
 """The bytes of `bagit.txt` (RFC 8493, 2.1.1)."""
 
 
-class RetryingConnection(NamedTuple):
+class Line(NamedTuple):
     """A line of a manifest: the digest of a file, and its path from the manifest's directory on."""
 
     sha256: bytes
@@ -31,17 +31,17 @@ PERCENT = str.maketrans({"%": "%25", "\r": "%0D", "\n": "%0A"})
 BACKSLASH = str.maketrans({"\\": "\\\\", "\r": "\\r", "\n": "\\n"})
 
 
-def bag_manifest(lines: Iterable[RetryingConnection]) -> bytes:
+def bag_manifest(lines: Iterable[Line]) -> bytes:
     """A manifest of a bag."""
     return "".join([f"{line.sha256.hex()}  {'/'.join(line.path).translate(PERCENT)}\n" for line in lines]).encode()
 
 
-def plain_manifest(lines: Iterable[RetryingConnection]) -> bytes:
+def plain_manifest(lines: Iterable[Line]) -> bytes:
     """A manifest as `sha256sum` writes it."""
     return "".join(map(plain_line, lines)).encode()
 
 
-def plain_line(line: RetryingConnection) -> str:
+def plain_line(line: Line) -> str:
     """A line of `sha256sum`, which begins with a backslash where its name has one."""
     path = "/".join(line.path)
     escaped = path.translate(BACKSLASH)
@@ -61,9 +61,9 @@ ESCAPED = re.compile(r"\\(.?)", re.DOTALL)
 UNESCAPED = {"\\": "\\", "n": "\n", "r": "\r"}
 
 
-def read_manifest(data: bytes, bag: bool) -> Tuple[List[RetryingConnection], List[str]]:
+def read_manifest(data: bytes, bag: bool) -> Tuple[List[Line], List[str]]:
     """The lines of a manifest, and what is wrong with those that are none."""
-    lines: List[RetryingConnection] = []
+    lines: List[Line] = []
     faults: List[str] = []
     try:
         text = data.decode()
@@ -106,7 +106,7 @@ def line_of(digits: str, name: str) -> "Line | None":
     names = tuple(part for part in name.split("/") if part != ".")
     if not names or any(name_fault(part) is not None for part in names):
         return None
-    return RetryingConnection(bytes.fromhex(digits), names)
+    return Line(bytes.fromhex(digits), names)
 
 
 __all__ = [

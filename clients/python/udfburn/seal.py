@@ -155,9 +155,9 @@ def plain_files(path: Path, payload: List[Read]) -> Dict[Path, bytes]:
     return {folder + (m.MANIFEST,): m.plain_manifest(lines_of(folder, files)) for folder, files in folders.items()}
 
 
-def lines_of(path: Path, files: Iterable[Read]) -> List[m.RetryingConnection]:
+def lines_of(path: Path, files: Iterable[Read]) -> List[m.Line]:
     """The lines of files, whose paths begin below a directory."""
-    return [m.RetryingConnection(file.sha256, file.path[len(path) :]) for file in files]
+    return [m.Line(file.sha256, file.path[len(path) :]) for file in files]
 
 
 def bag_files(path: Path, found: Found, payload: List[Read]) -> Dict[Path, bytes]:
@@ -175,7 +175,7 @@ def bag_files(path: Path, found: Found, payload: List[Read]) -> Dict[Path, bytes
     outside = [file for file in found if file[len(path)] != m.PAYLOAD or len(file) == len(path) + 1]
     tags = {file: found[file].sha256 for file in outside if not is_tag_manifest(file[len(path) :])}
     tags.update({file: sha256(data).digest() for file, data in wanted.items()})
-    wanted[path + (m.TAG_MANIFEST,)] = m.bag_manifest(m.RetryingConnection(tags[tag], tag[len(path) :]) for tag in sorted(tags))
+    wanted[path + (m.TAG_MANIFEST,)] = m.bag_manifest(m.Line(tags[tag], tag[len(path) :]) for tag in sorted(tags))
     return wanted
 
 

@@ -11,14 +11,13 @@ from typing import Dict, List, NamedTuple, Optional, Sequence
 from ..ledger_file import sync_file, sync_folder
 from ..operations import now
 from ..sources import shown
-from .catalogue import CLOSED, Catalogue, Copy, VolumeRow
+from .catalogue import CLOSED, Catalogue, Copy, VolumeRow, image_of
 from .close import SIDECARS, beside, send
 from .config import Config
 from .contents import Contents
 from .errors import CopyFailed, NotAtHand, VolumeDiffers
 from .remotes import Print, print_of_file, remote_of
 from .tell import Tell, shown_path
-from .volume import image_of
 
 
 class Options(NamedTuple):

@@ -122,9 +122,8 @@ def add_readers(subs: "Subs") -> None:
 
 
 COMMANDS: Dict[str, str] = {
-    "init": "commands", "add": "commands", "rebuild": "commands", "ls": "queries", "get": "queries", "status": "queries", "find": "queries", "history": "queries",
-    "where": "queries", "report": "queries", "adopt": "closing",
-    "close": "closing", "check": "closing", "repair": "closing",
+    "init": "commands", "add": "commands", "rebuild": "commands", "ls": "lookups", "find": "lookups", "history": "lookups", "where": "lookups",
+    "get": "queries", "status": "queries", "report": "queries", "adopt": "closing", "close": "closing", "check": "closing", "repair": "closing",
 }
 
 

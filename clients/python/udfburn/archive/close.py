@@ -14,19 +14,19 @@ from typing import Dict, List, Optional, Tuple
 
 from ..connection import find_program, run_program
 from ..ledger_file import sync_file, sync_folder
-from ..manifest import BAG_DECLARATION, BAG_INFO, DECLARATION, MANIFEST, PAYLOAD, TAG_MANIFEST, RetryingConnection, bag_manifest
+from ..manifest import BAG_DECLARATION, BAG_INFO, DECLARATION, MANIFEST, PAYLOAD, TAG_MANIFEST, Line, bag_manifest
 from ..operations import Operation, now
 from ..protocol import Code, Create, Path, Replace, limits
 from ..sources import shown
 from .bag import info, tag_manifest
-from .catalogue import CLOSED, CLOSING, Catalogue, Copy, VolumeRow
+from .catalogue import CLOSED, CLOSING, Catalogue, Copy, VolumeRow, image_of
 from .claims import Claims
 from .config import Config, write_file
 from .contents import Contents, read_fields
 from .errors import ArchiveError, CopyFailed, NotAtHand, VolumeDiffers
 from .remotes import Print, print_of_file, remote_of
-from .tell import Tell
-from .volume import OpenVolume, image_of, stamp
+from .tell import Tell, stamp
+from .volume import OpenVolume
 
 SIDECARS = (".sha256", ".info", ".log", ".svg")
 """The files beside a closed image: its digest in the form of sha256sum, what is known of it, its commits, its map."""
@@ -135,7 +135,7 @@ class Closer:
             file = whole.get(node.path)
             if file is not None and file.commit in known and known[file.commit].sha256 != digest:
                 raise VolumeDiffers(f"{volume.image}: {'/'.join(node.path)} has other bytes than were stored: 'rebuild', and store it again")
-            digests.append(RetryingConnection(digest, node.path))
+            digests.append(Line(digest, node.path))
             size += len(data)
         date = stamp(contents.closed() or time.time_ns() // 1000)[:10]
         fields = {

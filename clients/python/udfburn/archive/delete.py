@@ -7,11 +7,11 @@ from typing import Dict, List, Optional, Sequence, Tuple
 
 from ..errors import SourceError
 from ..sources import Source, delete, shown
-from .catalogue import CLOSED, Catalogue, Held, VolumeRow, is_whole
+from .catalogue import CLOSED, Catalogue, Held, VolumeRow, image_of, is_whole
 from .config import Config
 from .contents import Contents
 from .job import Job, find_file
-from .volume import image_of
+
 
 class Deleter:
     """Deletes what `archive.toml` lets it: a file that a volume acknowledged, or one of a volume with enough copies."""

@@ -11,14 +11,13 @@ from typing import Any, Dict, List
 
 from ..errors import SourceError
 from ..sources import shown
-from .catalogue import Catalogue
+from .catalogue import Catalogue, image_of
 from .close import beside
 from .config import Config, write_file
 from .contents import Contents
 from .errors import VolumeDiffers
-from .status import RetryingConnection, lines
+from .status import Line, lines
 from .tell import shown_path
-from .volume import image_of
 
 PLACE = "/*DATA*/"
 """Where the page has its data."""
@@ -26,7 +25,7 @@ PLACE = "/*DATA*/"
 BEGIN = b"<!DOCTYPE html>\n<html lang=\"en\">\n"
 
 
-def ends(config: Config, line: RetryingConnection) -> List[int]:
+def ends(config: Config, line: Line) -> List[int]:
     """The address of the last block of each commit, the format's first; none where nothing of the medium is at hand."""
     image = image_of(config, line.row)
     log = beside(config.path("closed", line.row.label + ".img"), ".log")
@@ -42,7 +41,7 @@ def ends(config: Config, line: RetryingConnection) -> List[int]:
         return []
 
 
-def volume(config: Config, catalogue: Catalogue, line: RetryingConnection, folders: Dict[str, int]) -> Dict[str, Any]:
+def volume(config: Config, catalogue: Catalogue, line: Line, folders: Dict[str, int]) -> Dict[str, Any]:
     """What the page has of a volume. Its files stand in lists of one length, in order of their commits."""
     row = line.row
     rows = catalogue.of_volume(row.number)

@@ -7,17 +7,16 @@ import time
 from typing import Dict, List, NamedTuple, Optional, Tuple
 
 from ..protocol import limits
-from .catalogue import CLOSED, CLOSING, FILE, FULL, NEW, Catalogue, Copy, Held, VolumeRow, folder_back, held_row, is_whole
+from .catalogue import CLOSED, CLOSING, FILE, FULL, NEW, Catalogue, Copy, Held, VolumeRow, folder_back, held_row, image_of, is_whole
 from .config import Config
 from .tell import shown_path
 from .tree import MANIFEST
-from .volume import image_of
 
 STALE = 400 * 86_400 * 1_000_000
 """Microseconds after which a closed volume should be looked at again."""
 
 
-class RetryingConnection(NamedTuple):
+class Line(NamedTuple):
     """A volume: its state, and how full it is in each limit, from 0 to 1."""
 
     row: VolumeRow
@@ -70,7 +69,7 @@ def attention(row: VolumeRow, at_hand: bool, copies: List[Copy], config: Config,
     return found
 
 
-def lines(config: Config, catalogue: Catalogue) -> List[RetryingConnection]:
+def lines(config: Config, catalogue: Catalogue) -> List[Line]:
     """All volumes, those that need attention first."""
     copies: Dict[int, List[Copy]] = {}
     for copy in catalogue.copies():
@@ -81,7 +80,7 @@ def lines(config: Config, catalogue: Catalogue) -> List[RetryingConnection]:
         own, at_hand = row.holder == config.id, image_of(config, row) is not None
         have = copies.get(row.number, [])
         state = state_of(row, at_hand, good(have, config), config, own)
-        found.append(RetryingConnection(row, state, at_hand, fullness(row), have, attention(row, at_hand, have, config, own, now)))
+        found.append(Line(row, state, at_hand, fullness(row), have, attention(row, at_hand, have, config, own, now)))
     return sorted(found, key=lambda line: (not line.attention, line.row.number))
 
 

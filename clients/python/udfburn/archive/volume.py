@@ -5,7 +5,6 @@ from __future__ import annotations
 import os
 import time
 from contextlib import closing
-from datetime import datetime, timezone
 from typing import Callable, Iterable, Iterator, List, Optional, Tuple
 
 from ..blocks import Space
@@ -20,11 +19,12 @@ from ..protocol import Code, Create, MakeDir, Path, Remove, limits
 from ..reader import Kind
 from .bag import manifest_size
 from .batch import Batch, NoBatch, cut_tail, has_room, is_worth, memory_folder, sound_length
-from .catalogue import CLOSED, NEW, OPEN, Catalogue, VolumeRow, is_whole
+from .catalogue import NEW, OPEN, Catalogue, VolumeRow, image_of, is_whole
 from .claims import Claims
 from .config import Config, volume_label
 from .contents import ABOUT, RUNS, TITLE, Contents, File
 from .errors import VolumeDiffers
+from .tell import stamp
 from .tree import Tree
 
 RUNS_MOST = 480
@@ -53,20 +53,6 @@ begin with = are the archive's:
 runs/ has a text for each run that wrote to this volume. A closed volume is a bag
 of RFC 8493: "sha256sum -c manifest-sha256.txt" checks it.
 """
-
-
-def stamp(moment: int) -> str:
-    """A moment, as people read it."""
-    return datetime.fromtimestamp(moment / 1e6, timezone.utc).strftime("%Y-%m-%dT%H:%M:%SZ")
-
-
-def image_of(config: Config, row: VolumeRow) -> Optional[str]:
-    """The image of a volume, where it is at hand."""
-    for folder in ("closed", "open") if row.state == CLOSED else ("open", "closed"):
-        image = config.path(folder, row.label + ".img")
-        if os.path.isfile(image):
-            return image
-    return None
 
 
 class OpenVolume:
@@ -336,4 +322,4 @@ def taken_up(volume: OpenVolume) -> OpenVolume:
     return volume
 
 
-__all__ = ["OpenVolume", "image_of", "new_row", "open_new", "own_volumes", "stamp"]
+__all__ = ["OpenVolume", "new_row", "open_new", "own_volumes"]
