@@ -30,8 +30,9 @@ from .tree import Tree
 RUNS_MOST = 480
 """Runs that write to one volume, at most: each has a text in one folder."""
 
-CLIENTS_MOST = 37
-"""Clients that a volume gets, at most: Linux mounts a volume with up to 38."""
+CLIENTS_MOST = 36
+"""Clients after which one more makes a volume full. Linux mounts a volume with up to 38, so `close` may still come with another, as
+where the ledger was lost or the volume was adopted."""
 
 RULES = """
 This volume belongs to an archive that is larger than a disc. The files are below
