@@ -29,7 +29,7 @@ def close(arguments: argparse.Namespace) -> int:
     """Closes volumes."""
     config, tell = config_of(arguments), tell_of(arguments)
     with Catalogue(config) as catalogue, closing(claims_of(catalogue.base, config.path("locks"), config.catalogue)) as claims:
-        closer = Closer(config, catalogue, claims, tell)
+        closer = Closer(config, catalogue, claims, tell, arguments.without_damaged)
         for row in to_close(config, catalogue, arguments.volume, arguments.full):
             try:
                 closer.close(row)

@@ -5,13 +5,14 @@ from __future__ import annotations
 import os
 import time
 from contextlib import closing
-from typing import Callable, Iterable, Iterator, List, Optional, Tuple
+from typing import Callable, Dict, Iterable, Iterator, List, Optional, Tuple
 
 from ..blocks import Space
 from ..client import Client
 from ..connection import find_program, run_program
-from ..errors import ConnectionFailed, DiskFull, DriveFailed, Full, NumberUsedElsewhere, OutOfMemory
-from ..ledger import MemoryLedger
+from ..digests import Files
+from ..errors import ConnectionFailed, DiskFull, DriveFailed, Full, NumberUsedElsewhere, OutOfMemory, WrongVolume
+from ..ledger import Ledger, MemoryLedger, Volume as Known
 from ..ledger_file import sync_folder
 from ..manifest import PAYLOAD
 from ..operations import Operation, Outcome, now
@@ -113,6 +114,11 @@ class OpenVolume:
         except NumberUsedElsewhere:
             # A batch is on the image, and the ledger does not have its replies. All else that it knows of the image is so.
             self.client.forget()
+        except WrongVolume as error:
+            raise VolumeDiffers(
+                f"{self.image}: is not what its ledger says: it is another copy, or bytes of its last commit have changed, which "
+                f"'check --data {self.row.label}' finds. Bring the right image back; where this one is meant, remove {self.ledger}"
+            ) from error
         with closing(Contents(self.image)) as contents:
             self.require_own(contents)
             if all((name,) in contents.nodes for name in (ABOUT, PAYLOAD, RUNS)):
@@ -238,8 +244,7 @@ class OpenVolume:
 
     def _batch(self, copy: str, operations: Callable[[], Iterable[Operation]]) -> Tuple[List[Outcome], Optional[Full]]:
         """Does operations on a copy of the image, adds its tail to the image, and has the ledger keep the replies."""
-        ledger = self.client.session().ledger
-        volume = ledger.volume(self.client.way.key())
+        ledger, volume = self._in_ledger()
         if volume is None or not has_room(os.path.dirname(copy), self.tree.space.next * limits.BLOCK):
             raise NoBatch(f"{copy}: no room")
         done: List[Outcome] = []
@@ -260,6 +265,16 @@ class OpenVolume:
                 batch.add_tail()
                 ledger.take(volume, kept)
         return done, full
+
+    def _in_ledger(self) -> "Tuple[Ledger, Optional[Known]]":
+        """The ledger, and the volume as it knows it."""
+        ledger = self.client.session().ledger
+        return ledger, ledger.volume(self.client.way.key())
+
+    def sent(self) -> Dict[int, bytes]:
+        """The SHA-256 of each file that the ledger sent, by the commit that wrote it."""
+        ledger, known = self._in_ledger()
+        return {} if known is None else {commit: file.sha256 for commit, file in Files(ledger, known).by_commit.items()}
 
     def plan_marker(self, text: str) -> None:
         """Plans the text that notes a run before its first file."""
