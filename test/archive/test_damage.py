@@ -81,7 +81,7 @@ class Damage(WithArchive):
         self.assertGreater(first, 0)
         self.change(2, data[first << 20 :])
         self.assertIn("/s/big", self.do("close", "T-000002", status=1).errors)
-        # Without the ledger one volume alone does not tell, and all of them together do.
+        # Without the ledger one volume alone does not show it, and all of them together do.
         os.unlink(self.image(2)[: -len("img")] + "ledger")
         self.do("close")
         self.assertEqual(self.names_of(self.do("check", "--data", status=1).last()["failures"]), ["big"])

@@ -72,6 +72,7 @@ class Checker:
 
     def _volume(self, row: VolumeRow, image: str) -> None:
         """Looks at a volume at hand, and keeps when, and what was found."""
+        self.tell.working(f"reading {row.label}")
         trouble = self._trouble(row, image)
         self.volumes += 1
         time = now()
@@ -137,6 +138,7 @@ class Checker:
 
     def _copy(self, row: VolumeRow, copy: Copy) -> None:
         """Looks at a copy on a remote."""
+        self.tell.working(f"reading {row.label} on {copy.remote}")
         try:
             found = remote_of(copy.remote).look(row.label + ".img")
         except CopyFailed as error:

@@ -64,6 +64,7 @@ class Closer:
             self.claims.volume(row.number, row.label)
             row = self.catalogue.volume(row.number) or row
         if row.state != CLOSED:
+            self.tell.working(f"closing {row.label}")
             row = self._close(row)
             self.closed += 1
             self.tell.say_step(f"closed {row.label}", did="closed", volume=row.label, length=row.length, sha256=row.sha256.hex() if row.sha256 else None)
@@ -221,6 +222,7 @@ class Closer:
             if image is None:
                 self.failures.append(f"{row.label}: is not at hand, and is not sent to {name}")
                 continue
+            self.tell.working(f"copying {row.label} to {name}")
             try:
                 send(row, image, name)
             except CopyFailed as error:

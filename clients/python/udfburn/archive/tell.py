@@ -47,6 +47,12 @@ class Tell(Progress):
             self.errors.write("\r\x1b[K" + line)
             self.errors.flush()
 
+    def working(self, what: str) -> None:
+        """What is being done now, on a terminal: the next line takes its place."""
+        if self.bar:
+            self.errors.write("\r\x1b[K" + printable(what))
+            self.errors.flush()
+
     def say_step(self, line: str, **fields: object) -> None:
         """A step that is no file's."""
         if self.bar:
