@@ -13,10 +13,10 @@ from typing import List
 from .support import LARGE, WithArchive, digests, make_tree
 
 STEP = 4096
-"""Bytes by which the room that is left grows from trial to trial: a page of the file system."""
+"""Bytes by which rooms differ: a page of the file system."""
 
-TRIALS = 6
-"""Trials where not all are made."""
+TRIALS = 150 if LARGE else 6
+"""Rooms that are tried, at random among all up to the one that is enough."""
 
 
 class FullDisk(WithArchive):
@@ -76,12 +76,12 @@ class FullDisk(WithArchive):
         return status
 
     def rooms(self, *words: str) -> List[int]:
-        """The rooms that are tried: all up to the first that is enough, or some of those."""
-        low, high = 0, 64 * STEP
+        """The rooms that are tried."""
+        high = 64 * STEP
         while self.trial(high, *words):
-            low, high = high, 2 * high
+            high *= 2
         every = list(range(0, high, STEP))
-        return every if LARGE else sorted(random.Random(48).sample(every, TRIALS))
+        return sorted(random.Random(48).sample(every, min(TRIALS, len(every))))
 
     def test_each_room_in_a_batch(self) -> None:
         self.begin()
