@@ -232,6 +232,8 @@ def find_postgresql(case: Room, room: str) -> None:
         server.sql(statement, "large")
     server.sql("VACUUM ANALYZE file", "large")
     server.sql("VACUUM ANALYZE folder", "large")
+    # Else it would have to recover all of them at each start.
+    server.sql("CHECKPOINT")
     (size,) = server.sql("SELECT sum(pg_total_relation_size(name::regclass)) FROM unnest(ARRAY['file', 'folder']) AS name", "large")[0]
 
     def forget() -> None:
