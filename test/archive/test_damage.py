@@ -54,6 +54,22 @@ class Damage(WithArchive):
         self.assertEqual(self.get_all(), before)
         self.require_agreed()
 
+    def test_no_source_goes_for_a_volume_that_cannot_be_read(self) -> None:
+        self.init()
+        make_tree(self.source, 20, 1)
+        self.add()
+        before = digests(self.source)
+        self.do("close")
+        closed = self.path("archive", "closed", "T-000001.img")
+        os.chmod(closed, 0o600)
+        # Nothing is left of its directories and entries.
+        with open(closed, "r+b") as file:
+            file.seek(300 * 2048)
+            file.write(bytes(os.path.getsize(closed) - 300 * 2048))
+        last = self.add("--delete-source").last()
+        self.assertEqual((last["deleted"], last["kept"]), (0, 20))
+        self.assertEqual(digests(self.source), before)
+
     def test_the_last_commit(self) -> None:
         self.init()
         write(self.big, self.data[:900_000])

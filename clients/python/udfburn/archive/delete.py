@@ -10,6 +10,7 @@ from ..sources import Source, delete, shown
 from .catalogue import CLOSED, Catalogue, Held, VolumeRow, image_of, is_whole, part_count
 from .config import Config
 from .contents import Contents
+from .errors import VolumeDiffers
 from .job import Job, find_file, same_parts
 
 
@@ -67,7 +68,11 @@ class Deleter:
         image = image_of(self.config, volume)
         if image is None:
             return f"since {volume.label} is not at hand"
-        return None if self._has(source, held, image) else f"since {volume.label} does not show them: check it"
+        try:
+            shown_there = self._has(source, held, image)
+        except VolumeDiffers:
+            shown_there = False
+        return None if shown_there else f"since {volume.label} does not show them: check it"
 
     def _volume(self, number: int) -> Tuple[Optional[VolumeRow], int]:
         """A volume, and how many good copies it has."""
