@@ -116,14 +116,23 @@ def rates(case: Room, room: str, rounds: int) -> None:
     ways["`restic backup`"] = lambda: restic(room, source)
     ways["`borg create`"] = lambda: borg(room, source)
     found: Dict[str, List[float]] = {name: [] for name in ways}
+    spent: Dict[str, List[float]] = {name: [] for name in ways}
     for _ in range(rounds):
         for name, way in ways.items():
+            before = processor()
             found[name].append(FILES / way())
-    row(f"{FILES:,} files of {SIZE // 1024} KiB", "Files a second", f"Least and most of {rounds}")
-    row("---", "---", "---")
+            spent[name].append((processor() - before) * 1000 / FILES)
+    row(f"{FILES:,} files of {SIZE // 1024} KiB", "Files a second", f"Least and most of {rounds}", "Processor time a file")
+    row("---", "---", "---", "---")
     for name, values in found.items():
-        row(name, f"{statistics.median(values):,.0f}", f"{min(values):,.0f} to {max(values):,.0f}")
+        row(name, f"{statistics.median(values):,.0f}", f"{min(values):,.0f} to {max(values):,.0f}", f"{statistics.median(spent[name]):.2f} ms")
     shutil.rmtree(source)
+
+
+def processor() -> float:
+    """Seconds of the processors that commands took which have ended, with those that they ran; not those of a server."""
+    times = os.times()
+    return times.children_user + times.children_system
 
 
 def make_flat(folder: str, files: int, seed: int) -> None:
@@ -143,13 +152,19 @@ from udfburn.archive.catalogue import Catalogue, versions
 from udfburn.archive.find import find
 from udfburn.archive.names import path_of
 pattern = sys.argv[2]
+def reads():
+    with open("/proc/self/io") as file:
+        return next(int(line.split()[1]) for line in file if line.startswith("syscr"))
+reads()
+own = reads() - reads()
 with Catalogue(read(sys.argv[1])) as catalogue:
     for turn in range(2):
-        began = time.monotonic()
+        before, began = reads(), time.monotonic()
         found = versions(catalogue.of_path(path_of(pattern[6:]))) if pattern.startswith("where ") else list(find(catalogue, pattern))
-        print(len(found), (time.monotonic() - began) * 1000)
+        milliseconds = (time.monotonic() - began) * 1000
+        print(len(found), milliseconds, reads() - before + own)
 """
-"""Asks twice, and prints what was found and how many milliseconds that took."""
+"""Asks twice, and prints what was found, how many milliseconds that took, and how many reads: SQLite reads a page at once."""
 
 
 def patterns(index: int, few: int) -> Dict[str, str]:
@@ -166,8 +181,8 @@ def ask(folder: str, wanted: Dict[str, str], forget: Callable[[], None]) -> None
     for name, pattern in wanted.items():
         forget()
         done = subprocess.run([sys.executable, "-c", ASK, folder, pattern], check=True, env=environment(), capture_output=True, text=True)
-        (found, cold), (_, warm) = [line.split() for line in done.stdout.splitlines()]
-        row(f"{name}: {int(found):,} found", f"{float(cold):,.1f} ms", f"{float(warm):,.1f} ms")
+        (found, cold, reads), (_, warm, _) = [line.split() for line in done.stdout.splitlines()]
+        row(f"{name}: {int(found):,} found", f"{float(cold):,.1f} ms", f"{float(warm):,.1f} ms", f"{int(reads):,}")
 
 
 def forget_file(path: str) -> None:
@@ -194,8 +209,8 @@ def find_sqlite(room: str) -> None:
     one_file(room, folder)
     path = os.path.join(folder, "catalogue.sqlite")
     fill_catalogue(path, ROWS)
-    row(f"{ROWS:,} rows in SQLite, {os.path.getsize(path) / ROWS:.0f} bytes a file", "Cold", "Warm")
-    row("---", "---", "---")
+    row(f"{ROWS:,} rows in SQLite, {os.path.getsize(path) / ROWS:.0f} bytes a file", "Cold", "Warm", "Pages that are read")
+    row("---", "---", "---", "---")
     ask(folder, patterns(7_654_321, 6), lambda: forget_file(path))
     shutil.rmtree(folder)
 
@@ -217,6 +232,8 @@ def find_postgresql(case: Room, room: str) -> None:
         server.sql(statement, "large")
     server.sql("VACUUM ANALYZE file", "large")
     server.sql("VACUUM ANALYZE folder", "large")
+    # Else it would have to recover all of them at each start.
+    server.sql("CHECKPOINT")
     (size,) = server.sql("SELECT sum(pg_total_relation_size(name::regclass)) FROM unnest(ARRAY['file', 'folder']) AS name", "large")[0]
 
     def forget() -> None:
@@ -226,8 +243,8 @@ def find_postgresql(case: Room, room: str) -> None:
                 forget_file(os.path.join(at, name))
         server.start()
 
-    row(f"{ROWS_POSTGRESQL:,} rows in PostgreSQL, {size / ROWS_POSTGRESQL:.0f} bytes a file", "Cold", "Warm")
-    row("---", "---", "---")
+    row(f"{ROWS_POSTGRESQL:,} rows in PostgreSQL, {size / ROWS_POSTGRESQL:.0f} bytes a file", "Cold", "Warm", "Reads")
+    row("---", "---", "---", "---")
     ask(folder, patterns(1_654_321, 7), forget)
     server.stop()
 

@@ -15,6 +15,26 @@ from .test_crash import STEPS
 
 BLOCK = 2048
 
+PAGE = 4096
+"""Bytes of which a write has all or none when its process is killed."""
+
+TORN = """
+import os, sys
+left = int(sys.argv.pop(1))
+from udfburn.archive import batch
+def torn(descriptor, piece):
+    global left
+    for at in range(0, len(piece), 4096):
+        if left == 0:
+            os.kill(os.getpid(), 9)
+        left -= 1
+        os.write(descriptor, piece[at : at + 4096])
+batch.write_whole = torn
+from udfburn.archive.cli import main
+sys.exit(main(sys.argv[1:]))
+"""
+"""Runs the command, and kills it once so many pages of a tail are written."""
+
 PATCHED = """
 import sys
 from udfburn.archive import batch, volume
@@ -33,10 +53,10 @@ class Batches(WithArchive):
     def note(self) -> str:
         return self.path("archive", "open", "T-000001.tail")
 
-    def killed(self, count: int) -> int:
-        """Runs `add`, and kills it right before a call of the system."""
+    def killed(self, count: int, program: str = STEPS) -> int:
+        """Runs `add`, and kills it right before a call of the system, or after so many pages of a tail."""
         words = ["add", self.source, "--at", "/s", "--archive", self.archive, "--quiet"]
-        done = subprocess.run([sys.executable, "-c", STEPS, str(count), *words], env=environment(), capture_output=True, timeout=PATIENCE)
+        done = subprocess.run([sys.executable, "-c", program, str(count), *words], env=environment(), capture_output=True, timeout=PATIENCE)
         self.assertIn(done.returncode, (0, -9), done.stderr.decode())
         return done.returncode
 
@@ -72,6 +92,30 @@ class Batches(WithArchive):
             count += 1 if LARGE else 3
         self.assertGreater(count, 8)
         self.assertGreater(noted, 0)
+
+    def test_each_page_of_a_tail(self) -> None:
+        self.second_run()
+        length = os.path.getsize(self.image())
+        count = 0
+        while True:
+            self.again()
+            if self.killed(count, TORN) == 0:
+                break
+            self.assertEqual(os.path.getsize(self.image()), length + count * PAGE)
+            self.assertEqual(self.volumes()[0]["attention"], [self.unmounted(length)])
+            folder = self.path(f"front {count}")
+            self.do("get", "/s", folder)
+            self.assertEqual(len(digests(folder)), 30)
+            shutil.rmtree(folder)
+            self.add()
+            self.require_all()
+            self.assertEqual(self.volumes()[0]["attention"], [])
+            count += 1 if LARGE else 50
+        self.assertGreater(count, 100)
+
+    def unmounted(self, length: int) -> str:
+        """What `status` says of a volume whose tail was cut short."""
+        return f"a batch is being written to it, or was cut short: run 'add' before you mount it, or mount it with lastblock={length // BLOCK - 1}"
 
     def cut_short(self, noted: bool) -> int:
         """A run that was killed once the image had a tail, which does not count as long as the note is there; gives the bytes before

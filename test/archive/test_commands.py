@@ -3,6 +3,7 @@
 from __future__ import annotations
 
 import os
+import re
 import sqlite3
 import subprocess
 import tomllib
@@ -181,6 +182,24 @@ class Commands(WithArchive):
         self.assertEqual({line["volume"]: line["state"] for line in self.volumes()}["T-000002"], "away")
         # A volume that is away is not lost: its files are not stored again.
         self.assertEqual(self.add().last()["files"], 0)
+
+    def test_progress_on_a_terminal(self) -> None:
+        remote = self.path("remote")
+        os.mkdir(remote)
+        self.init("--copies", remote)
+        make_tree(self.source, 20, 2)
+        expected = {
+            ("add", self.source): r"stored: 1 file, [0-9]+", ("close",): "closing T-000001.*copying T-000001 to .*remote", ("check", "--remotes"): "reading T-000001.*reading T-000001 on",
+            ("rebuild",): "read 1 volume, 20 files", ("get", "/", self.path("back")): r"got: 1 file, [0-9]+",
+        }
+        for words, shown in expected.items():
+            ours, theirs = os.openpty()
+            done = subprocess.run([*words_of(*words), "--archive", self.archive], env=environment(), stdout=subprocess.DEVNULL, stderr=theirs, check=False)
+            os.close(theirs)
+            text = os.read(ours, 100_000).decode()
+            os.close(ours)
+            self.assertEqual(done.returncode, 0, text)
+            self.assertRegex(text, re.compile(shown, re.S))
 
     def test_bad_words(self) -> None:
         self.do("ls", status=1)

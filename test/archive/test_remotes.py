@@ -7,13 +7,17 @@ import random
 import shutil
 import subprocess
 import sys
+from hashlib import sha256
 from pathlib import Path
-from typing import List
+from typing import Dict, List, Optional, Sequence, Tuple
 
 from .servers import webdav
-from .support import HERE, PATIENCE, WithArchive, digests, make_tree, write
+from .support import HERE, PATIENCE, WithArchive, digests, environment, make_tree, write
+from .test_batch import TORN
 
-READERS = os.path.join(HERE, "..", "readers")
+sys.path.insert(0, os.path.join(HERE, "..", "readers"))
+
+import linux  # noqa: E402
 
 
 class WithRemotes(WithArchive):
@@ -179,6 +183,82 @@ class Copies(WithRemotes):
         self.assertEqual(self.do("check", "--sample", "2").last()["volumes"], 2)
 
 
+def linux_shows(test: WithArchive, images: Sequence[Tuple[str, Optional[int]]]) -> "List[linux.Mount]":
+    """What a Linux kernel shows of images, each up to a block where that is given."""
+    guest, kernel = os.environ.get("GUEST"), os.environ.get("KERNEL")
+    if not guest:
+        test.skipTest("no kernel with udf: test/archive.sh has one where it can be had")
+    assert guest
+    room = Path(test.path("linux"))
+    room.mkdir()
+    jobs = [linux.Job(Path(image), lastblock) for image, lastblock in images]
+    return linux.mount_in_machine(Path(guest), Path(kernel), jobs, room) if kernel else linux.mount_here(Path(guest), jobs, room)
+
+
+WITHOUT_LEDGER = """
+import glob, os, sys
+from udfburn.archive.cli import main
+source, archive = sys.argv[1:]
+for index in range(42):
+    with open(os.path.join(source, f"f{index}"), "w") as file:
+        file.write(str(index))
+    for path in glob.glob(os.path.join(archive, "open", "*.ledger*")):
+        os.unlink(path)
+    if main(["add", source, "--at", "/c", "--archive", archive, "--quiet"]):
+        sys.exit(1)
+"""
+"""Adds a file each time after the ledger was lost, so each is another client of the volume."""
+
+
+class Mounted(WithArchive):
+    """What a Linux kernel mounts beside sound volumes."""
+
+    def test_as_linux_shows_it(self) -> None:
+        cut, before = self.cut_short()
+        closed = self.many_clients()
+        shown = linux_shows(self, [*cut, *((path, None) for path in closed)])
+        for mount in shown[: len(cut)]:
+            self.assertEqual(mount.refused, 0)
+            found = {path[len(b"/data/s/"):]: sha256(node.data).hexdigest() for path, node in mount.nodes.items() if node.kind == "F" and path.startswith(b"/data/s/")}
+            self.assertEqual(found, before)
+        self.assertEqual([mount.refused for mount in shown[len(cut):]], [0] * len(closed))
+        names = [path for mount in shown[len(cut):] for path in mount.nodes if path.startswith(b"/data/c/")]
+        self.assertEqual(sorted(names), sorted(b"/data/c/f%d" % index for index in range(42)))
+
+    def many_clients(self) -> List[str]:
+        """Closed volumes that had as many clients as they may have, and were closed by one more."""
+        archive = self.path("clients")
+        self.init(archive=archive)
+        os.mkdir(self.path("few"))
+        subprocess.run([sys.executable, "-c", WITHOUT_LEDGER, self.path("few"), archive], env=environment(), check=True, timeout=PATIENCE)
+        self.assertEqual(len(self.volumes(archive)), 2)
+        for name in os.listdir(os.path.join(archive, "open")):
+            if ".ledger" in name:
+                os.unlink(os.path.join(archive, "open", name))
+        self.run_in(archive, "close")
+        return [os.path.join(archive, "closed", f"T-{number:06}.img") for number in (1, 2)]
+
+    def cut_short(self) -> "Tuple[List[Tuple[str, Optional[int]]], Dict[bytes, str]]":
+        """Images whose process was killed while it wrote a batch, with the last block that `status` names; and the files before it."""
+        self.init()
+        make_tree(self.source, 30, 1)
+        self.add()
+        before = {path: whole for path, (whole, _) in digests(self.source).items()}
+        make_tree(os.path.join(self.source, "more"), 40, 2)
+        shutil.copytree(self.archive, self.path("kept"))
+        images: List[Tuple[str, Optional[int]]] = []
+        for count in (0, 1, 50, 99, 101):
+            shutil.rmtree(self.archive)
+            shutil.copytree(self.path("kept"), self.archive)
+            words = ["add", self.source, "--at", "/s", "--archive", self.archive, "--quiet"]
+            done = subprocess.run([sys.executable, "-c", TORN, str(count), *words], env=environment(), capture_output=True, timeout=PATIENCE)
+            self.assertEqual(done.returncode, -9)
+            (told,) = self.volumes()[0]["attention"]
+            image = shutil.copy(os.path.join(self.archive, "open", "T-000001.img"), self.path(f"{count}.img"))
+            images.append((image, int(told.rpartition("lastblock=")[2])))
+        return images, before
+
+
 class Bags(WithArchive):
     """A closed volume, as other programs show it, is a bag."""
 
@@ -227,17 +307,7 @@ class Bags(WithArchive):
         self.require_bag(self.path("bag"))
 
     def test_as_linux_shows_it(self) -> None:
-        guest, kernel = os.environ.get("GUEST"), os.environ.get("KERNEL")
-        if not guest:
-            self.skipTest("no kernel with udf: test/archive.sh has one where it can be had")
-        assert guest
-        sys.path.insert(0, READERS)
-        import linux
-
-        room = Path(self.path("linux"))
-        room.mkdir()
-        jobs = [linux.Job(Path(self.closed))]
-        (mount,) = linux.mount_in_machine(Path(guest), Path(kernel), jobs, room) if kernel else linux.mount_here(Path(guest), jobs, room)
+        (mount,) = linux_shows(self, [(self.closed, None)])
         self.assertEqual(mount.refused, 0)
         folder = self.path("bag")
         for path, node in mount.nodes.items():

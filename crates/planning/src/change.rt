@@ -17,15 +17,13 @@ ghost use Rattle.request.specs.declared.answer.Code.TheVariants.{Done};
 use dir::{Dir, Entry, Kind};
 use ecma::Timestamp;
 use indexmap::IndexMap;
+use limits::NODES;
 use lookup::Content;
 use osta::Name;
 use recover::StoreFault;
 use request::{Code, DIRECTORY_NAMES, FileSlice};
 use std::alloc::Global;
 use table_update::{NewNode, Node};
-
-/// The most nodes of a tree, its root counted.
-const MAX_NODES: u32 = limits::NODES;
 
 /// A file that is written.
 #[derive(Clone, Copy, Debug)]
@@ -152,7 +150,7 @@ pub(crate) fn code_of_addition(node_count: u32, content: &Content, name: &Name) 
     if content.dir.entries.len() >= DIRECTORY_NAMES {
         return Code::DirectoryFull;
     }
-    if node_count >= MAX_NODES {
+    if node_count >= NODES {
         return Code::TooMany;
     }
     Code::Done

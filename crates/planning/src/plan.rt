@@ -32,23 +32,13 @@ use crate::write::Writer;
 use drive::{Drive, DriveFault};
 use ecma::Timestamp;
 use icb::{FileEntry, Kind, Place, PlannedEntry};
+use limits::{ADDRESS_BYTES, BLOCK_SIZE, LEAST_FILLED_BYTES, RECORD_BYTES, TABLE_HEAD_BYTES};
 use lookup::Content;
 use recover::{PARTITION_START, StoreFault, block_count, cause, damaged};
 use request::{Reply, Request};
 use std::alloc::Global;
 use table_update::{Node, add_node, copied, keep_reply, place_node, remove_node};
 use vat::{Vat, encode_vat};
-
-const BLOCK_BYTES: u64 = limits::BLOCK_BYTES as u64;
-
-const TABLE_HEAD_BYTES: u64 = limits::TABLE_HEAD_BYTES as u64;
-
-const RECORD_BYTES: u64 = limits::RECORD_BYTES as u64;
-
-const ADDRESS_BYTES: u64 = limits::ADDRESS_BYTES as u64;
-
-/// A block of directory data that another one follows is used up to this byte at least.
-const LEAST_USED: u64 = 1720;
 
 /// All that a commit writes, in order: the file, the directories, the table.
 #[derive(Drop)]
@@ -88,7 +78,7 @@ impl Plan<'_> {
     /// How many blocks are held encoded all the while: the table's bytes.
     fn held(&self) -> usize {
         let bytes = self.table.bytes.len();
-        bytes.div_ceil(limits::BLOCK_BYTES as usize)
+        bytes.div_ceil(BLOCK_SIZE)
     }
 
     /// The greatest number of encoded blocks that were held at once.
@@ -303,9 +293,10 @@ fn table_need(vat: &Vat) -> u64
     ensures value { result ≡ needs.table_need (view vat.now) }
     ensures few { result ≤ 1_000 }
 {
-    let records = RECORD_BYTES * vat.sessions.records.len() as u64;
-    let entries = ADDRESS_BYTES * vat.entries.len() as u64;
-    2 * (TABLE_HEAD_BYTES + records + entries).div_ceil(BLOCK_BYTES) + 1
+    let records = RECORD_BYTES * vat.sessions.records.len();
+    let entries = ADDRESS_BYTES * vat.entries.len();
+    let bytes = TABLE_HEAD_BYTES + records + entries;
+    2 * bytes.div_ceil(BLOCK_SIZE) as u64 + 1
 }
 
 /// The most blocks for a file, if one is written.
@@ -328,7 +319,7 @@ fn directories_need(directories: &[NewDirectory]) -> u64
     let mut blocks: u64 = 0;
     for directory in directories {
         let size = identifiers_size(&directory.content);
-        blocks = blocks.saturating_add(2 + size / LEAST_USED);
+        blocks = blocks.saturating_add(2 + size / LEAST_FILLED_BYTES);
     }
     blocks
 }

@@ -15,11 +15,9 @@ use dir::Lay;
 use drive::{Drive, DriveFault, PACKET, PacketWriter};
 use ecma::Block;
 use icb::PlannedEntry;
-use limits::PARTITION_BLOCKS;
+use limits::{BLOCK_SIZE, PARTITION_BLOCKS};
 use lookup::Content;
 use std::alloc::{AllocError, Global};
-
-const BLOCK_SIZE: usize = limits::BLOCK_BYTES as usize;
 
 const ZEROS: Block = [0; BLOCK_SIZE];
 

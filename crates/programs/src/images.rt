@@ -5,11 +5,9 @@ ghost use Rattle.std.specs.Prelude.{◌≡◌, IfErr, IfOk, IsTrue, OnErr, OnOk}
 ghost use Rattle.programs.specs.Images.{AreUntouched, IsOpened, IsPutBack, IsThere, IsThereOrMade, MayBeMade, images_on};
 
 use crate::fault::Fault;
+use limits::GREATEST_CAPACITY;
 use media::Media;
 use store::StoreFault;
-
-/// The greatest capacity of a volume, in blocks.
-const GREATEST_CAPACITY: u32 = limits::GREATEST_CAPACITY;
 
 /// Takes out the image at this path, to write it.
 pub(crate) fn open_image<M: Media>(media: &mut M, path: &str) -> Result<M::Drive, Fault>

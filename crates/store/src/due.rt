@@ -7,11 +7,9 @@ ghost use Rattle.udf.specs.Said.{model_record, said_reply};
 ghost use Rattle.vat.specs.Table.{FitsTable, view};
 
 use crate::store::Store;
+use limits::CLIENTS;
 use request::{Code, Reply};
 use vat::Record;
-
-/// The most clients whose sessions are kept.
-const CLIENTS: usize = limits::CLIENTS as usize;
 
 /// What a request number is to a client's session.
 #[derive(Clone, Copy, Debug, PartialEq, Eq)]

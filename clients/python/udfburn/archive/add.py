@@ -11,7 +11,7 @@ from ..errors import SourceError
 from ..operations import now
 from ..protocol import Path
 from ..sources import Source, shown
-from .catalogue import Catalogue, Held, VolumeRow, is_whole
+from .catalogue import Catalogue, Held, VolumeRow, image_of, is_whole
 from .claims import claims_of
 from .config import Config
 from .contents import Contents
@@ -21,8 +21,7 @@ from .fill import Filler
 from .job import Job, digest_of, find_file, same_parts
 from .names import kept_name, stored_folder
 from .scan import Found, Walk
-from .tell import Tell, shown_path
-from .volume import image_of, stamp
+from .tell import Tell, shown_path, stamp
 
 
 class Options(NamedTuple):

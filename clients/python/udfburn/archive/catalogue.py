@@ -6,6 +6,7 @@ volumes. A row's id is `volume * COMMITS + commit`, by the commit that wrote the
 
 from __future__ import annotations
 
+import os
 import socket
 import uuid
 from typing import Dict, Iterable, Iterator, List, NamedTuple, Optional, Sequence, Tuple
@@ -362,6 +363,15 @@ def volume_row(row: Row) -> VolumeRow:
     return found._replace(sha256=None if found.sha256 is None else bytes(found.sha256))
 
 
+def image_of(config: Config, row: VolumeRow) -> Optional[str]:
+    """The image of a volume, where it is at hand."""
+    for folder in ("closed", "open") if row.state == CLOSED else ("open", "closed"):
+        image = config.path(folder, row.label + ".img")
+        if os.path.isfile(image):
+            return image
+    return None
+
+
 def order(held: Held) -> Tuple[int, int]:
     """By which rows of one path are older or newer: when they were added, then by volume and commit."""
     return held.added, held.id()
@@ -374,6 +384,14 @@ def versions(rows: Iterable[Held]) -> List[List[Held]]:
         found.setdefault(row.version(), []).append(row)
     whole = [sorted(group, key=lambda row: row.first or 0) for group in found.values() if is_whole(group)]
     return sorted(whole, key=lambda group: max(map(order, group)), reverse=True)
+
+
+def as_of(groups: Sequence[List[Held]], moment: Optional[int]) -> Optional[List[Held]]:
+    """The newest version, or the newest that was there at a moment."""
+    for group in groups:
+        if moment is None or max(held.added for held in group) <= moment:
+            return group
+    return None
 
 
 def part_count(size: int) -> int:
@@ -395,6 +413,6 @@ def is_whole(group: Sequence[Held]) -> bool:
 
 
 __all__ = [
-    "CLOSED", "CLOSING", "Catalogue", "Copy", "FULL", "Held", "NEW", "OPEN", "VolumeRow", "is_whole", "part_count",
-    "versions",
+    "CLOSED", "CLOSING", "Catalogue", "Copy", "FULL", "Held", "NEW", "OPEN", "VolumeRow", "as_of", "image_of", "is_whole",
+    "part_count", "versions",
 ]

@@ -6,19 +6,18 @@ import os
 import random
 from contextlib import closing
 from hashlib import sha256
-from typing import Dict, List, NamedTuple, Optional, Sequence
+from typing import Any, Dict, List, NamedTuple, Optional, Sequence, Tuple
 
 from ..ledger_file import sync_file, sync_folder
 from ..operations import now
 from ..sources import shown
-from .catalogue import CLOSED, Catalogue, Copy, VolumeRow
+from .catalogue import CLOSED, Catalogue, Copy, Held, VolumeRow, image_of, part_count
 from .close import SIDECARS, beside, send
 from .config import Config
-from .contents import Contents
+from .contents import Contents, File
 from .errors import CopyFailed, NotAtHand, VolumeDiffers
 from .remotes import Print, print_of_file, remote_of
 from .tell import Tell, shown_path
-from .volume import image_of
 
 
 class Options(NamedTuple):
@@ -56,6 +55,8 @@ class Checker:
         self.volumes = self.files = self.copies = 0
         self.failures: List[str] = []
         self.away: List[str] = []
+        self._begun: Dict[object, Tuple[int, Any]] = {}
+        """Files of which the first parts were read: how many, and their digest so far."""
 
     def run(self, rows: Sequence[VolumeRow]) -> None:
         """Looks at volumes."""
@@ -71,6 +72,7 @@ class Checker:
 
     def _volume(self, row: VolumeRow, image: str) -> None:
         """Looks at a volume at hand, and keeps when, and what was found."""
+        self.tell.working(f"reading {row.label}")
         trouble = self._trouble(row, image)
         self.volumes += 1
         time = now()
@@ -116,14 +118,27 @@ class Checker:
         for held in self.catalogue.of_volume(row.number):
             self.files += 1
             file = files.get(held.commit)
-            if file is None or file.path != held.path or file.parts != held.parts:
-                bad.append(shown_path(held.path))
-            elif held.parts is None and sha256(b"".join(contents.volume.read(node).data for node in file.nodes)).digest() != held.sha256:
+            if file is None or file.path != held.path or file.parts != held.parts or not self._is_as_stored(held, contents, file):
                 bad.append(shown_path(held.path))
         return list(dict.fromkeys(bad))
 
+    def _is_as_stored(self, held: Held, contents: Contents, file: File) -> bool:
+        """Whether a file has its digest. One with parts on several volumes is compared once the last of them is read, where they are
+        read in order of its parts."""
+        have, whole = self._begun.pop(held.version(), (0, sha256()))
+        if have != (held.first or 0):
+            return True
+        for node in file.nodes:
+            whole.update(contents.volume.read(node).data)
+        have += held.parts or 0
+        if held.parts is not None and have < part_count(held.size):
+            self._begun[held.version()] = have, whole
+            return True
+        return bool(whole.digest() == held.sha256)
+
     def _copy(self, row: VolumeRow, copy: Copy) -> None:
         """Looks at a copy on a remote."""
+        self.tell.working(f"reading {row.label} on {copy.remote}")
         try:
             found = remote_of(copy.remote).look(row.label + ".img")
         except CopyFailed as error:
@@ -141,6 +156,8 @@ class Checker:
         good = [copy.remote for copy in self.catalogue.copies(row.number) if copy.trouble is None]
         if good:
             return f"'udfburn-archive repair {row.label}' takes it from {good[0]}"
+        if row.state != CLOSED:
+            return f"'udfburn-archive close --without-damaged {row.label}' closes it without what is damaged, and then 'add' stores that again"
         return "no copy is known: 'udfburn-client salvage' gives what is whole"
 
 

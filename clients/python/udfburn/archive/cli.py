@@ -72,6 +72,7 @@ def add_writers(subs: "Subs") -> None:
     close = command(subs, "close", "writes the bag's tag files, ends the image, and sends it to each remote")
     close.add_argument("volume", nargs="*", metavar="VOLUME", help="labels; else all volumes of this folder that have files")
     close.add_argument("--full", action="store_true", help="only volumes that are full, and copies that are missing")
+    close.add_argument("--without-damaged", action="store_true", help="takes files that are not as they were stored off their volumes first; else these are not closed")
 
     repair = command(subs, "repair", "takes damaged or lost images from good copies, and damaged copies from good images")
     repair.add_argument("volume", nargs="*", metavar="VOLUME", help="labels; else all in which check found something")
@@ -122,9 +123,8 @@ def add_readers(subs: "Subs") -> None:
 
 
 COMMANDS: Dict[str, str] = {
-    "init": "commands", "add": "commands", "rebuild": "commands", "ls": "queries", "get": "queries", "status": "queries", "find": "queries", "history": "queries",
-    "where": "queries", "report": "queries", "adopt": "closing",
-    "close": "closing", "check": "closing", "repair": "closing",
+    "init": "commands", "add": "commands", "rebuild": "commands", "ls": "lookups", "find": "lookups", "history": "lookups", "where": "lookups",
+    "get": "queries", "status": "queries", "report": "queries", "adopt": "closing", "close": "closing", "check": "closing", "repair": "closing",
 }
 
 

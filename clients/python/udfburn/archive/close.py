@@ -10,23 +10,24 @@ import os
 import stat
 import time
 from contextlib import closing
-from typing import Dict, List, Optional, Tuple
+from hashlib import sha256
+from typing import Dict, List, Mapping, NamedTuple, Optional, Sequence, Tuple
 
 from ..connection import find_program, run_program
 from ..ledger_file import sync_file, sync_folder
 from ..manifest import BAG_DECLARATION, BAG_INFO, DECLARATION, MANIFEST, PAYLOAD, TAG_MANIFEST, Line, bag_manifest
 from ..operations import Operation, now
-from ..protocol import Code, Create, Path, Replace, limits
+from ..protocol import Code, Create, Path, Remove, Replace, limits
 from ..sources import shown
 from .bag import info, tag_manifest
-from .catalogue import CLOSED, CLOSING, Catalogue, Copy, VolumeRow
+from .catalogue import CLOSED, CLOSING, Catalogue, Copy, Held, VolumeRow, image_of
 from .claims import Claims
 from .config import Config, write_file
-from .contents import Contents, read_fields
+from .contents import Contents, File, read_fields
 from .errors import ArchiveError, CopyFailed, NotAtHand, VolumeDiffers
 from .remotes import Print, print_of_file, remote_of
-from .tell import Tell
-from .volume import OpenVolume, image_of, stamp
+from .tell import Tell, plural, shown_path, stamp
+from .volume import OpenVolume
 
 SIDECARS = (".sha256", ".info", ".log", ".svg")
 """The files beside a closed image: its digest in the form of sha256sum, what is known of it, its commits, its map."""
@@ -51,8 +52,8 @@ def sidecar(image: str) -> Tuple[int, bytes]:
 class Closer:
     """A run of `close`."""
 
-    def __init__(self, config: Config, catalogue: Catalogue, claims: Claims, tell: Tell):
-        self.config, self.catalogue, self.claims, self.tell = config, catalogue, claims, tell
+    def __init__(self, config: Config, catalogue: Catalogue, claims: Claims, tell: Tell, without_damaged: bool = False):
+        self.config, self.catalogue, self.claims, self.tell, self.without_damaged = config, catalogue, claims, tell, without_damaged
         self.program = find_program()
         self.failures: List[str] = []
         self.closed = self.copied = 0
@@ -63,6 +64,7 @@ class Closer:
             self.claims.volume(row.number, row.label)
             row = self.catalogue.volume(row.number) or row
         if row.state != CLOSED:
+            self.tell.working(f"closing {row.label}")
             row = self._close(row)
             self.closed += 1
             self.tell.say_step(f"closed {row.label}", did="closed", volume=row.label, length=row.length, sha256=row.sha256.hex() if row.sha256 else None)
@@ -102,6 +104,8 @@ class Closer:
         volume = OpenVolume(self.config, self.catalogue, row)
         with closing(volume):
             volume.take_up()
+            if self.without_damaged:
+                self._remove_damaged(volume)
             volume.row = volume.row._replace(state=CLOSING)
             self.catalogue.save(volume.row)
             with closing(Contents(volume.image)) as contents:
@@ -123,20 +127,14 @@ class Closer:
     def _tag_files(self, volume: OpenVolume, contents: Contents) -> Dict[str, bytes]:
         """The tag files by their names, in the order in which they are written. Digests are of the bytes that the volume has, and
         agree with those of the catalogue."""
-        from hashlib import sha256
-
-        known = {held.commit: held for held in self.catalogue.of_volume(volume.row.number)}
-        whole = {file.whole: file for file in contents.files() if file.parts is None}
-        digests = []
-        size = 0
-        for node in contents.payload():
-            data = contents.bytes_of(node)
-            digest = sha256(data).digest()
-            file = whole.get(node.path)
-            if file is not None and file.commit in known and known[file.commit].sha256 != digest:
-                raise VolumeDiffers(f"{volume.image}: {'/'.join(node.path)} has other bytes than were stored: 'rebuild', and store it again")
-            digests.append(Line(digest, node.path))
-            size += len(data)
+        found = read_payload(contents, self.catalogue.of_volume(volume.row.number), volume.sent())
+        if found.damaged:
+            first, count = shown_path(found.damaged[0].path), plural(len(found.damaged), "file is", "files are")
+            raise VolumeDiffers(
+                f"{volume.image}: {count} not as they were stored, the first is {first}: 'close --without-damaged {volume.row.label}' closes it "
+                "without them, and then 'add' stores them again"
+            )
+        digests, size = found.lines, found.size
         date = stamp(contents.closed() or time.time_ns() // 1000)[:10]
         fields = {
             "Bagging-Date": self._date(contents) or date, "External-Identifier": volume.row.label, "Bag-Group-Identifier": self.catalogue.id,
@@ -149,6 +147,25 @@ class Closer:
         tags.update({path: contents.bytes_of(node) for path, node in contents.nodes.items() if is_tag(path, node.kind.name)})
         files[TAG_MANIFEST] = tag_manifest(tags)
         return files
+
+    def _remove_damaged(self, volume: OpenVolume) -> None:
+        """Takes files off the volume's tree that are not as they were stored. Earlier commits have them still."""
+        with closing(Contents(volume.image)) as contents:
+            damaged = read_payload(contents, self.catalogue.of_volume(volume.row.number), volume.sent()).damaged
+            paths = [path for file in damaged for path in contents.stored_paths(file)]
+        if not paths:
+            return
+        for outcome in volume.client.run(Operation(Remove, path, now()) for path in paths):
+            if outcome.code is not Code.DONE:
+                raise VolumeDiffers(f"{volume.row.label}: {outcome.operation.path}: {outcome.code.name}: run the command again")
+        with closing(Contents(volume.image)) as contents:
+            rows = contents.rows(volume.row.number, {held.commit: held for held in self.catalogue.of_volume(volume.row.number)})
+            self.catalogue.replace(volume.row._replace(last_commit=contents.last_commit, files=len(rows)), rows)
+        for file in damaged:
+            line = f"{volume.row.label}: {shown_path(file.path)} is not as it was stored, and was taken off"
+            self.tell.say_step(line, did="taken off", volume=volume.row.label, path=shown_path(file.path))
+        volume.row = self.catalogue.volume(volume.row.number) or volume.row
+        volume.load()
 
     def _date(self, contents: Contents) -> Optional[str]:
         """The date that an earlier run began with."""
@@ -205,6 +222,7 @@ class Closer:
             if image is None:
                 self.failures.append(f"{row.label}: is not at hand, and is not sent to {name}")
                 continue
+            self.tell.working(f"copying {row.label} to {name}")
             try:
                 send(row, image, name)
             except CopyFailed as error:
@@ -213,6 +231,43 @@ class Closer:
             self.catalogue.save_copy(Copy(row.number, name, now(), now(), None))
             self.copied += 1
             self.tell.say_step(f"copied {row.label} to {name}", did="copied", volume=row.label, remote=name)
+
+
+class Payload(NamedTuple):
+    """The payload of a volume as it was read: the manifest's lines in order of their paths, its bytes, and the files that are not as
+    they were stored."""
+
+    lines: List[Line]
+    size: int
+    damaged: List[File]
+
+
+def read_payload(contents: Contents, rows: Sequence[Held], sent: Mapping[int, bytes]) -> Payload:
+    """Reads every byte of a payload. Files that are whole on the volume are compared with the catalogue's digests, and parts of others
+    with those of what was sent, by their commits."""
+    known = {held.commit: held for held in rows}
+    digests: Dict[Path, bytes] = {}
+    damaged: List[File] = []
+    size = 0
+    for file in contents.files():
+        whole = sha256()
+        for node in file.nodes:
+            data = contents.bytes_of(node)
+            whole.update(data)
+            digests[node.path] = sha256(data).digest()
+            size += len(data)
+        if contents.has_all(file):
+            same = file.commit not in known or known[file.commit].sha256 == whole.digest()
+        else:
+            same = all(digests[node.path] == sent.get(contents.commit_of(node), digests[node.path]) for node in file.nodes)
+        if not same:
+            damaged.append(file)
+    for node in contents.payload():
+        if node.path not in digests:
+            data = contents.bytes_of(node)
+            digests[node.path] = sha256(data).digest()
+            size += len(data)
+    return Payload([Line(digests[node.path], node.path) for node in contents.payload()], size, damaged)
 
 
 def send(row: VolumeRow, image: str, name: str) -> None:

@@ -10,10 +10,9 @@ from .catalogue import CLOSED, CLOSING, FULL, Catalogue, VolumeRow
 from .check import Checker, Options, Repairer, chosen
 from .claims import claims_of
 from .close import Closer
-from .commands import config_of, tell_of
-from .config import Config
+from .config import Config, config_of
 from .errors import ArchiveError, Claimed
-from .tell import Tell, plural
+from .tell import Tell, plural, tell_of
 
 
 def to_close(config: Config, catalogue: Catalogue, names: List[str], full: bool) -> List[VolumeRow]:
@@ -30,7 +29,7 @@ def close(arguments: argparse.Namespace) -> int:
     """Closes volumes."""
     config, tell = config_of(arguments), tell_of(arguments)
     with Catalogue(config) as catalogue, closing(claims_of(catalogue.base, config.path("locks"), config.catalogue)) as claims:
-        closer = Closer(config, catalogue, claims, tell)
+        closer = Closer(config, catalogue, claims, tell, arguments.without_damaged)
         for row in to_close(config, catalogue, arguments.volume, arguments.full):
             try:
                 closer.close(row)

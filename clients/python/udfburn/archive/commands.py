@@ -5,39 +5,16 @@ from __future__ import annotations
 import argparse
 import os
 import uuid
-from dataclasses import dataclass
-from typing import List
 
 from ..ledger_file import make_folder
 from ..sources import shown
 from .add import Adder, Options
 from .catalogue import Catalogue
-from .config import FILE, LOCAL, Config, check_label, check_remote, checked, is_url, read, strange, write
+from .config import FILE, LOCAL, check_label, check_remote, checked, config_of, is_url, strange, write
 from .errors import BadConfig, NoArchive
 from .rebuild import Rebuilder, open_or_make
 from .scan import targets
-from .tell import Tell, plural, size
-
-
-@dataclass
-class Settings:
-    """What `init` is told."""
-
-    catalogue: str
-    label: str
-    capacity: int
-    copies: List[str]
-
-
-def config_of(arguments: argparse.Namespace) -> Config:
-    """The archive that a command is about."""
-    return read(arguments.archive or os.environ.get("UDFBURN_ARCHIVE") or os.curdir)
-
-
-def tell_of(arguments: argparse.Namespace) -> Tell:
-    """What the command tells by."""
-    tell: Tell = arguments.tell
-    return tell
+from .tell import plural, size, tell_of
 
 
 def init(arguments: argparse.Namespace) -> int:

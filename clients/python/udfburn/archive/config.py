@@ -2,6 +2,7 @@
 
 from __future__ import annotations
 
+import argparse
 import os
 from importlib import import_module
 from typing import Any, Dict, List, NamedTuple, Optional, Tuple
@@ -100,6 +101,11 @@ def read(folder: str) -> Config:
     except ValueError as error:
         raise BadConfig(f"{shown(where)}: {error}") from error
     return checked(folder, table, shown(where))
+
+
+def config_of(arguments: argparse.Namespace) -> Config:
+    """The archive that a command is about."""
+    return read(arguments.archive or os.environ.get("UDFBURN_ARCHIVE") or os.curdir)
 
 
 def checked(folder: str, table: Dict[str, Any], where: str) -> Config:

@@ -222,6 +222,10 @@ class Contents:
             whole.update(piece)
         return whole.digest()
 
+    def has_all(self, file: File) -> bool:
+        """Whether all bytes of a file are on this volume."""
+        return file.parts is None or not file.first and file.parts == part_count(file.size)
+
     def rows(self, number: int, known: Optional[Dict[int, Held]] = None) -> List[Held]:
         """The rows of the catalogue. Digests of files that are known by their commits are not reckoned anew."""
         found = []

@@ -7,11 +7,12 @@ from typing import Dict, List, Optional, Sequence, Tuple
 
 from ..errors import SourceError
 from ..sources import Source, delete, shown
-from .catalogue import CLOSED, Catalogue, Held, VolumeRow, is_whole
+from .catalogue import CLOSED, Catalogue, Held, VolumeRow, image_of, is_whole, part_count
 from .config import Config
 from .contents import Contents
-from .job import Job, find_file
-from .volume import image_of
+from .errors import VolumeDiffers
+from .job import Job, find_file, same_parts
+
 
 class Deleter:
     """Deletes what `archive.toml` lets it: a file that a volume acknowledged, or one of a volume with enough copies."""
@@ -48,25 +49,30 @@ class Deleter:
     def same(self, source: Source, rows: Sequence[Held]) -> None:
         """A file that the archive had before. The catalogue is not the truth, so the volume is looked at."""
         for row in rows:
-            why = self._why_not(row)
+            why = self._why_not(source, row)
             if why is not None:
                 self._stay(why)
                 return
         self._delete(source)
 
-    def _why_not(self, held: Held) -> Optional[str]:
+    def _why_not(self, source: Source, held: Held) -> Optional[str]:
         """Why a row does not let its source go."""
         volume, copies = self._volume(held.volume)
         if volume is None:
             return f"since the catalogue lacks volume {held.volume}"
         if self.config.delete == "copied" and (volume.state != CLOSED or copies < self.config.wanted):
             return f"until {volume.label} is closed and on {self.config.wanted} remotes"
-        if volume.state == CLOSED and copies:
+        if volume.state == CLOSED and copies and held.parts in (None, part_count(held.size)):
+            # All of its bytes were compared when the volume was closed, which of parts on several volumes only its ledger could see to.
             return None
         image = image_of(self.config, volume)
         if image is None:
             return f"since {volume.label} is not at hand"
-        return None if self._has(held, image) else f"since {volume.label} does not show them: check it"
+        try:
+            shown_there = self._has(source, held, image)
+        except VolumeDiffers:
+            shown_there = False
+        return None if shown_there else f"since {volume.label} does not show them: check it"
 
     def _volume(self, number: int) -> Tuple[Optional[VolumeRow], int]:
         """A volume, and how many good copies it has."""
@@ -78,7 +84,7 @@ class Deleter:
             self._rows[number] = row, len(good)
         return self._rows[number]
 
-    def _has(self, held: Held, image: str) -> bool:
+    def _has(self, source: Source, held: Held, image: str) -> bool:
         """Whether the volume at hand has the bytes."""
         if self._contents is None or self._contents[0] != held.volume:
             self.close()
@@ -88,7 +94,7 @@ class Deleter:
         if file is None or (file.first, file.parts) != (held.first, held.parts):
             return False
         if held.parts is not None:
-            return file.sha256 == held.sha256 and all(len(piece) for piece in contents.pieces(file))
+            return file.sha256 == held.sha256 and same_parts(source, contents, file)
         return sha256(b"".join(contents.pieces(file))).digest() == held.sha256
 
     def _stay(self, why: str) -> None:

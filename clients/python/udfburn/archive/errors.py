@@ -33,6 +33,10 @@ class NotAtHand(ArchiveError):
     """The volume is not at hand."""
 
 
+class Lacking(ArchiveError):
+    """Bytes that are not had, and why."""
+
+
 class VolumeDiffers(ArchiveError):
     """A volume is not the one that the catalogue knows, or lacks what was acknowledged."""
 
@@ -46,6 +50,6 @@ class CannotStore(ArchiveError):
 
 
 __all__ = [
-    "ArchiveError", "BadConfig", "CannotStore", "CatalogueError", "CatalogueLost", "Claimed", "CopyFailed", "NoArchive",
+    "ArchiveError", "BadConfig", "CannotStore", "CatalogueError", "CatalogueLost", "Claimed", "CopyFailed", "Lacking", "NoArchive",
     "NotAtHand", "VolumeDiffers",
 ]

@@ -11,12 +11,11 @@ from ..fetch import make_folder
 from ..protocol import Path
 from ..saving import Saver
 from ..sources import shown
-from .catalogue import Catalogue, Held, VolumeRow, versions
+from .catalogue import Catalogue, Held, VolumeRow, as_of, image_of, versions
 from .config import Config
 from .contents import Contents, File
-from .errors import ArchiveError, VolumeDiffers
+from .errors import Lacking, VolumeDiffers
 from .tell import Tell, shown_path
-from .volume import image_of
 
 
 class Wanted(NamedTuple):
@@ -24,10 +23,6 @@ class Wanted(NamedTuple):
 
     rows: List[Held]
     local: str
-
-
-class Lacking(ArchiveError):
-    """Bytes that are not had, and why."""
 
 
 class Summary:
@@ -38,14 +33,6 @@ class Summary:
         self.failures: List[str] = []
         self.lacking: Dict[str, int] = {}
         """Volumes that are not at hand, and how many files are on each."""
-
-
-def as_of(groups: Sequence[List[Held]], moment: Optional[int]) -> Optional[List[Held]]:
-    """The newest version, or the newest that was there at a moment."""
-    for group in groups:
-        if moment is None or max(held.added for held in group) <= moment:
-            return group
-    return None
 
 
 def wanted(catalogue: Catalogue, paths: Sequence[Path], folder: str, moment: Optional[int]) -> Iterator[Wanted]:

@@ -1,21 +1,19 @@
-"""What the commands do that read an archive."""
+"""What the commands do that read volumes, or show how they stand."""
 
 from __future__ import annotations
 
 import argparse
 from datetime import datetime, timezone
-from typing import Dict, List, Optional
+from typing import Dict, Optional
 
 from ..errors import UsageError
-from ..protocol import Path
 from ..sources import shown
-from .catalogue import Catalogue, Held, versions
-from .commands import config_of, tell_of
-from .get import Getter, Lacking, as_of, require_folder, wanted
+from .catalogue import Catalogue
+from .config import config_of
+from .get import Getter, require_folder, wanted
 from .names import path_of
 from .status import Line, incomplete, lines, room
-from .tell import Tell, plural, shown_path, size
-from .volume import image_of, stamp
+from .tell import plural, size, stamp, tell_of
 
 
 def moment_of(text: Optional[str]) -> Optional[int]:
@@ -29,140 +27,6 @@ def moment_of(text: Optional[str]) -> Optional[int]:
     if len(text) <= 10:
         found = found.replace(hour=23, minute=59, second=59, microsecond=999_999)
     return int(found.replace(tzinfo=found.tzinfo or timezone.utc).timestamp() * 1_000_000)
-
-
-def fields(group: List[Held], labels: Dict[int, str]) -> Dict[str, object]:
-    """A version, for programs."""
-    held = group[0]
-    return {
-        "path": shown_path(held.path), "size": held.size, "moment": held.moment, "sha256": held.sha256.hex(), "added": held.added,
-        "places": [{"volume": labels[row.volume], "commit": row.commit, "first": row.first, "parts": row.parts} for row in group],
-    }
-
-
-def long_line(group: List[Held], labels: Dict[int, str], name: str) -> str:
-    """A version, for people."""
-    held = group[0]
-    where = ", ".join(f"{labels[row.volume]}:{row.commit}" for row in group)
-    return f"{held.size:>12} {stamp(held.moment)} {held.sha256.hex()} {where} {name}"
-
-
-class Labels(Dict[int, str]):
-    """The labels of volumes, by their numbers."""
-
-    def __init__(self, catalogue: Catalogue):
-        super().__init__({row.number: row.label for row in catalogue.volumes()})
-
-    def __missing__(self, number: int) -> str:
-        return f"volume {number}"
-
-
-def ls(arguments: argparse.Namespace) -> int:
-    """Lists."""
-    config, tell = config_of(arguments), tell_of(arguments)
-    path = path_of(arguments.path)
-    with Catalogue(config) as catalogue:
-        labels = Labels(catalogue)
-        file = as_of(versions(catalogue.of_path(path)), None)
-        count = 0
-        if file is not None:
-            count += 1
-            list_file(tell, arguments, file, labels, path[-1])
-        if arguments.recursive:
-            for folder in catalogue.folders_below(path):
-                count += list_folder(tell, arguments, catalogue, folder, labels, True)
-        else:
-            count += list_folders(tell, catalogue, path) + list_folder(tell, arguments, catalogue, path, labels, False)
-    if not count and path:
-        raise Lacking(f"{shown_path(path)}: is not in the archive")
-    return 0
-
-
-def list_file(tell: Tell, arguments: argparse.Namespace, group: List[Held], labels: Dict[int, str], name: str) -> None:
-    text = shown_path((name,))[1:]
-    tell.say(long_line(group, labels, text) if arguments.long else f"f {text}", kind="file", **fields(group, labels))
-
-
-def list_folder(tell: Tell, arguments: argparse.Namespace, catalogue: Catalogue, folder: Path, labels: Dict[int, str], whole: bool) -> int:
-    """The files of a folder."""
-    count = 0
-    for name, rows in sorted(catalogue.in_folder(folder).items()):
-        group = as_of(versions(rows), None)
-        if group is not None:
-            count += 1
-            list_file(tell, arguments, group, labels, shown_path(folder + (name,)) if whole else name)
-    return count
-
-
-def list_folders(tell: Tell, catalogue: Catalogue, path: Path) -> int:
-    """The folders in a folder."""
-    count = 0
-    for name in sorted(catalogue.children(path)):
-        count += 1
-        tell.say(f"d {shown_path((name,))[1:]}", kind="folder", path=shown_path(path + (name,)))
-    return count
-
-
-def find(arguments: argparse.Namespace) -> int:
-    """Finds files."""
-    from .find import find as found_by
-
-    config, tell = config_of(arguments), tell_of(arguments)
-    count = 0
-    with Catalogue(config) as catalogue:
-        labels = Labels(catalogue)
-        for path in found_by(catalogue, arguments.pattern):
-            count += 1
-            show_found(tell, arguments.long, catalogue, path, labels)
-    tell.outcome = {"files": count}
-    return 0 if count else tell.fail(f"{arguments.pattern}: no file of the archive has such a {'path' if arguments.pattern.startswith('/') else 'name'}")
-
-
-def show_found(tell: Tell, long: bool, catalogue: Catalogue, path: Path, labels: Dict[int, str]) -> None:
-    """A file that was found: its path, or its newest version, which takes a look-up."""
-    if not long and not tell.as_json:
-        tell.say(shown_path(path))
-        return
-    for group in versions(catalogue.of_path(path))[:1]:
-        tell.say(long_line(group, labels, shown_path(path)), **fields(group, labels))
-
-
-def groups_of(catalogue: Catalogue, path: Path) -> List[List[Held]]:
-    """The versions of a file, or `Lacking`."""
-    found = versions(catalogue.of_path(path))
-    if not found:
-        raise Lacking(f"{shown_path(path)}: is no file of the archive: 'find' looks for a name, and 'ls' lists a folder")
-    return found
-
-
-def history(arguments: argparse.Namespace) -> int:
-    """Shows the versions of a file."""
-    config, tell = config_of(arguments), tell_of(arguments)
-    with Catalogue(config) as catalogue:
-        labels = Labels(catalogue)
-        for group in groups_of(catalogue, path_of(arguments.path)):
-            tell.say(long_line(group, labels, f"added {stamp(max(held.added for held in group))}"), **fields(group, labels))
-    return 0
-
-
-def where(arguments: argparse.Namespace) -> int:
-    """Shows where a file is."""
-    config, tell = config_of(arguments), tell_of(arguments)
-    with Catalogue(config) as catalogue:
-        holders = catalogue.holders()
-        group = groups_of(catalogue, path_of(arguments.path))[0]
-        for held in group:
-            row = catalogue.volume(held.volume)
-            if row is None:
-                raise Lacking(f"the catalogue lacks volume {held.volume}: run 'rebuild'")
-            image = image_of(config, row)
-            remotes = [copy.remote for copy in catalogue.copies(row.number) if copy.trouble is None]
-            parts = f", parts {held.first} to {(held.first or 0) + (held.parts or 0) - 1}" if held.parts is not None else ""
-            place = image or (f"at {holders.get(row.holder, '?')}" if row.holder != config.id else "away")
-            line = f"{row.label} commit {held.commit}{parts}: {row.state}, {place}" + "".join(f", copy on {remote}" for remote in remotes)
-            tell.say(line, volume=row.label, commit=held.commit, first=held.first, parts=held.parts, state=row.state, image=image,
-                     holder=holders.get(row.holder), copies=remotes, sha256=held.sha256.hex(), size=held.size, moment=held.moment)
-    return 0
 
 
 def get(arguments: argparse.Namespace) -> int:

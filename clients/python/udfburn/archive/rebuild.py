@@ -22,7 +22,7 @@ from .close import sidecar
 from .config import Config, volume_label
 from .contents import ABOUT, About, Contents
 from .errors import CatalogueError, Claimed, VolumeDiffers
-from .tell import Tell, shown_path
+from .tell import Tell, plural, shown_path
 
 
 class Difference(NamedTuple):
@@ -218,6 +218,7 @@ class Rebuilder:
             self.catalogue.replace(self._row(read.row, closed, old), read.rows)
         self.summary.volumes += 1
         self.summary.files += len(read.rows)
+        self.tell.working(f"read {plural(self.summary.volumes, 'volume', 'volumes')}, {plural(self.summary.files, 'file', 'files')}")
         return number
 
     def _is_ours(self, archive: str) -> bool:

@@ -11,14 +11,13 @@ from typing import Any, Dict, List
 
 from ..errors import SourceError
 from ..sources import shown
-from .catalogue import Catalogue
+from .catalogue import Catalogue, image_of
 from .close import beside
 from .config import Config, write_file
 from .contents import Contents
 from .errors import VolumeDiffers
 from .status import Line, lines
 from .tell import shown_path
-from .volume import image_of
 
 PLACE = "/*DATA*/"
 """Where the page has its data."""

@@ -7,11 +7,12 @@ import time
 from typing import Dict, List, NamedTuple, Optional, Tuple
 
 from ..protocol import limits
-from .catalogue import CLOSED, CLOSING, FILE, FULL, NEW, Catalogue, Copy, Held, VolumeRow, folder_back, held_row, is_whole
+from .batch import sound_length
+from .catalogue import CLOSED, CLOSING, FILE, FULL, NEW, Catalogue, Copy, Held, VolumeRow, folder_back, held_row, image_of, is_whole
 from .config import Config
+from .errors import VolumeDiffers
 from .tell import shown_path
 from .tree import MANIFEST
-from .volume import image_of
 
 STALE = 400 * 86_400 * 1_000_000
 """Microseconds after which a closed volume should be looked at again."""
@@ -70,6 +71,18 @@ def attention(row: VolumeRow, at_hand: bool, copies: List[Copy], config: Config,
     return found
 
 
+def cut_short(config: Config, row: VolumeRow) -> List[str]:
+    """What is to be known of an open image that a batch is being added to, or was when its process was killed."""
+    image = image_of(config, row)
+    try:
+        length = None if image is None else sound_length(image)
+    except VolumeDiffers as error:
+        return [str(error)]
+    if length is None:
+        return []
+    return [f"a batch is being written to it, or was cut short: run 'add' before you mount it, or mount it with lastblock={length // limits.BLOCK - 1}"]
+
+
 def lines(config: Config, catalogue: Catalogue) -> List[Line]:
     """All volumes, those that need attention first."""
     copies: Dict[int, List[Copy]] = {}
@@ -81,7 +94,8 @@ def lines(config: Config, catalogue: Catalogue) -> List[Line]:
         own, at_hand = row.holder == config.id, image_of(config, row) is not None
         have = copies.get(row.number, [])
         state = state_of(row, at_hand, good(have, config), config, own)
-        found.append(Line(row, state, at_hand, fullness(row), have, attention(row, at_hand, have, config, own, now)))
+        needed = attention(row, at_hand, have, config, own, now) + cut_short(config, row)
+        found.append(Line(row, state, at_hand, fullness(row), have, needed))
     return sorted(found, key=lambda line: (not line.attention, line.row.number))
 
 

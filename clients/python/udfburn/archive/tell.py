@@ -2,7 +2,10 @@
 
 from __future__ import annotations
 
+import argparse
 import time
+from datetime import datetime, timezone
+
 from ..progress import Progress, plural, printable, size
 from ..protocol import Path
 from .names import text_of
@@ -11,6 +14,11 @@ from .names import text_of
 def shown_path(path: Path) -> str:
     """A path that can be printed whatever bytes it has."""
     return text_of(path).encode(errors="surrogateescape").decode(errors="backslashreplace")
+
+
+def stamp(moment: int) -> str:
+    """A moment, as people read it."""
+    return datetime.fromtimestamp(moment / 1e6, timezone.utc).strftime("%Y-%m-%dT%H:%M:%SZ")
 
 
 class Tell(Progress):
@@ -39,6 +47,12 @@ class Tell(Progress):
             self.errors.write("\r\x1b[K" + line)
             self.errors.flush()
 
+    def working(self, what: str) -> None:
+        """What is being done now, on a terminal: the next line takes its place."""
+        if self.bar:
+            self.errors.write("\r\x1b[K" + printable(what))
+            self.errors.flush()
+
     def say_step(self, line: str, **fields: object) -> None:
         """A step that is no file's."""
         if self.bar:
@@ -50,4 +64,10 @@ class Tell(Progress):
         print(f"udfburn-archive: {printable(line)}", file=self.errors, flush=True)
 
 
-__all__ = ["Tell", "plural", "shown_path", "size"]
+def tell_of(arguments: argparse.Namespace) -> Tell:
+    """What the command tells by."""
+    tell: Tell = arguments.tell
+    return tell
+
+
+__all__ = ["Tell", "plural", "shown_path", "size", "stamp", "tell_of"]

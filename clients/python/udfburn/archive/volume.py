@@ -5,14 +5,14 @@ from __future__ import annotations
 import os
 import time
 from contextlib import closing
-from datetime import datetime, timezone
-from typing import Callable, Iterable, Iterator, List, Optional, Tuple
+from typing import Callable, Dict, Iterable, Iterator, List, Optional, Tuple
 
 from ..blocks import Space
 from ..client import Client
 from ..connection import find_program, run_program
-from ..errors import ConnectionFailed, DiskFull, DriveFailed, Full, NumberUsedElsewhere, OutOfMemory
-from ..ledger import MemoryLedger
+from ..digests import Files
+from ..errors import ConnectionFailed, DiskFull, DriveFailed, Full, NumberUsedElsewhere, OutOfMemory, WrongVolume
+from ..ledger import Ledger, MemoryLedger, Volume as Known
 from ..ledger_file import sync_folder
 from ..manifest import PAYLOAD
 from ..operations import Operation, Outcome, now
@@ -20,18 +20,20 @@ from ..protocol import Code, Create, MakeDir, Path, Remove, limits
 from ..reader import Kind
 from .bag import manifest_size
 from .batch import Batch, NoBatch, cut_tail, has_room, is_worth, memory_folder, sound_length
-from .catalogue import CLOSED, NEW, OPEN, Catalogue, VolumeRow, is_whole
+from .catalogue import NEW, OPEN, Catalogue, VolumeRow, image_of, is_whole
 from .claims import Claims
 from .config import Config, volume_label
 from .contents import ABOUT, RUNS, TITLE, Contents, File
 from .errors import VolumeDiffers
+from .tell import stamp
 from .tree import Tree
 
 RUNS_MOST = 480
 """Runs that write to one volume, at most: each has a text in one folder."""
 
-CLIENTS_MOST = 37
-"""Clients that a volume gets, at most: Linux mounts a volume with up to 38."""
+CLIENTS_MOST = 36
+"""Clients after which one more makes a volume full. Linux mounts a volume with up to 38, so `close` may still come with another, as
+where the ledger was lost or the volume was adopted."""
 
 RULES = """
 This volume belongs to an archive that is larger than a disc. The files are below
@@ -53,20 +55,6 @@ begin with = are the archive's:
 runs/ has a text for each run that wrote to this volume. A closed volume is a bag
 of RFC 8493: "sha256sum -c manifest-sha256.txt" checks it.
 """
-
-
-def stamp(moment: int) -> str:
-    """A moment, as people read it."""
-    return datetime.fromtimestamp(moment / 1e6, timezone.utc).strftime("%Y-%m-%dT%H:%M:%SZ")
-
-
-def image_of(config: Config, row: VolumeRow) -> Optional[str]:
-    """The image of a volume, where it is at hand."""
-    for folder in ("closed", "open") if row.state == CLOSED else ("open", "closed"):
-        image = config.path(folder, row.label + ".img")
-        if os.path.isfile(image):
-            return image
-    return None
 
 
 class OpenVolume:
@@ -126,6 +114,11 @@ class OpenVolume:
         except NumberUsedElsewhere:
             # A batch is on the image, and the ledger does not have its replies. All else that it knows of the image is so.
             self.client.forget()
+        except WrongVolume as error:
+            raise VolumeDiffers(
+                f"{self.image}: is not what its ledger says: it is another copy, or bytes of its last commit have changed, which "
+                f"'check --data {self.row.label}' finds. Bring the right image back; where this one is meant, remove {self.ledger}"
+            ) from error
         with closing(Contents(self.image)) as contents:
             self.require_own(contents)
             if all((name,) in contents.nodes for name in (ABOUT, PAYLOAD, RUNS)):
@@ -251,8 +244,7 @@ class OpenVolume:
 
     def _batch(self, copy: str, operations: Callable[[], Iterable[Operation]]) -> Tuple[List[Outcome], Optional[Full]]:
         """Does operations on a copy of the image, adds its tail to the image, and has the ledger keep the replies."""
-        ledger = self.client.session().ledger
-        volume = ledger.volume(self.client.endpoint.key())
+        ledger, volume = self._in_ledger()
         if volume is None or not has_room(os.path.dirname(copy), self.tree.space.next * limits.BLOCK):
             raise NoBatch(f"{copy}: no room")
         done: List[Outcome] = []
@@ -273,6 +265,16 @@ class OpenVolume:
                 batch.add_tail()
                 ledger.take(volume, kept)
         return done, full
+
+    def _in_ledger(self) -> "Tuple[Ledger, Optional[Known]]":
+        """The ledger, and the volume as it knows it."""
+        ledger = self.client.session().ledger
+        return ledger, ledger.volume(self.client.endpoint.key())
+
+    def sent(self) -> Dict[int, bytes]:
+        """The SHA-256 of each file that the ledger sent, by the commit that wrote it."""
+        ledger, known = self._in_ledger()
+        return {} if known is None else {commit: file.sha256 for commit, file in Files(ledger, known).by_commit.items()}
 
     def plan_marker(self, text: str) -> None:
         """Plans the text that notes a run before its first file."""
@@ -336,4 +338,4 @@ def taken_up(volume: OpenVolume) -> OpenVolume:
     return volume
 
 
-__all__ = ["OpenVolume", "image_of", "new_row", "open_new", "own_volumes", "stamp"]
+__all__ = ["OpenVolume", "new_row", "open_new", "own_volumes"]

@@ -1,0 +1,106 @@
+"""Bytes that change on an open volume: they are found before the volume is closed, no source goes for them, and what is whole is kept."""
+
+from __future__ import annotations
+
+import os
+from typing import List
+
+from .support import WithArchive, digests, make_tree, write
+
+
+class Damage(WithArchive):
+    def setUp(self) -> None:
+        super().setUp()
+        self.data = os.urandom(2_500_000)
+        self.big = os.path.join(self.source, "big")
+
+    def image(self, number: int) -> str:
+        return self.path("archive", "open", f"T-{number:06}.img")
+
+    def change(self, number: int, data: bytes) -> None:
+        """Changes a byte of an image, at the place of some bytes of a file."""
+        with open(self.image(number), "r+b") as file:
+            place = file.read().index(data[:64])
+            file.seek(place)
+            file.write(bytes([data[0] ^ 1]))
+
+    def names_of(self, failures: List[str]) -> List[str]:
+        return [name for name in ("big", "file 3.bin") if any(name in failure for failure in failures)]
+
+    def test_a_part_and_a_file_on_an_open_volume(self) -> None:
+        self.init()
+        make_tree(self.source, 20, 1)
+        small = os.path.join(self.source, "d0", "e0", "file 3.bin")
+        write(small, os.urandom(5000))
+        write(self.big, self.data)
+        self.add()
+        before = digests(self.source)
+        self.change(1, self.data[1_500_000:])
+        with open(small, "rb") as file:
+            self.change(1, file.read())
+        done = self.do("check", "--data", "T-000001", status=1)
+        self.assertEqual(self.names_of(done.last()["failures"]), ["big", "file 3.bin"])
+        # The bag would say that they are well.
+        self.assertIn("2 files are not as they were stored", self.do("close", status=1).errors)
+        self.assertFalse(os.path.exists(self.path("archive", "closed", "T-000001.img")))
+        last = self.add("--delete-source").last()
+        self.assertEqual((last["deleted"], last["kept"]), (19, 2))
+        taken = [line["path"] for line in self.do("close", "--without-damaged").objects() if line["did"] == "taken off"]
+        self.assertEqual(sorted(taken), ["/s/big", "/s/d0/e0/file 3.bin"])
+        self.require_agreed()
+        self.assertEqual(self.do("check", "--data").last()["failures"], [])
+        self.assertEqual(self.add("--delete-source").last()["files"], 2)
+        self.assertEqual(digests(self.source), {})
+        self.assertEqual(self.get_all(), before)
+        self.require_agreed()
+
+    def test_no_source_goes_for_a_volume_that_cannot_be_read(self) -> None:
+        self.init()
+        make_tree(self.source, 20, 1)
+        self.add()
+        before = digests(self.source)
+        self.do("close")
+        closed = self.path("archive", "closed", "T-000001.img")
+        os.chmod(closed, 0o600)
+        # Nothing is left of its directories and entries.
+        with open(closed, "r+b") as file:
+            file.seek(300 * 2048)
+            file.write(bytes(os.path.getsize(closed) - 300 * 2048))
+        last = self.add("--delete-source").last()
+        self.assertEqual((last["deleted"], last["kept"]), (0, 20))
+        self.assertEqual(digests(self.source), before)
+
+    def test_the_last_commit(self) -> None:
+        self.init()
+        write(self.big, self.data[:900_000])
+        self.add()
+        self.change(1, self.data)
+        write(os.path.join(self.source, "more"), b"more")
+        self.assertIn("is not what its ledger says", self.add(status=1).errors)
+        self.assertEqual(self.names_of(self.do("check", "--data", "T-000001", status=1).last()["failures"]), ["big"])
+        os.unlink(self.image(1)[: -len("img")] + "ledger")
+        self.do("close", "--without-damaged")
+        self.add()
+        self.assertEqual(self.get_all(), digests(self.source))
+        self.require_agreed()
+
+    def test_a_part_of_a_file_on_several_volumes(self) -> None:
+        remote = self.path("remote")
+        os.mkdir(remote)
+        self.init("--capacity", "4000", "--copies", remote)
+        data = os.urandom(12_000_000)
+        write(self.big, data)
+        self.add()
+        # A part of the second volume: whatever part that is, the first volume has those before it.
+        (row,) = self.rows()
+        first = next(place["first"] for place in row["places"] if place["volume"] == "T-000002")
+        self.assertGreater(first, 0)
+        self.change(2, data[first << 20 :])
+        self.assertIn("/s/big", self.do("close", "T-000002", status=1).errors)
+        # Without the ledger one volume alone does not show it, and all of them together do.
+        os.unlink(self.image(2)[: -len("img")] + "ledger")
+        self.do("close")
+        self.assertEqual(self.names_of(self.do("check", "--data", status=1).last()["failures"]), ["big"])
+        last = self.add("--delete-source").last()
+        self.assertEqual((last["deleted"], last["kept"]), (0, 1))
+        self.assertEqual(list(digests(self.source)), [b"big"])

@@ -1,0 +1,95 @@
+"""A disk that is full at each moment of a batch: nothing that was acknowledged is lost, no source is deleted too early, and the same
+command finishes once there is room."""
+
+from __future__ import annotations
+
+import os
+import random
+import shutil
+import subprocess
+import unittest
+from typing import List
+
+from .support import LARGE, WithArchive, digests, make_tree
+
+STEP = 4096
+"""Bytes by which rooms differ: a page of the file system."""
+
+TRIALS = 150 if LARGE else 6
+"""Rooms that are tried, at random among all up to the one that is enough."""
+
+
+class FullDisk(WithArchive):
+    """An archive on a file system of its own, of which the test leaves so many bytes."""
+
+    def setUp(self) -> None:
+        super().setUp()
+        self.disk = self.path("disk")
+        os.mkdir(self.disk)
+        words = ["mount", "-t", "tmpfs", "-o", "size=48m", "none", self.disk]
+        if os.geteuid() != 0 or subprocess.run(words, capture_output=True, check=False).returncode:
+            self.skipTest("a file system cannot be mounted here")
+        self.addCleanup(subprocess.call, ["umount", "-l", self.disk])
+        self.archive = os.path.join(self.disk, "archive")
+        self.filler = os.path.join(self.disk, "filler")
+
+    def fill_but(self, room: int) -> None:
+        """Takes all of the disk but so many bytes."""
+        found = os.statvfs(self.disk)
+        with open(self.filler, "wb") as file:
+            os.posix_fallocate(file.fileno(), 0, found.f_bavail * found.f_frsize - room)
+
+    def begin(self) -> None:
+        """An archive with some files, and a source with more."""
+        self.init()
+        make_tree(self.source, 20, 1)
+        self.add()
+        make_tree(os.path.join(self.source, "more"), 24, 2)
+        for path, kept in ((self.archive, self.path("kept")), (self.source, self.path("kept source"))):
+            shutil.copytree(path, kept)
+        self.before = digests(self.source)
+
+    def again(self) -> None:
+        for path, kept in ((self.archive, self.path("kept")), (self.source, self.path("kept source"))):
+            shutil.rmtree(path)
+            shutil.copytree(kept, path)
+
+    def trial(self, room: int, *words: str) -> int:
+        """Adds with so much room, which ends well or not; then there is room, and the same command finishes."""
+        self.again()
+        self.fill_but(room)
+        status = self.add("--delete-source", *words, status=None).status
+        os.unlink(self.filler)
+        left = digests(self.source)
+        there = {os.fsencode(row["path"][len("/s/"):]): row["sha256"] for row in self.rows()}
+        for path in set(self.before) - set(left):
+            self.assertEqual(there.get(path), self.before[path][0], f"{path!r} was deleted at {room} bytes, and is not in the catalogue")
+        # The volume may be ahead of the catalogue, and never behind it.
+        differs = [line["how"] for line in self.do("rebuild", "--dry-run").objects() if line["did"] == "differs"]
+        self.assertLessEqual(set(differs), {"is on the volume, and was not in the catalogue"}, room)
+        self.add("--delete-source", *words)
+        self.assertEqual(digests(self.source), {}, room)
+        self.assertEqual(self.get_all(), self.before, room)
+        self.assertEqual(len(self.rows()), len(self.before), room)
+        self.require_agreed()
+        self.assertEqual([name for name in os.listdir(os.path.join(self.archive, "open")) if name.endswith(".tail")], [])
+        return status
+
+    def rooms(self, *words: str) -> List[int]:
+        """The rooms that are tried."""
+        high = 64 * STEP
+        while self.trial(high, *words):
+            high *= 2
+        every = list(range(0, high, STEP))
+        return sorted(random.Random(48).sample(every, min(TRIALS, len(every))))
+
+    def test_each_room_in_a_batch(self) -> None:
+        self.begin()
+        ended = [self.trial(room) for room in self.rooms()]
+        self.assertIn(1, ended)
+
+    @unittest.skipUnless(LARGE, "--large has it")
+    def test_each_room_one_by_one(self) -> None:
+        self.begin()
+        ended = [self.trial(room, "--each") for room in self.rooms("--each")]
+        self.assertIn(1, ended)
