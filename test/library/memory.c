@@ -77,6 +77,20 @@ static int32_t look(void) {
     return outcome;
 }
 
+/* The format, and the five requests. */
+static int32_t all_commits(void) {
+    struct udfburn_commit commit = {0, 0, 0, 0, 0};
+    struct udfburn_status volume;
+    int32_t outcome;
+    uint32_t count = 0;
+    while ((outcome = udfburn_log(handle, &commit)) == UDFBURN_OK) count++;
+    if (outcome != UDFBURN_NONE) return outcome;
+    EXPECT(count == 6 && commit.number == 0);
+    outcome = udfburn_status(handle, &volume);
+    EXPECT(outcome != UDFBURN_OK || volume.commits == 5);
+    return outcome;
+}
+
 static int32_t in_memory(void) {
     udfburn *volume;
     uint32_t address;
@@ -103,7 +117,8 @@ static int is_done(step step) {
 }
 
 int main(int argc, char **argv) {
-    static const step steps[] = {format, open_again, make_directory, create, replace, rename_it, remove_it, get, list, look, in_memory};
+    static const step steps[] = {format, open_again, make_directory, create, replace, rename_it, remove_it, get, list, look, all_commits,
+                                 in_memory};
     if (argc != 2) return EXIT_FAILURE;
     image = argv[1];
     size_t done = 0;

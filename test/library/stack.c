@@ -24,8 +24,12 @@ static void make_folders(udfburn *handle, char *path) {
 
 static void *work(void *unused) {
     struct udfburn_request request = {7, 0, MOMENT, 0, 0};
+    struct udfburn_commit commit = {0, 0, 0, 0, 0};
+    struct udfburn_status status;
     struct udfburn_name *names;
     char path[64], moved[64];
+    uint64_t number;
+    int32_t outcome;
     size_t count;
     udfburn *handle;
     STATUS(UDFBURN_OK, udfburn_format("stack.img", "DISC", MOMENT, 3000));
@@ -41,6 +45,10 @@ static void *work(void *unused) {
     STATUS(UDFBURN_OK, udfburn_get(handle, moved, data, sizeof data, &count));
     STATUS(UDFBURN_OK, udfburn_list(handle, "/d", &names, &count));
     udfburn_free(names);
+    STATUS(UDFBURN_OK, udfburn_status(handle, &status));
+    STATUS(UDFBURN_OK, udfburn_last_number(handle, 7, &number));
+    while ((outcome = udfburn_log(handle, &commit)) == UDFBURN_OK) continue;
+    STATUS(UDFBURN_NONE, outcome);
     udfburn_close(handle);
     STATUS(UDFBURN_OK, udfburn_open("stack.img", &handle));
     udfburn_close(handle);

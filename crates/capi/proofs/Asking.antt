@@ -1,6 +1,6 @@
 -- What an open store knows of a client is what the state does.
 use Rattle.std.proofs.Common.{◌≡◌, ℕ, List, Option, Some, sym, ap, subst, ◌∙◌}
-use Rattle.std.specs.Prelude.{false, map, unwrap_or, Result, Ok, Err, IfOk, IfErr}
+use Rattle.std.specs.Prelude.{false, unwrap_or, Result, Ok, Err, IfOk, IfErr}
 use Rattle.drive.specs.Journal.{Event, Once, held}
 use Rattle.model.specs.Session.{State, ClientRecord, record_of}
 use Rattle.durability.specs.Volume.{RecoversTo}
@@ -8,7 +8,6 @@ use Rattle.udf.specs.Udf.{udf}
 use Rattle.durability.specs.Formats.{Table_}
 use Rattle.store.specs.declared.store.Store.{Store}
 use Rattle.store.specs.Calls.{IsOpenOn}
-use Rattle.udf.specs.Said.{model_record}
 use Rattle.engine.specs.Situation.{Situation, IsOpen}
 use Rattle.engine.specs.Steps.{HoldsState}
 use Rattle.capi.specs.declared.session.Session.{Session}

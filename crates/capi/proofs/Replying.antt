@@ -1,9 +1,7 @@
 -- Messages were answered, and their answers wait.
-use Rattle.std.proofs.Common.{◌≡◌, ℕ, ◌≤◌, List, [], ◌∷◌, ◌++◌, length, take, drop, Option, Some, sym, ap, subst, ◌∙◌, arith}
+use Rattle.std.proofs.Common.{ℕ, ◌≤◌, List, ◌++◌, length, drop, Option, Some, ap, ◌∙◌, arith}
 use Rattle.std.proofs.lemmas.List.{append-nil, drop-append-le, length-append}
 use Rattle.request.specs.Frames.{IsIdle}
-use Rattle.request.specs.Answers.{answer_frame}
-use Rattle.request.specs.declared.answer.Answer.{Answer}
 use Rattle.engine.specs.Situation.{Situation}
 use Rattle.engine.specs.Served.{Answering, AnswersSome, LeftAt, frames_of}
 use Rattle.engine.specs.declared.serving.ServeFault.TheVariants as stops

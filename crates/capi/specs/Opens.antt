@@ -5,7 +5,6 @@ use Rattle.drive.specs.FileDrive.{capacity_of, BeginsWith}
 use Rattle.drive.specs.MemDrive as memory
 use Rattle.drive.specs.declared.file.FileDrive.{FileDrive}
 use Rattle.drive.specs.declared.memory.MemDrive.{MemDrive}
-use Rattle.formatting.specs.NewVolume.{words_on, IsFormatted}
 use Rattle.model.specs.Session.{State}
 use Rattle.recover.specs.Faults.{IsShortage}
 use Rattle.recover.specs.declared.fault.StoreFault.{StoreFault}

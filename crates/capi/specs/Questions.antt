@@ -1,5 +1,5 @@
 -- What is asked of the volume beside messages.
-use Rattle.std.specs.Prelude.{◌≡◌, ⊤, ℕ, ℤ, List, map, Option, Some, None, IsTrue, Result, Ok, Err}
+use Rattle.std.specs.Prelude.{◌≡◌, ℕ, ℤ, List, map, Option, Some, None, IsTrue, Result, Ok, Err}
 use Rattle.model.specs.Session.{State, ClientRecord, record_of}
 use Rattle.recover.specs.Faults.{IsShortage}
 use Rattle.recover.specs.declared.fault.StoreFault.{StoreFault}

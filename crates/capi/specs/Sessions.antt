@@ -1,5 +1,5 @@
 -- What a session is to its caller, and what each call does to it.
-use Rattle.std.specs.Prelude.{◌≡◌, ◌⊎◌, ℕ, ℤ, ◌+◌, ◌<◌, ◌≤◌, ◌++◌, min, Bool, true, false, IsTrue, List, [], length, take, drop, slice_get, Option, Some, None, Result, Ok, Err}
+use Rattle.std.specs.Prelude.{◌≡◌, ◌⊎◌, ℕ, ◌+◌, ◌<◌, ◌≤◌, ◌++◌, min, Bool, true, false, List, length, take, drop, slice_get, Option, Some, None, Result, Ok, Err}
 use Rattle.drive.specs.Journal.{Event}
 use Rattle.request.specs.Frames.{fed}
 use Rattle.engine.specs.Situation.{Situation}
@@ -7,7 +7,6 @@ use Rattle.capi.specs.declared.fault.Fault.{Fault}
 use Rattle.capi.specs.declared.fault.Fault.TheVariants as faults
 use Rattle.capi.specs.declared.session.Session.{Session}
 use Rattle.capi.specs.Media.{seen_by, blocks_of, in_memory}
-use Rattle.capi.specs.Numbers.{status}
 use Rattle.capi.specs.Replies.{Replies, RepliesButLast}
 
 -- its engine, beside what its volume lies on

@@ -1,5 +1,5 @@
 -- What C is told of a volume.
-use Rattle.std.specs.Prelude.{◌≡◌, ℕ, ℤ, Bool, IsTrue, List, length, take, Result, Ok, Err}
+use Rattle.std.specs.Prelude.{◌≡◌, Bool, IsTrue, List, length, take}
 use Rattle.drive.specs.Journal.{Event, held, next_of}
 use Rattle.recover.specs.Tables.{IsEntryAt}
 use Rattle.recover.specs.declared.table.TableEntry.{TableEntry}

@@ -2,7 +2,7 @@
 
 ghost use types.Logic.{sem};
 ghost use base.Fml.{fex};
-ghost use Rattle.std.specs.Prelude.{◌≡◌, ⊤, ℤ, pos, Result};
+ghost use Rattle.std.specs.Prelude.{◌≡◌, ⊤, Result};
 ghost use Rattle.std.specs.Ptr.{points_to};
 ghost use Rattle.capi.specs.declared.fault.Fault.{Fault};
 ghost use Rattle.capi.specs.declared.session.Session.{Session};

@@ -1,6 +1,6 @@
 //! A session's medium, lent to its engine.
 
-ghost use Rattle.std.specs.Prelude.{◌≡◌, ℕ, Some, None, IsTrue, IfErr, IfOk, OnOk, OnErr};
+ghost use Rattle.std.specs.Prelude.{◌≡◌, ℕ, Some, IsTrue, IfErr, IfOk, OnOk, OnErr};
 ghost use Rattle.model.specs.Session.{State};
 ghost use Rattle.recover.specs.Faults.{IsShortage};
 ghost use Rattle.request.specs.Frames.{IsIdle};

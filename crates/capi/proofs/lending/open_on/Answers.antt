@@ -1,5 +1,4 @@
-use Rattle.std.proofs.Common.{rules, ◌≡◌, ℕ, subst}
-use Rattle.model.specs.Session.{State}
+use Rattle.std.proofs.Common.{rules, ◌≡◌, subst}
 use Rattle.engine.specs.Steps.{HoldsState}
 use Rattle.capi.specs.declared.medium.Medium.{Medium}
 use Rattle.capi.specs.declared.medium.Medium.TheVariants.{Image, Memory}
