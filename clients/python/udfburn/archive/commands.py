@@ -21,7 +21,7 @@ from .tell import Tell, plural, size
 
 @dataclass
 class Settings:
-    """What `init` is told."""
+    """The words of `init`."""
 
     catalogue: str
     label: str
@@ -35,7 +35,7 @@ def config_of(arguments: argparse.Namespace) -> Config:
 
 
 def tell_of(arguments: argparse.Namespace) -> Tell:
-    """What the command tells by."""
+    """What the command prints by."""
     tell: Tell = arguments.tell
     return tell
 
