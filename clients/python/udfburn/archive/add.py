@@ -148,7 +148,7 @@ class Adder:
         return job
 
     def _continue(self, job: Job, row: Held, volume: VolumeRow) -> bool:
-        """Has a job go on behind the parts of a row, where the volume has them as the source has."""
+        """Has a job go on after the parts of a row, where the volume has them as the source has."""
         image = image_of(self.config, volume)
         if image is None:
             return False

@@ -46,7 +46,7 @@ class Held(NamedTuple):
         return self.volume * COMMITS + self.commit
 
     def version(self) -> Tuple[Path, int, int, bytes]:
-        """What tells one version from another."""
+        """What distinguishes one version from another."""
         return self.path, self.size, self.moment, self.sha256
 
 
@@ -217,7 +217,7 @@ class Catalogue:
     # ---- files
 
     def add(self, volume: VolumeRow, rows: Sequence[Held]) -> None:
-        """Keeps files of a volume, and what is known of it behind them, as one."""
+        """Keeps files of a volume, and what is known of it after them, as one."""
         with self.base.transaction():
             self._insert(rows)
             self.save(volume)

@@ -173,7 +173,7 @@ class Closer:
         return read_fields(contents.bytes_of(node)).get("Bagging-Date") if node is not None else None
 
     def _end(self, image: str, contents: Contents) -> None:
-        """Ends the image after its last table's entry, looks at all of it, and makes it read-only."""
+        """Ends the image after its last VAT ICB, looks at all of it, and makes it read-only."""
         end = (contents.last_address + 1) * limits.BLOCK
         descriptor = os.open(image, os.O_RDWR | os.O_CLOEXEC)
         try:

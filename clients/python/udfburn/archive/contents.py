@@ -129,7 +129,7 @@ class Contents:
         return read_about(self.bytes_of(node), self.image)
 
     def commit_of(self, node: Node) -> int:
-        """The commit that wrote a file: the first whose table's entry comes after the file's own."""
+        """The commit that wrote a file: the first whose VAT ICB comes after the file's own."""
         return self.first_commit + bisect_left(self.addresses, node.address)
 
     def added(self, commit: int) -> int:
@@ -214,7 +214,7 @@ class Contents:
             yield self.bytes_of(node)
 
     def digest(self, file: File) -> bytes:
-        """The digest of a file: from the manifest or its description, else reckoned of its bytes."""
+        """The digest of a file: from the manifest or its description, else computed from its bytes."""
         if file.sha256 is not None:
             return file.sha256
         whole = sha256()
@@ -227,7 +227,7 @@ class Contents:
         return file.parts is None or not file.first and file.parts == part_count(file.size)
 
     def rows(self, number: int, known: Optional[Dict[int, Held]] = None) -> List[Held]:
-        """The rows of the catalogue. Digests of files that are known by their commits are not reckoned anew."""
+        """The rows of the catalogue. Digests of files that are known by their commits are not computed anew."""
         found = []
         for file in self.files():
             old = known.get(file.commit) if known else None

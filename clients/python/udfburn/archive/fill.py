@@ -26,10 +26,10 @@ OPEN_MOST = 4
 """Open volumes of one run. The files of a folder go to the first that has room for all of them."""
 
 Kept = Callable[[List[Job]], None]
-"""Is told of files that the catalogue has."""
+"""Is called for files that the catalogue has."""
 
 Failed = Callable[[Job, str], None]
-"""Is told of a file that was not stored, and why."""
+"""Is called for a file that was not stored, with the reason."""
 
 
 class Filler:
@@ -67,12 +67,12 @@ class Filler:
         else:
             if Tree.empty(self.config.capacity).fits(sizes, folder, names):
                 waiting = self._plan(self._new(), waiting)
-        # They are too many for one volume, or took more than was reckoned.
+        # They are too many for one volume, or took more than was computed.
         while waiting:
             waiting = self._spill(waiting)
 
     def _resumed(self, jobs: List[Job]) -> List[Job]:
-        """Goes on with files whose front a volume has, on that volume; gives what is left."""
+        """Goes on with files whose first parts a volume has, on that volume; gives what is left."""
         left: List[Job] = []
         for job in jobs:
             volume = next((volume for volume in self.open if volume.row.number == job.volume), None) if job.whole is not None else None
@@ -170,7 +170,7 @@ class Filler:
                     self._keep(volume, done)
         except Full:
             full = True
-        # Of a file that was cut the volume has its first parts, and the next run goes on behind them.
+        # Of a file that was cut the volume has its first parts, and the next run goes on after them.
         cut = [job for job in jobs if job.in_parts() and job.commit and not job.stored()]
         self._keep(volume, done, cut)
         return self._after(volume, jobs, full)
@@ -216,7 +216,7 @@ class Filler:
             self.tell.step("stored", job.source.path, job.planned_bytes(), volume.row.label, outcome.commit)
 
     def _keep(self, volume: OpenVolume, done: List[Job], cut: Sequence[Job] = ()) -> None:
-        """Has the catalogue keep what is stored, and then tells whoever deletes sources."""
+        """Has the catalogue keep what is stored, and then calls whoever deletes sources."""
         if volume.last_commit == volume.row.last_commit:
             return
         self.claims.require()

@@ -1,5 +1,5 @@
 """Finds files by a pattern. A literal beginning or end of it is looked up in order of names or of their ends, where whole paths
-stand side by side: so the time follows from what is found, and no hit takes a look-up of its own."""
+are side by side: so the time follows from what is found, and no hit takes a look-up of its own."""
 
 from __future__ import annotations
 
@@ -15,7 +15,7 @@ from .names import kept_name, name_back
 WILD = "*?["
 
 ESCAPE = "!"
-"""What stands before a letter of a LIKE that would be a wildcard."""
+"""What is before a letter of a LIKE that would be a wildcard."""
 
 
 def after(text: str) -> str:

@@ -60,7 +60,7 @@ def report(arguments: argparse.Namespace) -> int:
 
 
 def status(arguments: argparse.Namespace) -> int:
-    """Shows how each volume stands."""
+    """Shows the state of each volume."""
     config, tell = config_of(arguments), tell_of(arguments)
     with Catalogue(config) as catalogue:
         found, holders, lacking = lines(config, catalogue), catalogue.holders(), incomplete(catalogue)

@@ -136,7 +136,7 @@ class RcloneRemote(Remote):
 
 
 def last_line(told: bytes) -> str:
-    """The last line of what a program told."""
+    """The last line of what a program printed."""
     lines = told.decode(errors="replace").strip().splitlines()
     return lines[-1] if lines else ""
 

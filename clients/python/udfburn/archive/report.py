@@ -42,7 +42,7 @@ def ends(config: Config, line: Line) -> List[int]:
 
 
 def volume(config: Config, catalogue: Catalogue, line: Line, folders: Dict[str, int]) -> Dict[str, Any]:
-    """What the page has of a volume. Its files stand in lists of one length, in order of their commits."""
+    """What the page has of a volume. Its files are in lists of one length, in order of their commits."""
     row = line.row
     rows = catalogue.of_volume(row.number)
     return {

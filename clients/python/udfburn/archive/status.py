@@ -1,4 +1,4 @@
-"""How each volume stands: how full in each limit, when it was last looked at, where its copies are, and what needs attention."""
+"""The state of each volume: how full in each limit, when it was last looked at, where its copies are, and what needs attention."""
 
 from __future__ import annotations
 

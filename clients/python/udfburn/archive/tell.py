@@ -1,4 +1,4 @@
-"""What a command of the archive tells while it works."""
+"""What a command of the archive reports while it works."""
 
 from __future__ import annotations
 

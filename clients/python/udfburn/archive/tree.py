@@ -21,11 +21,11 @@ MANIFEST = limits.FILE - 1024
 """Bytes of a manifest, at most."""
 
 SPARE = 64
-"""Blocks that are kept beside what is reckoned: a block that looks like a table's entry moves what is written."""
+"""Blocks that are kept beside what is computed: a block that looks like a VAT ICB moves what is written."""
 
 
 FIRST = 262
-"""The first block behind a format."""
+"""The first block after a format."""
 
 Undo = Tuple[Tuple[int, int, int, int], List[Path], Dict[Path, Optional[Tuple[int, int, int]]]]
 """What is needed to undo a plan: the counts before it, what it named, and how the folders of that were laid."""
@@ -96,7 +96,7 @@ class Tree:
         self.space.capacity = self.capacity - self.reserve()
 
     def fits(self, sizes: Iterable[int], folder: Path, names: Iterable[str]) -> bool:
-        """Whether files of these sizes and names fit in a folder together, as far as can be reckoned ahead."""
+        """Whether files of these sizes and names fit in a folder together, as far as can be computed ahead."""
         layout, entries, nodes, blocks, manifest = self._layout(folder), self.space.entries, self.space.nodes, 0, self.manifest
         nodes += len(folder) + 2
         base = manifest_size((PAYLOAD,) + stored_folder(folder))
