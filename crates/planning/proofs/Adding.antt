@@ -7,7 +7,7 @@ use Rattle.std.specs.Cmp.Lexicographic.{pointwise}
 use Rattle.std.proofs.lemmas.Bool.{ne_eqb}
 use Rattle.std.proofs.lemmas.List.{length-map, length_push, map-append}
 use Rattle.model.specs.Tree.{Name, Path, Tree, IsTree, is_directory_at, names_at, names_in, has_names, parent_of, last_of}
-use Rattle.model.specs.Graph.{Graph, Body, Entry, MakesTree, IsFunctional, Reach, as_stored, content_in, is_directory}
+use Rattle.model.specs.Graph.{Graph, Body, Entry, MakesTree, IsFunctional, Reach, as_stored, content_in}
 use Rattle.model.specs.Graph.Body.{Entries}
 use Rattle.model.specs.Change.{with_entries, new_body}
 use Rattle.model.specs.Operation.{code_of}
@@ -29,10 +29,6 @@ use Rattle.planning.specs.Writings.{directory_writing, new_file, change_writings
 use Rattle.table_update.specs.NextTable.{made_by, RemovesNode}
 use Rattle.planning.specs.Changes.{addition, content_of_thing, code_by_names, addresses_in, gone_of, IsChangeOf}
 use Rattle.lookup.proofs.Walks.{node_at, names_stored, directory_stored, said_names, step_some, step_none}
-
--- a directory is stored where a walk ends at one
-pub stored_directory : (graph : Graph) (path : Path) (node : Node) (here : IsNodeAt graph path node) → names_directory node.kind ≡ true → is_directory here.found.stored ≡ true
-stored_directory graph path node here directory = sym here.kind ∙ directory
 
 -- ---- the code
 
