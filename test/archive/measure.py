@@ -261,7 +261,7 @@ def spent(folder: str, command: str, *words: str) -> Tuple[str, str]:
 def rebuilding(room: str) -> None:
     """The catalogue made again of closed volumes."""
     folder = os.path.join(room, "fifty")
-    files = VOLUMES * 720
+    files = VOLUMES * 838
     run(*words_of("init", folder, "--label", "M", "--capacity", "5700", "--quiet"))
     source = os.path.join(room, "many")
     make_tree(source, files, 5, most=1500)
