@@ -6,7 +6,7 @@ use media::{FileMedia, Media, MemMedia};
 use std::fs;
 use std::test::Fail;
 
-/// What is told of a medium that has no image at two paths yet.
+/// What is reported of a medium that has no image at two paths yet.
 #[derive(Clone, Copy, Debug, PartialEq, Eq)]
 struct Told {
     is_missing: bool,

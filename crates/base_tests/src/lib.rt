@@ -1,5 +1,5 @@
-//! Tests of what stands below the codecs or beside them, by topic: the plain program of the model, drives, media,
-//! messages, and the words of the programs. They stand in a crate of their own, so that each of those crates is proved
+//! Tests of what is below the codecs or beside them, by topic: the plain program of the model, drives, media,
+//! messages, and the words of the programs. They are in a crate of their own, so that each of those crates is proved
 //! once; they use what is public.
 #![tactic(auto)]
 

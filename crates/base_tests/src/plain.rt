@@ -318,7 +318,7 @@ fn the_first_check_that_holds_gives_the_code(rt: HostRuntime) {
     }
 }
 
-/// Makes so many directories inside each other, and tells the path of the last.
+/// Makes so many directories inside each other, and reports the path of the last.
 fn make_nested(
     alloc: Global,
     operations: &mut Vec<Operation>,

@@ -12,7 +12,7 @@ const STARTS: [u32; 5] = [10, 100, 1_000, 2_000, 4_000];
 /// How many commits are timed.
 const COMMITS: u32 = 50;
 
-/// Copies blocks of a journal, and tells how many.
+/// Copies blocks of a journal, and reports how many.
 fn copy(rt: &HostRuntime, drive: &MemDrive, first: u32, last: u32) -> io::Result<usize> {
     let mut copy = Vec::new(rt.alloc());
     for (_, block) in drive

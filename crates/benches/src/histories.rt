@@ -47,7 +47,7 @@ impl Medium {
         self.known = ReadCache::new(self.alloc);
     }
 
-    /// How many nodes the state has that stood at an address. By itself: what is known is left alone.
+    /// How many nodes the state has that is recovered at an address. By itself: what is known is left alone.
     fn nodes(&mut self, at: u32, by_itself: bool) -> io::Result<usize> {
         let Ok(next) = self.drive.next() else {
             return Err(wrong());

@@ -11,7 +11,7 @@ const FILES: u32 = 4_084;
 /// The files after which the memory taken is printed; it is also printed after the last one.
 const MARKS: [u32; 5] = [10, 100, 1_000, 2_000, 4_083];
 
-/// Ends a line with the greatest memory that the program has had, as the system tells it, where that is wanted.
+/// Ends a line with the greatest memory that the program has had, as the system reports it, where that is wanted.
 fn had(rt: &HostRuntime, report: Report) -> io::Result<()> {
     if report.times {
         let status = fs::read(rt, "/proc/self/status")?;

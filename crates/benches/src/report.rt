@@ -1,4 +1,4 @@
-//! What a bench tells: a line that says what was done, which a bench begins and this ends.
+//! What a bench reports: a line that says what was done, which a bench begins and this ends.
 
 use std::io;
 use std::io::{Error, ErrorKind};

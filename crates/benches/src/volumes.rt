@@ -61,7 +61,7 @@ impl<D: Drive + Drop> Volume<D> {
         self.drive
     }
 
-    /// Commits a request, and tells how many blocks it took.
+    /// Commits a request, and reports how many blocks it took.
     pub fn commit(&mut self, directory: u32, action: Action) -> io::Result<u32> {
         self.number = self.number.saturating_add(1);
         let payload = payload(self.alloc, self.number, directory, action)?;

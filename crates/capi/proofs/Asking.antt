@@ -28,7 +28,7 @@ module _ (client number : ℕ) (old new : Session) (lent : Store) (is : new.engi
             told ∙ ap (λ (rs : List ClientRecord). latest (record_of client rs)) (ap (λ (b : Table_). b.records) knows.table ∙ knows.stands.tells.records);
       }
 
--- a state that stands is known to the same store beside a medium that shows the same
+-- a recovered state is known to the same store beside a medium that shows the same
 pub holds_same : (volume : ℕ) (S : State) (before behind : Situation) → behind.store ≡ before.store → behind.journal ≡ before.journal → behind.capacity ≡ before.capacity → HoldsState volume S before → HoldsState volume S behind
 holds_same volume S before behind kept journal size at = record {
   once = subst (λ (J : List Event). Once J) (sym journal) at.once;

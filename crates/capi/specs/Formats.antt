@@ -12,7 +12,7 @@ use Rattle.capi.specs.declared.fault.Fault.{Fault}
 use Rattle.capi.specs.declared.fault.Fault.TheVariants.{Device, Text, Volume}
 use Rattle.capi.specs.Numbers.{told_of}
 
--- The format was finished, so that on an honest drive the new volume stands, or what a refusal leaves.
+-- The format was finished, so that on an honest drive the new volume is recovered, or what a refusal leaves.
 abbrev pub Makes : {T : Type 0} → List ℕ → ℕ → ℕ → Result T Fault → List Event → List Event → Bool → Type 0
 Makes label moment capacity (Ok x) before behind honest = IsFormatted capacity (words_on capacity label moment) before behind honest
 Makes label moment capacity (Err fault) before behind honest =

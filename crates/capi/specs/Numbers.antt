@@ -1,4 +1,4 @@
--- The numbers by which C is told of outcomes.
+-- The numbers by which C learns of outcomes.
 use Rattle.std.specs.Prelude.{ℤ, pos, Result, Ok, Err}
 use Rattle.recover.specs.declared.fault.StoreFault.{StoreFault}
 use Rattle.recover.specs.declared.fault.StoreFault.TheVariants as stores

@@ -25,7 +25,7 @@ use Rattle.capi.specs.Sessions.{seen, waiting}
 abbrev pub fresh : Medium → Situation
 fresh medium = situation None (journal_on medium) (failures_on medium) (capacity_on medium) (honest_on medium) (writes_on medium)
 
--- A store is open on what the medium holds, no message came yet, and nothing was taken. On an honest medium a state that stands
+-- A store is open on what the medium holds, no message came yet, and nothing was taken. On an honest medium a recovered state
 -- there is known: the run begins with it.
 pub record Opened (medium : Medium) (s : Session) : Type 0 where
   pub frames : s.frames ≡ Some []
@@ -40,7 +40,7 @@ pub record Opened (medium : Medium) (s : Session) : Type 0 where
   pub kind : in_memory s.medium ≡ in_memory medium
   pub holds : (volume : ℕ) (S : State) → IsTrue (seen s).honest → HoldsState volume S (fresh medium) → HoldsState volume S (seen s)
 
--- Where it is refused on an honest medium nothing stands there, or the drive failed or memory was short.
+-- Where it is refused on an honest medium nothing is recovered there, or the drive failed or memory was short.
 pub record Unopened (medium : Medium) (fault : Fault) : Type 0 where
   pub cause : StoreFault
   pub told : fault ≡ told_of cause

@@ -14,7 +14,7 @@ use Rattle.capi.specs.Media.{in_memory}
 use Rattle.capi.specs.Numbers.{status, told_of}
 use Rattle.capi.specs.Sessions.{seen, waiting}
 
--- What a question leaves: nothing is written, no message is taken and no answer is given. A state that stands stays known.
+-- What a question leaves: nothing is written, no message is taken and no answer is given. A recovered state stays known.
 pub record Asked (old new : Session) : Type 0 where
   pub frames : new.frames ≡ old.frames
   pub waits : waiting new ≡ waiting old
@@ -27,7 +27,7 @@ pub record Asked (old new : Session) : Type 0 where
   pub kind : in_memory new.medium ≡ in_memory old.medium
   pub holds : (volume : ℕ) (S : State) → IsTrue (seen new).honest → HoldsState volume S (seen old) → HoldsState volume S (seen new)
 
--- Why the volume was not opened: where a state stands the drive failed or memory was short.
+-- Why the volume was not opened: where a state is recovered the drive failed or memory was short.
 pub record Refused (fault : Fault) (old new : Session) : Type 0 where
   pub cause : StoreFault
   pub told : fault ≡ told_of cause
@@ -42,7 +42,7 @@ latest (Some kept) = kept.latest
 abbrev pub last_kept : ℕ → List Record → ℕ
 last_kept client records = latest (record_of client (map model_record records))
 
--- It is the one that the table of the open store has; so, on an honest medium where a state stands, that state's.
+-- It is the one that the table of the open store has; so, on an honest medium where a state is recovered, that state's.
 pub record IsLast (client number : ℕ) (old new : Session) : Type 0 where
   pub store : Store
   pub opened : IsOpen (seen new) store
@@ -53,7 +53,7 @@ abbrev pub TellsNumber : ℕ → Result ℕ Fault → Session → Session → Ty
 TellsNumber client (Ok number) old new = IsLast client number old new
 TellsNumber client (Err fault) old new = Refused fault old new
 
--- The number was written, or the refusal told and nothing written.
+-- The number was written, or the refusal reported and nothing written.
 abbrev pub WritesNumber : ℕ → Result ℕ Fault → ℕ → ℕ → Type 0
 WritesNumber client (Ok number) before after = after ≡ number
 WritesNumber client (Err fault) before after = after ≡ before

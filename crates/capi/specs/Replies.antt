@@ -6,8 +6,8 @@ use Rattle.request.specs.Frames.{IsIdle}
 use Rattle.engine.specs.Situation.{Situation}
 use Rattle.engine.specs.Served.{AllAnswered, AllTaken, ServedHolds, ServedWithstands, frames_of}
 
--- The messages that a reader of frames gave were answered in turn. On an honest drive where a state stands that an open store
--- knows, each is a row of the run that began there: what stands at each prefix of what was written is the state after the first
+-- The messages that a reader of frames gave were answered in turn. On an honest drive where a state is recovered that an open store
+-- knows, each is a row of the run that began there: what is recovered at each prefix of what was written is the state after the first
 -- of the requests that were committed, also of what a power loss leaves.
 pub record Answers (reader after : Option (List ℕ)) (before behind : Situation) : Type 0 where
   pub messages : List Message

@@ -84,7 +84,7 @@ pub(crate) fn end(session: &mut Session)
     session.end();
 }
 
-/// The number by which C is told whether there is a block.
+/// The number by which C learns whether there is a block.
 fn found(is_there: bool) -> i32
     ensures { result ≡ shown is_there }
 {

@@ -1,4 +1,4 @@
-//! Why a call was refused, and the number by which C is told.
+//! Why a call was refused, and the number by which C learns it.
 
 ghost use Rattle.std.specs.Prelude.{◌≡◌};
 ghost use Rattle.capi.specs.Numbers.{status, told_of};
@@ -53,7 +53,7 @@ pub(crate) fn fault_of(fault: StoreFault) -> Fault
     }
 }
 
-/// The number by which C is told of an outcome.
+/// The number by which C learns of an outcome.
 pub(crate) fn status_of(outcome: Result<(), Fault>) -> i32
     ensures { result ≡ status outcome }
 {

@@ -1,4 +1,4 @@
-//! What a store tells beside messages.
+//! What a store reports beside messages.
 
 ghost use Rattle.std.specs.Prelude.{◌≡◌, ◌≤◌, ℕ, take, IsTrue, IfOk};
 ghost use Rattle.model.specs.Session.{State};
@@ -70,7 +70,7 @@ pub(crate) fn status_on<D: Drive>(
     })
 }
 
-/// Puts a label's text at the front of the room: how many bytes it has.
+/// Puts a label's text at the beginning of the room: how many bytes it has.
 fn put_label(alloc: Global, label: Label, into: &mut [u8; 64]) -> Result<u32, StoreFault>
     ensures { IfOk result (λ length. (length ≤ 64) × (take length into.new ≡ label)) }
 {

@@ -24,7 +24,7 @@ pub struct Session {
     pub(crate) medium: Medium,
     pub(crate) engine: Engine,
     pub(crate) frames: Frames,
-    /// The frames of the answers, of which some bytes at the front were taken.
+    /// The frames of the answers, of which some bytes at the beginning were taken.
     pub(crate) answers: Vec<u8>,
     pub(crate) taken: usize,
     /// How many blocks of a volume in memory were taken.
@@ -195,7 +195,7 @@ impl Session {
         count
     }
 
-    /// Moves what waits to the front, where each byte that is moved is paid for by one that was taken.
+    /// Moves what waits to the beginning, where each byte that is moved is paid for by one that was taken.
     fn close_up(&mut self)
         ensures waits { waiting self.new ≡ waiting self.old }
         ensures same { SameVolume self.old self.new }

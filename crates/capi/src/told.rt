@@ -1,6 +1,6 @@
 //! What C is told of a volume, as it crosses.
 
-/// A volume, as it stands.
+/// A volume, as it is.
 #[repr(C)]
 #[derive(Clone, Copy)]
 pub struct Status {

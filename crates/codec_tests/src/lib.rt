@@ -1,4 +1,4 @@
-//! Tests of the codecs and of what is read back of a medium, of what no vector says: `vectors` has all others. They stand in a
+//! Tests of the codecs and of what is read back of a medium, of what no vector says: `vectors` has all others. They are in a
 //! crate of their own, so that what they test is proved once; they use what is public.
 #![tactic(auto)]
 

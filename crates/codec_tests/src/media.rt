@@ -171,7 +171,7 @@ pub(crate) fn file(unique: u64, at: u32) -> Result<Block, Fail> {
     Ok(encode_fe(&entry, at))
 }
 
-/// The blocks of a format after the front, at the addresses 257 to 261.
+/// The blocks of a format after the volume header, at the addresses 257 to 261.
 pub(crate) fn formatted(rt: &impl Abort, alloc: Global) -> Result<[Block; 5], Fail> {
     Ok([
         file_set()?,

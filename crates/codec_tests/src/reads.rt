@@ -1,4 +1,4 @@
-//! The reads that a state takes: what is told where each fails in turn, and what is not read again.
+//! The reads that a state takes: what is reported where each fails in turn, and what is not read again.
 
 ghost use Rattle.drive.specs.Journal.{held};
 ghost use Rattle.drive.specs.MemDrive.{journal_of};
@@ -15,7 +15,7 @@ use std::test::Fail;
 fn a_failed_read_is_told(rt: HostRuntime) -> Result<(), Fail> {
     let alloc = rt.alloc();
     let mut drive = volume_after(&rt, alloc, &created(&rt, alloc)?)?;
-    // One of the VAT ICB, two and then all of the front, the table's data, the file set, the root and the file.
+    // One of the VAT ICB, two and then all of the volume header, the table's data, the file set, the root and the file.
     for read in 1..=265 {
         drive.arm(Fault::Read(read));
         let refused = state_of(alloc, &mut drive, 266)?.err();

@@ -16,7 +16,7 @@ abbrev pub Names : List ℕ → Storage → Type 0
 Names word (Image path) = (word ≡ path.now) × ((rest : List ℕ) → word ≡ codes "mem:" ++ rest → ⊥)
 Names word (Memory capacity) = (digits : List ℕ) × (word ≡ codes "mem:" ++ digits) × IsNumeralOf digits capacity × IsCapacity capacity
 
--- what stands after `apply`
+-- what comes after `apply`
 abbrev pub AsksApply : List (List ℕ) → Command → Type 0
 AsksApply words (Format image label moment capacity) = ⊥
 AsksApply words (Apply medium) = (word : List ℕ) × (words ≡ word ∷ []) × Names word medium
@@ -26,7 +26,7 @@ AsksApply words (Log image) = ⊥
 AsksApply words (Check image) = ⊥
 AsksApply words (Send socket) = ⊥
 
--- what stands after `format`
+-- what comes after `format`
 abbrev pub AsksFormat : List (List ℕ) → Command → Type 0
 AsksFormat words (Format image label moment capacity) = (first second : List ℕ) × (words ≡ image.now ∷ label.now ∷ first ∷ second ∷ [])
     × IsNumeralOf first moment × (moment < MOMENT_LIMIT) × IsNumeralOf second capacity × IsCapacity capacity

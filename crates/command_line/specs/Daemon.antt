@@ -39,7 +39,7 @@ pub record AsksDaemon (words : List (List ℕ)) (asked : DaemonWords) : Type 0 w
   pub socket : first_of (codes "SOCKET") (matches_of daemon_app words) ≡ Some asked.socket.now
   pub connections : IsCount (first_of (codes "connections") (matches_of daemon_app words)) asked.connections
 
--- lack of memory is told as such
+-- lack of memory is reported as such
 abbrev pub fault_for : ErrorKind → WordsFault
 fault_for OutOfMemory = Memory
 fault_for _ = Usage

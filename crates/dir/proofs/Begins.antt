@@ -15,7 +15,7 @@ use Rattle.dir.proofs.Spelled.{length-identifier, tag-identifier}
 use Rattle.dir.proofs.Placing.{plain_bounds, laid-nil, laid-put, onward-full, onward-within, stands_within, stands_next}
 use Rattle.dir.proofs.Refusals.{all_Fit}
 
--- two bytes after a front
+-- two bytes after a prefix
 behind_front : (front behind : List ℕ) (i : ℕ) → length front ≤ i → u16_at i (front ++ behind) ≡ u16_at (i - length front) behind
 behind_front front behind i past =
     let next : i + 1 - length front ≡ i - length front + 1 = omega arith in

@@ -20,7 +20,7 @@ pub record Continues (first : ℕ) (done : List Identifier) (fids : Fids) (xs : 
   pub there : fids.«data».now ≡ laid (first + fids.index) fids.at more
   pub stood : FitsInBlock fids.at more
 
--- the identifiers that are done were read from the front of the data, and what is left begins after them
+-- the identifiers that are done were read from the beginning of the data, and what is left begins after them
 pub record IsRead (whole : List ℕ) (first : ℕ) (done : List Identifier) (fids : Fids) : Type 0 where
   pub bytes : AreBytes fids.«data».now
   pub at4 : fids.at % 4 ≡ 0

@@ -125,7 +125,7 @@ pub said_past : (o : Option Item) (xs : List Identifier) (n : ℕ) → option_ma
 said_past None xs n e is = sym e
 said_past (Some i) xs n e is = absurd (cc)
 
--- the identifier of a name stands after the parent's
+-- the identifier of a name is after the parent's
 pub identifier_at : (parent : ℕ) (entries : List (List ℕ × Entry)) (index : ℕ) (text : List ℕ) (e : Entry) → Some (text, e) ≡ slice_get entries index
     → slice_get (identifiers parent entries) (index + 1) ≡ Some (of_name text e)
 identifier_at parent entries index text e there =
@@ -168,7 +168,7 @@ put_end at end behind x rest full end-is full-is behind-is =
     turned true = end-is
     turned false = refl
 
--- what stands in a block up to a place is all that its filling is of
+-- what is in a block up to a place is all that its filling is of
 pub filled_front : (start : Lay) (dir : Bor Dir) (next number at : ℕ) (block written : List ℕ) → IsFilledTo start dir next number at block
     → take at written ≡ take at block → length written ≡ 2048 → IsFilledTo start dir next number at written
 filled_front start dir next number at block written f same len =

@@ -49,7 +49,7 @@ size_more entries i e x found says =
 pub all_more : {X : Type 0} (P : X → Type 0) (xs : List X) (i : ℕ) (x : X) → slice_get xs i ≡ Some x → P x → All P (take i xs) → All P (take (i + 1) xs)
 all_more P xs i x found is all = All-more P xs i x (slice_get_within xs i x found) all (subst P (sym (get_or_from_slice_get xs i x x found)) is)
 
--- a front in two parts round one of its items
+-- a prefix in two parts round one of its items
 front_parts : {X : Type 0} (xs : List X) (i n : ℕ) (x : X) → slice_get xs i ≡ Some x → i < n → take n xs ≡ take i xs ++ (x ∷ drop (suc i) (take n xs))
 front_parts [] i n x found less = absurd (cc)
 front_parts (y ∷ xs) i zero x found less = absurd (omega arith)
@@ -108,7 +108,7 @@ directories_without es i m n e found next less few =
       directories-append (take i es) rest,
     )
 
--- ---- fronts
+-- ---- prefixes
 
 -- not more of them are of directories than there are
 pub front_directories : (entries : List (List ℕ × Entry)) (ids : Identifiers) → IsIdentifierPrefix ids entries → ids.directories ≤ ids.count
@@ -158,7 +158,7 @@ front_same entries others ids front few same =
       directories = front.directories ∙ ap directory_count same;
     }
 
--- a front stays one where a name after it is taken away
+-- a prefix stays one where a name after it is taken away
 pub front_before : (entries : List (List ℕ × Entry)) (ids : Identifiers) (i : ℕ) → IsIdentifierPrefix ids entries → ids.count ≤ i → i < length entries → IsIdentifierPrefix ids (remove entries i)
 front_before entries ids i front before within =
     let front_long = length-take i entries in
@@ -220,12 +220,12 @@ front_without entries ids new i start end e front kept found starts ends bytes c
     first : All IsEntryInRange (take i entries)
     first = subst (λ (es : List (List ℕ × Entry)). All IsEntryInRange es) (take-take i ids.count entries (omega arith)) (All-take IsEntryInRange i (take ids.count entries) front.proper)
 
--- one of a front's names is of a directory, where it is
+-- one of a prefix's names is of a directory, where it is
 pub front_directory : (entries : List (List ℕ × Entry)) (ids : Identifiers) (i : ℕ) (e : List ℕ × Entry) → IsIdentifierPrefix ids entries → i < ids.count → slice_get entries i ≡ Some e
     → (if is_directory e.1.kind then 1 else 0) ≤ ids.directories
 front_directory entries ids i e front kept found = omega (arith, front.directories, directories_without entries i (ids.count - 1) ids.count e found (omega arith) kept front.few)
 
--- a front stays one where names come after the others
+-- a prefix stays one where names come after the others
 pub front_longer : (entries more : List (List ℕ × Entry)) (ids : Identifiers) → IsIdentifierPrefix ids entries → IsIdentifierPrefix ids (entries ++ more)
 front_longer entries more ids front =
     front_same entries (entries ++ more) ids front (omega (arith, front.few, length-append entries more)) (sym (take-append-le ids.count entries more front.few))

@@ -15,7 +15,7 @@ pub record AreConstants (bytes : List ℕ) : Type 0 where
   pub partition : IsAt 28 (to_le_bytes w16 1) bytes
   pub flags : IsAt 30 (to_le_bytes w16 0) bytes
 
--- what stands from each of them on, of bytes that say so much
+-- what is from each of them on, of bytes that say so much
 abbrev from_use : List ℕ → List ℕ
 from_use bytes = to_le_bytes w16 (use_size bytes) ++ []
 

@@ -99,7 +99,7 @@ stands_within at x rest short inside stood =
       | inr so ↦ elim (fits_cases (plain_size (length x.name)) (2048 - at) so) [ inl same ↦ omega arith | inr less ↦ omega arith ]
     ]
 
--- and there the next one stands, or begins a block
+-- and there the next one is, or begins a block
 pub stands_next : (at : ℕ) (x : Identifier) (rest : List Identifier) → identifier_end at x rest < 2048 → FitsInBlock (identifier_end at x rest) rest
 stands_next at x rest inside = by (stays rest (2048 - (at + plain_size (length x.name)))) refl
   where
@@ -113,7 +113,7 @@ stands_next at x rest inside = by (stays rest (2048 - (at + plain_size (length x
         let end_is : identifier_end at x rest ≡ 2048 = ap (λ (b : Bool). if b then end else 2048) e in
         absurd (omega arith)
 
--- the length of the first name stands in the bytes
+-- the length of the first name is in the bytes
 pub name_size-laid : (number at : ℕ) (x : Identifier) (rest : List Identifier) → at + plain_size (length x.name) ≤ 2048
     → name_size (laid number at (x ∷ rest)) ≡ length x.name
 name_size-laid number at x rest room =

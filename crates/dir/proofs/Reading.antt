@@ -71,7 +71,7 @@ sealed-identifier number more x in_range few short fits =
     is_sealed 257 number (body_of x more) (omega arith) in_range (omega (arith, length-body_of x more))
     (λ i. let e = get_or-drop 16 (identifier number x more) i 0 in let byte = fits (16 + i) in omega (arith, e))
 
--- the name that stands in the bytes
+-- the name that is in the bytes
 name-identifier : (number more : ℕ) (x : Identifier) (rest : List ℕ)
     → take (length x.name) (drop (38 + more) (identifier number x more ++ rest)) ≡ x.name
 name-identifier number more x rest =

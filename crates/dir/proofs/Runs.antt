@@ -18,7 +18,7 @@ use Rattle.dir.proofs.Fronts.{left_behind, left_known, left_taken, left_within}
 use Rattle.dir.proofs.Placing.{fits_cases, plain_bounds, stands_within}
 use Rattle.dir.proofs.Spelled.{length-identifier, name_size-identifier}
 
--- what is put of the identifiers that are kept, and what is left of them: their bytes stand after the place already
+-- what is put of the identifiers that are kept, and what is left of them: their bytes are after the place already
 pub record IsRun (old : Lay) (start : ℕ) (before : List ℕ) (at next : ℕ) (kept block : List ℕ) : Type 0 where
   pub within : at < 2048
   pub further : start ≤ at
@@ -31,7 +31,7 @@ pub record IsRun (old : Lay) (start : ℕ) (before : List ℕ) (at next : ℕ) (
   pub size : length block ≡ 2048
   pub filled : (from : Lay) → IsFilled from old start before → IsFilledTo from old.dir next old.number at block
 
--- bytes begin with an identifier that stands there among others
+-- bytes begin with an identifier that is there among others
 pub record IsHead (ids : List Identifier) (index : ℕ) (bytes : List ℕ) : Type 0 where
   pub x : Identifier
   pub rest : List ℕ
@@ -142,7 +142,7 @@ copied_behind room size kept at_place fits_room fits_kept copied =
     sym (drop-take size m at_place) ∙ ap (λ (n : ℕ). drop size (take n at_place)) whole ∙ ap (drop size) copied
     ∙ ap (λ (n : ℕ). drop size (take n kept)) (sym rest) ∙ drop-take size (room - size) kept
 
--- the bytes of the next one stand there
+-- the bytes of the next one are there
 copied_first : (room size : ℕ) (kept at_place : List ℕ) → size ≤ room → size ≤ length kept
     → take (length (take room kept)) at_place ≡ take room kept → take size at_place ≡ take size kept
 copied_first room size kept at_place fits_room fits_kept copied =

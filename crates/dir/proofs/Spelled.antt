@@ -36,7 +36,7 @@ put_piece front piece into before at n at-is n-is so_far =
     let rest : drop n (drop at before) ≡ drop (at + n) before = drop-drop n at before in
     rw (head, tail, rest) (sym (append_assoc front piece (drop (at + n) before)))
 
--- three pieces one after another, over the front of the bytes
+-- three pieces one after another, over the beginning of the bytes
 put_three : (second third fourth : ℕ) (into a b c : List ℕ) → second ≡ length a → third ≡ second + length b → fourth ≡ third + length c
     → put_mid third (fourth - third) (put_mid second (third - second) (a ++ drop second into) b) c ≡ ((a ++ b) ++ c) ++ drop fourth into
 put_three second third fourth into a b c second-is third-is fourth-is =
@@ -87,7 +87,7 @@ body_put x more use_end name_end into head extra name pad room use_end-is name_e
     ∙ ap (λ (n : List ℕ). head_of x.characteristics (length x.name) x.icb x.unique more ++ (use_of more ++ (n ++ pad))) name-is
     ∙ ap (λ (p : List ℕ). head_of x.characteristics (length x.name) x.icb x.unique more ++ (use_of more ++ (x.name ++ p))) pad-said
 
--- what stands after the tag, when it was written there
+-- what is after the tag, when it was written there
 pub behind_tag : (into body : List ℕ) → 16 ≤ length into → length body ≡ length into - 16 → drop 16 (put_mid 16 (length into - 16) into body) ≡ body
 behind_tag into body long len =
     drop_at (take 16 into) (body ++ drop (length into - 16) (drop 16 into)) 16 (omega (arith, length-take 16 into))
@@ -103,7 +103,7 @@ pub length-identifier : (number more : ℕ) (x : Identifier) → length (identif
 unfolding identifier
 length-identifier number more x = omega (arith, length-body_of x more)
 
--- what stands in the bytes of an identifier, whatever comes after it
+-- what is in the bytes of an identifier, whatever comes after it
 pub name_size-identifier : (number more : ℕ) (x : Identifier) (rest : List ℕ) → name_size (identifier number x more ++ rest) ≡ length x.name
 unfolding identifier
 name_size-identifier number more x rest = refl

@@ -9,7 +9,7 @@ use Rattle.std.specs.Str.{bytes_eq}
 use Rattle.std.proofs.lemmas.Slice.Eq.{bytes_eq-Decides}
 use Rattle.dir.specs.Split.{ShowsSlices, IsSplit, IsWholeIdentifier, IsUse, name_size, use_size, size_of}
 
--- a part of a front is that part of the whole
+-- a part of a prefix is that part of the whole
 pub part_of_front : (bytes : List ℕ) (at count size : ℕ) → at + count ≤ size → take count (drop at (take size bytes)) ≡ take count (drop at bytes)
 part_of_front bytes at count size room =
     let split : size ≡ at + (size - at) = omega arith in
@@ -33,14 +33,14 @@ shows_front fid bytes front used name size use-is name-is size-is front-is shown
           ∙ ap (λ (n : ℕ). take n (drop (38 + used) bytes)) name-is ∙ ap (λ (n : ℕ). take (name_size bytes) (drop (38 + n) bytes)) use-is;
     }
 
--- the lengths stand in the front too
+-- the lengths are in the prefix too
 pub name_size-front : (n : ℕ) (bytes : List ℕ) → 38 ≤ n → name_size (take n bytes) ≡ name_size bytes
 name_size-front n bytes long = get_or-take n bytes 19 0 (omega arith)
 
 pub use_size-front : (n : ℕ) (bytes : List ℕ) → 38 ≤ n → use_size (take n bytes) ≡ use_size bytes
 use_size-front n bytes long = omega (arith, get_or-take n bytes 36 0 (omega arith), get_or-take n bytes 37 0 (omega arith))
 
--- the slices of the identifier at the front are those of its own bytes
+-- the slices of the identifier at the beginning are those of its own bytes
 pub whole_front : (at : ℕ) (fid : Fid) (bytes : List ℕ) → IsSplit at bytes → ShowsSlices fid bytes → IsWholeIdentifier fid
 whole_front at fid bytes split shown =
     let n = size_of bytes in

@@ -1,4 +1,4 @@
--- One identifier of the data is read: what was read stands there, and what stands there is read.
+-- One identifier of the data is read: what was read is there, and what is there is read.
 use Rattle.std.proofs.Common.{◌≡◌, ℕ, ◌+◌, ◌-◌, ◌%◌, ◌^◌, ◌<◌, ◌≤◌, Bool, true, false, List, [], ◌∷◌, ◌++◌, length, take, drop, replicate, refl, sym, ap, subst, ◌∙◌, arith, inl, inr}
 use Rattle.std.specs.Prelude.{IsTrue, ◌⊎◌, if◌then◌else◌}
 use Rattle.std.proofs.lemmas.Bool.{cases_lt}
@@ -12,7 +12,7 @@ use Rattle.dir.proofs.Placing.{fits_cases, fits_exactly, fits_with, plain_bounds
 use Rattle.dir.proofs.Reading.{use_whole, size_whole, length-said_by, identifier_read, said_by-identifier, HasHead-identifier, filled-identifier, padding-identifier}
 use Rattle.dir.proofs.Splits.{name_size-front, use_size-front}
 
--- the front of bytes are bytes
+-- the beginning of bytes are bytes
 pub bytes_front : (n : ℕ) (bytes : List ℕ) → IsBytes bytes → IsBytes (take n bytes)
 bytes_front n bytes all i = elim (cases_lt i n) [
   | inl lt ↦ let e = get_or-take n bytes i 0 lt in omega (arith, e, all i)
@@ -65,7 +65,7 @@ end_read at x (y ∷ rest) bytes behind number len size inside room short p ther
     both true n e = e
     both false n e = refl
 
--- what was read stands there, if what is read after it does
+-- what was read is there, if what is read after it does
 pub read_stands : (number at : ℕ) (bytes : List ℕ) (rest : List Identifier) → IsBytes bytes → at < 2048 → IsSplit at bytes
     → HasHead number (take (size_of bytes) bytes) → IsPadded at (take (size_of bytes) bytes) (drop (size_of bytes) bytes)
     → ((y : Identifier) (r : List Identifier) → rest ≡ y ∷ r → length y.name ≤ 255)
@@ -107,7 +107,7 @@ read_stands number at bytes rest all inside split head p short there stood =
       ]),
     )
 
--- what the layout has at the front
+-- what the layout has at the beginning
 pub record Found (number at : ℕ) (bytes : List ℕ) (x : Identifier) (rest : List Identifier) : Type 0 where
   pub split : IsSplit at bytes
   pub head : HasHead number (take (size_of bytes) bytes)
@@ -160,7 +160,7 @@ lengthened_by number at more x (y ∷ rest) bytes behind at4 short inside stood 
       ]
     ]
 
--- what the layout has at the front is found there
+-- what the layout has at the beginning is found there
 pub laid_found : (number at : ℕ) (bytes : List ℕ) (x : Identifier) (rest : List Identifier) → IsBytes bytes → number < 2 ^ 32
     → at < 2048 → at % 4 ≡ 0 → FitsIdentifier x → ((y : Identifier) (r : List Identifier) → rest ≡ y ∷ r → length y.name ≤ 255)
     → bytes ≡ laid number at (x ∷ rest) → FitsInBlock at (x ∷ rest) → Found number at bytes x rest

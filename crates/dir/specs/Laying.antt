@@ -19,7 +19,7 @@ identifiers_left l = left_of l.dir.now l.next
 abbrev pub blocks_left : Lay → List (List ℕ)
 blocks_left l = identifier_blocks l.number (identifiers_left l)
 
--- a block is filled up to a place: what was left at its start is what stands in it and what is still left
+-- a block is filled up to a place: what was left at its start is what is in it and what is still left
 pub record IsFilledTo (start : Lay) (dir : Bor Dir) (next number at : ℕ) (block : List ℕ) : Type 0 where
   pub within : at ≤ BLOCK_BYTES
   pub dir_is : dir ≡ start.dir

@@ -1,4 +1,4 @@
--- How the identifiers of a directory stand in its blocks.
+-- How the identifiers of a directory are in its blocks.
 use Rattle.std.specs.Prelude.{◌≡◌, ◌⊎◌, ℕ, zero, suc, ◌+◌, ◌-◌, ◌==◌, ◌||◌, nat_le, Bool, true, IsTrue, if◌then◌else◌, List, [], ◌∷◌, ◌++◌, length, take, drop}
 use Rattle.limits.specs.declared.TheConstants.{BLOCK_BYTES}
 use Rattle.ecma.specs.Blocks.{block_count}

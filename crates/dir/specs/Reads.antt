@@ -1,4 +1,4 @@
--- What reading one identifier of the data tells.
+-- What reading one identifier of the data reports.
 use Rattle.std.specs.Prelude.{◌≡◌, ◌≢◌, ℕ, ◌+◌, ◌==◌, if◌then◌else◌, Bool, true, false, List, [], ◌∷◌, ◌≤◌, length, take, drop}
 use Rattle.limits.specs.declared.TheConstants.{BLOCK_BYTES}
 use Rattle.dir.specs.declared.fids.Fids.{Fids}
@@ -14,7 +14,7 @@ IsInPlace false x = x.characteristics ≢ 0x0A
 abbrev pub IsFirstNameShort : List Identifier → Type 0
 IsFirstNameShort xs = (y : Identifier) (r : List Identifier) → xs ≡ y ∷ r → length y.name ≤ 255
 
--- the identifier at the front was read, and what is left has gone on after it
+-- the identifier at the beginning was read, and what is left has gone on after it
 pub record ReadsIdentifier (is_first : Bool) (first : ℕ) (old new : Fids) (x : Identifier) : Type 0 where
   pub split : IsSplit old.at old.«data».now
   pub head : HasHead (first + old.index) (take (size_of old.«data».now) old.«data».now)

@@ -13,24 +13,24 @@ use Rattle.dir.specs.Layout.{fits}
 abbrev pub AreBytes : List ℕ → Type 0
 AreBytes bytes = (i : ℕ) → slice_index bytes i < 256
 
--- the bytes of the name and of the implementation use of the identifier at the front
+-- the bytes of the name and of the implementation use of the identifier at the beginning
 abbrev pub name_size : List ℕ → ℕ
 name_size bytes = slice_index bytes 19
 
 abbrev pub use_size : List ℕ → ℕ
 use_size bytes = u16_at 36 bytes
 
--- the bytes of the identifier at the front
+-- the bytes of the identifier at the beginning
 abbrev pub size_of : List ℕ → ℕ
 size_of bytes = rounded (38 + use_size bytes + name_size bytes)
 
--- an identifier stands at the front of bytes that begin at a place of a block: within the bytes, and within the block
+-- an identifier is at the beginning of bytes that begin at a place of a block: within the bytes, and within the block
 pub record IsSplit (at : ℕ) (bytes : List ℕ) : Type 0 where
   pub long : 38 ≤ length bytes
   pub whole : size_of bytes ≤ length bytes
   pub within : IsTrue (fits (size_of bytes) (BLOCK_BYTES - at))
 
--- the slices are those of the identifier at the front
+-- the slices are those of the identifier at the beginning
 pub record ShowsSlices (fid : Fid) (bytes : List ℕ) : Type 0 where
   pub bytes_are : fid.bytes.now ≡ take (size_of bytes) bytes
   pub icb : fid.icb.now ≡ take 16 (drop 20 bytes)
@@ -93,7 +93,7 @@ pub record FitsIdentifier (x : Identifier) : Type 0 where
   pub icb : x.icb < 2 ^ 32
   pub unique : x.unique < 2 ^ 32
 
--- one call of the iterator: none where no identifier stands at the front within the data and its block; else its slices,
+-- one call of the iterator: none where no identifier is at the beginning within the data and its block; else its slices,
 -- and what is left begins right after it
 abbrev pub GivesNext : Fids → Option Fid → Fids → Type 0
 GivesNext old given new = MatchOption given (¬ IsSplit old.at old.«data».now × (new ≡ old)) (λ fid.

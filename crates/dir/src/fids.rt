@@ -11,7 +11,7 @@ use limits::BLOCK_SIZE;
 use osta::Name;
 use std::alloc::Global;
 
-/// A file identifier (ECMA-167 4/14.4) as it stands in a block.
+/// A file identifier (ECMA-167 4/14.4) as it is in a block.
 #[derive(Clone, Copy)]
 pub struct Fid<'a> {
     /// The whole identifier with its tag and its padding.

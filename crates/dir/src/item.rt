@@ -24,7 +24,7 @@ const PARTITION: u16 = 1;
 /// The flags of that extent.
 const FLAGS: u16 = 0;
 
-/// The bytes of an identifier in front of its implementation use.
+/// The bytes of an identifier before its implementation use.
 pub(crate) const HEAD_SIZE: usize = 38;
 
 /// The bytes from the tag's end to the implementation use.
@@ -124,7 +124,7 @@ impl Item<'_> {
         }
     }
 
-    /// Writes what stands after the tag, over all of the bytes.
+    /// Writes what is after the tag, over all of the bytes.
     fn write_body(&self, more: u16, into: &mut [u8])
         requires name { length self.now.name.now ≤ 255 }
         requires more { more ≤ BLOCK_BYTES }
@@ -157,7 +157,7 @@ impl Item<'_> {
     }
 }
 
-/// Whether the fields between tag and implementation use that are the same in each identifier stand
+/// Whether the fields between tag and implementation use that are the same in each identifier are
 /// in a whole one.
 pub(crate) fn has_fields(bytes: &[u8]) -> bool
     requires { 38 ≤ length bytes.now }

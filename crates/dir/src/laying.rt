@@ -218,7 +218,7 @@ fn kept_size(bytes: &[u8]) -> usize
     plain_size(usize::from(bytes[NAME_SIZE]))
 }
 
-/// Writes bytes over the front of others, as far as these reach.
+/// Writes bytes over the beginning of others, as far as these reach.
 fn copy_front(bytes: &[u8], into: &mut [u8])
     ensures { let count = min (length bytes.now) (length into.old) in into.new ≡ take count bytes.now ++ drop count into.old }
 {

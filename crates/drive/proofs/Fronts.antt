@@ -18,7 +18,7 @@ front_whole J at blocks = (length blocks, omega arith, ap (λ (cs : List (List �
 pub front_longer : (J J' : List Event) (at : ℕ) (blocks more : List (List ℕ)) → AddsPrefix J at blocks J' → AddsPrefix J at (blocks ++ more) J'
 front_longer J J' at blocks more (m, le, is) = (m, omega (arith, length-append blocks more), is ∙ ap (λ (cs : List (List ℕ)). J ++ written at cs) (sym (take-append-le m blocks more le)))
 
--- a front after a whole write is a prefix of both
+-- a prefix after a whole write is a prefix of both
 pub front_after : (J K J' : List Event) (at next : ℕ) (blocks more : List (List ℕ)) → K ≡ J ++ written at blocks → next ≡ at + length blocks → AddsPrefix K next more J' → AddsPrefix J at (blocks ++ more) J'
 front_after J K J' at next blocks more k e (m, le, is) = (
   length blocks + m,
@@ -37,11 +37,11 @@ pub begins_after : (J : List Event) (at : ℕ) (blocks : List (List ℕ)) → at
 begins_after J at [] h = omega (arith, ap next_of (append-nil J))
 begins_after J at (b ∷ blocks) h = omega (arith, next_after_write J at (b ∷ blocks) (let some : 0 < length (b ∷ blocks) = omega arith in some))
 
--- the journal before is the front of the journal after
+-- the journal before is the prefix of the journal after
 pub front_keeps : (J J' : List Event) (at : ℕ) (blocks : List (List ℕ)) → AddsPrefix J at blocks J' → take (length J) J' ≡ J
 front_keeps J J' at blocks (m, le, is) = ap (λ (K : List Event). take (length J) K) is ∙ take-append_seam J (written at (take m blocks))
 
--- what was at the front of the journal before is there afterwards
+-- what was at the beginning of the journal before is there afterwards
 pub front_below : (J J' : List Event) (at k : ℕ) (blocks : List (List ℕ)) → AddsPrefix J at blocks J' → k ≤ length J → take k J' ≡ take k J
 front_below J J' at k blocks (m, le, is) h = ap (λ (K : List Event). take k K) is ∙ take-append-le k J (written at (take m blocks)) h
 

@@ -66,7 +66,7 @@ runs_longer cs p = record {
 pub runs_as : {failed : Bool} {J J' : List Event} {W W' : List (List (List ℕ))} {at : ℕ} {bs cs : List (List ℕ)} → bs ≡ cs → SplitsRun at bs failed J W J' W' → SplitsRun at cs failed J W J' W'
 runs_as {failed = failed} {J = J} {J' = J'} {W = W} {W' = W'} {at = at} same p = subst (λ (ds : List (List ℕ)). SplitsRun at ds failed J W J' W') same p
 
--- In a loop over packets: one more is the front of what is left.
+-- In a loop over packets: one more is the prefix of what is left.
 module _ (at d : ℕ) (all p : List (List ℕ)) (le : d + length p ≤ length all) (is : p ≡ take (length p) (drop d all)) where
   longer_front : take d all ++ p ≡ take (d + length p) all
   longer_front = ap (λ (bs : List (List ℕ)). take d all ++ bs) is ∙ sym (take-add d (length p) all)

@@ -74,7 +74,7 @@ alone_sent {drive = drive} {a = a} last p is = record {
   whole = λ h. refl;
 }
 
--- what is in front of the last block, and the last block
+-- what is before the last block, and the last block
 pub front_split : (bs front : List (List ℕ)) (b : List ℕ) (n : ℕ) → n ≡ length bs - 1 → bs ≡ front ++ b ∷ [] → take n bs ≡ front
 front_split bs front b n e is =
     let same : n ≡ length front = omega (arith, e, ap length is, length-append front (b ∷ [])) in

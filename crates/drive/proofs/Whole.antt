@@ -9,7 +9,7 @@ use Rattle.drive.proofs.Once.{held_once}
 abbrev pub AreBlocks : List (List ℕ) → Type 0
 AreBlocks bs = All (λ (b : List ℕ). length b ≡ 2048) bs
 
--- as their types tell it
+-- as their types say it
 pub blocks_told : (bs : List (List ℕ)) → ((i : ℕ) → i < length bs → length (get_or bs i []) ≡ 2048) → AreBlocks bs
 blocks_told [] told k d h = absurd (omega (arith, h))
 blocks_told (b ∷ bs) told zero d h = told 0 (omega arith)

@@ -94,7 +94,7 @@ impl Image {
             .read_soon(offset(at), u64::from(count) * u64::from(BLOCK_BYTES));
     }
 
-    /// The bytes after the last whole block, at the front of `into`: how many they are, at most 2,047.
+    /// The bytes after the last whole block, at the beginning of `into`: how many they are, at most 2,047.
     pub(crate) fn part(&self, into: &mut Block) -> Result<usize, DriveFault>
         ensures { IfOk result (λ n. n < BLOCK_BYTES) }
     {
@@ -188,7 +188,7 @@ pub(crate) fn open_to_read<R: Files<File = File>>(rt: &R, path: &str) -> Result<
     fault_of(File::open(rt, path))
 }
 
-/// Syncs the folder in which the file at this path stands, so that a power loss does not take its name.
+/// Syncs the folder in which the file at this path is, so that a power loss does not take its name.
 pub fn sync_folder<R: Files<File = File>>(rt: &R, path: &str) -> Result<(), DriveFault> {
     let folder = match path.rsplit_once('/') {
         Some(("", _)) => "/",

@@ -1,4 +1,4 @@
--- A commit: at each prefix of it what stood stands, and at its end the state after the request.
+-- A commit: at each prefix of it the old state is recovered, and at its end the state after the request.
 use Rattle.std.proofs.Common.{◌≡◌, ◌⊎◌, inl, inr, ℕ, suc, ◌+◌, ◌-◌, ◌≤◌, ◌<◌, List, [], ◌∷◌, ◌++◌, length, take, drop, slice_get, Option, Some, refl, sym, ◌∙◌, ap, subst, subst₂, arith, append_assoc, length-append}
 use Rattle.std.proofs.lemmas.Option.{slice_get_within}
 use Rattle.std.proofs.lemmas.List.{take-append-le, take-take, take-append-drop, take_at, take_all}
@@ -21,7 +21,7 @@ split at B bs = ap (λ (M : Medium). M ++ bs) (sym (take-append-drop at B)) ∙ 
 
 module _ (formats : Formats) (capacity volume : ℕ) where
   module _ (B bs : Medium) (S : State) (none : NoneImitates formats (length B) bs) (stands : RecoversTo formats capacity volume B S) where
-    -- what stood stands at each prefix of blocks none of which imitates
+    -- the old state is recovered at each prefix of blocks none of which imitates
     pub stands_front : (j : ℕ) → RecoversTo formats capacity volume (B ++ take j bs) S
     stands_front j = stands_more formats B (take j bs) (none-take formats j (length B) bs none) capacity volume S stands
 
@@ -147,7 +147,7 @@ module _ (formats : Formats) (capacity volume : ℕ) where
       past = past_end;
     }
 
-    -- Whichever front of a commit's blocks is written: the old state stands after it, or all of them are and the new one does.
+    -- Whichever prefix of a commit's blocks is written: the old state is recovered after it, or all of them are there and the new one is.
     pub moves_some : (j : ℕ) → j ≤ length (bs ++ mark ∷ [])
         → Moves formats capacity volume B S (B ++ take j (bs ++ mark ∷ [])) S ⊎ ((j ≡ length (bs ++ mark ∷ [])) × Moves formats capacity volume B S (B ++ take j (bs ++ mark ∷ [])) (after_one S r))
     moves_some j le = go (side j (length (bs ++ mark ∷ [])))

@@ -1,4 +1,4 @@
--- A format: before its last block nothing stands, and then the new volume.
+-- A format: before its last block nothing is recovered, and then the new volume.
 use Rattle.std.proofs.Common.{◌≡◌, ℕ, ◌+◌, ◌≤◌, ◌==◌, List, [], ◌∷◌, ◌++◌, take, slice_get, true, false, Bool, refl, sym, ◌∙◌, ap, subst, arith, length-append}
 use Rattle.std.proofs.lemmas.Bool.{eqb-true}
 use Rattle.std.proofs.lemmas.Option.{none-some, same_Some, slice_get_within}
@@ -18,7 +18,7 @@ use Rattle.durability.proofs.Stored.{stored_one}
 use Rattle.durability.proofs.Trees.{makes_kept}
 
 module _ (formats : Formats) (capacity volume : ℕ) (label : List ℕ) (moment : ℕ) (blocks : List Block) (mark : Block) (is : IsFormat formats capacity volume label moment blocks mark) where
-  -- nothing stands before the last block
+  -- nothing is recovered before the last block
   pub none_before : (k : ℕ) (S : State) → k ≤ 261 → RecoversTo formats capacity volume (take k (blocks ++ mark ∷ [])) S → ⊥
   none_before k S le s =
       let front : take k (blocks ++ mark ∷ []) ≡ take k blocks = take-append-le k blocks (mark ∷ []) (omega (arith, is.long)) in

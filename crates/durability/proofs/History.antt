@@ -1,4 +1,4 @@
--- What stands goes back to the blocks up to its table entry.
+-- What is recovered goes back to the blocks up to its table entry.
 use Rattle.std.proofs.Common.{◌≡◌, ℕ, zero, suc, ◌+◌, ◌-◌, ◌≤◌, ◌<◌, ◌++◌, length, take, drop, slice_get, sym, ◌∙◌, ap, subst, subst₂, arith}
 use Rattle.std.proofs.lemmas.Option.{same_Some}
 use Rattle.std.proofs.lemmas.List.{take-append-le, take-take, take-append-drop, length-take-le}
@@ -55,12 +55,12 @@ module _ (formats : Formats) where
   commits_of exact capacity volume B S stands old =
       ap (λ (t : Table_). t.commits) (last_table_one exact B old (record { at = stands.at; block = stands.block; last = stands.last; table = stands.tells.table; moment = S.moment; has = stands.tells.has })) ∙ stands.tells.commits
 
-  -- the state that stands is the one after all commits
+  -- the recovered state is the one after all commits
   pub past_now : (capacity volume : ℕ) (B : Medium) (S : State) → RecoversTo formats capacity volume B S → RecoveredTo formats capacity volume B S.commits S
   past_now capacity volume B S stands = (standing_table capacity volume B S stands, 0, omega (arith, stands.tells.commits), stands)
 
   module _ (exact : AreExact formats) where
-    -- at most one state stood so many steps back
+    -- at most one state was recovered so many steps back
     stood_one : (capacity volume capacity' volume' : ℕ) (S T : State) (steps : ℕ) (B : Medium) → RecoveredBefore formats steps capacity volume B S → RecoveredBefore formats steps capacity' volume' B T → S ≡ T
     stood_one capacity volume capacity' volume' S T zero B s t = stands_one formats exact capacity volume capacity' volume' B S T s t
     stood_one capacity volume capacity' volume' S T (suc steps) B (last, previous, is, below, at, commits, s) (last', previous', is', below', at', commits', t) =

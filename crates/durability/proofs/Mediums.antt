@@ -1,4 +1,4 @@
--- A medium that goes on by blocks none of which imitates: what stands on it, and what stood before, is what it was.
+-- A medium that goes on by blocks none of which imitates: what is recovered on it, and what was recovered before, is what it was.
 use Rattle.std.proofs.Common.{◌≡◌, ◌↔◌, ◌⊎◌, inl, inr, ℕ, zero, suc, ◌+◌, ◌-◌, ◌≤◌, ◌<◌, List, [], ◌∷◌, ◌++◌, length, take, slice_get, Some, refl, sym, ◌∙◌, subst, arith}
 use Rattle.std.proofs.lemmas.Option.{none-some, same_Some, slice_get_within}
 use Rattle.std.proofs.lemmas.List.{take-append-le, length-take}
@@ -31,7 +31,7 @@ module _ (formats : Formats) where
   none-append at [] ys x y = subst (λ n. NoneImitates formats n ys) (let e : at + 0 ≡ at = omega arith in e) y
   none-append at (b ∷ xs) ys x y = (x.0, none-append (suc at) xs ys x.1 (subst (λ n. NoneImitates formats n ys) (let e : at + suc (length xs) ≡ suc at + length xs = omega arith in e) y))
 
-  -- no front of such blocks has a table entry
+  -- no prefix of such blocks has a table entry
   pub none_take_at : (at k : ℕ) (bs : List Block) → NoneImitates formats at bs → (i : ℕ) (b : Block) → slice_get (take k bs) i ≡ Some b → IsVatIcbAt formats b (at + i) → ⊥
   none_take_at at k bs n i b e t = none_at at i (at + i) (take k bs) b (none-take k at bs n) e refl t
 

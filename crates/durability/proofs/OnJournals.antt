@@ -19,7 +19,7 @@ pub length-held : (J : List Event) → Once J → length (held J) ≡ length J
 length-held J once = ap (λ (B : List Block). length B) (held_once J once) ∙ length-blocks_of J
 
 module _ (formats : Formats) (capacity volume : ℕ) where
-  -- Whichever front of a commit's planned blocks was written: what stood stands on the journal, or all of them are there and the state after the request does.
+  -- Whichever prefix of a commit's planned blocks was written: the journal recovers to the old state, or all of them are there and it recovers to the state after the request.
   pub commit_advances : AreExact formats → AreBounded formats → AreDistinct formats → (J J' : List Event) (S : State) (r : Request) (blocks : List Block) (mark : Block) → Once J
       → (stands : RecoversTo formats capacity volume (held J) S) → IsPlanned formats capacity volume (held J) S stands r blocks mark → AddsPrefix J (length J) (blocks ++ mark ∷ []) J'
       → Advances formats capacity volume J S J' S ⊎ ((length J' ≡ length J + length (blocks ++ mark ∷ [])) × Advances formats capacity volume J S J' (after_one S r))
@@ -67,7 +67,7 @@ module _ (formats : Formats) (capacity volume : ℕ) where
         moves = subst (λ (M : List Block). Moves formats capacity volume (held J) S M S') (sym (held_write J J' (length J) left once (let same : length J ≡ length J = omega arith in same) behind)) moves;
       }
 
-  -- what holds on the blocks of a journal holds at its fronts
+  -- what holds on the blocks of a journal holds at its prefixes
   pub holds_on_journal : (need : State → Request → ℕ) (S : State) (J J' : List Event) (ds : List Delivery) (answers : List Answer) → Once J → Once J' → take (length J) J' ≡ J
       → Holds formats need capacity volume S (held J) (held J') ds answers → HoldsOnJournal formats need capacity volume S J J' ds answers
   holds_on_journal need S J J' ds answers once once' front h = record {

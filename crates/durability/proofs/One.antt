@@ -1,4 +1,4 @@
--- At most one state stands on a medium.
+-- A medium recovers to at most one state.
 use Rattle.std.proofs.Common.{◌≡◌, ◌⊎◌, inl, inr, ℕ, ◌-◌, ◌≤◌, ◌<◌, length, slice_get, take, sym, ◌∙◌, ap, subst, subst₂, arith}
 use Rattle.std.proofs.lemmas.Option.{same_Some}
 use Rattle.model.specs.Session.{State}

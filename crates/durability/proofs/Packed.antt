@@ -9,7 +9,7 @@ use Rattle.durability.specs.Plan.{blocks_from, packed}
 use Rattle.durability.proofs.Lists.{side}
 
 module _ {X : Type 0} where
-  -- a part of a list that stands between two others
+  -- a part of a list that is between two others
   pub part_at : (s c : ℕ) (front part back : List X) → s ≡ length front → c ≡ length part → take c (drop s (front ++ (part ++ back))) ≡ part
   part_at zero zero [] [] back es ec = refl
   part_at zero zero [] (x ∷ part) back es ec = absurd (omega arith)
@@ -33,7 +33,7 @@ length-blocks_from (suc n) bytes = ap suc (length-blocks_from n (drop 2048 bytes
 pub length-packed : (bytes : List ℕ) → length (packed bytes) ≡ blocks_for (length bytes)
 length-packed bytes = length-blocks_from (blocks_for (length bytes)) bytes
 
--- a block more in front of the others
+-- a block more before the others
 flat_more : (n : ℕ) (bytes : List ℕ) (k : ℕ) → (length bytes < 2048) ⊎ (2048 ≤ length bytes) → flat_map (λ b. b) (blocks_from n (drop 2048 bytes)) ≡ drop 2048 bytes ++ noughts k
     → (j : ℕ) × (flat_map (λ b. b) (blocks_from (suc n) bytes) ≡ bytes ++ noughts j)
 flat_more n bytes k (inl short) e =

@@ -72,7 +72,7 @@ nodes_counted op moment identity tree is e =
     let c = counted op moment identity tree is e in
     omega (arith, len_both tree, len_both (done op moment identity tree), c.files, c.directories)
 
--- nodes that are written over a graph: they stand there afterwards, and all else that was reached stays
+-- nodes that are written over a graph: they are there afterwards, and all else that was reached stays
 pub record Laid (graph graph' : Graph) (nodes : List Writing) (gone : List ℕ) : Type 0 where
   pub stored : AllIn graph' nodes
   pub kept : (address : ℕ) → IsNotNode address nodes → IsNotGone address gone → IsKeptUnder graph graph' address

@@ -131,7 +131,7 @@ module _ (formats : Formats) (need : State → Request → ℕ) (drive volume : 
     reaches : length B1 ≤ length B'
     reaches = let e : length B' ≡ length (B1 ++ later.front.0) = ap (λ (M : Medium). length M) later.front.1 in omega (arith, length-append B1 later.front.0)
 
-    -- inside the delivery what stood stands
+    -- inside the delivery the old state is recovered
     inside : (k : ℕ) → length B ≤ k → k < length B1 → RecoversTo formats drive volume (take k B') (after S (take (c k - n) (effect.done ++ C1)))
     inside k low high =
         let front : take k B' ≡ take k B1 = ap (λ (M : Medium). take k M) later.front.1 ∙ take-append-le k B1 later.front.0 (omega arith) in
@@ -293,7 +293,7 @@ module _ (formats : Formats) (need : State → Request → ℕ) (drive volume : 
     runs_join ds es (after S effect.done) M rest answers' D C' B1 S1 B2 S2 more later,
   )
 
-  -- after a run the state after all its commits stands
+  -- after a run the state after all its commits is recovered
   pub runs_end : (ds : List Delivery) (S : State) (B : Medium) (answers : List Answer) (C : List Request) (B' : Medium) (S' : State) → RecoversTo formats drive volume B S
       → Runs formats need drive volume B S ds answers C B' S' → RecoversTo formats drive volume B' S' × (S' ≡ after S C)
   runs_end [] S B answers C B' S' stands (ea, ec, eb, same) = rw (ec, eb, same) (stands, refl)

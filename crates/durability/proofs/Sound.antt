@@ -1,4 +1,4 @@
--- The state that stands is sound.
+-- The recovered state is sound.
 use Rattle.std.proofs.Common.{◌≡◌, ℕ, ◌+◌, ◌≤◌, List, length, take, Option, Some, None, refl, sym, subst, arith}
 use Rattle.std.proofs.lemmas.List.{length-map}
 use Rattle.model.specs.Tree.{Path, Node, found_names, names_in, names_of}
@@ -22,7 +22,7 @@ module _ (formats : Formats) (bounded : AreBounded formats) where
   few_names M fields (Bytes bytes) h = omega arith
   few_names M fields (Entries parent es) h = omega (arith, few_entries M fields.size fields.place parent es h.1, length-map es (λ (e : Entry). e.name))
 
-  -- What the laws of the model ask of a state holds of the one that stands.
+  -- What the laws of the model ask of a state holds of the recovered one.
   pub stands_sound : (capacity volume : ℕ) (B : Medium) (S : State) → RecoversTo formats capacity volume B S → IsSound S
   stands_sound capacity volume B S s =
       let nodes = bounded.nodes s.tells.table _ _ s.tells.has.is in

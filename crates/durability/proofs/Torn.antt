@@ -88,7 +88,7 @@ module _ (formats : Formats) (distinct : AreDistinct formats) where
         let out = planned_carries formats capacity volume exact distinct B S stands bounded r blocks mark plan in
         alike B left (none_left (length B) writes left (subst (λ (xs : List Block). NoneImitates formats (length B) xs) (sym order) out.none) is)
 
-    -- what stands after moves
+    -- what comes after moves
     endures_same : (B left : Medium) (S : State) → RecoversTo formats capacity volume B S → Moves formats capacity volume B S (B ++ left) S → Endures formats capacity volume B S [] (B ++ left)
     endures_same B left S stands moves = record {
       more = moves.more;
@@ -121,7 +121,7 @@ module _ (formats : Formats) (distinct : AreDistinct formats) where
         one (suc zero) few = subst (λ n. RecoveredTo formats capacity volume (B ++ left) n (after_one S r)) (let e : (after_one S r).commits ≡ S.commits + suc zero = omega arith in e) (past_now formats capacity volume (B ++ left) (after_one S r) moves.ends)
         one (suc (suc j)) few = absurd (omega arith)
 
-    -- Whatever is left of a commit: the old state stands, or all of it is there and the state after the request does.
+    -- Whatever is left of a commit: the old state is recovered, or all of it is there and the state after the request is.
     pub commit_torn : (B : Medium) (S : State) (stands : RecoversTo formats capacity volume B S) (r : Request) (blocks : List Block) (mark : Block) → IsPlanned formats capacity volume B S stands r blocks mark
         → (writes : List (List Block)) (left : List Block) → LastIsAlone blocks mark writes → IsLeft writes left
         → Moves formats capacity volume B S (B ++ left) S ⊎ ((left ≡ blocks ++ mark ∷ []) × Moves formats capacity volume B S (B ++ left) (after_one S r))

@@ -27,7 +27,7 @@ found [] k block e = absurd (none-some block e)
 found (x ∷ xs) zero block e = subst (λ (y : Block). Contains (x ∷ xs) y) (same_Some x block e) (contains_here x xs)
 found (x ∷ xs) (suc k) block e = contains_there x xs block (found xs k block e)
 
--- what was written stands under its addresses
+-- what was written is under its addresses
 abbrev pub AllIn : Graph → List Writing → Type 0
 AllIn graph [] = Unit {0}
 AllIn graph (node ∷ nodes) = graph node.address node.stored × AllIn graph nodes

@@ -8,7 +8,7 @@ use Rattle.model.specs.Session.{State, Request, after_one}
 use Rattle.durability.specs.Formats.{identifiers_size}
 use Rattle.durability.specs.Volume.{blocks_for}
 
--- the most bytes of a file that stand in its entry
+-- the most bytes of a file that are in its entry
 abbrev pub most_inside : ℕ
 most_inside = INSIDE_BYTES
 

@@ -1,4 +1,4 @@
--- What stands on what a drive's journal holds, at each of its fronts.
+-- What a drive's journal recovers to, at each of its prefixes.
 use Rattle.std.specs.Prelude.{◌≡◌, ℕ, ◌≤◌, List, ◌++◌, length, take}
 use Rattle.drive.specs.Journal.{Event, held, Once}
 use Rattle.model.specs.Session.{State, Request, after}
@@ -8,13 +8,13 @@ use Rattle.durability.specs.Step.{Moves}
 use Rattle.durability.specs.Runs.{Delivery, Answer, Holds}
 
 module _ (formats : Formats) where
-  -- The journal goes on from the one before, each address once. At each prefix before its end what stood stands, at its end the new state.
+  -- The journal goes on from the one before, each address once. At each prefix before its end the old state is recovered, at its end the new one.
   pub record Advances (capacity volume : ℕ) (before : List Event) (S : State) (behind : List Event) (S' : State) : Type 0 where
     pub front : take (length before) behind ≡ before
     pub once : Once behind
     pub moves : Moves formats capacity volume (held before) S (held behind) S'
 
-  -- The headline on a journal: at each prefix of what was written what stands is the state after the first of the committed requests.
+  -- The headline on a journal: at each prefix of what was written what is recovered is the state after the first of the committed requests.
   pub record HoldsOnJournal (need : State → Request → ℕ) (drive volume : ℕ) (S : State) (before behind : List Event) (deliveries : List Delivery) (answers : List Answer) : Type 0 where
     pub front : take (length before) behind ≡ before
     pub once : Once behind

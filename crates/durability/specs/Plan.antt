@@ -173,7 +173,7 @@ module _ (formats : Formats) where
       × (blocks ≡ first ++ others) × (written ≡ record { address = node.address; number = number } ∷ rest)
       × WritesNode node from first number × WritesNodes nodes (from + length first) others rest
 
-  -- The planned blocks of a request at the state that stands, and its table entry after them.
+  -- The planned blocks of a request at the recovered state, and its table entry after them.
   pub record IsPlanned (capacity volume : ℕ) (medium : Medium) (S : State) (stands : RecoversTo formats capacity volume medium S) (request : Request) (blocks : List Block) (mark : Block) : Type 0 where
     pub nodes : List Writing
     pub gone : List ℕ

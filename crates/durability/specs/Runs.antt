@@ -1,4 +1,4 @@
--- Runs of an engine over deliveries: which answer each may get, what it commits, how far it writes, and what stands at each prefix.
+-- Runs of an engine over deliveries: which answer each may get, what it commits, how far it writes, and what is recovered at each prefix.
 use Rattle.std.specs.Prelude.{cond, ◌==◌, ◌≡◌, ◌⊎◌, ℕ, ◌+◌, ◌<◌, ◌≤◌, Bool, true, false, List, [], ◌∷◌, ◌++◌, length, take, map, Option, Some, None}
 use Rattle.std.specs.Option.{option_to_list}
 use Rattle.std.specs.FinMap.{get}
@@ -72,7 +72,7 @@ Nothing effect = (effect.done ≡ []) × (effect.blocks ≡ 0)
 abbrev pub MayFail : Answer → Type 0
 MayFail answer = (answer ≡ Fault) ⊎ (answer ≡ Memory)
 
--- A new request at a state that stands on so many blocks, on a volume of this capacity, and may need so many.
+-- A new request at a recovered state on so many blocks, on a volume of this capacity, and may need so many.
 pub data AnswersNew (S : State) (mark capacity need : ℕ) (r : Request) : Answer → Effect → Type 0 where
   committed : (effect : Effect) → effect.done ≡ r ∷ [] → 1 ≤ effect.blocks → effect.blocks ≤ need → mark + need ≤ capacity → AnswersNew S mark capacity need r (Replied (reply_to S r)) effect
   failed : (effect : Effect) → (effect.done ≡ []) ⊎ ((effect.done ≡ r ∷ []) × (1 ≤ effect.blocks)) → effect.blocks ≤ need → (0 < effect.blocks → mark + need ≤ capacity) → AnswersNew S mark capacity need r Fault effect
@@ -114,7 +114,7 @@ AtMarks c [] (n ∷ counts) = ⊥
 AtMarks c (m ∷ marks) [] = ⊥
 
 module _ (formats : Formats) where
-  -- From a medium on which S stands these deliveries may get these answers, commit C, and leave a medium on which S' stands.
+  -- From a medium that recovers to S these deliveries may get these answers, commit C, and leave a medium that recovers to S'.
   abbrev pub Runs : (State → Request → ℕ) → ℕ → ℕ → Medium → State → List Delivery → List Answer → List Request → Medium → State → Type 0
   Runs need drive volume B S [] answers C B' S' = (answers ≡ []) × (C ≡ []) × (B' ≡ B) × (S' ≡ S)
   Runs need drive volume B S (d ∷ ds) answers C B' S' =
@@ -138,6 +138,6 @@ module _ (formats : Formats) where
     pub at_start : c (length before) ≡ 0
     pub at_marks : AtMarks c marks counts
     pub at_end : c (length behind) ≡ length committed
-    -- what stood before is remembered, and so is each commit of the run
+    -- what was recovered before is remembered, and so is each commit of the run
     pub past : (k : ℕ) (T : State) → RecoveredTo formats drive volume before k T → RecoveredTo formats drive volume behind k T
     pub later : (j : ℕ) → j ≤ length committed → RecoveredTo formats drive volume behind (S.commits + j) (after S (take j committed))

@@ -1,4 +1,4 @@
--- What a commit adds to a medium, and what stands on its fronts.
+-- What a commit adds to a medium, and what is recovered on its prefixes.
 use Rattle.std.specs.Prelude.{◌≡◌, ℕ, ◌+◌, ◌-◌, ◌<◌, ◌≤◌, List, [], ◌++◌, length, take, slice_get, Some}
 use Rattle.limits.specs.declared.TheConstants.{FORMAT_BLOCKS, FIRST_UNIQUE}
 use Rattle.model.specs.Tree.{files_of, directories_of}
@@ -16,15 +16,15 @@ pub record FollowsRequest (graph graph' : Graph) (state : State) (request : Requ
   pub refused : (code_of request.operation state.tree ≡ 0 → ⊥) → (address : ℕ) → IsReached graph address → IsKeptUnder graph graph' address
 
 module _ (formats : Formats) where
-  -- The medium goes on from the one before. At each prefix before its end what stood stands, at its end the new state.
+  -- The medium goes on from the one before. At each prefix before its end the old state is recovered, at its end the new one.
   pub record Moves (capacity volume : ℕ) (before : Medium) (S : State) (behind : Medium) (S' : State) : Type 0 where
     pub more : (added : List Block) × (behind ≡ before ++ added)
     pub fronts : (k : ℕ) → length before ≤ k → k < length behind → RecoversTo formats capacity volume (take k behind) S
     pub ends : RecoversTo formats capacity volume behind S'
-    -- and what stood before is remembered
+    -- and what was recovered before is remembered
     pub past : (commits : ℕ) (state : State) → RecoveredTo formats capacity volume before commits state → RecoveredTo formats capacity volume behind commits state
 
-  -- The blocks of a commit, and its table entry after them, carry out the request at the state that stands.
+  -- The blocks of a commit, and its table entry after them, carry out the request at the recovered state.
   pub record CarriesOut (capacity volume : ℕ) (medium : Medium) (S : State) (stands : RecoversTo formats capacity volume medium S) (request : Request) (blocks : List Block) (mark : Block) : Type 0 where
     pub none : NoneImitates formats (length medium) blocks
     pub some : 1 ≤ length blocks

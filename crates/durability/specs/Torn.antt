@@ -7,16 +7,16 @@ use Rattle.durability.specs.Volume.{Medium, RecoversTo, RecoveredTo}
 use Rattle.durability.specs.Plan.{IsPlanned}
 
 module _ (formats : Formats) where
-  -- On both media the same states stand, and the same states stood before.
+  -- On both media the same states are recovered, and the same states were recovered before.
   pub record AreAlike (capacity volume : ℕ) (medium other : Medium) : Type 0 where
     pub stands : (S : State) → RecoversTo formats capacity volume medium S ↔ RecoversTo formats capacity volume other S
     pub past : (commits : ℕ) (S : State) → RecoveredTo formats capacity volume medium commits S ↔ RecoveredTo formats capacity volume other commits S
 
-  -- no state stands, whatever drive and volume it is read in
+  -- no state is recovered, whatever drive and volume it is read in
   abbrev pub RecoversToNothing : Medium → Type 0
   RecoversToNothing medium = (capacity volume : ℕ) (S : State) → RecoversTo formats capacity volume medium S → ⊥
 
-  -- The medium goes on from one on which S stood, and holds what is left of these commits in turn. What stands is the state after those that are whole, and no other; what stood before is remembered, and so is each of these.
+  -- The medium goes on from one that recovered to S, and holds what is left of these commits in turn. What is recovered is the state after those that are whole, and no other; what was recovered before is remembered, and so is each of these.
   pub record Endures (capacity volume : ℕ) (before : Medium) (S : State) (done : List Request) (behind : Medium) : Type 0 where
     pub more : (added : List Block) × (behind ≡ before ++ added)
     pub stands : RecoversTo formats capacity volume behind (after S done)
@@ -24,7 +24,7 @@ module _ (formats : Formats) where
     pub past : (commits : ℕ) (T : State) → RecoveredTo formats capacity volume before commits T → RecoveredTo formats capacity volume behind commits T
     pub later : (j : ℕ) → j ≤ length done → RecoveredTo formats capacity volume behind (S.commits + j) (after S (take j done))
 
-  -- A request at the state that stands is committed by its planned blocks, and so much is left of their writes; `done` has the request where that is all of them.
+  -- A request at the recovered state is committed by its planned blocks, and so much is left of their writes; `done` has the request where that is all of them.
   pub record IsTried (capacity volume : ℕ) (medium : Medium) (S : State) (request : Request) (left : List Block) (done : List Request) : Type 0 where
     pub stands : RecoversTo formats capacity volume medium S
     pub blocks : List Block
@@ -36,7 +36,7 @@ module _ (formats : Formats) where
     pub whole : left ≡ blocks ++ mark ∷ [] → done ≡ request ∷ []
     pub part : (left ≡ blocks ++ mark ∷ [] → ⊥) → done ≡ []
 
-  -- Requests in turn, each begun where a state stands, after whatever is left of those before it; `done` has those that are there whole.
+  -- Requests in turn, each begun where a state is recovered, after whatever is left of those before it; `done` has those that are there whole.
   abbrev pub AreTried : ℕ → ℕ → Medium → State → List Request → List Request → Medium → Type 0
   AreTried capacity volume medium S [] done behind = (done ≡ []) × (behind ≡ medium)
   AreTried capacity volume medium S (request ∷ requests) done behind =

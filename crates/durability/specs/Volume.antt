@@ -1,4 +1,4 @@
--- Which state stands on a medium, and which states stood before it.
+-- Which state a medium recovers to, and which states it recovered to before.
 use Rattle.std.specs.Prelude.{◌≡◌, ℕ, zero, suc, ◌+◌, ◌*◌, ◌-◌, ◌<◌, ◌≤◌, List, [], ◌∷◌, length, take, drop, slice_get, Option, Some}
 use Rattle.std.specs.List.{flat_map}
 use Rattle.std.specs.Int.{div_ceil}
@@ -66,7 +66,7 @@ module _ (formats : Formats) where
   abbrev pub graph_of : Medium → List (Option ℕ) → Graph
   graph_of medium table = λ address stored. IsStoredAt medium table address stored
 
-  -- The block imitates where it would stand at this address: it is a VAT ICB there.
+  -- The block imitates where it would be at this address: it is a VAT ICB there.
   abbrev pub IsVatIcbAt : Block → ℕ → Type 0
   IsVatIcbAt block address = (partition_start ≤ address) × (fields : NodeFields) × (fields.kind ≡ Table) × formats.IsEntry fields block (address - partition_start)
 
@@ -116,7 +116,7 @@ module _ (formats : Formats) where
     pub few_commits : 2 * state.commits + (FORMAT_BLOCKS - 1) ≤ at
     pub few_identities : state.next_identity ≤ FIRST_UNIQUE + state.commits
 
-  -- The state stands on the medium: the last table entry says it.
+  -- The medium recovers to the state: the last table entry says it.
   pub record RecoversTo (capacity volume : ℕ) (medium : Medium) (state : State) : Type 0 where
     pub at : ℕ
     pub block : Block
@@ -132,7 +132,7 @@ module _ (formats : Formats) where
     pub moment : ℕ
     pub has : HasTable (take at medium) at block table moment
 
-  -- so many steps back along the chain of tables, this state stood
+  -- so many steps back along the chain of tables, this state was recovered
   abbrev pub RecoveredBefore : ℕ → ℕ → ℕ → Medium → State → Type 0
   RecoveredBefore zero capacity volume medium state = RecoversTo capacity volume medium state
   RecoveredBefore (suc steps) capacity volume medium state =

@@ -5,7 +5,7 @@ use Rattle.ecma.specs.FirstFault.{IsFirst, AllHold}
 
 -- ---- rules that are tests
 
--- a row that holds is passed, one that does not is told, and a list with no fault has no such row
+-- a row that holds is passed, one that does not is reported, and a list with no fault has no such row
 pub pass : {F : Type 0} (b : Bool) (f : F) (rest told : Option F) → b ≡ true → told ≡ rest → told ≡ cond b rest (Some f)
 pass true f rest told e more = more
 pass false f rest told e more = absurd cc

@@ -1,4 +1,4 @@
--- Numbers and zeros that stand in bytes.
+-- Numbers and zeros that are in bytes.
 use Rattle.std.proofs.Common.{◌≡◌, ℕ, ◌+◌, ◌-◌, ◌^◌, ◌<◌, ◌≤◌, List, [], ◌∷◌, ◌++◌, ◌↔◌, length, take, drop, get_or, replicate, refl, sym, ap, ◌∙◌, zero-add, arith}
 use Rattle.std.specs.Prelude.{bit_or, nat_eq, IsTrue}
 use Rattle.std.proofs.lemmas.Bool.{eqb-true, eq-eqb}
@@ -10,12 +10,12 @@ use Rattle.ecma.specs.Field.{IsAt}
 use Rattle.ecma.specs.Numbers.{u16_at, u32_at, u64_at}
 use Rattle.ecma.proofs.Pieces.{IsBytes, u64_stands}
 
--- a byte of what stands at a place
+-- a byte of what is at a place
 stands_cell : (at i j : ℕ) (text block : List ℕ) → i < length text → j ≡ at + i → IsAt at text block → get_or block j 0 ≡ get_or text i 0
 stands_cell at i j text block lt e stands =
     ap (λ (k : ℕ). get_or block k 0) e ∙ sym (get_or-drop at block i 0) ∙ sym (get_or-take (length text) (drop at block) i 0 lt) ∙ ap (λ (x : List ℕ). get_or x i 0) stands
 
--- a number is read where it stands
+-- a number is read where it is
 pub u8_is : (at n : ℕ) (block : List ℕ) → IsAt at (n ∷ []) block → get_or block at 0 ≡ n
 u8_is at n block stands = stands_cell at 0 at (n ∷ []) block (omega arith) (omega arith) stands
 
@@ -44,7 +44,7 @@ u64_is at n block small stands =
       cell 7 (at + 4 + 2 + 1) (omega arith) (omega arith),
     )
 
--- two texts stand one after the other
+-- two texts are one after the other
 pub both_at : (at next : ℕ) (a b block : List ℕ) → next ≡ at + length a → IsAt at a block → IsAt next b block → IsAt at (a ++ b) block
 both_at at next a b block place first second =
     ap (λ (n : ℕ). take n (drop at block)) (length-append a b)

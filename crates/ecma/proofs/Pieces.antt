@@ -1,4 +1,4 @@
--- Bytes as one piece after another: what stands at a place, from the back to the front.
+-- Bytes as one piece after another: what is at a place, from the back to the beginning.
 use Rattle.std.proofs.Common.{◌≡◌, ℕ, ◌+◌, ◌<◌, ◌≤◌, List, [], ◌∷◌, ◌++◌, length, take, drop, get_or, refl, sym, ap, ◌∙◌, append_assoc, arith, inl, inr}
 use Rattle.std.proofs.lemmas.Bool.{cases_lt}
 use Rattle.std.proofs.Math.Seq.{drop-cons}
@@ -9,7 +9,7 @@ use Rattle.std.proofs.lemmas.Nat.{le_bytes_2, le_bytes_4, le_bytes_8}
 use Rattle.ecma.specs.Field.{IsAt}
 use Rattle.ecma.specs.Numbers.{u16_at, u32_at, u64_at}
 
--- pieces in front of a rest
+-- pieces before a rest
 abbrev pub onto : List (List ℕ) → List ℕ → List ℕ
 onto [] rest = rest
 onto (p ∷ ps) rest = p ++ onto ps rest
@@ -18,7 +18,7 @@ pub concat_onto : (ps : List (List ℕ)) (rest : List ℕ) → concat ps ++ rest
 concat_onto [] rest = refl
 concat_onto (p ∷ ps) rest = append_assoc p (concat ps) rest ∙ ap (λ (x : List ℕ). p ++ x) (concat_onto ps rest)
 
--- a text that stands at a place, and what comes after it
+-- a text that is at a place, and what comes after it
 pub cut : (at next : ℕ) (text block rest : List ℕ) → next ≡ at + length text → IsAt at text block → drop next block ≡ rest → drop at block ≡ text ++ rest
 cut at next text block rest place stands behind =
     let tail : drop (length text) (drop at block) ≡ drop next block = drop-drop (length text) at block ∙ ap (λ (n : ℕ). drop n block) (sym place) in
@@ -62,7 +62,7 @@ u64_stands at block n bytes room e =
       cell at 8 7 (at + 4 + 2 + 1) block (omega arith) (omega arith),
     )))
 
--- a byte stands where it is read
+-- a byte is where it is read
 pub u8_stands : (at : ℕ) (block : List ℕ) (n : ℕ) → at < length block → get_or block at 0 ≡ n → IsAt at (n ∷ []) block
 u8_stands at block n room e =
     let split = drop-cons block at 0 room in

@@ -9,7 +9,7 @@ use Rattle.ecma.proofs.Polynomials.{shift}
 use Rattle.ecma.proofs.Remainders.{holds_below}
 use Rattle.ecma.proofs.Words.{by_first, by_second, wide_fourth, by_sixteenth, word_rest, shr, pair, by_first-sum, by_second-sum, wide_fourth-sum, by_sixteenth-sum, word_rest-sum, IsLinear, is_reduced, reduced_below, low_rest-lt, more_terms, IsReckoned, reckoned, sixteen, sixteen_first, sixteen_more}
 
--- ---- the quotient of all 256 bits, once they stand from x^16 on
+-- ---- the quotient of all 256 bits, once they begin at x^16
 
 abbrev by_thirty_second : ℕ → ℕ
 by_thirty_second t = t ⊕ t / 2 ^ 128

@@ -10,7 +10,7 @@ use Rattle.ecma.specs.Tag.{Sealed, tag_cells, tag_sum}
 use Rattle.ecma.proofs.Pieces.{IsBytes, cut, u8_stands, u16_stands, u32_stands}
 use Rattle.ecma.proofs.Remainders.{IsCrc-unique, IsCrc-crc_of}
 
--- the cells of a tag with its checksum as it stands
+-- the cells of a tag with its checksum as it is
 cells : ℕ → ℕ → ℕ → ℕ → ℕ → List ℕ → List ℕ
 cells id sum crc len loc body =
     to_le_bytes w16 id ++ (to_le_bytes w16 3 ++ (sum ∷ (0 ∷ (to_le_bytes w16 1 ++ (to_le_bytes w16 crc ++ (to_le_bytes w16 len ++ (to_le_bytes w32 loc ++ body)))))))
@@ -58,7 +58,7 @@ pub one_seal : (id loc : ℕ) (a b : List ℕ) → IsBytes a → IsBytes b → S
 one_seal id loc a b a-fits b-fits a-sealed b-sealed same =
     sealed_is id loc a (drop 16 b) a-fits a-sealed same ∙ sym (sealed_is id loc b (drop 16 b) b-fits b-sealed refl)
 
--- the front of bytes is bytes
+-- the beginning of bytes is bytes
 front_fits : (front rest : List ℕ) → IsBytes (front ++ rest) → IsBytes front
 front_fits front rest fits i = elim (cases_lt i (length front)) [
   | inl lt ↦ rw (sym (get_or_append_left front rest 0 i lt)) (fits i)
@@ -88,12 +88,12 @@ is_block id loc body id-fits loc-fits len-fits fits = record {
   whole = refl;
 }
 
--- a byte of the tag stands in the block
+-- a byte of the tag is in the block
 tag_byte : (id loc : ℕ) (body block : List ℕ) (d : IsDescriptor id loc body block) (i : ℕ) → i < 16 → get_or block i 0 ≡ get_or d.descriptor i 0
 tag_byte id loc body block d i low =
     ap (λ (x : List ℕ). get_or x i 0) d.whole ∙ get_or_append_left d.descriptor (replicate (2048 - length d.descriptor) 0) 0 i (omega (arith, low, d.sealed.long))
 
--- a descriptor begins with its identifier, and tells its location
+-- a descriptor begins with its identifier, and has its location
 pub begins : (id loc : ℕ) (body block : List ℕ) → IsDescriptor id loc body block → u16_at 0 block ≡ id
 begins id loc body block d = omega (arith, tag_byte id loc body block d 0 (omega arith), tag_byte id loc body block d 1 (omega arith), d.sealed.identifier)
 

@@ -12,7 +12,7 @@ use Rattle.ecma.specs.Crc.{◌⊕◌, times_generator, IsRemainder, IsCrc, polyn
 use Rattle.ecma.proofs.Polynomials.{shift, middle, times_generator-sum}
 use Rattle.ecma.proofs.Remainders.{IsRemainder-step, holds_below, one_below}
 
--- ---- the quotients of eight and of sixteen bytes, once they stand from x^16 on
+-- ---- the quotients of eight and of sixteen bytes, once they begin at x^16
 
 abbrev pub by_eighth : ℕ → ℕ
 by_eighth t = t ⊕ t / 2 ^ 32
@@ -213,7 +213,7 @@ pair_more p r both s fits before reduced =
 
 -- ---- the bytes, some at a time
 
--- the remainder of the bytes in front of the rest
+-- the remainder of the bytes before the rest
 pub record IsReckoned (bytes rest : List ℕ) (r : ℕ) : Type 0 where
   pub front : List ℕ
   pub whole : bytes ≡ front ++ rest

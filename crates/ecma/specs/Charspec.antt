@@ -1,4 +1,4 @@
--- The character set of every text of UDF as it stands in a descriptor (ECMA-167 1/7.2.1, UDF 2.01 2.1.2).
+-- The character set of every text of UDF as it is in a descriptor (ECMA-167 1/7.2.1, UDF 2.01 2.1.2).
 use Rattle.std.specs.Prelude.{ℕ, List, [], ◌∷◌, codes, replicate}
 use Rattle.std.specs.List.{concat}
 

@@ -1,4 +1,4 @@
--- An entity identifier as it stands in a descriptor (ECMA-167 1/7.4): flags, which are 0, the identifier
+-- An entity identifier as it is in a descriptor (ECMA-167 1/7.4): flags, which are 0, the identifier
 -- and its suffix.
 use Rattle.std.specs.Prelude.{ℕ, List, [], ◌∷◌, ◌++◌, codes, take, replicate}
 use Rattle.std.specs.List.{concat}

@@ -1,4 +1,4 @@
--- An extent of a volume as it stands in a descriptor (ECMA-167 3/7.1).
+-- An extent of a volume as it is in a descriptor (ECMA-167 3/7.1).
 use Rattle.std.specs.Prelude.{ℕ, List, [], ◌∷◌}
 use Rattle.std.specs.Int.{w32, to_le_bytes}
 use Rattle.std.specs.List.{concat}

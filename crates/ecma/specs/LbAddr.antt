@@ -1,4 +1,4 @@
--- The address of a block in a partition as it stands in a descriptor (ECMA-167 4/7.1).
+-- The address of a block in a partition as it is in a descriptor (ECMA-167 4/7.1).
 use Rattle.std.specs.Prelude.{ℕ, List, [], ◌∷◌}
 use Rattle.std.specs.Int.{w16, w32, to_le_bytes}
 use Rattle.std.specs.List.{concat}

@@ -32,7 +32,7 @@ impl EntityId {
         suffix: [0x01, 0x02, 0, 0, 0, 0, 0, 0],
     };
 
-    /// The identifier as it stands in a descriptor.
+    /// The identifier as it is in a descriptor.
     pub fn to_bytes(self) -> [u8; 32]
         ensures { result ≡ entity_id self }
     {

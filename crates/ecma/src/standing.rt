@@ -1,4 +1,4 @@
-//! Whether numbers or zeros stand in bytes, without their being spelled.
+//! Whether numbers or zeros are in bytes, without their being spelled.
 
 ghost use Rattle.std.specs.Prelude.{◌≡◌, ◌+◌, ◌≤◌, ◌↔◌, [], ◌∷◌, length, take, drop, replicate, IsTrue};
 ghost use Rattle.std.specs.Int.{w16, w32, w64, to_le_bytes};
@@ -14,7 +14,7 @@ pub fn is_u8_at(number: u8, bytes: &[u8], at: usize) -> bool
     bytes[at] == number
 }
 
-/// Whether the number stands in the two bytes from `at` on.
+/// Whether the number is in the two bytes from `at` on.
 pub fn is_u16_at(number: u16, bytes: &[u8], at: usize) -> bool
     requires { at + 2 ≤ length bytes.now }
     ensures { IsTrue result ↔ IsAt at (to_le_bytes w16 number) bytes.now }
@@ -22,7 +22,7 @@ pub fn is_u16_at(number: u16, bytes: &[u8], at: usize) -> bool
     u16_at(bytes, at) == number
 }
 
-/// Whether the number stands in the four bytes from `at` on.
+/// Whether the number is in the four bytes from `at` on.
 pub fn is_u32_at(number: u32, bytes: &[u8], at: usize) -> bool
     requires { at + 4 ≤ length bytes.now }
     ensures { IsTrue result ↔ IsAt at (to_le_bytes w32 number) bytes.now }
@@ -30,7 +30,7 @@ pub fn is_u32_at(number: u32, bytes: &[u8], at: usize) -> bool
     u32_at(bytes, at) == number
 }
 
-/// Whether the number stands in the eight bytes from `at` on.
+/// Whether the number is in the eight bytes from `at` on.
 pub fn is_u64_at(number: u64, bytes: &[u8], at: usize) -> bool
     requires { at + 8 ≤ length bytes.now }
     ensures { IsTrue result ↔ IsAt at (to_le_bytes w64 number) bytes.now }

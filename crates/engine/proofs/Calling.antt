@@ -52,7 +52,7 @@ stands_there : (s t : Situation) (volume : ℕ) (S : State) → t.journal ≡ s.
 stands_there s t volume S journal capacity stands =
     subst (λ (J : List Event). RecoversTo udf t.capacity volume (held J) S) (sym journal) (subst (λ (c : ℕ). RecoversTo udf c volume (held s.journal) S) (sym capacity) stands)
 
--- a journal goes on from its front
+-- a journal goes on from its beginning
 pub front_grows : (J K : List Event) → take (length J) K ≡ J → length J ≤ length K
 front_grows J K front = omega (arith, ap (λ (L : List Event). length L) front, length-take (length J) K)
 

@@ -21,7 +21,7 @@ record Made (volume capacity : ℕ) (ds : List Delivery) (S : State) (before : S
   front : take (length before.journal) behind.journal ≡ before.journal
   grows : length before.journal ≤ length behind.journal
 
--- a prefix of a front
+-- a prefix of a prefix
 pub front_on : (J K L : List Event) → take (length J) K ≡ J → length J ≤ length K → take (length K) L ≡ K → take (length J) L ≡ J
 front_on J K L first le second = shorter ∙ ap (λ (M : List Event). take (length J) M) second ∙ first
   where

@@ -11,7 +11,7 @@ use Rattle.store.specs.Calls.{IsOpenOn}
 use Rattle.engine.specs.Situation.{Situation}
 use Rattle.engine.specs.Steps.{HoldsState}
 
--- the state that stands is known to the store that is open then
+-- the recovered state is known to the store that is open then
 pub holds_opened : (volume : ℕ) (S : State) (before behind : Situation) (store : Store) → behind.store ≡ Some store → behind.journal ≡ before.journal → behind.capacity ≡ before.capacity
     → HoldsState volume S before → IsOpenOn before.capacity volume before.journal S store → HoldsState volume S behind
 holds_opened volume S before behind store is journal size at knows = record {
@@ -21,7 +21,7 @@ holds_opened volume S before behind store is journal size at knows = record {
       (subst (λ (c : ℕ). IsOpenOn c volume behind.journal S store) (sym size) (subst (λ (J : List Event). IsOpenOn before.capacity volume J S store) (sym journal) knows));
 }
 
--- and it stands where none is
+-- and it is where none is
 pub holds_closed : (volume : ℕ) (S : State) (before behind : Situation) → behind.store ≡ None → behind.journal ≡ before.journal → behind.capacity ≡ before.capacity → HoldsState volume S before → HoldsState volume S behind
 holds_closed volume S before behind is journal size at = record {
   once = subst (λ (J : List Event). Once J) (sym journal) at.once;

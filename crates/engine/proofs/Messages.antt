@@ -107,7 +107,7 @@ keeps_told (Some xs) None c x h k = absurd h
 keeps_told (Some xs) (Some ys) None x h k = absurd k
 keeps_told (Some xs) (Some ys) (Some zs) x h k = k ∙ h
 
--- a front was written where they were not written whole
+-- a prefix was written where they were not written whole
 pub until_front : (fault : ServeFault) (a b : Option (List ℕ)) (x : List ℕ) → PutsUntil fault a b x → PutsPrefix a b x
 until_front faults.Read a b x h = absurd h
 until_front faults.Write a b x h = h
@@ -181,7 +181,7 @@ answering_some fault reader between after s t u o v w m a h takes answered until
   left = left_at fault h.answers a after o v w h.told until;
 }
 
--- what was written whole is a front, also where the writer then kept what it held, and failed
+-- what was written whole is a prefix, also where the writer then kept what it held, and failed
 pub answering_kept : (reader after later : Option (List ℕ)) (s t : Situation) (o v w : Option (List ℕ)) → later ≡ after → IsIdle after → Answering reader after s t o v → Keeps v w → AnswersSome faults.Write reader later s t o w
 answering_kept reader after later s t o v w e idle h k = record {
   messages = h.messages;

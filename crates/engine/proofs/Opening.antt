@@ -1,4 +1,4 @@
--- What opening a medium gives where a state stands, and where none does.
+-- What opening a medium gives where a state is recovered, and where none is.
 use Rattle.std.proofs.Common.{◌≡◌, ℕ, List, sym, ap}
 use Rattle.std.specs.Prelude.{Result, Ok, Err, IfOk, IfErr, is_err}
 use Rattle.std.proofs.lemmas.Bool.{false≢true}
@@ -19,7 +19,7 @@ module _ (capacity volume : ℕ) (J : List Event) (S : State) where
   opened_short (Ok store) opens = tt
   opened_short (Err refusal) opens = opens
 
--- where nothing stands none is opened
+-- where nothing is recovered none is opened
 pub nothing_opened : (capacity : ℕ) (J : List Event) (result : Result Store StoreFault) {Honest : Type 0}
     → IfOk result (λ store. Honest → Once J → (S : State) × IsOpenOn capacity store.capacity J S store) → Honest → Once J → RecoversToNothingHere capacity (held J) → IfOk result (λ store. ⊥)
 nothing_opened capacity J (Ok store) stands honest once nothing = let state = stands honest once in nothing store.capacity state.0 state.1.stands

@@ -56,7 +56,7 @@ pub dealt_new : (due : Due) (volume : ℕ) (S : State) (request : Request) (duri
     → IsApplied volume S request during a behind → IsDealt due volume S request during store a behind
 dealt_new due volume S request during store a behind e h = subst (λ (d : Due). IsDealt d volume S request during store a behind) e h
 
--- ---- at the state that stands
+-- ---- at the recovered state
 
 -- what a store knows, beside a drive that shows the same
 pub knows_there : (capacity later volume : ℕ) (J K : List Event) (S : State) (store : Store) → later ≡ capacity → K ≡ J → IsOpenOn capacity volume J S store → IsOpenOn later volume K S store

@@ -27,7 +27,7 @@ delivers_step volume (Frame payload) S before (Some a) behind at (m, tells, call
     (medium.Delivery.Delivered (model_message m), (m, tells, refl), step.0, step.1)
 
 module _ (volume : ℕ) where
-  -- what stands after the last step
+  -- what is recovered after the last step
   pub at_end : (ds : List Delivery) (S : State) (before : Situation) (answers : List medium.Answer) (T : State) (behind : Situation) → HoldsState volume S before → AllSteps volume ds S before answers T behind → HoldsState volume T behind
   at_end [] S before answers T behind at (none, state, same) = subst (λ (U : State). HoldsState volume U behind) (sym state) (subst (λ (s : Situation). HoldsState volume S s) (sym same) at)
   at_end (d ∷ ds) S before answers T behind at (a, U, during, rest, step, told, steps) = at_end ds U during rest T behind step.at steps

@@ -88,7 +88,7 @@ withstands_from volume S asked failed before during behind journal size writes w
       elim (w.torn left lost cut (there ∙ ap (λ (L : List Event). L ++ written (length L) left) (sym journal))) [ inl stood ↦ inl (back S stood) | inr done ↦ inr (done.0, done.1, done.2, back (after_one S done.0) done.3) ];
 }
 
--- where a run ended the state after all its commits stands
+-- where a run ended the state after all its commits is recovered
 pub held_stands : (volume capacity : ℕ) (deliveries : List medium.Delivery) (S : State) (before behind : List Event) (answers : List medium.Answer)
     (run : HoldsOnJournal udf (need spelled) capacity volume S before behind deliveries answers) → RecoversTo udf capacity volume (held behind) (after S run.holds.committed)
 held_stands volume capacity deliveries S before behind answers run =

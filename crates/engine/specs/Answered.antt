@@ -39,7 +39,7 @@ faults (answer.Node status) = 0
 abbrev pub FailsOrIsDamaged : Answer → Type 0
 FailsOrIsDamaged a = (a ≡ answer.Fault) ⊎ ((a ≡ answer.Memory) ⊎ (a ≡ answer.Damaged))
 
--- what a query can be told
+-- what a query can be answered
 abbrev pub CanBeAnswered : Query → Answer → Type 0
 CanBeAnswered (query.Get path) a = ((bytes : List ℕ) × (a ≡ answer.Data bytes)) ⊎ ((a ≡ answer.NotFound) ⊎ ((a ≡ answer.IsDirectory) ⊎ FailsOrIsDamaged a))
 CanBeAnswered (query.List path) a = ((names : List Listed) × (a ≡ answer.Names names)) ⊎ ((a ≡ answer.NotFound) ⊎ ((a ≡ answer.NotDirectory) ⊎ FailsOrIsDamaged a))
@@ -92,7 +92,7 @@ pub record Answered (asked : Message) (before : Situation) (a : Answer) (after :
   pub failures : CountsFailures (faults a) before.failures after.failures
   pub row : MessageRow asked before a after
 
--- Where nothing stands, and no store is open, what needs the volume is refused: the drive failed, memory was short, or
+-- Where nothing is recovered, and no store is open, what needs the volume is refused: the drive failed, memory was short, or
 -- there is no sound volume. Nothing is written, and no store is kept.
 abbrev pub IsNothingThere : Message → Situation → Answer → Situation → Type 0
 IsNothingThere (message.Malformed cause) before a after = ⊤

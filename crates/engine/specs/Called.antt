@@ -67,7 +67,7 @@ abbrev pub stat_answer : Result NodeStatus StoreFault → Answer
 stat_answer (Ok status) = answer.Node status
 stat_answer (Err refusal) = stat_refused refusal
 
--- ---- what a message gets at the state that stands
+-- ---- what a message gets at the recovered state
 
 -- No store was open, none could be opened, and nothing was written.
 pub record IsShort (before : Situation) (a : Answer) (behind : Situation) : Type 0 where

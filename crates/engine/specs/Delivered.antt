@@ -14,9 +14,9 @@ use Rattle.engine.specs.Called.{Calls}
 use Rattle.engine.specs.Steps.{HoldsState}
 use Rattle.engine.specs.Withstanding.{AsksFor, MessageSurvivesPowerLoss}
 
--- A message got its answer. On an honest drive where a state stands that an open store knows, it got it by that store's calls,
--- and whatever a power loss leaves of what was written for it, that state stands or the one after the request. On an honest
--- drive where nothing stands, the answer says so.
+-- A message got its answer. On an honest drive where a state is recovered that an open store knows, it got it by that store's calls,
+-- and whatever a power loss leaves of what was written for it, that state is recovered or the one after the request. On an honest
+-- drive where nothing is recovered, the answer says so.
 pub record IsAnswered (asked : Message) (before : Situation) (a : Answer) (behind : Situation) : Type 0 where
   pub answered : Answered asked before a behind
   pub calls : (volume : ℕ) (S : State) → IsTrue behind.honest → HoldsState volume S before → Calls volume asked S before a behind

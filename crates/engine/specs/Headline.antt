@@ -1,4 +1,4 @@
--- A whole run on an honest drive: what its deliveries were, and what stands at each prefix of what it wrote.
+-- A whole run on an honest drive: what its deliveries were, and what is recovered at each prefix of what it wrote.
 use Rattle.std.specs.Prelude.{◌≡◌, ℕ, List, [], ◌∷◌, ◌++◌, Bool, Option, Some, None}
 use Rattle.std.specs.Option.{option_to_list}
 use Rattle.drive.specs.Journal.{Event, held, Once}
@@ -28,14 +28,14 @@ DeliversBy volume Restart S before (Some a) behind = ⊥
 DeliversBy volume (Frame payload) S before None behind = ⊥
 DeliversBy volume (Frame payload) S before (Some a) behind = (m : Message) × DecodesPayload m payload.items × Calls volume m S before a behind
 
--- These deliveries got these answers, in steps that the medium's runs allow, up to a state that stands.
+-- These deliveries got these answers, in steps that the medium's runs allow, up to a recovered state.
 pub record IsRun (volume : ℕ) (deliveries : List delivered.Delivery) (S : State) (before : Situation) (answers : List Answer) (behind : Situation) : Type 0 where
   pub said : List Delivery
   pub are_said : AllSaid deliveries said
   pub state : State
   pub steps : AllSteps volume said S before (model_answers answers) state behind
 
--- a run begins where a state stands and no store is kept
+-- a run begins where a state is recovered and no store is kept
 abbrev pub RunsBegin : Type 0
 RunsBegin =
     (volume : ℕ) (S : State) (journal : List Event) (failures capacity : ℕ) (honest : Bool) (writes : List (List (List ℕ))) → Once journal → RecoversTo udf capacity volume (held journal) S
@@ -49,7 +49,7 @@ RunsGoOn =
     → (run : IsRun volume deliveries S before answers during) (d : delivered.Delivery) (told : Option Answer) (behind : Situation) → DeliversBy volume d run.state during told behind
     → IsRun volume (deliveries ++ d ∷ []) S before (answers ++ option_to_list told) behind
 
--- At each prefix of what was written the state after the first of the requests that were committed stands.
+-- At each prefix of what was written the state after the first of the requests that were committed is recovered.
 pub record RunHolds (volume capacity : ℕ) (deliveries : List delivered.Delivery) (S : State) (before : List Event) (answers : List Answer) (behind : List Event) : Type 0 where
   pub said : List Delivery
   pub are_said : AllSaid deliveries said
@@ -60,9 +60,9 @@ RunsAreHeld =
     (volume : ℕ) (deliveries : List delivered.Delivery) (S : State) (before : Situation) (answers : List Answer) (behind : Situation) → HoldsState volume S before
     → IsRun volume deliveries S before answers behind → RunHolds volume before.capacity deliveries S before.journal answers behind.journal
 
--- Of the deliveries of a run, from the state that stands where the first of them begins. Each is a step that the medium's runs
+-- Of the deliveries of a run, from the recovered state where the first of them begins. Each is a step that the medium's runs
 -- allow, from the state that the one before it left and the journal as it was when the delivery began: that journal's length
--- is the mark of its row. And whatever a power loss leaves of the writes for it, that state stands, or the one after the
+-- is the mark of its row. And whatever a power loss leaves of the writes for it, that state is recovered, or the one after the
 -- new request that it brought.
 abbrev pub AllWithstand : ℕ → (deliveries : List delivered.Delivery) → State → (before : Situation) → (answers : List Answer) → (behind : Situation) → AllDelivered deliveries before answers behind → State → Type 0
 AllWithstand volume [] S before answers behind all S' = S' ≡ S

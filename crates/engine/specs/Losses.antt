@@ -29,7 +29,7 @@ pub record Life : Type 0 where
   pub under : List Request
 
 -- So much was done when the power was lost: what came had been a run that holds its commits. After the loss the state after
--- these stands, or the one after them and the new request that was under way.
+-- these is recovered, or the one after them and the new request that was under way.
 pub record IsRunCutShort (capacity volume : ℕ) (S : State) (before : List Event) (life : Life) (behind : List Event) : Type 0 where
   pub during : List Event
   pub run : HoldsOnJournal udf (need spelled) capacity volume S before during life.said life.answers
@@ -43,8 +43,8 @@ AreCut capacity volume S before (life ∷ lives) done behind =
     (between : List Event) × (cut : IsRunCutShort capacity volume S before life between) × (rest : List Request)
     × (done ≡ (cut.run.holds.committed ++ life.under) ++ rest) × AreCut capacity volume (after S (cut.run.holds.committed ++ life.under)) between lives rest behind
 
--- These requests were committed, each new where it stands and none twice. The state after them stands, each address was written
--- once, and what stood before can still be read, as can what stood after each of them.
+-- These requests were committed, each new where it is and none twice. The state after them is recovered, each address was written
+-- once, and what was recovered before can still be read, as can what was recovered after each of them.
 pub record Survives (capacity volume : ℕ) (S : State) (before : List Event) (done : List Request) (behind : List Event) : Type 0 where
   pub front : take (length before) behind ≡ before
   pub once : Once behind
@@ -117,7 +117,7 @@ ServedReach =
     → (lost : List Event) → LosesStream messages before answers behind all lost → IsStreamCut before.capacity volume S before.journal messages answers lost
 
 -- Runs that are cut off so leave the state after all that was committed, whatever came and however often the power was lost.
--- The next run finds what it needs: that this state stands, and each address was written once.
+-- The next run finds what it needs: that this state is recovered, and each address was written once.
 abbrev pub LossesReach : Type 0
 LossesReach =
     (capacity volume : ℕ) (S : State) (before : List Event) (lives : List Life) (done : List Request) (behind : List Event) → Once before → RecoversTo udf capacity volume (held before) S

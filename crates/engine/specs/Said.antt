@@ -45,7 +45,7 @@ abbrev pub said_told : Option told.Answer → Option Answer
 said_told None = None
 said_told (Some a) = Some (model_answer a)
 
--- a frame brings the message that its payload tells
+-- a frame brings the message that its payload has
 abbrev pub IsDeliverySaid : delivered.Delivery → Delivery → Type 0
 IsDeliverySaid (Frame payload) d = (m : asked.Message) × DecodesPayload m payload.items × (d ≡ medium.Delivery.Delivered (model_message m))
 IsDeliverySaid Restart d = d ≡ medium.Delivery.Restart

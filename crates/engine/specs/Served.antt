@@ -32,16 +32,16 @@ AllAnswered (m ∷ messages) before (a ∷ answers) after = (during : Situation)
 abbrev pub brought : List Message → List Delivery
 brought messages = map (λ m. Delivered (model_message m)) messages
 
--- On an honest drive, where a state stands that an open store knows: what stands at each prefix of what was written is the
+-- On an honest drive, where a state is recovered that an open store knows: what is recovered at each prefix of what was written is the
 -- state after the first of the requests that were committed.
 abbrev pub ServedHolds : List Message → Situation → List Answer → Situation → Type 0
 ServedHolds messages before answers behind =
     (volume : ℕ) (S : State) → IsTrue behind.honest → HoldsState volume S before
     → HoldsOnJournal udf (need spelled) before.capacity volume S before.journal behind.journal (brought messages) (model_answers answers)
 
--- Of messages, one after another, from the state that stands where the first of them comes. Each is a step that the medium's
+-- Of messages, one after another, from the recovered state where the first of them comes. Each is a step that the medium's
 -- runs allow, from the state that the one before it left and the journal as it was when the message came. And whatever a loss
--- of power leaves of the writes for it, that state stands, or the one after the new request that it asks for.
+-- of power leaves of the writes for it, that state is recovered, or the one after the new request that it asks for.
 abbrev pub EachWithstands : ℕ → (messages : List Message) → State → (before : Situation) → (answers : List Answer) → (behind : Situation) → AllAnswered messages before answers behind → State → Type 0
 EachWithstands volume [] S before [] behind all S' = S' ≡ S
 EachWithstands volume [] S before (a ∷ answers) behind all S' = ⊥
@@ -51,7 +51,7 @@ EachWithstands volume (m ∷ messages) S before (a ∷ answers) behind all S' =
     × MessageSurvivesPowerLoss volume S (AsksFor m) (faults a) before all.0
     × EachWithstands volume messages T all.0 answers behind all.2 S'
 
--- so it is of these, as they were answered, on an honest drive where a state stands that an open store knows
+-- so it is of these, as they were answered, on an honest drive where a state is recovered that an open store knows
 abbrev pub ServedWithstands : (messages : List Message) → (before : Situation) → (answers : List Answer) → (behind : Situation) → AllAnswered messages before answers behind → Type 0
 ServedWithstands messages before answers behind all =
     (volume : ℕ) (S : State) → IsTrue behind.honest → HoldsState volume S before → (S' : State) × EachWithstands volume messages S before answers behind all S'
@@ -101,7 +101,7 @@ LeftBy faults.Write bytes answers reader output written = (bytes ≡ [] → ⊥)
 LeftBy faults.Memory bytes answers reader output written =
     LeftAt faults.Memory answers reader output written ⊎ (Unlooked answers reader output written ⊎ AllTold answers reader output written)
 
--- The same, but it ended with a fault, and of the answers' frames a front was written.
+-- The same, but it ended with a fault, and of the answers' frames a prefix was written.
 pub record AnswersSome (fault : ServeFault) (reader after : Option (List ℕ)) (before behind : Situation) (output written : Option (List ℕ)) : Type 0 where
   pub messages : List Message
   pub answers : List Answer
@@ -141,7 +141,7 @@ pub record ServesAll (before behind : Situation) (input left output written : Op
   pub idle : IsIdle reader
   pub ends : IsAtEnd left ⊎ IsCutOff serving.bytes reader
 
--- The first messages of the bytes that were read were answered in turn, and of the answers' frames a front was written.
+-- The first messages of the bytes that were read were answered in turn, and of the answers' frames a prefix was written.
 pub record ServesSome (before behind : Situation) (input left output written : Option (List ℕ)) : Type 0 where
   pub bytes : List ℕ
   pub messages : List Message

@@ -46,7 +46,7 @@ seen_on drive engine d = situation_on drive engine.store d
 abbrev pub with_store : Option Store → Situation → Situation
 with_store store s = record s { store = store }
 
--- No state stands on the drive's journal, and no store is open.
+-- The drive's journal recovers to no state, and no store is open.
 pub record HoldsNothing (s : Situation) : Type 0 where
   pub once : Once s.journal
   pub nothing : RecoversToNothingHere s.capacity (held s.journal)

@@ -12,7 +12,7 @@ use Rattle.store.specs.declared.store.Store.{Store}
 use Rattle.store.specs.Calls.{IsOpenOn}
 use Rattle.engine.specs.Situation.{Situation, IsOpen}
 
--- The state stands on the drive's journal, and a store that is open keeps it.
+-- The drive's journal recovers to the state, and a store that is open keeps it.
 pub record HoldsState (volume : ℕ) (S : State) (s : Situation) : Type 0 where
   pub once : Once s.journal
   pub stands : RecoversTo udf s.capacity volume (held s.journal) S
@@ -35,7 +35,7 @@ AllSteps volume (d ∷ ds) S before answers S' behind =
     (a : Option Answer) × (T : State) × (during : Situation) × (rest : List Answer) × IsStep volume d S before a T during
     × (answers ≡ option_to_list a ++ rest) × AllSteps volume ds T during rest S' behind
 
--- so what stands at each prefix of the journal is the state after the first of the requests that were committed
+-- so what is recovered at each prefix of the journal is the state after the first of the requests that were committed
 abbrev pub StepsHold : Type 0
 StepsHold =
     (volume : ℕ) (deliveries : List Delivery) (S : State) (before : Situation) (answers : List Answer) (S' : State) (behind : Situation) → HoldsState volume S before

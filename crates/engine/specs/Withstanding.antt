@@ -17,7 +17,7 @@ use Rattle.engine.specs.Situation.{Situation}
 
 -- The writes that were made from one situation to the next, and those that would still have been made had none failed. The
 -- journal goes on by a prefix of their blocks, and by all blocks of the writes that were made where none failed. Whatever a
--- power loss leaves of the writes that were made, from the end of the first journal on, the state stands as before, or
+-- power loss leaves of the writes that were made, from the end of the first journal on, the state is recovered as before, or
 -- the one after a request that was asked for and is new.
 pub record MessageSurvivesPowerLoss (volume : ℕ) (S : State) (asked : Request → Type 0) (failed : ℕ) (before behind : Situation) : Type 0 where
   pub added : List (List Block)

@@ -41,12 +41,12 @@ impl Engine {
     pub fn answer<D: Drive>(&mut self, alloc: Global, drive: &mut D, message: Message<'_>) -> Answer
         requires { IsReady (seen_on D.Drive self.old drive.old) }
         ensures answered { Answered message.entry (seen_on D.Drive self.old drive.old) result (seen_on D.Drive self.new drive.new) }
-        // On an honest drive, where a state stands that an open store knows.
+        // On an honest drive, where a state is recovered that an open store knows.
         ensures calls { (volume : ℕ) (S : State) → IsTrue (D.honest drive.new) → HoldsState volume S (seen_on D.Drive self.old drive.old) → Calls volume message.entry S (seen_on D.Drive self.old drive.old) result (seen_on D.Drive self.new drive.new) }
         // What its writes leave on the journal; and what a power loss leaves of them, where a disk keeps any choice of the blocks
         // of the last one that it was given.
         ensures withstands { (volume : ℕ) (S : State) → IsTrue (D.honest drive.new) → HoldsState volume S (seen_on D.Drive self.old drive.old) → MessageSurvivesPowerLoss volume S (AsksFor message.entry) (faults result) (seen_on D.Drive self.old drive.old) (seen_on D.Drive self.new drive.new) }
-        // On an honest drive where nothing stands.
+        // On an honest drive where nothing is recovered.
         ensures nothing { IsTrue (D.honest drive.new) → HoldsNothing (seen_on D.Drive self.old drive.old) → IsNothingThere message.entry (seen_on D.Drive self.old drive.old) result (seen_on D.Drive self.new drive.new) }
         ensures lent { drives.ReadsAndWrites D.Drive (faults result) drive.old drive.new }
     {
@@ -77,10 +77,10 @@ impl Engine {
         requires { IsReady (seen_on D.Drive self.old drive.old) }
         ensures open { OnOk result ((store : Store) × IsOpen (seen_on D.Drive self.new drive.new) store) }
         ensures closed { OnErr result (self.new.store ≡ None) }
-        // A state that stands is known then, and only a failure or lack of memory keeps it from being opened.
+        // A recovered state is known then, and only a failure or lack of memory keeps it from being opened.
         ensures holds { (volume : ℕ) (S : State) → IsTrue (D.honest drive.new) → HoldsState volume S (seen_on D.Drive self.old drive.old) → HoldsState volume S (seen_on D.Drive self.new drive.new) }
         ensures short { (volume : ℕ) (S : State) → IsTrue (D.honest drive.new) → HoldsState volume S (seen_on D.Drive self.old drive.old) → IfErr result IsShortage }
-        // Where nothing stands nothing is opened.
+        // Where nothing is recovered nothing is opened.
         ensures nothing { IsTrue (D.honest drive.new) → HoldsNothing (seen_on D.Drive self.old drive.old) → OnOk result ⊥ }
         // Where it is open nothing is done.
         ensures stays { (kept : Store) → IsOpen (seen_on D.Drive self.old drive.old) kept → (self.new ≡ self.old) × (drive.new ≡ drive.old) }
@@ -211,7 +211,7 @@ fn list_refusal(fault: StoreFault) -> Answer
     }
 }
 
-/// The answer where it is not told what a path leads to.
+/// The answer where it does not say what a path leads to.
 fn stat_refusal(fault: StoreFault) -> Answer
     ensures refused { result ≡ stat_refused fault }
     ensures reported { (path : Path) → CanBeAnswered (queries.Stat path) result }

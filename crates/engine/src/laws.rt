@@ -16,7 +16,7 @@ pub fn steps_hold()
     ensures { StepsHold }
 {}
 
-/// A run begins where a state stands, goes on with each delivery, and what it wrote holds its commits.
+/// A run begins where a state is recovered, goes on with each delivery, and what it wrote holds its commits.
 pub fn runs_hold()
     ensures begin { RunsBegin }
     ensures more { RunsGoOn }
@@ -25,7 +25,7 @@ pub fn runs_hold()
 
 /// Whatever a power loss leaves of a delivery of a run, or of a message of a stream, what came before it is cut off after
 /// all its commits, and perhaps the new request under way; and of runs that are so cut off one after another, however many,
-/// the state after all that was committed stands, from which the next one goes on.
+/// the state after all that was committed is recovered, from which the next one goes on.
 pub fn losses_are_survived()
     ensures runs { RunsReach }
     ensures streams { ServedReach }

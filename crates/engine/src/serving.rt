@@ -44,7 +44,7 @@ pub fn serve<R: Read, W: Write, D: Drive>(
     requires { IsReady (seen_on D.Drive engine.old drive.old) }
     ensures ok { OnOk result (ServesAll (seen_on D.Drive engine.old drive.old) (seen_on D.Drive engine.new drive.new)
         (R.remaining reader.old) (R.remaining reader.new) (W.contents writer.old) (W.contents writer.new)) }
-    // Else the first of them were, and which fault it is tells how far that went.
+    // Else the first of them were, and which fault it is shows how far that went.
     ensures left { IfErr result (λ fault. ServesUntil fault (seen_on D.Drive engine.old drive.old) (seen_on D.Drive engine.new drive.new)
         (R.remaining reader.old) (R.remaining reader.new) (W.contents writer.old) (W.contents writer.new)) }
     ensures ready { IsReady (seen_on D.Drive engine.new drive.new) }

@@ -84,7 +84,7 @@ held_more J bs =
 
 -- ---- what was there before
 
--- what a comparison of two blocks told
+-- what a comparison of two blocks reported
 pub blocks_differ : (a b : Block) (told : Bool) → told ≡ not (pointwise nat_eq a b) → told ≡ true → a ≢ b
 blocks_differ a b told e other = other_text a b (flipped (pointwise nat_eq a b) (sym e ∙ other))
   where
@@ -110,7 +110,7 @@ seen_more words J before behind n block made honest seen bytes is same read = re
   there = λ h. each_push (λ k b. last_at J k ≡ Some b) seen.blocks block n seen.long (seen.there (honest h)) (read h);
 }
 
--- what holds more is no front of a format
+-- what holds more is no prefix of a format
 pub too_many : (words : Words) (J : List Event) → 262 < next_of J → IsFormatPrefix words (held J) → ⊥
 too_many words J many begun =
     omega (arith, many, length-held J, ap length begun.front, length-take begun.count begun.whole, format_long words begun.whole begun.is)

@@ -37,7 +37,7 @@ words_of parts = record { volume = parts.capacity; label = parts.label; moment =
 abbrev pub IsFirstTable : List ℕ → Block → Type 0
 IsFirstTable label block = (bytes : List ℕ) × IsTable (first_table label) bytes × (block ≡ padded bytes)
 
--- the block stands at this address of a volume that is formatted with these words
+-- the block is at this address of a volume that is formatted with these words
 pub record IsBlockAt (words : Words) (at : ℕ) (block : Block) : Type 0 where
   pub front : at < PARTITION_START → IsFrontBlock words.label words.moment words.volume at block
   pub set : at ≡ PARTITION_START → IsFileSet (record { label = words.label; moment = words.moment }) block
@@ -86,14 +86,14 @@ pub record AreBlocks (words : Words) (from to : ℕ) (blocks : List Block) : Typ
 -- ---- what a call leaves
 
 -- On the prefixes of a journal from the one before on there is what was there, and after it the blocks that were missing.
--- Before the last of them nothing stands, whatever drive and volume it is read in, and with it the new volume does.
+-- Before the last of them nothing is recovered, whatever drive and volume it is read in, and with it the new volume is.
 pub record HoldsPrefixes (capacity : ℕ) (words : Words) (blocks : List Block) (before behind : List Event) : Type 0 where
   pub began : held before ≡ take (next_of before) blocks
   pub each : (k : ℕ) → length before ≤ k → held (take k behind) ≡ take (next_of (take k behind)) blocks
   pub nothing : (k other_capacity other_volume : ℕ) (state : State) → length before ≤ k → next_of (take k behind) < FORMAT_BLOCKS → RecoversTo udf other_capacity other_volume (held (take k behind)) state → ⊥
   pub new : (k : ℕ) → length before ≤ k → next_of (take k behind) ≡ FORMAT_BLOCKS → RecoversTo udf capacity words.volume (held (take k behind)) (formatted words.moment)
 
--- The format was finished: the blocks that were missing are written, and on an honest drive the new volume stands.
+-- The format was finished: the blocks that were missing are written, and on an honest drive the new volume is recovered.
 pub record IsFormatted (capacity : ℕ) (words : Words) (before behind : List Event) (honest : Bool) : Type 0 where
   pub blocks : List Block
   pub is : IsFormatOf words blocks

@@ -1,4 +1,4 @@
--- Where the label and the moment of a file set stand in its fields, and that a block says one file set.
+-- Where the label and the moment of a file set are in its fields, and that a block says one file set.
 use Rattle.std.proofs.Common.{◌≡◌, ℕ, ◌-◌, List, [], ◌∷◌, ◌++◌, length, take, drop, replicate, refl, sym, ap, subst, ◌∙◌, Some, None, Result, Ok, Err, IfOk, IfErr, arith}
 use Rattle.std.specs.Prelude.{codes}
 use Rattle.std.specs.Int.{w16, w32, to_le_bytes}
@@ -54,7 +54,7 @@ set_places stamp wide narrow rest all a b c e =
 stamp_length : (m : ℕ) (stamp : List ℕ) → IsMoment m stamp → length stamp ≡ 12
 stamp_length m stamp moment = ap length moment.spelled
 
--- the label and the moment that the fields say stand at their places in the block
+-- the label and the moment that the fields say are at their places in the block
 pub fields_tell : (set : FileSet) (block : List ℕ) (has : HasFileSetFields set (take 496 (drop 16 block)))
     → (take 12 (drop 16 block) ≡ has.stamp) × (take 32 (drop 304 block) ≡ dstring 32 set.label)
 fields_tell set block has =
@@ -72,7 +72,7 @@ fields_length set fields has =
     ap length has.spelled
     ∙ set_length has.stamp (dstring 128 set.label) (dstring 32 set.label) (stamp_length set.moment has.stamp has.moment) (length-label 128 set.label has.label (omega arith)) (length-label 32 set.label has.label (omega arith))
 
--- the fields of a descriptor stand after its tag
+-- the fields of a descriptor are after its tag
 pub fields_stand : (set : FileSet) (block : List ℕ) (is : IsFileSet set block) → take 496 (drop 16 block) ≡ is.fields
 fields_stand set block is =
     let len = fields_length set is.fields is.has in
@@ -122,7 +122,7 @@ written_set label stamp wide narrow block w n d =
     subst (λ (x : List ℕ). IsDescriptor 256 0 (concat (stamp ∷ parts_behind (dstring 128 label) x)) block) n
     (subst (λ (x : List ℕ). IsDescriptor 256 0 (concat (stamp ∷ parts_behind x narrow)) block) w d)
 
--- what reading the label's field and the timestamp's tells of a file set that the fields say
+-- what reading the label's field and the timestamp's says of a file set that the fields say
 pub label_stands : (set : FileSet) (block : List ℕ) → HasFileSetFields set (take 496 (drop 16 block)) → IsLabelDstring set.label (take 32 (drop 304 block))
 label_stands set block has = is_label_dstring set.label (take 32 (drop 304 block)) has.label (fields_tell set block has).1
 

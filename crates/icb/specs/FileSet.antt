@@ -40,7 +40,7 @@ pub record HasFileSetFields (set : FileSet) (fields : List ℕ) : Type 0 where
   pub moment : IsMoment set.moment stamp
   pub spelled : fields ≡ concat (set_parts set.label stamp)
 
--- the block is the descriptor of this file set, which stands at the virtual address 0
+-- the block is the descriptor of this file set, which is at the virtual address 0
 pub record IsFileSet (set : FileSet) (block : List ℕ) : Type 0 where
   pub fields : List ℕ
   pub has : HasFileSetFields set fields

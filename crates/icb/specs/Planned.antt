@@ -6,7 +6,7 @@ use Rattle.ecma.specs.Timestamp.{IsMoment}
 use Rattle.icb.specs.Entry.{Fields, FitsEntry, allocation, blocks_recorded, entry_parts, fields_of, file_type, flags_of, permissions}
 use Rattle.icb.specs.declared.planned.PlannedEntry.TheInside.{Inside}
 
--- what stands after the tag of an entry that says so, with this timestamp
+-- what is after the tag of an entry that says so, with this timestamp
 abbrev pub entry_body : Fields → List ℕ → List ℕ
 entry_body e stamp =
     let behind = allocation e.size e.place in

@@ -7,14 +7,14 @@ pub fn one_entry()
     ensures { OneEntry }
 {}
 
-/// Which blocks a reader that looks for the entry of a virtual allocation table passes by, wherever they stand.
+/// Which blocks a reader that looks for the entry of a virtual allocation table passes by, wherever they are.
 pub fn table_entries()
     ensures others { OthersAreNone }
     ensures begin { EntriesBegin }
     ensures descriptors { DescriptorsAreNone }
 {}
 
-/// What an entry or a file set says, and where it stands, has one spelling.
+/// What an entry or a file set says, and where it is, has one spelling.
 pub fn one_spelling()
     ensures entry { OneBlock }
     ensures set { OneSet }

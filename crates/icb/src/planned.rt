@@ -81,7 +81,7 @@ impl PlannedEntry<'_> {
     }
 }
 
-/// The bytes that stand inside an entry.
+/// The bytes that are inside an entry.
 fn bytes_inside<'a>(place: &Place<'a>) -> &'a [u8]
     ensures value { result.now ≡ inside (place_of place.now) }
     ensures bytes { (i : ℕ) → slice_index result.now i < 256 }

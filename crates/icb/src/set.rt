@@ -102,7 +102,7 @@ fn has_set_tag(block: &Block) -> bool
     open_tag(descriptor, FILE_SET, ADDRESS).is_ok()
 }
 
-/// The file set whose fields stand after the tag: its label and moment are read, and then all fields compared with
+/// The file set whose fields are after the tag: its label and moment are read, and then all fields compared with
 /// those of that file set.
 fn set_at(block: &Block) -> Option<FileSet>
     ensures some { IfSome result (λ set. HasFileSetFields set (take 496 (drop 16 block.now))) }

@@ -27,7 +27,7 @@ pub const PARTITION_BLOCKS: u32 = GREATEST_CAPACITY - PARTITION_START;
 /// How many blocks the shortest partition has.
 pub const LEAST_PARTITION_BLOCKS: u32 = LEAST_CAPACITY - PARTITION_START;
 
-/// How many blocks a format writes: the front, the file set, the root, and the first virtual allocation table.
+/// How many blocks a format writes: the volume header, the file set, the root, and the first virtual allocation table.
 pub const FORMAT_BLOCKS: u32 = 262;
 
 /// How many files and directories there are at most, the root among them.

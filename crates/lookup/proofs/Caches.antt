@@ -11,7 +11,7 @@ use Rattle.lookup.specs.declared.nodes.EntryAt.{EntryAt}
 use Rattle.lookup.specs.declared.nodes.Placed.{Placed}
 use Rattle.lookup.specs.Cache.{LiesThere}
 
--- what is kept under a place stands there
+-- what is kept under a place is there
 abbrev pub StandsAt : List Event → EntryAt → Placed × Content → Type 0
 StandsAt journal at kept = (kept.0.at ≡ at) × LiesThere journal kept.0 kept.1
 

@@ -32,7 +32,7 @@ use Rattle.lookup.proofs.Walks.{node_at, names_stored, said_names, step_some, st
 
 -- ---- one name after another
 
--- no name tells of any path yet
+-- no name says anything of a path yet
 pub height_none : (tree : Tree) (path : Path) (left : ℕ) (es : List (Name × DirEntry)) → Has tree path → IsHeightSoFar tree path left es 0 0
 height_none tree path left es has = record {
   longest = [];

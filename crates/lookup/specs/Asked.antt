@@ -1,4 +1,4 @@
--- What clients ask and are told, in the model's words.
+-- What clients ask and are answered, in the model's words.
 use Rattle.std.specs.Prelude.{Bool, true, false, List, map}
 use Rattle.request.specs.declared.message.Op.{Op}
 use Rattle.request.specs.declared.message.Op.TheVariants as asked

@@ -1,4 +1,4 @@
--- The directories that are kept: each is the one whose entry stands there, and that lies where the entry says.
+-- The directories that are kept: each is the one whose entry is there, and that lies where the entry says.
 use Rattle.std.specs.Prelude.{◌≡◌, ℕ, ◌+◌, ◌≤◌, List, Contains, Some, slice_get}
 use Rattle.std.specs.Int.{div_ceil}
 use Rattle.limits.specs.declared.TheConstants.{BLOCK_BYTES, PARTITION_START}
@@ -26,7 +26,7 @@ pub record IsEntryThere (journal : List Event) (placed : Placed) : Type 0 where
   pub there : slice_get (held journal) (placed.at.number + PARTITION_START) ≡ Some block
   pub says : SaysPlace placed.at.address placed.extent placed.moment block
 
--- the entry stands there on what a journal holds, and the directory lies where it says
+-- the entry is there on what a journal holds, and the directory lies where it says
 pub record LiesThere (journal : List Event) (placed : Placed) (content : Content) : Type 0 where
   pub entry : IsEntryThere journal placed
   pub within : placed.extent.first + PARTITION_START + div_ceil placed.extent.size BLOCK_BYTES ≤ next_of journal

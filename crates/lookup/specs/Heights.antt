@@ -10,7 +10,7 @@ pub record IsHeight (tree : Tree) (path : Path) (left height : ℕ) : Type 0 whe
   pub long : length longest ≡ height
   pub most : (below : Path) → Has tree (path ++ below) → (length below ≤ height) ⊎ (left ≡ height)
 
--- So it is below a directory, as far as its first names tell.
+-- So it is below a directory, as far as its first names say.
 pub record IsHeightSoFar (tree : Tree) (path : Path) (left : ℕ) (entries : List (Name × Entry)) (count height : ℕ) : Type 0 where
   pub longest : Path
   pub there : Has tree (path ++ longest)

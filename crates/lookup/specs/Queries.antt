@@ -1,4 +1,4 @@
--- What a query is told.
+-- What a query is answered.
 use Rattle.std.specs.Prelude.{◌≡◌, ◌⊎◌, ℕ, Bool, List, None, IfOk, IfErr, Result}
 use Rattle.std.specs.FinMap.{get}
 use Rattle.dir.specs.declared.entry.Entry.{Entry}

@@ -1,4 +1,4 @@
--- What stands at the nodes of a state, and what a walk through them finds.
+-- What is at the nodes of a state, and what a walk through them finds.
 use Rattle.std.specs.Prelude.{◌≡◌, ℕ, Bool, true, false, IsTrue, List, [], take, Option, Some, None, nat_eq}
 use Rattle.std.specs.Cmp.Lexicographic.{pointwise}
 use Rattle.std.specs.Map.{lookup}

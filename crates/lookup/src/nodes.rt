@@ -10,14 +10,14 @@ use recover::Extent;
 /// How many virtual addresses are looked at at once for one that is unused.
 const RUN: usize = 4;
 
-/// Where the entry of a node stands: the number of its block, and the virtual address in its tag.
+/// Where the entry of a node is: the number of its block, and the virtual address in its tag.
 #[derive(Clone, Copy, Debug, PartialEq, Eq, Hash)]
 pub struct EntryAt {
     pub number: u32,
     pub address: u32,
 }
 
-/// Where a directory's entry stands and its data lie, and its moment.
+/// Where a directory's entry is and its data lie, and its moment.
 #[derive(Clone, Copy, Debug)]
 pub struct Placed {
     pub at: EntryAt,

@@ -5,7 +5,7 @@
 //!
 //! What is found is what is held under one premise, that the medium is honest: what lies at a path is what the
 //! last drive left that was put back there, and no read gave other bytes. In memory it holds. Of files it is a
-//! premise, since no code can tell. It is lost only where an image has another count of blocks than is held, or where a
+//! premise, since no code can know. It is lost only where an image has another count of blocks than is held, or where a
 //! read gave other bytes.
 #![tactic(auto)]
 
@@ -89,7 +89,7 @@ pub trait Media {
         ensures agreed { Self.Drive.misreads drive ≡ 0 → honest self.new ≡ honest self.old }
         ensures honest { IsTrue (honest self.new) → IsTrue (honest self.old) };
 
-    /// The bytes of an image after its last whole block, which no address counts, at the front of `into`: how many
+    /// The bytes of an image after its last whole block, which no address counts, at the beginning of `into`: how many
     /// they are, at most 2,047.
     fn part(&self, drive: &Self::Drive, into: &mut Block) -> Result<usize, DriveFault>
         ensures { IfOk result (λ n. n < BLOCK_BYTES) };

@@ -14,7 +14,7 @@ use Rattle.model.proofs.Add
 use Rattle.model.proofs.Remove
 use Rattle.model.proofs.Rename
 
--- a renamed node's two directories, and what stands at its new path
+-- a renamed node's two directories, and what is at its new path
 pub record ListsRenamed (from to : Path) (tree tree' : Tree) : Type 0 where
   pub beside : parent_of from ≡ parent_of to → names_at tree' (parent_of to) ≡ filter (is_other (last_of from)) (names_at tree (parent_of from)) ++ last_of to
   pub loses : (parent_of from ≡ parent_of to → ⊥) → names_at tree' (parent_of from) ≡ filter (is_other (last_of from)) (names_at tree (parent_of from))

@@ -19,7 +19,7 @@ pub paths_eq-itself : (p : Path) → paths_eq p p ≡ true
 paths_eq-itself [] = refl
 paths_eq-itself (x ∷ p) = ap (λ b. b && paths_eq p p) (bytes_eq-itself x) ∙ paths_eq-itself p
 
--- the test of names and the order of paths tell the same
+-- the test of names and the order of paths say the same
 pub test_same : (p q : Path) → paths_eq p q ≡ eq_by_cmp path_cmp p q
 test_same p q = elim (path_cases p q) [
   | inl a ↦ subst (λ x. paths_eq p x ≡ true) a.1 (paths_eq-itself p) ∙ sym a.0

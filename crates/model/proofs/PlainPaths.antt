@@ -35,7 +35,7 @@ begins_names names front =
     pointwise-paths (texts_in front) (take (length (texts_in front)) (texts_in names))
     ∙ ap (paths_eq (texts_in front)) (ap (λ k. take k (texts_in names)) (length-map front string_bytes) ∙ take-map string_bytes (length front) names)
 
--- the new front, and what stood after the old one
+-- the new prefix, and what was after the old one
 pub moved_names : (path from to new rest : List (String Global)) → begins_with (texts_in path) (texts_in from) ≡ true → texts_in new ≡ texts_in to
     → texts_in rest ≡ texts_in (take (length path - length from) (drop (length from) path)) → texts_in (new ++ rest) ≡ moved (texts_in from) (texts_in to) (texts_in path)
 moved_names path from to new rest begins a b =

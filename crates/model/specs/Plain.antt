@@ -71,7 +71,7 @@ pub record ListsTree (nodes : List Entry) (tree : Tree) : Type 0 where
   pub apart : AreApart nodes
   pub is : tree_in nodes ≡ tree
 
--- each path with the front `from` replaced by `to`
+-- each path with the prefix `from` replaced by `to`
 abbrev pub paths_moved : Path → Path → List (Path × Node) → List (Path × Node)
 paths_moved from to nodes = map (λ entry. (moved from to entry.0, entry.1)) nodes
 

@@ -5,7 +5,7 @@ use Rattle.model.specs.Operation.{OperationPasses}
 use Rattle.model.specs.Session.{State, Request, due, after_one}
 use Rattle.model.specs.Session.Due.{New}
 
--- each request is new where it stands
+-- each request is new where it is
 abbrev pub AllNew : State → List Request → Type 0
 AllNew state [] = Unit {0}
 AllNew state (request ∷ requests) = (due state request.client request.number ≡ New) × AllNew (after_one state request) requests

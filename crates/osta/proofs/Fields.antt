@@ -22,7 +22,7 @@ all_zeros : (n : ℕ) → list_all (λ b. b == 0) (replicate n 0) ≡ true
 all_zeros zero = refl
 all_zeros (suc n) = all_zeros n
 
--- ---- what was written: zeros, the spelling in front, its count at the end
+-- ---- what was written: zeros, the spelling first, its count at the end
 last_set : (k x : ℕ) → set (replicate (k + 1) 0) k x ≡ replicate k 0 ++ x ∷ []
 last_set k x =
     ap (λ (xs : List ℕ). set xs k x) (sym (replicate_more k 0)) ∙ set_at (replicate k 0) 0 [] x k (length-replicate k 0)

@@ -54,7 +54,7 @@ narrow_step cs into n at c turn room before =
     ∙ (ap (λ (x : ℕ). (8 ∷ take n cs) ++ x ∷ []) turn.character
     ∙ ap (λ (xs : List ℕ). 8 ∷ xs) (sym (take_more cs n c turn.below)))))
 
--- what two bytes that were written over the front of a part make of the whole
+-- what two bytes that were written over the beginning of a part make of the whole
 abbrev pub IsPair : ℕ → ℕ → List ℕ → List ℕ → Type 0
 IsPair m c into written = written ≡ big_bytes 2 c ++ drop 2 (take (length into - m) (drop m into))
 

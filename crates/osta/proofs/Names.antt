@@ -159,7 +159,7 @@ label_told text field told =
       clean = ap (λ (xs : List ℕ). list_any (λ c. c == 0) (characters xs)) s ∙ (ap (list_any (λ c. c == 0)) same ∙ label_clean text told.label);
     }
 
--- ---- ASCII characters in front of a text
+-- ---- ASCII characters before a text
 narrow_only : (cs rest : List ℕ) → spelling cs ≡ 8 ∷ rest → (list_all is_narrow cs ≡ true) × (cs ≡ rest)
 narrow_only [] rest told = absurd (omega (arith, ap length told))
 narrow_only (c ∷ cs) rest told =
@@ -205,7 +205,7 @@ first_and_rest : (xs : List ℕ) → 0 < length xs → xs ≡ get_or (take 1 xs)
 first_and_rest [] some = absurd (omega arith)
 first_and_rest (x ∷ xs) some = refl
 
--- after 16 characters, a label of which the kept field tells the identifier and the rest
+-- after 16 characters, a label of which the kept field has the identifier and the rest
 pub field_narrow : (field front : List ℕ) → IsLabelField field → 0 < length front → IsAscii front → get_or (take 1 (dstring_spelling field)) 0 0 ≡ 8
     → compressed (front ++ dstring_text field) ≡ 8 ∷ (front ++ drop 1 (dstring_spelling field))
 field_narrow field front kept some ascii id =
@@ -225,7 +225,7 @@ field_wide field front kept some ascii apart =
     let id : get_or (take 1 s) 0 0 ≡ 16 = ⊎_elim (λ narrow. absurd (apart narrow)) (λ wide. wide) (id_of _ _ none) in
     wide_behind front (dstring_text field) (drop 1 s) some ascii (sym same ∙ (split ∙ ap (λ (x : ℕ). x ∷ drop 1 s) id))
 
--- how much of the label stands after the identifier
+-- how much of the label is after the identifier
 pub field_rest : (field : List ℕ) → IsLabelField field → length (drop 1 (dstring_spelling field)) ≤ 30
 field_rest field kept =
     omega (arith, length-drop 1 (dstring_spelling field), ap length (field_spelling field kept), label_few (dstring_text field) kept.label)

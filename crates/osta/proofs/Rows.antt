@@ -34,7 +34,7 @@ faultless (row ∷ rows) hold = none_there row.0 row.1 (first_text_fault rows) h
 pub some_none : {F : Type 0} (fault : F) → Some fault ≡ None → ⊥
 some_none fault e = cc
 
--- a refusal tells a fault
+-- a refusal reports a fault
 pub refused : {T E : Type 0} (r : Result T E) → is_err r ≡ true → result_err r ≡ None → ⊥
 refused (Ok x) told none = cc
 refused (Err e) told none = cc
@@ -43,7 +43,7 @@ pub accepted : {T E : Type 0} (r : Result T E) → is_err r ≡ false → result
 accepted (Ok x) told = refl
 accepted (Err e) told = cc
 
--- an answer that tells no fault of the text or of the bytes tells lack of memory
+-- an answer that reports no fault of the text or of the bytes reports lack of memory
 pub memory_of_text : (fault : NameFault) → text_fault fault ≡ None → fault ≡ name.Memory
 memory_of_text name.Memory e = refl
 memory_of_text name.Empty e = cc

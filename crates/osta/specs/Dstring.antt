@@ -21,7 +21,7 @@ pub record Dstring (text : List ℕ) (n : ℕ) (bytes : List ℕ) : Type 0 where
   pub room : length (compressed text) < n
   pub spelled : bytes ≡ dstring n text
 
--- how many bytes of a field are told to be the spelling
+-- how many bytes of a field are said to be the spelling
 abbrev pub dstring_count : List ℕ → ℕ
 dstring_count bytes = slice_index bytes (length bytes - 1)
 

@@ -5,7 +5,7 @@ use Rattle.osta.specs.declared.fault.NameFault.TheVariants as name
 use Rattle.osta.specs.declared.fault.OstaFault.{OstaFault}
 use Rattle.osta.specs.declared.fault.OstaFault.TheVariants as osta
 
--- the fault of the text that an answer tells: none where it tells of lack of memory
+-- the fault of the text that an answer reports: none where it reports lack of memory
 abbrev pub text_fault : NameFault → Option NameFault
 text_fault name.Empty = Some name.Empty
 text_fault name.Dot = Some name.Dot
@@ -24,7 +24,7 @@ name_number name.Wide = 5
 name_number name.Long = 6
 name_number name.Memory = 7
 
--- the fault of the bytes that an answer tells: none where it tells of lack of memory
+-- the fault of the bytes that an answer reports: none where it reports lack of memory
 abbrev pub bytes_fault : OstaFault → Option OstaFault
 bytes_fault osta.Memory = None
 bytes_fault osta.CompId = Some osta.CompId

@@ -6,7 +6,7 @@ ghost use Rattle.osta.specs.declared.fault.OstaFault.TheVariants as osta;
 use std::alloc::AllocError;
 
 /// Why a text is no name, is no label or cannot be written, in the order in which the faults are
-/// told. Each has a number, which causes of refusals show.
+/// reported. Each has a number, which causes of refusals show.
 #[derive(Clone, Copy, Debug, PartialEq, Eq)]
 pub enum NameFault {
     Empty = 1,

@@ -44,7 +44,7 @@ impl Model for Name {
 }
 
 impl Name {
-    /// Whether a text is a name, or its first fault. It takes no memory, and never tells `Memory`.
+    /// Whether a text is a name, or its first fault. It takes no memory, and never reports `Memory`.
     pub fn check(text: &str) -> Result<(), NameFault>
         ensures { result_err result ≡ first_text_fault (name_faults text.now) }
     {

@@ -23,7 +23,7 @@ use Rattle.planning.specs.Writings.{change_writings}
 use Rattle.planning.specs.declared.change.Change.{Change}
 use Rattle.planning.specs.declared.plan.LastTable.{LastTable}
 
--- a table whose entry stands at this address
+-- a table whose entry is at this address
 pub record HasTableBelow (at : ℕ) (vat : Vat) : Type 0 where
   pub low : FORMAT_BLOCKS - 1 ≤ at
   pub fits : FitsTable (view vat)
@@ -31,7 +31,7 @@ pub record HasTableBelow (at : ℕ) (vat : Vat) : Type 0 where
   pub few_commits : 2 * vat.sessions.commits + (FORMAT_BLOCKS - 1) ≤ at
   pub few_unique : vat.sessions.next_unique ≤ FIRST_UNIQUE + vat.sessions.commits
 
--- it stands on a drive with this journal and capacity
+-- it is on a drive with this journal and capacity
 pub record IsLastTableOn (journal : List Event) (capacity : ℕ) (last : LastTable) : Type 0 where
   pub keeps : HasTableBelow last.vat_icb_address last.vat.now
   pub on : last.vat_icb_address < next_of journal

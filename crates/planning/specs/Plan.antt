@@ -38,11 +38,11 @@ abbrev pub directories_list : List PlacedDirectory → List (List ℕ)
 directories_list [] = []
 directories_list (p ∷ ps) = directory_list p ++ directories_list ps
 
--- where a directory stands and lies, once it is written
+-- where a directory is and lies, once it is written
 abbrev pub placed_of : PlacedDirectory → Placed
 placed_of p = record { at = record { number = p.number; address = p.directory.address }; extent = p.extent; moment = p.directory.moment }
 
--- the directory's data lie in its extent, which begins at a block number, and its entry stands after them and says so
+-- the directory's data lie in its extent, which begins at a block number, and its entry is after them and says so
 pub record IsLaid (from : ℕ) (p : PlacedDirectory) : Type 0 where
   pub first : p.extent.first ≡ from
   pub blocks : length (directory_data p) ≡ div_ceil p.extent.size BLOCK_BYTES

@@ -32,7 +32,7 @@ pub struct PlacedDirectory {
 }
 
 impl PlacedDirectory {
-    /// Where it stands and lies, once it is written.
+    /// Where it is and lies, once it is written.
     pub fn placed(&self) -> Placed
         ensures { result ≡ record { at = record { number = self.now.number; address = self.now.directory.address }; extent = self.now.extent; moment = self.now.directory.moment } }
     {

@@ -2,7 +2,7 @@
 //!
 //! Promised: a change is the one that the request's operation makes of the state's tree, or does nothing and has its code. A
 //! plan has the blocks of the change and the next table one after another, the VAT ICB last, and takes all memory that
-//! its writes need; it is refused as full only where its blocks may have no room. What is written of it is all, or a front
+//! its writes need; it is refused as full only where its blocks may have no room. What is written of it is all, or a prefix
 //! where the drive failed.
 //!
 //! Left to others: which volume it is, whether a request is due, and what is kept of the volume after a commit.

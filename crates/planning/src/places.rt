@@ -22,7 +22,7 @@ use icb::{FileEntry, Kind, Place, PlannedEntry};
 use recover::{Extent, block_count};
 use vat::clear_start;
 
-/// The most bytes of a file that stand inside its entry.
+/// The most bytes of a file that are inside its entry.
 pub(crate) const INSIDE_BYTES: usize = limits::INSIDE_BYTES as usize;
 
 /// The block numbers that a commit gives out, one after another.
@@ -186,7 +186,7 @@ pub(crate) fn outside_of(bytes: &[u8]) -> &[u8]
     }
 }
 
-/// Where the bytes of a file stand, the first block of those outside its entry having this number.
+/// Where the bytes of a file are, the first block of those outside its entry having this number.
 fn place_of_bytes(bytes: &[u8], first: u32) -> Place<'_>
     requires { first + div_ceil (length (outside bytes.now)) BLOCK_BYTES ≤ PARTITION_BLOCKS }
     ensures fits { FitsPlace File (length bytes.now) (place_of result) }

@@ -147,7 +147,7 @@ fn write_directories<D: Drive>(
 }
 
 /// The table's bytes, and its entry, with which the commit takes effect. The entry waits for a write of its own, after the
-/// finished writes of all else: whatever part of a write a power loss leaves, it stands only where all that it leads to does.
+/// finished writes of all else: whatever part of a write a power loss leaves, it is valid only where all that it leads to is.
 fn write_table<D: Drive>(
     writer: &mut Writer<'_>,
     drive: &mut D,
@@ -334,7 +334,7 @@ fn identifiers_size(content: &Content) -> u64
     40 + content.identifiers.plain_size(&content.dir) as u64
 }
 
-/// Places a file, if one is written, at this moment, and enters it in the table. The table of the state before stands at
+/// Places a file, if one is written, at this moment, and enters it in the table. The table of the state before is at
 /// `at`.
 fn enter_file<'r>(
     vat: &mut Vat,
@@ -372,7 +372,7 @@ fn enter_file<'r>(
     Ok(Some(placed))
 }
 
-/// Places the directories that are written, in order, and enters them in the table. The table of the state before stands at
+/// Places the directories that are written, in order, and enters them in the table. The table of the state before is at
 /// `at`.
 fn enter_directories(
     alloc: Global,
@@ -413,7 +413,7 @@ fn enter_directories(
     Ok(all)
 }
 
-/// Takes a node away, if one goes. The table of the state before stands at `at`.
+/// Takes a node away, if one goes. The table of the state before is at `at`.
 fn take_away(vat: &mut Vat, removed: Option<Node>, at: u32) -> Result<(), StoreFault>
     requires fits { FitsTable (view vat.old) }
     ensures table { OnOk result (view vat.new ≡ without_gone removed (view vat.old)) }

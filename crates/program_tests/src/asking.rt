@@ -1,4 +1,4 @@
-//! Programs that are run, and what they told.
+//! Programs that are run, and what they reported.
 
 use media::{FileMedia, Media};
 use programs::{Sockets, command_on, daemon_on};
@@ -17,7 +17,7 @@ pub(crate) const MAKE: [u8; 33] =
 pub(crate) const REMOVE: [u8; 33] =
     *b"\x1d\0\0\0\x05\x07\0\0\0\0\0\0\0\x03\0\0\0\0\0\0\0\0\0\0\0\0\0\0\0\x01\x01\0a";
 
-/// What a program told, and its status.
+/// What a program reported, and its status.
 #[derive(Drop)]
 pub(crate) struct Told {
     pub status: u8,

@@ -1,4 +1,4 @@
-//! Tests of the programs on words, streams, images and sockets. They stand in a crate of their own, so that `programs` is
+//! Tests of the programs on words, streams, images and sockets. They are in a crate of their own, so that `programs` is
 //! proved once; they use what is public.
 #![tactic(auto)]
 

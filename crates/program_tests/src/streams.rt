@@ -117,7 +117,7 @@ fn an_output_that_fails(rt: HostRuntime) -> Result<(), Fail> {
         assert_eq!(rt; status, 1);
         assert_eq!(rt; writer.bytes.len(), left);
         assert_eq!(rt; errors.as_slice(), line.as_slice());
-        // The request was committed once, though its answer was not told.
+        // The request was committed once, though its answer was not reported.
         assert_eq!(rt; fs::read(&rt, image)?.len(), 267 * 2048);
     }
     fs::remove_file(&rt, image)?;

@@ -11,7 +11,7 @@ use Rattle.formatting.specs.NewVolume.{words_on, IsFormatOf, IsFormatted}
 use Rattle.programs.specs.declared.fault.Fault.{Fault}
 use Rattle.programs.specs.NewVolumes.{BeginsBlock, BeginsNot, HasFormatPrefix, IsNoPart, IsUnbegun}
 
--- what stands at a place of a journal that was written in order
+-- what is at a place of a journal that was written in order
 event_at : (from at : ℕ) (blocks : List (List ℕ)) (event : Event) → at < length (written from blocks) → event ≡ slice_index_or (written from blocks) at event
     → (at < length blocks) × (slice_index_or blocks at [] ≡ event.1)
 event_at from at [] event fits h = absurd (omega (arith, fits))

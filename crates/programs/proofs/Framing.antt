@@ -1,4 +1,4 @@
--- The frames of a stream are its messages: those that a reader of frames would take without memory tell nothing, and agree with any.
+-- The frames of a stream are its messages: those that a reader of frames would take without memory report nothing, and agree with any.
 use Rattle.std.proofs.Common.{◌≡◌, ℕ, ◌+◌, ◌≤◌, List, [], ◌∷◌, ◌++◌, length, Option, Some, None, refl, sym, subst, ◌∙◌, append_assoc, arith, inl, inr}
 use Rattle.std.specs.List.{AllByRecursion, flat_map}
 use Rattle.std.proofs.lemmas.List.Elements.{length_all_zip, recursion_from_All}

@@ -100,7 +100,7 @@ module _ (capacity : ℕ) (J : List Event) (store : Store) where
     bytes_refused path fault going refused honest once = let known = known_at honest once in
         inr (refused_of (Bytes_at path) fault known (gets known.0 path (Err fault) tt (refused known.0.tree (shown_at honest once) going)))
 
-    -- the store's address is that of the VAT ICB with which the state stands
+    -- the store's address is that of the VAT ICB with which the state is recovered
     here : (honest : IsTrue later) (once : Once J) → store.vat_icb_address ≡ (known_at honest once).1.stands.at
     here honest once = (known_at honest once).1.at
 

@@ -99,7 +99,7 @@ all_honest : (processes : List Process) (old new : Images) → IsTrue new.honest
 all_honest [] old new honest h = untouched_honest old new honest h
 all_honest (process ∷ processes) old new honest (between, did, rest) = did_honest old between (all_honest processes between new honest rest) process did
 
--- ---- one process, where a state stands on an image
+-- ---- one process, where a state is recovered on an image
 
 -- what it left of the image at a path, by runs of which this is known
 record Left (path : List ℕ) (volume : ℕ) (S : State) (before : List Event) (new : Images) (Are : List Life → Type 0) : Type 0 where
@@ -110,7 +110,7 @@ record Left (path : List ℕ) (volume : ℕ) (S : State) (before : List Event) (
   pub cuts : AreCut 450000 volume S before lives done behind
   pub held_is : new.held path ≡ Some behind
 
--- nothing is lost behind a run that no power loss cut off
+-- nothing is lost after a run that no power loss cut off
 advances_none : (volume : ℕ) (T T' : State) (journal : List Event) → Once journal → RecoversTo udf 450000 volume (held journal) T' → Advances udf 450000 volume journal T journal T'
 advances_none volume T T' journal once stands = record {
   front = take_all (length journal) journal (omega arith);
@@ -121,7 +121,7 @@ advances_none volume T T' journal once stands = record {
 some_same : (a b : List Event) → Some a ≡ Some b → a ≡ b
 some_same a b e = ap begun e
 
--- A format finds nothing to write where a state stands: nothing stands before the last of its blocks.
+-- A format finds nothing to write where a state is recovered: nothing is recovered before the last of its blocks.
 module _ (capacity volume : ℕ) (words : Words) (S : State) (before behind : List Event) (blocks : List (List ℕ)) (stands : RecoversTo udf 450000 volume (held before) S) (is : IsFormatOf words blocks) (fronts : HoldsPrefixes capacity words blocks before behind) (front : take (length before) behind ≡ before) where
   none_left : drop (next_of before) blocks ≡ []
   none_left = elim (side (next_of before) 262) [
@@ -190,7 +190,7 @@ format_lost label moment capacity before next lost volume S stands sure (survive
   | inr torn ↦ absurd ((torn sure).0 450000 volume S stands)
 ]
 
--- the messages of an input that were answered, on an image where a state stands
+-- the messages of an input that were answered, on an image where a state is recovered
 record Run (volume : ℕ) (S : State) (before behind : List Event) (Are : List Message → List Answer → Type 0) : Type 0 where
   pub messages : List Message
   pub answers : List Answer

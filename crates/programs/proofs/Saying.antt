@@ -15,7 +15,7 @@ use Rattle.programs.specs.Lines.{PutsBytes}
 use Rattle.programs.specs.FaultLines.{Reports, damage_text, fault_damage, fault_line, fault_name, place_text}
 use Rattle.programs.proofs.Copying.{whole_front}
 
--- a front is one of a longer text
+-- a prefix is one of a longer text
 pub front_longer : (a b : Option (List ℕ)) (x y : List ℕ) → PutsPrefix a b x → PutsPrefix a b (x ++ y)
 front_longer a b x y h =
     let within : min h.0 (length x) ≤ length x = omega arith in
@@ -25,12 +25,12 @@ front_longer a b x y h =
 pub front_kept : (a b c : Option (List ℕ)) (x : List ℕ) → PutsPrefix a b x → Keeps b c → PutsPrefix a c x
 front_kept a b c x h kept = (h.0, keeps_on a b c (take h.0 x) h.1 kept)
 
--- a write that failed is told as such
+-- a write that failed is reported as such
 pub puts_until : {T : Type 0} (outcome : Result T Fault) (fault : ServeFault) (o w : Option (List ℕ)) (bytes : List ℕ) → IsErrAnd outcome (λ f. f ≡ Stream fault) → fault ≡ streams.Write → PutsPrefix o w bytes → PutsBytes outcome o w bytes
 puts_until {T} (Ok x) fault o w bytes is write h = absurd is
 puts_until {T} (Err f) fault o w bytes is write h = subst (λ (g : Fault). PutsBytes {T = T} (Err g) o w bytes) (sym (is ∙ ap (λ (x : ServeFault). Stream x) write)) h
 
--- ---- so many texts, one after another, of which the last came whole or as a front
+-- ---- so many texts, one after another, of which the last came whole or as a prefix
 
 then_front : (a b c : Option (List ℕ)) (x y : List ℕ) → Appends a b x → PutsPrefix b c y → PutsPrefix a c (x ++ y)
 then_front a b c x y first front = front_more a b c x y first front
@@ -85,7 +85,7 @@ module _ (name : List ℕ) (fault : Fault) (a b c : Option (List ℕ)) where
   pub ended : {T E : Type 0} (r : Result T E) → Appends a b Placed → OnOk r (Appends b c (codes "\n")) → OnOk r (Appends a c (fault_line name fault))
   ended r first h = on_ok_weaker r (appends_more a b c Placed (codes "\n") first) h
 
--- where a fault stands
+-- where a fault is
 module _ (block cause : ℕ) (a b c : Option (List ℕ)) where
   abbrev At : List ℕ
   At = codes " block " ++ decimal block

@@ -29,7 +29,7 @@ use Rattle.programs.specs.declared.fault.Fault.{Fault}
 use Rattle.programs.specs.declared.fault.Fault.TheVariants.{Usage, Path, Socket, Store as Stored, Stream}
 use Rattle.programs.specs.Images.{Images, IsThere, OnMedia, Unopened}
 
--- All messages of the input were answered, or the first ones up to where this fault came. Which store is open after them is not told.
+-- All messages of the input were answered, or the first ones up to where this fault came. Which store is open after them is not reported.
 abbrev pub AppliesAll : Situation → Situation → Option (List ℕ) → Option (List ℕ) → Option (List ℕ) → Option (List ℕ) → Type 0
 AppliesAll before behind input left output written = (kept : Option Store) × ServesAll before (with_store kept behind) input left output written
 
@@ -54,7 +54,7 @@ AppliesToImage image outcome old new input left output written =
 
 -- A run from a new volume of this capacity, formatted at moment 0, may give these messages these answers: each by a row, from
 -- the state after the requests that were committed before it. A new volume is its root alone, in the blocks of a format. An
--- engine gave the answers, on an honest drive of this capacity where none was open; and no more of them tell of a failing
+-- engine gave the answers, on an honest drive of this capacity where none was open; and no more of them report a failing
 -- drive than failures were counted.
 pub record IsRunOfNew (capacity : ℕ) (messages : List Message) (answers : List Answer) : Type 0 where
   pub new : Situation
@@ -98,7 +98,7 @@ pub record AnswersSomeInMemory (capacity : ℕ) (input left output written : Opt
   pub run : IsRunOfNew capacity messages answers
   pub front : PutsPrefix output written (frames_of answers)
 
--- The same, and this fault tells how far that went.
+-- The same, and this fault shows how far that went.
 pub record AnswersUntil (fault : ServeFault) (capacity : ℕ) (input left output written : Option (List ℕ)) : Type 0 where
   pub some : AnswersSomeInMemory capacity input left output written
   pub left_by : LeftBy fault some.bytes some.answers some.reader output written

@@ -12,8 +12,8 @@ use Rattle.programs.specs.declared.fault.Fault.TheVariants.{Usage, Path, Socket,
 use Rattle.programs.specs.Tasks.{IsPrefixOf}
 
 -- Messages were answered in turn, and nothing else was done: from where the engine and its drive were before, to where they are.
--- On an honest drive where a state stands, what stands at each prefix of what was written is the state after the first of the requests that were committed,
--- and whatever a power loss leaves of the writes for a message, the state after all that were committed by then stands, or the one after its request.
+-- On an honest drive where a state is recovered, what is recovered at each prefix of what was written is the state after the first of the requests that were committed,
+-- and whatever a power loss leaves of the writes for a message, the state after all that were committed by then is recovered, or the one after its request.
 pub record ServesMessages (before behind : Situation) : Type 0 where
   pub messages : List Message
   pub answers : List Answer
@@ -22,7 +22,7 @@ pub record ServesMessages (before behind : Situation) : Type 0 where
   pub withstands : ServedWithstands messages before answers behind answered
 
 -- The first messages of a connection were answered up to where this fault came, or all were and then the output failed; and
--- of what was written with that a front is there.
+-- of what was written with that a prefix is there.
 pub record ServesPrefix (fault : ServeFault) (before behind : Situation) (input left output written : Option (List ℕ)) : Type 0 where
   pub gathered : Option (List ℕ)
   pub serves : ServesUntil fault before behind input left output gathered ⊎ ((fault ≡ streams.Write) × ServesAll before behind input left output gathered)

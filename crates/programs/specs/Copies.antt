@@ -60,7 +60,7 @@ pub record SendsAll (input left output written : Option (List ℕ)) : Type 0 whe
   pub copied : Appends output written came
   pub answered : IsAnsweredBy sent came
 
--- Some of it was read, and of what came back a front was written.
+-- Some of it was read, and of what came back a prefix was written.
 pub record SendsSome (input left output written : Option (List ℕ)) : Type 0 where
   pub sent : List ℕ
   pub consumed : Consumes input left sent

@@ -16,7 +16,7 @@ HasFrames bytes count =
     (payloads : List (List ℕ)) × (rest : List ℕ) × Splits bytes payloads rest
     × (((count ≡ length payloads) × IsPartial rest) ⊎ ((count ≡ length payloads + 1) × IsOverlong rest))
 
--- as far as 64 bits tell them
+-- as far as 64 bits can count them
 abbrev pub counted_to : ℕ → ℕ
 counted_to frames = min frames (2 ^ 64 - 1)
 

@@ -70,7 +70,7 @@ damage_text (Some damage) = place_text damage.0 damage.1
 abbrev pub fault_line : List ℕ → Fault → List ℕ
 fault_line name fault = name ++ codes ": " ++ fault_name fault ++ damage_text (fault_damage fault) ++ codes "\n"
 
--- Of an outcome that is a fault its line was said, or a front where the stream failed; of another nothing.
+-- Of an outcome that is a fault its line was said, or a prefix where the stream failed; of another nothing.
 abbrev pub Reports : {T : Type 0} → List ℕ → Result T Fault → Option (List ℕ) → Option (List ℕ) → Type 0
 Reports name (Ok x) errors told = told ≡ errors
 Reports name (Err fault) errors told = PutsPrefix errors told (fault_line name fault)

@@ -38,7 +38,7 @@ sound_text commits = codes "sound " ++ decimal commits ++ codes "\n"
 abbrev pub formatted_text : List ℕ
 formatted_text = codes "formatted\n"
 
--- bytes were written, all of them or, where a write failed, a front
+-- bytes were written, all of them or, where a write failed, a prefix
 abbrev pub PutsBytes : {T : Type 0} → Result T Fault → Option (List ℕ) → Option (List ℕ) → List ℕ → Type 0
 PutsBytes (Ok x) output written bytes = Appends output written bytes
 PutsBytes (Err Usage) output written bytes = ⊥

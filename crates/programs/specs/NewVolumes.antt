@@ -15,7 +15,7 @@ use Rattle.programs.specs.declared.fault.Fault.TheVariants.{Usage, Path, Socket,
 use Rattle.programs.specs.Images.{Images, IsThereOrMade, OnMedia, Unmade}
 use Rattle.programs.specs.Lines.{formatted_text}
 
--- The format was finished, so that on an honest drive the new volume stands, and then that was printed. Where the format is
+-- The format was finished, so that on an honest drive the new volume is recovered, and then that was printed. Where the format is
 -- refused, nothing was.
 abbrev pub MakesVolume : {T : Type 0} → List ℕ → ℕ → ℕ → Result T Fault → List Event → List Event → Bool → Option (List ℕ) → Option (List ℕ) → Type 0
 MakesVolume label moment capacity (Ok x) before behind honest output written =

@@ -140,7 +140,7 @@ pub record AreRuns (path : List ℕ) (processes : List Process) (volume : ℕ) (
   pub held_is : new.held path ≡ Some behind
   pub survives : Survives GREATEST_CAPACITY volume S before done behind
 
--- So it is of any processes on media that are honest in the end, and of any image on which a state stands at first.
+-- So it is of any processes on media that are honest in the end, and of any image that recovers to a state at first.
 abbrev pub ProcessesAreRuns : Type 0
 ProcessesAreRuns =
     (path : List ℕ) (processes : List Process) (old new : Images) (volume : ℕ) (S : State) (before : List Event) → IsTrue new.honest → AllDid processes old new

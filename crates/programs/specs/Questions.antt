@@ -1,4 +1,4 @@
--- What the commands that read print of the state that stands, and why they do not.
+-- What the commands that read print of the recovered state, and why they do not.
 use Rattle.std.specs.Prelude.{◌≡◌, ◌⊎◌, ℕ, ◌+◌, Bool, IsTrue, List, length, Option, Result, Ok, Err}
 use Rattle.std.specs.Io.KnownBytes.{Appends, Keeps}
 use Rattle.limits.specs.declared.TheConstants.{GREATEST_CAPACITY}
@@ -32,35 +32,35 @@ pub data Question : Type 0 where
   Commits : Question
   Soundness : Question
 
--- The bytes say what holds of a state that stands on the medium, with its VAT ICB at an address.
+-- The bytes say what holds of a recovered state on the medium, with its VAT ICB at an address.
 abbrev pub IsAnswerText : Question → ℕ → ℕ → List (List ℕ) → State → ℕ → List ℕ → Type 0
 IsAnswerText (Names_at path) capacity volume medium S at bytes = (names : List (Bool × Name)) × (told S.tree (List_ path) ≡ Names names) × (bytes ≡ names_text names)
 IsAnswerText (Bytes_at path) capacity volume medium S at bytes = told S.tree (Get path) ≡ Data bytes
 IsAnswerText Commits capacity volume medium S at bytes = (commits : List Commit) × IsHistory medium at commits × (length commits ≡ S.commits + 1) × (bytes ≡ commits_text commits)
 IsAnswerText Soundness capacity volume medium S at bytes = AllRecovered capacity volume medium S.commits × (bytes ≡ sound_text S.commits)
 
--- why a state that stands gives no answer
+-- why a recovered state gives no answer
 abbrev pub RefusesQuestion : Question → ℕ → ℕ → List (List ℕ) → State → ℕ → StoreFault → Type 0
 RefusesQuestion (Names_at path) capacity volume medium S at fault = ListRefuses (told S.tree (List_ path)) fault
 RefusesQuestion (Bytes_at path) capacity volume medium S at fault = GetRefuses (told S.tree (Get path)) fault
 RefusesQuestion Commits capacity volume medium S at fault = IsHistoryRefused medium at fault
 RefusesQuestion Soundness capacity volume medium S at fault = IsCheckRefused capacity volume medium S.commits fault
 
--- a state stands, and the bytes say it
+-- a state is recovered, and the bytes say it
 pub record IsQuestionAnswered (question : Question) (capacity : ℕ) (journal : List Event) (bytes : List ℕ) : Type 0 where
   pub volume : ℕ
   pub state : State
   pub stands : RecoversTo udf capacity volume (held journal) state
   pub says : IsAnswerText question capacity volume (held journal) state stands.at bytes
 
--- a state stands, and gives no answer
+-- a state is recovered, and gives no answer
 pub record IsQuestionRefused (question : Question) (capacity : ℕ) (journal : List Event) (fault : StoreFault) : Type 0 where
   pub volume : ℕ
   pub state : State
   pub stands : RecoversTo udf capacity volume (held journal) state
   pub refuses : RefusesQuestion question capacity volume (held journal) state stands.at fault
 
--- The bytes were printed, all of them or a front. On an honest drive they say what holds of the state that stands.
+-- The bytes were printed, all of them or a prefix. On an honest drive they say what holds of the recovered state.
 pub record Prints (question : Question) (capacity : ℕ) (journal : List Event) (honest : Bool) (output written : Option (List ℕ)) : Type 0 where
   pub bytes : List ℕ
   pub printed : Appends output written bytes
@@ -71,7 +71,7 @@ pub record PrintsPrefix (question : Question) (capacity : ℕ) (journal : List E
   pub front : PutsPrefix output written bytes
   pub said : IsTrue honest → Once journal → IsQuestionAnswered question capacity journal bytes
 
--- Nothing was printed. On an honest drive none stands, or the one that does gives no answer, or the drive failed or memory was short.
+-- Nothing was printed. On an honest drive none is recovered, or the one that is gives no answer, or the drive failed or memory was short.
 pub record PrintsNothing (question : Question) (capacity : ℕ) (journal : List Event) (honest : Bool) (fault : StoreFault) (output written : Option (List ℕ)) : Type 0 where
   pub unwritten : Keeps output written
   pub refused : IsTrue honest → Once journal → IsOpenRefused capacity (held journal) fault ⊎ IsQuestionRefused question capacity journal fault

@@ -37,7 +37,7 @@ ServesImage image Did (Err Socket) old new = OnMedia IsThere GREATEST_CAPACITY i
 ServesImage image Did (Err (Store fault)) old new = AreUntouched old new × (fault ≡ stores.Device)
 ServesImage image Did (Err (Stream fault)) old new = ⊥
 
--- this is its status, and the line that is said of it, or a front where the stream fails
+-- this is its status, and the line that is said of it, or a prefix where the stream fails
 pub record ReportsRefusal (words : List (List ℕ)) (status : ℕ) (old new : Images) (errors told : Option (List ℕ)) : Type 0 where
   pub fault : Fault
   pub refuses : RefusesDaemon words fault old new

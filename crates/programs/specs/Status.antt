@@ -23,12 +23,12 @@ status_of (Err fault) = fault_status fault
 abbrev pub IsRefusal : Fault → Type 0
 IsRefusal fault = fault_status fault ≡ 1
 
--- how a fault of the words is told: other words as such, lack of memory as a refusal
+-- how a fault of the words is reported: other words as such, lack of memory as a refusal
 abbrev pub AreWordsTold : WordsFault → Fault → Type 0
 AreWordsTold words.Usage fault = fault ≡ Usage
 AreWordsTold words.Memory fault = fault ≡ Store store.Memory
 
--- how a fault of a path is told
+-- how a fault of a path is reported
 abbrev pub IsPathTold : PathFault → Fault → Type 0
 IsPathTold paths.Path fault = fault ≡ Path
 IsPathTold paths.Memory fault = fault ≡ Store store.Memory

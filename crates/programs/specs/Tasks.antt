@@ -72,12 +72,12 @@ IsPrefixOf None written = ⊤
 IsPrefixOf (Some bytes) None = ⊥
 IsPrefixOf (Some bytes) (Some written) = (count : ℕ) × (written ≡ take count bytes)
 
--- what is told of an outcome: the same, or that it went well and the output failed in the end
+-- what is reported of an outcome: the same, or that it went well and the output failed in the end
 abbrev pub IsToldAs : Result (Unit {0}) Fault → Result (Unit {0}) Fault → Type 0
 IsToldAs outcome told = (told ≡ outcome) ⊎ (IsOk outcome × (told ≡ Err (Stream stream.Write)))
 
--- Something was done by an outcome, and of what was written with it a front is there. The status and the line are those of
--- what is told of it.
+-- Something was done by an outcome, and of what was written with it a prefix is there. The status and the line are those of
+-- what is reported of it.
 pub record HasPrefix (task : Task) (status : ℕ) (old new : Images) (input left output written errors told : Option (List ℕ)) : Type 0 where
   pub outcome : Result (Unit {0}) Fault
   pub gathered : Option (List ℕ)
@@ -95,7 +95,7 @@ pub record IsWhollyDone (old new : Images) (input left output written errors tol
   pub asks : Asks words asked
   pub ends : Ends (task_of asked) 0 old new input left output written errors told
 
--- There are words of a command, and of what was written for them a front is there.
+-- There are words of a command, and of what was written for them a prefix is there.
 pub record IsPartlyDone (status : ℕ) (old new : Images) (input left output written errors told : Option (List ℕ)) : Type 0 where
   pub words : List (List ℕ)
   pub asked : Command

@@ -5,7 +5,7 @@ ghost use Rattle.programs.specs.Counting.{IsCountOf};
 
 use request::PAYLOAD_BYTES;
 
-/// How many bytes tell the length of a frame's payload.
+/// How many bytes have the length of a frame's payload.
 const LENGTH_BYTES: usize = 4;
 
 /// Counts the frames that end in the bytes that it is given, in pieces of any size: those with a whole payload, and one whose

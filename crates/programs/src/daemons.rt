@@ -24,7 +24,7 @@ use std::thread;
 use std::time::{Clock, Duration};
 use store::StoreFault;
 
-/// The name under which the daemon's lines stand.
+/// The name under which the daemon's lines are.
 const NAME: &str = "udfburnd";
 
 /// How long the daemon waits where it could not have a connection, in milliseconds.
@@ -176,7 +176,7 @@ where
     }
 }
 
-/// Says that a connection could not be had, where that is not told already.
+/// Says that a connection could not be had, where that is not reported already.
 fn tell_once<E: Write>(is_told: bool, errors: &mut E)
     ensures { ReportsFaults (E.contents errors.old) (E.contents errors.new) }
 {
@@ -204,7 +204,7 @@ pub fn serve_one<L: Listener, D: Drive>(
     // Or nothing was, by the fault that it is left with.
     ensures left { IfErr result (λ fault. LeavesConnection fault (seen_on D.Drive engine.old drive.old) (seen_on D.Drive engine.new drive.new)) }
     ensures refusal { IfErr result IsRefusal }
-    // Where the bytes are known, they tell which messages, and what was written of the answers.
+    // Where the bytes are known, they determine which messages, and what was written of the answers.
     ensures ends { IsBlank (L.Output.contents output) → EndsOne result (L.Input.remaining input) (heard_on L.Listener listener.old) (heard_on L.Listener listener.new) (seen_on D.Drive engine.old drive.old) (seen_on D.Drive engine.new drive.new) }
 {
     if listener.limit(&input).is_err() {
@@ -242,7 +242,7 @@ where
     ensures refusal { IfErr result.0 IsRefusal }
     // Where it ended well, all messages of the input were answered, and each answer is written.
     ensures all { OnOk result.0 (IsSomeAnd result.1 (λ written. ServesAll (seen_on D.Drive engine.old drive.old) (seen_on D.Drive engine.new drive.new) (I.remaining input.old) (I.remaining input.new) (O.contents output) (O.contents written))) }
-    // Else the first of them were, as far as the fault tells, and a prefix of their answers is written.
+    // Else the first of them were, as far as the fault says, and a prefix of their answers is written.
     ensures front { IfErr result.0 (λ fault. IfSome result.1 (λ written. LeavesStream fault (seen_on D.Drive engine.old drive.old) (seen_on D.Drive engine.new drive.new) (I.remaining input.old) (I.remaining input.new) (O.contents output) (O.contents written))) }
     ensures left { IfErr result.0 (λ fault. LeavesConnection fault (seen_on D.Drive engine.old drive.old) (seen_on D.Drive engine.new drive.new)) }
     // Where the output was let go nothing was done.

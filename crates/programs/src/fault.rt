@@ -139,7 +139,7 @@ impl From<WordsFault> for Fault {
 }
 
 /// The status of a program with this name, which says on `errors` why it was refused. That `errors` takes no more is not
-/// told.
+/// reported.
 pub fn report<E: Write>(name: &str, outcome: Result<(), Fault>, errors: &mut E) -> u8
     ensures status { result ≡ status_of outcome }
     ensures describes { Reports name.now outcome (E.contents errors.old) (E.contents errors.new) }

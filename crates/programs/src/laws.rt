@@ -9,7 +9,7 @@ pub fn frames_are_messages()
 {}
 
 /// Any commands and daemons of any processes, one after another over the same media, are runs on each image: each begins on
-/// what the one before it left, and the state after all that they committed stands in the end.
+/// what the one before it left, and the state after all that they committed is in the end.
 pub fn processes_are_runs()
     ensures { ProcessesAreRuns }
 {}

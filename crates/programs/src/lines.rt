@@ -12,7 +12,7 @@ use std::alloc::{AllocError, Global};
 use std::io::Write;
 use store::Commit;
 
-/// Names, each in a line after a letter that tells its kind.
+/// Names, each in a line after a letter that says its kind.
 pub(crate) fn name_lines(alloc: Global, names: &[Listed]) -> Result<String, AllocError>
     ensures { IfOk result (λ text. string_bytes text ≡ names_text (said_names names.now)) }
 {

@@ -24,7 +24,7 @@ use std::os::fd::{AsRawFd, IntoRawFd};
 use std::time::Clock;
 use store::StoreFault;
 
-/// The name under which the lines of `udfburn` stand.
+/// The name under which the lines of `udfburn` are.
 const COMMAND_NAME: &str = "udfburn";
 
 /// `udfburn` on the words of the process and these streams. It answers the status, and the output where that was not let go.
@@ -45,7 +45,7 @@ where
     ensures reports { ReportsOutcome (codes "udfburn") result.0 (E.contents errors.old) (E.contents errors.new) }
     // At status 0 there are words of a command, and all is written that was done of what they ask for.
     ensures done { result.0 ≡ 0 → IsSomeAnd result.1 (λ written. IsWhollyDone (images_on M.Media media.old) (images_on M.Media media.new) (I.remaining input.old) (I.remaining input.new) (O.contents output) (O.contents written) (E.contents errors.old) (E.contents errors.new)) }
-    // At status 1 there are such words too where the output was not let go, and a front is written.
+    // At status 1 there are such words too where the output was not let go, and a prefix is written.
     ensures begun { result.0 ≤ 1 → IfSome result.1 (λ written. IsPartlyDone result.0 (images_on M.Media media.old) (images_on M.Media media.new) (I.remaining input.old) (I.remaining input.new) (O.contents output) (O.contents written) (E.contents errors.old) (E.contents errors.new)) }
     // Of other words nothing is read, and nothing is written.
     ensures unread { result.0 ≡ 2 → I.remaining input.new ≡ I.remaining input.old }
@@ -161,7 +161,7 @@ where
     let (mut output, rest) = writer.into_parts();
     match put_all(&mut output, &rest) {
         Ok(()) => (status, Some(output)),
-        // Why is told already.
+        // Why is reported already.
         Err(_) if status > 0 => (status, Some(output)),
         Err(fault) => {
             let refused = Err(Fault::Stream(fault));

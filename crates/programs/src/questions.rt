@@ -68,7 +68,7 @@ pub(crate) fn log_image<M: Media, O: Write>(
     shown
 }
 
-/// Whether the state after each commit stands, on an image.
+/// Whether the state after each commit is recovered, on an image.
 pub(crate) fn check_image<M: Media, O: Write>(
     alloc: Global,
     media: &mut M,
@@ -84,7 +84,7 @@ pub(crate) fn check_image<M: Media, O: Write>(
     shown
 }
 
-/// The names in a directory, each in a line after a letter that tells its kind.
+/// The names in a directory, each in a line after a letter that says its kind.
 fn list<D: Drive, O: Write>(
     alloc: Global,
     drive: &mut D,
@@ -136,7 +136,7 @@ fn log<D: Drive, O: Write>(alloc: Global, drive: &mut D, output: &mut O) -> Resu
     put(output, lines.as_bytes())
 }
 
-/// How many commits there are, where the state after each of them stands.
+/// How many commits there are, where the state after each of them is recovered.
 fn check<D: Drive, O: Write>(alloc: Global, drive: &mut D, output: &mut O) -> Result<(), Fault>
     ensures refusal { IfErr result IsRefusal }
     ensures prints { PrintsAnswer Soundness result (D.capacity drive.old) (D.journal drive.old) (D.honest drive.new) (O.contents output.old) (O.contents output.new) }

@@ -57,7 +57,7 @@ pub fn send_frames<I: Read>(
 ) -> Result<u64, Fault>
     ensures refusal { IfErr result IsRefusal }
     ensures all { IfOk result (λ count. CopiesFrames count (I.remaining reader.old) (I.remaining reader.new) (⟦<UnixStream as Write>⟧.contents stream.old) (⟦<UnixStream as Write>⟧.contents stream.new)) }
-    // Which fault it is tells how far that went.
+    // Which fault it is shows how far that went.
     ensures until { IfErr result (λ fault. SendsUntil fault (I.remaining reader.old) (I.remaining reader.new) (⟦<UnixStream as Write>⟧.contents stream.old) (⟦<UnixStream as Write>⟧.contents stream.new)) }
 {
     let copied = copy(alloc, reader, stream);

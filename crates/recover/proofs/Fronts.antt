@@ -12,7 +12,7 @@ use Rattle.volume.specs.Reading.{DescriptorsTell, word_rules}
 use Rattle.volume.proofs.ReadingLaws.{front_tells, one_told}
 use Rattle.volume.specs.Front.{IsFront, IsFrontBlock}
 
--- those below an address are the front's
+-- those below an address are the volume header's
 abbrev pub BeginsFront : List ℕ → ℕ → ℕ → ℕ → List (List ℕ) → Type 0
 BeginsFront label moment capacity n medium = (k : ℕ) → k < n → IsFrontBlock label moment capacity k (slice_index_or medium k [])
 
@@ -39,7 +39,7 @@ module _ (label : List ℕ) (moment capacity : ℕ) (medium : List (List ℕ)) w
     each = λ n lt. subst (λ (b : List ℕ). IsFrontBlock label moment capacity n b) (sym (get_or-take 257 medium n [] lt)) (seen n lt);
   }
 
-  -- the descriptors of a front tell it
+  -- the descriptors of a volume header determine it
   told_front : (primary partition : List ℕ) → slice_get medium 32 ≡ Some primary → slice_get medium 34 ≡ Some partition → IsFront label moment capacity (take 257 medium)
       → DescriptorsTell (record { label = label; moment = moment; capacity = capacity }) primary partition
   told_front primary partition first second is =
@@ -49,7 +49,7 @@ module _ (label : List ℕ) (moment capacity : ℕ) (medium : List (List ℕ)) w
       (subst (λ (x : List ℕ). DescriptorsTell (record { label = label; moment = moment; capacity = capacity }) (slice_index_or (take 257 medium) 32 []) x) b
       (front_tells (record { label = label; moment = moment; capacity = capacity }) (take 257 medium) is))
 
-  -- blocks whose descriptors tell no front are none
+  -- blocks whose descriptors describe no volume header are none
   pub no_words : (primary partition : List ℕ) (fault : VolumeFault) → slice_get medium 32 ≡ Some primary → slice_get medium 34 ≡ Some partition → IsFirst (word_rules primary partition) fault
       → IsFront label moment capacity (take 257 medium) → ⊥
   no_words primary partition fault first second told is =

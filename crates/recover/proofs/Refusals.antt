@@ -1,4 +1,4 @@
--- Where a state is not read, none is told.
+-- Where a state is not read, none is described.
 use Rattle.std.proofs.Common.{◌≡◌, ℕ, ◌+◌, ◌*◌, ◌-◌, ◌<◌, ◌≤◌, inl, inr, Bool, true, not, nat_eq, List, length, take, Some, sym, ap, subst, ◌∙◌, arith}
 use Rattle.std.specs.Prelude.{slice_get}
 use Rattle.std.specs.Int.{div_ceil}
@@ -95,7 +95,7 @@ module _ (M : List (List ℕ)) (at : ℕ) (low : 257 ≤ at) (long : at < length
   entry_refused capacity (Damaged b c) r = λ volume block said there tells. entry_is_read block tells.table said.moment there tells.has b c r
   entry_refused capacity _ r = absurd r
 
-  -- ---- the front
+  -- ---- the volume header
 
   told_front : (capacity volume : ℕ) (block : List ℕ) (said : ModelState) (tells : Describes udf capacity volume (take at M) at block said) → IsFront tells.table.label tells.formatted volume (take 257 M)
   told_front capacity volume block said tells = subst (IsFront tells.table.label tells.formatted volume) (part_below 0 257 at M low) tells.front
@@ -142,7 +142,7 @@ module _ (M : List (List ℕ)) (at : ℕ) (low : 257 ≤ at) (long : at < length
     one_table = exact.table (at - 257) (table_data_of M e) tells.table (model_table (view vat)) (told_table e is block tells.table said.moment there tells.has) (tables_agree (view vat) (at - 257) (table_data_of M e) read)
 
   module _ (e : TableEntry) (is : IsEntryAt M at e) (vat : Vat) (read : IsTableAt (at - 257) (view vat) (table_data_of M e)) (label : List ℕ) (formatted size : ℕ) (front : IsFront label formatted size (take 257 M)) (capacity : ℕ) where
-    -- labels that `!=` tells apart
+    -- labels that `!=` distinguishes
     pub other_label : (r : Bool) → r ≡ not (pointwise nat_eq vat.label label) → r ≡ true → IsUntold capacity M at
     other_label r is_not apart volume block said there tells =
         let same : vat.label ≡ label = sym (ap (λ (t : Table_). t.label) (one_table e is vat read capacity volume block said there tells)) ∙ one_label label formatted size front capacity volume block said tells in

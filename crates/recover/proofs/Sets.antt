@@ -1,4 +1,4 @@
--- The file set of a table, and two file sets that `!=` tells apart or does not.
+-- The file set of a table, and two file sets that `!=` distinguishes or does not.
 use Rattle.std.proofs.Common.{◌≡◌, ℕ, ◌+◌, ◌≤◌, Bool, true, false, ◌&&◌, not, nat_eq, List, take, Option, Some, refl, sym, ap, subst, ◌∙◌, arith}
 use Rattle.std.specs.Prelude.{slice_get, Result, Ok, Err}
 use Rattle.std.proofs.lemmas.Bool.{eq-eqb, true≢false}
@@ -36,7 +36,7 @@ same_read a b e = ap (read_set a) e
 nat_eq-itself : (n : ℕ) → nat_eq n n ≡ true
 nat_eq-itself n = eq-eqb n n refl
 
--- those that it tells apart are not the same
+-- those that it distinguishes are not the same
 pub other_set : (set : FileSet) (label : List ℕ) (moment : ℕ) → not (pointwise nat_eq set.label label && nat_eq set.moment moment) ≡ true → set ≡ record { label = label; moment = moment } → ⊥
 other_set set label moment e same =
     let labels : pointwise nat_eq set.label label ≡ true = ap (λ (s : FileSet). pointwise nat_eq s.label label) same ∙ bytes_eq-itself label in
@@ -53,7 +53,7 @@ module _ (M : List (List ℕ)) (at : ℕ) (entries : List (Option ℕ)) (label :
       let l = length-take at M in
       omega (arith, far, near, l)
 
-  -- and where it leads stands another block
+  -- and where it leads is another block
   pub no_set : (set_at : ℕ) (block : List ℕ) → LeadsTo entries 0 set_at → slice_get (take at M) set_at ≡ Some block → (IsFileSet (record { label = label; moment = moment }) block → ⊥) → HasFileSet (take at M) entries label moment → ⊥
   no_set set_at block leads there never has =
       let number : leads.number ≡ has.number = same_Some leads.number has.number (same_Some (Some leads.number) (Some has.number) (sym leads.used ∙ has.used)) in

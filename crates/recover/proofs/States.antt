@@ -1,4 +1,4 @@
--- The state that was read is the one that the blocks tell.
+-- The state that was read is the one that the blocks describe.
 use Rattle.std.proofs.Common.{◌≡◌, ℕ, ◌+◌, ◌-◌, ◌<◌, ◌≤◌, Bool, true, false, not, nat_eq, List, [], length, take, refl, sym, ap, ◌∙◌, subst, arith}
 use Rattle.std.specs.Int.{div_ceil}
 use Rattle.std.specs.List.{flat_map}
@@ -40,7 +40,7 @@ use Rattle.recover.proofs.Refused.{root_expects}
 use Rattle.recover.proofs.Trees.{tree_of, makes_tree, is_tree, has_identities, files_are, directories_are}
 use Rattle.recover.proofs.Walks.{adds_from, part_below}
 
--- labels that `!=` does not tell apart
+-- labels that `!=` does not distinguish
 pub same_label : (a b : List ℕ) (r : Bool) → r ≡ not (pointwise nat_eq a b) → r ≡ false → a ≡ b
 same_label a b r e f = go (pointwise nat_eq a b) refl (sym e ∙ f)
   where
@@ -194,7 +194,7 @@ is_shown capacity medium at state low long described tree counted =
       label = label;
     }
 
--- at the last VAT ICB it stands
+-- at the last VAT ICB it is recovered
 pub last_stands : LastRecovers
 last_stands capacity medium at state shown (low, here, none) =
     let same = same_Some here.block shown.block (sym here.there ∙ shown.there) in

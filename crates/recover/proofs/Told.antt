@@ -40,7 +40,7 @@ module _ (M : List (List ℕ)) (at : ℕ) where
         has = has_table M at h.entry h.is_entry t (omega (arith, within)) below h.is;
       }
 
-  -- what is told was read
+  -- what is reported was read
   pub read : (table : Table_) → IsTableTold table → (t : Table) × HasTableAt M at t × (model_table t ≡ table)
   read table is =
       let h = is.has in
@@ -57,7 +57,7 @@ module _ (M : List (List ℕ)) (at : ℕ) where
         exact.table (at - 257) (table_data_of M e) (model_table t) table (tables_agree t (at - 257) (table_data_of M e) bytes.1) bytes,
       )
 
-  -- one table is told
+  -- one table is described
   pub one_told : (s t : Table_) → IsTableTold s → IsTableTold t → s ≡ t
   one_told s t a b =
       let same : b.block ≡ a.block = same_Some b.block a.block (sym b.there ∙ a.there) in

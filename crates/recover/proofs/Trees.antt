@@ -103,7 +103,7 @@ at_listed (Seen n here t b r) p a s (inr (inr at)) = contains_there _ (map (long
 
 -- ---- counts
 
--- no path stands twice in a list
+-- no path is twice in a list
 abbrev Apart : Items → Type 0
 Apart [] = Unit {0}
 Apart (x ∷ items) = ((node : Node) → Contains items (x.0, node) → ⊥) × Apart items

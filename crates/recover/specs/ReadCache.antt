@@ -30,14 +30,14 @@ pub record IsEntrySaid (medium : List (List ℕ)) (place : EntryPlace) (entry : 
   pub links : entry.links ≡ fields.links
   pub extent : entry.extent ≡ extent_in fields.size fields.place
 
--- why no entry was read: the drive failed, or none of that node stands there
+-- why no entry was read: the drive failed, or none of that node is there
 abbrev pub IsUnsaid : List (List ℕ) → EntryPlace → StoreFault → Type 0
 IsUnsaid medium place Device = ⊤
 IsUnsaid medium place (Damaged at cause) =
     (at ≡ place.at) × ((block : List ℕ) (fields : Fields) → slice_get medium place.at ≡ Some block → IsEntry fields place.address block → ⊥)
 IsUnsaid medium place _ = ⊥
 
--- the blocks of this extent hold the directory, and each of its files that is kept stands where it was found
+-- the blocks of this extent hold the directory, and each of its files that is kept is where it was found
 pub record IsCachedListing (medium : List (List ℕ)) (extent : Extent) (names : Names) : Type 0 where
   pub are : All IsBlock (data_of medium extent)
   pub is : IsDirectory names.dir.parent names.dir.entries.entries extent.first extent.size (data_of medium extent)
@@ -55,7 +55,7 @@ same_extent x y = (x.first == y.first) && (x.size == y.size)
 abbrev pub AreCachedDirectories : List (List ℕ) → Directories → Type 0
 AreCachedDirectories medium directories = (extent : Extent) → IfSome (get same_extent directories.kept extent) (IsCachedListing medium extent)
 
--- and so is the front
+-- and so is the volume header
 pub record IsKnown (medium : List (List ℕ)) (known : ReadCache) : Type 0 where
   pub front : IfSome known.front (λ f. IsFront f.label f.moment f.capacity (take PARTITION_START medium))
   pub entries : AreCachedEntries medium known.entries

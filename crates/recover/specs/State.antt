@@ -24,7 +24,7 @@ pub record IsCounted (at : ℕ) (vat : Vat) : Type 0 where
   pub few_commits : 2 * vat.sessions.commits + (FORMAT_BLOCKS - 1) ≤ at
   pub few_unique : vat.sessions.next_unique ≤ FIRST_UNIQUE + vat.sessions.commits
 
--- the state of a table whose entry stands at this address, on a drive of this capacity
+-- the state of a table whose entry is at this address, on a drive of this capacity
 pub record HasSoundTable (at capacity : ℕ) (state : State) : Type 0 where
   pub low : LEAST_CAPACITY ≤ state.capacity
   pub high : state.capacity ≤ GREATEST_CAPACITY
@@ -35,7 +35,7 @@ pub record HasSoundTable (at capacity : ℕ) (state : State) : Type 0 where
   -- each node has an entry beside that of the file set
   pub nodes : 1 + (state.vat.files + state.vat.directories) ≤ length state.vat.entries.items
 
--- why no front was read from these blocks
+-- why no volume header was read from these blocks
 abbrev pub IsFrontRefused : List (List ℕ) → StoreFault → Type 0
 IsFrontRefused blocks Device = ⊤
 IsFrontRefused blocks (Damaged block cause) = (cause ≡ 71) × ((label : List ℕ) (moment capacity : ℕ) → IsFront label moment capacity blocks → ⊥)
@@ -55,7 +55,7 @@ IsSetRefused medium entries label moment Device = ⊤
 IsSetRefused medium entries label moment (Damaged block cause) = HasFileSet medium entries label moment → ⊥
 IsSetRefused medium entries label moment _ = ⊥
 
--- what stands there, but for the tree, on a drive of this capacity
+-- what is described there, but for the tree, on a drive of this capacity
 pub record IsDescribed (capacity : ℕ) (medium : List (List ℕ)) (at : ℕ) (state : State) : Type 0 where
   pub entry : TableEntry
   pub is_entry : IsEntryAt medium at entry
@@ -84,7 +84,7 @@ IsTreeRefused medium at vat Memory = ⊤
 IsTreeRefused medium at vat (Damaged block cause) = CountsTree medium vat → 2 * vat.sessions.commits + (FORMAT_BLOCKS - 1) ≤ at → vat.sessions.next_unique ≤ FIRST_UNIQUE + vat.sessions.commits → ⊥
 IsTreeRefused medium at vat _ = ⊥
 
--- What was read is what stands where a VAT ICB does: the state that the blocks below it tell, on a drive of this
+-- What was read is the state at a VAT ICB: the one that the blocks below it describe, on a drive of this
 -- capacity, by this table.
 pub record IsShown (capacity : ℕ) (medium : List (List ℕ)) (at : ℕ) (state : State) : Type 0 where
   pub said : ModelState
@@ -95,11 +95,11 @@ pub record IsShown (capacity : ℕ) (medium : List (List ℕ)) (at : ℕ) (state
   pub table : tells.table ≡ model_table (view state.vat)
   pub label : state.vat.label ≡ state.label
 
--- no state is told there, on a drive of this capacity
+-- no state is described there, on a drive of this capacity
 abbrev pub IsUntold : ℕ → List (List ℕ) → ℕ → Type 0
 IsUntold capacity medium at = (volume : ℕ) (block : List ℕ) (said : ModelState) → slice_get medium at ≡ Some block → Describes udf capacity volume (take at medium) at block said → ⊥
 
--- why no state was read: the drive failed, memory was short, or none is told
+-- why no state was read: the drive failed, memory was short, or none is described
 abbrev pub IsStateRefused : ℕ → List (List ℕ) → ℕ → StoreFault → Type 0
 IsStateRefused capacity medium at Device = ⊤
 IsStateRefused capacity medium at Memory = ⊤

@@ -62,14 +62,14 @@ IsTableRefused icb e bytes (Damaged block cause) =
     (block ≡ e.first + PARTITION_START) × (fault : VatFault) × (cause ≡ number_of_fault fault) × IsFirst (table_rules icb bytes) fault
 IsTableRefused icb e bytes _ = ⊥
 
--- the table whose entry stands at this address
+-- the table whose entry is at this address
 pub record HasTableAt (medium : List (List ℕ)) (at : ℕ) (table : Table) : Type 0 where
   pub entry : TableEntry
   pub is_entry : IsEntryAt medium at entry
   pub below : HasDataBelow at entry
   pub is : IsTableAt (at - PARTITION_START) table (table_data_of medium entry)
 
--- why no table was read whose entry stands at this address
+-- why no table was read whose entry is at this address
 abbrev pub IsAtRefused : List (List ℕ) → ℕ → StoreFault → Type 0
 IsAtRefused medium at fault =
     IsEntryRefused medium at fault

@@ -41,7 +41,7 @@ extent_in size Nowhere = None
 extent_in size (IcbExtent first) = Some (record { first = first; size = size })
 extent_in size (Inside bytes) = None
 
--- the entry of a node stands at this address, is what the directory above says, and says this
+-- the entry of a node is at this address, is what the directory above says, and says this
 pub record HasFileEntry (medium : List (List ℕ)) (entry_at : ℕ) (node : Named) (body : Body) : Type 0 where
   pub block : List ℕ
   pub there : slice_get medium entry_at ≡ Some block
@@ -53,7 +53,7 @@ pub record HasFileEntry (medium : List (List ℕ)) (entry_at : ℕ) (node : Name
   pub file : node.kind ≡ File → fields.links ≡ 1
   pub extent : body.extent ≡ extent_in fields.size fields.place
 
--- such an entry stands there, and the bytes that it tells of lie below an address
+-- such an entry is there, and the bytes that it names lie below an address
 abbrev pub HasNode : List (List ℕ) → ℕ → ℕ → Named → Type 0
 HasNode medium at entry_at node = (body : Body) × HasFileEntry medium entry_at node body × IfSome body.extent (LiesBelow at)
 

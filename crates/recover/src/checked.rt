@@ -3,14 +3,14 @@
 use crate::places::grow;
 use std::alloc::Global;
 
-/// A file as it was found under a name. What stands in a block stays, so that it is the same file for every table that
+/// A file as it was found under a name. What is in a block stays, so that it is the same file for every table that
 /// leads to that block.
 #[derive(Clone, Copy, Debug)]
 pub(crate) struct CheckedFile {
     /// The virtual address of its entry.
     pub address: u32,
     pub unique: u32,
-    /// The number of the block that its entry stands in.
+    /// The number of the block that its entry is in.
     pub number: u32,
     /// An address that its entry and its bytes lie below.
     pub top: u32,

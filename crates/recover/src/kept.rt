@@ -44,7 +44,7 @@ impl NodeEntry {
     ghost use Rattle.recover.specs.ReadCache.{IsEntrySaid, IsUnsaid};
     ghost use Rattle.recover.specs.Walk.{extent_in};
 
-    /// Reads the entry that stands there.
+    /// Reads the entry that is there.
     // (Apart from the way of an entry that is kept, which needs no room for a block.)
     #[inline(never)]
     pub(crate) fn read<D: Drive>(drive: &mut D, place: EntryPlace) -> Result<NodeEntry, StoreFault>

@@ -13,7 +13,7 @@ use std::alloc::Global;
 use std::mem;
 use volume::Front;
 
-/// The front, an entry for each virtual address, and the directories of the state that was looked at last and of the one
+/// The volume header, an entry for each virtual address, and the directories of the state that was looked at last and of the one
 /// that is looked at. A node that both have is read once. No more is kept than that, however many states are looked at.
 #[derive(Drop)]
 pub struct ReadCache {

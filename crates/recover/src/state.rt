@@ -64,7 +64,7 @@ pub fn state_at<D: Drive>(alloc: Global, drive: &mut D, at: u32) -> Result<State
     state_sharing(alloc, drive, &mut known, at)
 }
 
-/// The same state. The front, and the nodes that it shares with the state for which this was called before, are not
+/// The same state. The volume header, and the nodes that it shares with the state for which this was called before, are not
 /// read again: each is held against this state as it is known.
 pub fn state_sharing<D: Drive>(
     alloc: Global,
@@ -126,7 +126,7 @@ fn described<D: Drive>(
     Ok((state, data_at))
 }
 
-/// Reads the front, block by block.
+/// Reads the volume header, block by block.
 #[tactic(auto, using(drive::proofs::Reading::reads_then))]
 pub(crate) fn read_front<D: Drive>(drive: &mut D) -> Result<Front, StoreFault>
     requires within { PARTITION_START ≤ next_of (D.journal drive.old) }

@@ -125,7 +125,7 @@ impl<'a> Walk<'a> {
     ghost use Rattle.recover.specs.Walk.{HasFileEntry, HasNode, LeadsTo, LiesBelow, Tallied, Visits, nodes_of, reached_in, uniques_in};
     ghost use Rattle.dir.specs.declared.entry.Kind.TheVariants.{Directory, File};
 
-    /// Nothing is seen yet of the tree of a table whose entry stands at `at`.
+    /// Nothing is seen yet of the tree of a table whose entry is at `at`.
     pub(crate) fn new(
         alloc: Global,
         at: u32,
@@ -256,7 +256,7 @@ impl<'a> Walk<'a> {
         index
     }
 
-    /// Takes the file under the name at this place as seen, if it was found there and the table leads to where it stood.
+    /// Takes the file under the name at this place as seen, if it was found there and the table leads to where it was.
     /// Whether it did; else nothing is changed.
     #[inline]
     fn are_unchanged(&mut self, files: &CheckedFiles, index: usize, depth: u32) -> bool
@@ -447,7 +447,7 @@ impl<'a> Walk<'a> {
     }
 }
 
-/// The directory whose bytes lie there, which has this directory above it and so many links. Its entry stands at
+/// The directory whose bytes lie there, which has this directory above it and so many links. Its entry is at
 /// `entry_at`.
 fn read_names<D: Drive>(
     alloc: Global,
@@ -478,7 +478,7 @@ fn read_names<D: Drive>(
     Ok(names)
 }
 
-/// The file whose entry stands there, if that is known and as its directory says.
+/// The file whose entry is there, if that is known and as its directory says.
 fn seen_at(known: &ReadCache, node: &Named, entry_at: u32) -> Option<CheckedFile>
     requires low { PARTITION_START ≤ entry_at }
     requires high { entry_at + 1 < 2 ^ 32 }
@@ -505,7 +505,7 @@ fn seen_at(known: &ReadCache, node: &Named, entry_at: u32) -> Option<CheckedFile
     })
 }
 
-/// The least address that an entry which stands at `entry_at` and its bytes lie below.
+/// The least address that an entry which is at `entry_at` and its bytes lie below.
 fn top_of(entry: &NodeEntry, entry_at: u32) -> u32
     requires { entry_at + 1 < 2 ^ 32 }
     ensures { entry_at < result }

@@ -10,7 +10,7 @@ keeps_front_through old more mid new grown kept =
     let within : length old ≤ length mid = omega (arith, length-append old more, ap length grown) in
     sym (take-take (length old) (length mid) new within) ∙ ap (take (length old)) (kept ∙ grown) ∙ take-append_seam old more
 
--- what stood in front, where two pieces were added
+-- what was first, where two pieces were added
 pub grown_twice : (old a b c x y : List ℕ) → a ≡ old → b ≡ a ++ x → c ≡ b ++ y → c ≡ old ++ (x ++ y)
 grown_twice old a b c x y same first second =
     second ∙ ap (λ (l : List ℕ). l ++ y) (first ∙ ap (λ (l : List ℕ). l ++ x) same) ∙ append_assoc old x y

@@ -69,7 +69,7 @@ refused bytes fault e =
     ] in
     no_name bytes (failed (is_utf8 bytes) refl)
 
--- what is told of a name that is refused
+-- what is reported of a name that is refused
 pub refusal : (bytes text : List ℕ) (fault : NameFault) → text ≡ bytes → text_fault fault ≡ first_text_fault (name_faults text) → text_fault fault ≡ Some fault → tested_name bytes ≡ Err cause.Path
 refusal bytes text fault e told some =
     refused bytes fault (sym some ∙ told ∙ ap (λ (t : List ℕ). first_text_fault (name_faults t)) e)

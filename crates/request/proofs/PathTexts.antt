@@ -79,7 +79,7 @@ parsed (Ok path) text names e h =
     (h.0, e ∙ sym (text_of_steps path names (ap (flat_map step_text) h.1 ∙ steps_of_parts names)))
 parsed (Err fault) text names e h = tt
 
--- a fault that is told as the path's own
+-- a fault that is reported as the path's own
 pub bad_name : (fault : NameFault) (text : List ℕ) → text_fault fault ≡ first_text_fault (name_faults text) → path_fault_of fault ≡ PathFaults.Path → IsName text → ⊥
 bad_name name.Memory text told is good = absurd cc
 bad_name name.Empty text told is good = let e = told ∙ good.faultless in absurd cc

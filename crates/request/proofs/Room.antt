@@ -12,7 +12,7 @@ between : (front room rest : List ℕ) → drop (length front) (take (length fro
 between front room rest =
     ap (drop (length front)) (take-append-add front (room ++ rest) (length room) ∙ ap (λ (x : List ℕ). front ++ x) (take-append_seam room rest)) ∙ drop-append_seam front room
 
--- the same where it is cut, and more stands after it
+-- the same where it is cut, and more is after it
 pub between_cut : (n end most : ℕ) (front room rest more : List ℕ) → length front ≡ end → length room ≡ most → end + most ≤ n
     → drop end (take (end + most) (take n (front ++ (room ++ rest) ++ more))) ≡ room
 between_cut n end most front room rest more e f fits =

@@ -42,7 +42,7 @@ names_field names = to_le_bytes w16 (length names) ++ flat_map listed_field name
 abbrev pub status_field : NodeStatus → List ℕ
 status_field status = kind_number status.kind ∷ (to_le_bytes w64 status.moment ++ to_le_bytes w64 status.size)
 
--- what stands after the code
+-- what is after the code
 abbrev pub answer_body : Answer → List ℕ
 answer_body (answer.Reply reply) = to_le_bytes w32 reply.commit
 answer_body (answer.Stale latest) = to_le_bytes w64 latest

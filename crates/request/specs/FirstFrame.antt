@@ -1,4 +1,4 @@
--- What the reader finds at the front of a stream.
+-- What the reader finds at the beginning of a stream.
 use Rattle.std.specs.Prelude.{ℕ, ◌+◌, List, length, drop}
 use Rattle.request.specs.declared.frames.FirstFrame.{FirstFrame}
 use Rattle.request.specs.declared.frames.FirstFrame.TheVariants as first

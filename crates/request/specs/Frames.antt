@@ -62,6 +62,6 @@ pub record Frames (bytes : List ℕ) (messages : List Message) (reader : Option 
   pub messages_are : MessagesAre bytes messages reader
   pub idle : IsIdle reader
 
--- two messages tell the same, unless one is lack of memory
+-- two messages say the same, unless one is lack of memory
 abbrev pub Agree : Message → Message → Type 0
 Agree m n = (told_by m ≡ None) ⊎ ((told_by n ≡ None) ⊎ (told_by m ≡ told_by n))

@@ -4,7 +4,7 @@ use Rattle.std.specs.List.{flat_map}
 use Rattle.limits.specs.declared.TheConstants.{MESSAGE_PATH_NAMES}
 use Rattle.osta.specs.Name.{IsName}
 
--- no more names than a path of a message has at most, of which each may stand in a directory
+-- no more names than a path of a message has at most, of which each may be in a directory
 pub record IsPath (path : List (List ℕ)) : Type 0 where
   pub few : length path ≤ MESSAGE_PATH_NAMES
   pub names : All IsName path

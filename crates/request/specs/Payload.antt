@@ -11,14 +11,14 @@ use Rattle.request.specs.Reading.{said_at}
 abbrev pub request_said : Request → Said
 request_said request = Changes request.client request.number request.moment request.op
 
--- What a message tells: what was said, or a fault. Want of memory tells nothing.
+-- What a message says: what was said, or a fault. Lack of memory says nothing.
 abbrev pub told_by : Message → Option (Result Said Cause)
 told_by (message.Request request) = Some (Ok (request_said request))
 told_by (message.Query query) = Some (Ok (Asks query))
 told_by (message.Malformed cause) = Some (Err cause)
 told_by message.NoMemory = None
 
--- The message tells what this payload says, or its first fault, unless there was no memory.
+-- The message is what this payload says, or its first fault, unless there was no memory.
 abbrev pub DecodesPayload : Message → List ℕ → Type 0
 DecodesPayload message payload = IfSome (told_by message) (λ told. told ≡ said_at payload)
 

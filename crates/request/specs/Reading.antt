@@ -104,7 +104,7 @@ op_at change.Remove bytes = do
   path ← path_at bytes
   Ok (op.Remove path.0, path.1)
 
--- the value, where no byte stands after it
+-- the value, where no byte is after it
 abbrev pub ended : {A : Type 0} → A → List ℕ → Result A Cause
 ended x bytes = if length bytes == 0 then Ok x else Err cause.Extra
 

@@ -32,9 +32,9 @@ pub enum FeedFault {
 pub struct Frames {
     /// The bytes that are held, and after them room for more.
     bytes: Vec<u8>,
-    /// How many bytes at the front were taken already.
+    /// How many bytes at the beginning were taken already.
     taken: usize,
-    /// How many bytes stand before the room.
+    /// How many bytes are before the room.
     end: usize,
     failed: bool,
 }
@@ -149,7 +149,7 @@ impl Frames {
         waiting
     }
 
-    /// Moves what is held to the front, where each byte that is moved is paid for by one that was taken.
+    /// Moves what is held to the beginning, where each byte that is moved is paid for by one that was taken.
     fn close_up(&mut self)
         ensures { self.new ≡ self.old }
     {
@@ -161,7 +161,7 @@ impl Frames {
     }
 }
 
-/// What stands at the front of a stream.
+/// What is at the beginning of a stream.
 enum FirstFrame<'a> {
     /// Less than a frame.
     Partial,
@@ -199,7 +199,7 @@ fn frame_length(bytes: &[u8]) -> Option<usize>
     Some(u32::from_le_bytes([front[0], front[1], front[2], front[3]]) as usize)
 }
 
-/// Moves the bytes between the two numbers to the front. They are no more than those before them, so that they are copied as one:
+/// Moves the bytes between the two numbers to the beginning. They are no more than those before them, so that they are copied as one:
 /// `copy_within` moves them one by one.
 fn forget(bytes: &mut Vec<u8>, taken: usize, end: usize)
     requires from { taken ≤ end }

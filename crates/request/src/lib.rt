@@ -5,7 +5,7 @@
 //! can be said has one payload, and is read from it. An answer has one frame, and no answer's bytes begin
 //! another's. A request keeps its ranges by its type, a path the rules of its names.
 //!
-//! The bytes that a request gives a file are not copied: a message stands on the frame that the reader holds, until that
+//! The bytes that a request gives a file are not copied: a message borrows from the frame that the reader holds, until that
 //! is let go.
 //!
 //! Where there is no memory a frame gives `NoMemory`, bytes that are fed are refused and the reader stays as it was, a

@@ -53,7 +53,7 @@ impl<'a> Model for FileSlice<'a> {
 }
 
 impl<'a> FileSlice<'a> {
-    /// The bytes of a file, where they stand.
+    /// The bytes of a file, where they are.
     pub fn new(bytes: &'a [u8]) -> FileSlice<'a>
         requires { length bytes.now ≤ 1048576 }
         ensures { result ≡ bytes.now }

@@ -81,7 +81,7 @@ impl Path {
         Ok(())
     }
 
-    /// Reads `/`, the root, or names that each stand after a `/`.
+    /// Reads `/`, the root, or names that each are after a `/`.
     pub fn parse(alloc: Global, text: &str) -> Result<Path, PathFault>
         // What is read is a path, and the text is its text.
         ensures found { IfOk result (λ path. IsPath path × (text.now ≡ path_text path)) }

@@ -117,7 +117,7 @@ fn tell_node(body: &[u8], out: &mut String) -> Result<(), Trouble> {
     node_text(little(kind) == 1, little(size), little(moment), out)
 }
 
-/// What is told of a node.
+/// What is reported of a node.
 pub fn node_text(
     is_directory: bool,
     size: u64,

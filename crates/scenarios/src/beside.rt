@@ -17,7 +17,7 @@ use std::marker::Model;
 use store::Snapshot;
 use words::show_bytes;
 
-/// What is told where machine and plain program agree.
+/// What is reported where machine and plain program agree.
 const SAME: &str = "same";
 
 /// The plain program.
@@ -60,7 +60,7 @@ impl Plain {
         }
     }
 
-    /// What is told of each node: its content, and what is known of it.
+    /// What is reported of each node: its content, and what is known of it.
     fn tree(&self, alloc: Global) -> Result<Vec<Expected>, Trouble> {
         let mut all = Vec::new(alloc);
         for entry in &self.state.nodes {
@@ -86,7 +86,7 @@ impl Plain {
         Ok(all)
     }
 
-    /// The sessions, as `sessions_text` tells those of a snapshot.
+    /// The sessions, as `sessions_text` reports those of a snapshot.
     fn sessions(&self, alloc: Global) -> Result<String, Trouble> {
         let state = &self.state;
         let mut text = format!(in alloc; "{} {}", state.next_identity, state.commits)?;
@@ -119,7 +119,7 @@ fn replied(alloc: Global, reply: Reply) -> Result<String, Trouble> {
     Ok(format!(in alloc; "code {} commit {}", reply.code as u8, reply.commit)?)
 }
 
-/// What is told of the names in a directory.
+/// What is reported of the names in a directory.
 fn names_text(
     alloc: Global,
     state: &State,
@@ -155,7 +155,7 @@ pub fn sessions_text(alloc: Global, snapshot: &Snapshot) -> Result<String, Troub
     Ok(text)
 }
 
-/// A query, and what is told.
+/// A query, and what is reported.
 #[derive(Drop)]
 struct Expected {
     payload: Vec<u8>,
@@ -188,7 +188,7 @@ pub struct Beside {
     plain: Option<Plain>,
     latest: [u64; 3],
     sent: Vec<Sent>,
-    /// The tree at the front of so many blocks, from which on fronts were not looked at.
+    /// The tree at the prefix of so many blocks, from which on prefixes were not looked at.
     tree: Vec<Expected>,
     blocks: usize,
     marks: Vec<Mark>,
@@ -212,7 +212,7 @@ fn ask(alloc: Global, machine: &mut Machine, payload: &[u8]) -> Result<String, T
     told(alloc, &machine.ask(payload)?)
 }
 
-/// What the machine tells of its tree, or of a snapshot's, beside what is expected.
+/// What the machine reports of its tree, or of a snapshot's, beside what is expected.
 fn compare_tree(
     alloc: Global,
     machine: &mut Machine,

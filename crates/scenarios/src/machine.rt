@@ -235,7 +235,7 @@ impl Machine {
         }
     }
 
-    /// How many commits there are, where the state after each stands.
+    /// How many commits there are, where the state after each is recovered.
     pub fn check(&mut self) -> Result<u32, Trouble> {
         match &self.store {
             Some(store) => Ok(store.check(self.alloc, &mut self.drive)?),

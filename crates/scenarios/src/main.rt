@@ -1,7 +1,7 @@
 //! A player of scenarios: scripts of steps that are played on an engine over a drive in memory.
 //!
 //! Each file that is named by a word of the program is played, or the standard input where there is none. A scenario goes on
-//! up to its first step that does not tell what its line wants. Each scenario gets a line, and the last line has the counts;
+//! up to its first step that does not give what its line wants. Each scenario gets a line, and the last line has the counts;
 //! the status is 1 where one failed. data/README has the words of a script.
 #![tactic(auto)]
 

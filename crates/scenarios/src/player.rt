@@ -1,4 +1,4 @@
-//! Steps that are played, and what each tells.
+//! Steps that are played, and what each reports.
 
 use crate::answers::told;
 use crate::beside::{Beside, sessions_text};
@@ -44,7 +44,7 @@ impl Player {
         }
     }
 
-    /// Plays a step, and tells how it went.
+    /// Plays a step, and reports how it went.
     pub fn play(&mut self, step: Step<'_>) -> Result<String, Trouble> {
         match step {
             Step::Medium(step) => self.play_medium(step),
@@ -67,7 +67,7 @@ impl Player {
         }
     }
 
-    /// What is told where there is nothing to tell.
+    /// What is reported where there is nothing to report.
     fn done(&self) -> Result<String, Trouble> {
         Ok(String::from_str(self.alloc, "done")?)
     }
@@ -114,7 +114,7 @@ impl Player {
         Err(Trouble::Line("no such medium"))
     }
 
-    /// Holds an earlier state. It tells the commit, and the sessions.
+    /// Holds an earlier state. It reports the commit, and the sessions.
     fn hold(&mut self, commit: u32) -> Result<String, Trouble> {
         let snapshot = self.machine.as_of(commit)?;
         let told = snapshot.commit();
@@ -127,7 +127,7 @@ impl Player {
         Ok(text)
     }
 
-    /// Answers the messages of a stream. It tells why it ended, and the answers.
+    /// Answers the messages of a stream. It reports why it ended, and the answers.
     fn serve(&mut self, stream: &Stream) -> Result<String, Trouble> {
         let (bytes, _) = stream.bytes.split_at(stream.end.min(stream.bytes.len()));
         let (first, rest) = bytes.split_at(stream.first.min(bytes.len()));

@@ -165,7 +165,7 @@ impl<'s> Stage<'s> {
         }
     }
 
-    /// Plays a definition, which tells nothing, or a step.
+    /// Plays a definition, which reports nothing, or a step.
     fn play_words(&mut self, words: &[&str], wanted: Wanted<'_>) -> Result<(), Trouble> {
         if let Some((name, values)) = words.split_first() {
             if let Some((at, names)) = self.script.definition(name) {
@@ -232,7 +232,7 @@ impl<'s> Stage<'s> {
         self.enter(at.saturating_add(1), end, bound, Vec::new(alloc))
     }
 
-    /// Plays a step, and holds what it tells beside what is wanted.
+    /// Plays a step, and holds what it reports beside what is wanted.
     fn play_step(&mut self, words: &[&str], wanted: Wanted<'_>) -> Result<(), Trouble> {
         let alloc = self.alloc;
         let step = read_step(alloc, words)?;
@@ -271,7 +271,7 @@ impl<'s> Stage<'s> {
         None
     }
 
-    /// The text with the value of what stands in braces.
+    /// The text with the value of what is in braces.
     fn expand(&self, text: &str) -> Result<String, Trouble> {
         let mut expanded = String::new(self.alloc);
         let mut rest = text;
@@ -314,7 +314,7 @@ impl<'s> Stage<'s> {
     }
 }
 
-/// What a line wants its step to tell.
+/// What a line wants its step to report.
 #[derive(Clone, Copy)]
 enum Wanted<'w> {
     /// It is not looked at.
@@ -325,7 +325,7 @@ enum Wanted<'w> {
     Bytes(&'w str),
 }
 
-/// The step of a line, and what it is to tell.
+/// The step of a line, and what it is to report.
 fn wanted_of(text: &str) -> (&str, Wanted<'_>) {
     if let Some((step, wanted)) = text.split_once(" -> ") {
         return (step, Wanted::Text(wanted.trim()));
@@ -336,7 +336,7 @@ fn wanted_of(text: &str) -> (&str, Wanted<'_>) {
     }
 }
 
-/// Whether what is told is one of the texts that are wanted, or a number of `1..32` where such are.
+/// Whether what is reported is one of the texts that are wanted, or a number of `1..32` where such are.
 fn is_one_of(wanted: &str, got: &str) -> bool {
     if let (Some((from, until)), Ok(told)) = (wanted.split_once(".."), got.parse::<u64>()) {
         return from.parse::<u64>().is_ok_and(|from| from <= told)

@@ -13,7 +13,7 @@ pub enum Trouble {
     Line(&'static str),
     /// A call of the store or of the format was refused, which a line may want.
     Refused(StoreFault),
-    /// The step told something else than its line wants.
+    /// The step reported something else than its line wants.
     Told { wanted: String, got: String },
     /// Memory was refused to the player.
     Memory,

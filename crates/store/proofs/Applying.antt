@@ -114,7 +114,7 @@ module _ (capacity volume : ℕ) (J : List Event) (S : State) (store : Store) (k
       abbrev plans : IsPlanned udf capacity volume (held J) S knows.stands (model_request r) blocks plan.table.entry
       plans = planned capacity volume J S store knows r change does plan makes is
 
-      -- a front is written
+      -- a prefix is written
       pub stopped : (J' : List Event) (now : Store) → now.is_stopped ≡ true → AddsPrefix J (next_of J) (plan_blocks plan) J' → IsFailed capacity volume J S (model_request r) J' now
       stopped J' now stops front =
           let there : AddsPrefix J (length J) (blocks ++ plan.table.entry ∷ []) J' = subst (λ (n : ℕ). AddsPrefix J n (blocks ++ plan.table.entry ∷ []) J') next (subst (λ (bs : List Block). AddsPrefix J (next_of J) bs J') all_is front) in
@@ -170,7 +170,7 @@ module _ (capacity volume : ℕ) (J : List Event) (S : State) (store : Store) (k
         pub whole : IsWholeCommit capacity volume J S (model_request r) J'
         whole = commits_are_whole capacity volume J J' S (model_request r) blocks plan.table.entry knows.once knows.stands plans there_all
 
-        -- the table that stands there is the plan's
+        -- the table that is there is the plan's
         stands_there : (later : RecoversTo udf capacity volume (held J') (after_one S (model_request r))) → (later.at ≡ length (held J) + length blocks) × (later.tells.table ≡ plans.table)
         stands_there =
             subst (λ (M : Medium). (later : RecoversTo udf capacity volume M (after_one S (model_request r))) → (later.at ≡ length (held J) + length blocks) × (later.tells.table ≡ plans.table))

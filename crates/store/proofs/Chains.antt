@@ -1,4 +1,4 @@
--- The states that stood along the chain of tables of a medium.
+-- The past states along the chain of tables of a medium.
 use Rattle.std.proofs.Common.{◌≡◌, ℕ, zero, suc, ◌+◌, ◌-◌, ◌<◌, ◌≤◌, take, Option, Some, refl, sym, ap, subst, ◌∙◌, arith}
 use Rattle.std.specs.Prelude.{IfSome, slice_get}
 use Rattle.std.proofs.lemmas.List.{length-take, take-take}
@@ -39,7 +39,7 @@ module _ (M : Medium) (at : ℕ) (N : Medium) (ends : EndsAt M at N) where
   pub below_same : take at N ≡ take at M
   below_same = part_same at (omega arith)
 
-  -- its last table is the one whose entry stands there
+  -- its last table is the one whose entry is there
   abbrev pub last_in : (t : Table_) → IsTableTold M at t → LastTable udf N
   last_in t is = record {
     at = at;
@@ -56,7 +56,7 @@ module _ (M : Medium) (at : ℕ) (N : Medium) (ends : EndsAt M at N) where
   pub last_is : (t : Table_) → IsTableTold M at t → (last : LastTable udf N) → last.table ≡ t
   last_is t is last = last_table_one udf exact N last (last_in t is)
 
-  -- the last table is told there
+  -- the last table is described there
   last_told : (last : LastTable udf N) → last.at ≡ at → IsTableTold M at last.table
   last_told last same = record {
     block = last.block;
@@ -86,7 +86,7 @@ link_less M at number t has link =
     omega (arith, low, less)
 
 module _ (capacity volume : ℕ) (M : Medium) where
-  -- so many steps back along the chain from this address, the state stood
+  -- so many steps back along the chain from this address, the state was recovered
   abbrev pub StoodAt : ℕ → ℕ → model.State → Type 0
   StoodAt at steps S = (N : Medium) → EndsAt M at N → RecoveredBefore udf steps capacity volume N S
 
@@ -149,7 +149,7 @@ module _ (capacity volume : ℕ) (M : Medium) where
       let there = stands_behind from steps at (suc rest) S N leads ends (subst (λ (n : ℕ). RecoveredBefore udf n capacity volume N S) count stood) in
       step_on at to rest S there.0 there.1 before there.2
 
-  -- ---- what is told at an address
+  -- ---- what is reported at an address
 
   pub shown_stood : (at : ℕ) (state : State) → 257 ≤ at → (shown : IsShown capacity M at state) → state.capacity ≡ volume → StoodAt at 0 shown.said
   shown_stood at state low shown size N ends =

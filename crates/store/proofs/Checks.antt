@@ -119,7 +119,7 @@ module _ (M : List (List ℕ)) (capacity at : ℕ) where
           let one = one_read M (number + 257) u v has (subst (λ (k : ℕ). HasTableAt M (k + 257) v) place there) in
           absurd (other (ap (λ (x : Table_). x.commits + 1) one ∙ fewer))
 
--- where one of them is not, no state stood after some commit
+-- where one of them is not, no state was recovered after some commit
 pub unchecked : (capacity volume : ℕ) (J : List Event) (T : model.State) (store : Store) → IsOpenOn capacity volume J T store → (fault : StoreFault) → IsUnchecked capacity (held J) store.vat_icb_address fault
     → IsCheckRefused capacity volume (held J) T.commits fault
 unchecked capacity volume J T store knows Device r = tt

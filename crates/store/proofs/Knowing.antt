@@ -1,4 +1,4 @@
--- What a store knows of the state that stands, as the parts of a commit ask for it.
+-- What a store knows of the recovered state, as the parts of a commit ask for it.
 use Rattle.std.proofs.Common.{◌≡◌, ℕ, ◌+◌, ◌-◌, ◌≤◌, Bool, List, ◌++◌, length, map, sym, ap, subst, ◌∙◌, arith, length-append}
 use Rattle.std.specs.Prelude.{Option, IsTrue}
 use Rattle.std.specs.FinMap.{len}
@@ -99,7 +99,7 @@ module _ (capacity volume : ℕ) (J : List Event) (S : State) (store : Store) (k
     abbrev nodes_written : List Writing
     nodes_written = change_writings r.moment change
 
-    -- of the table that stands
+    -- of the newest table
     does_there : IsChangeOf (graph_below knows.stands.at knows.stands.tells.table.entries J) (free_address knows.stands.tells.table.entries) S.tree (model_operation r.op) r.moment S.next_identity change
     does_there =
         let next : store.vat.sessions.next_unique ≡ S.next_identity = ap (λ (t : Table_). t.next_identity) knows.table ∙ knows.stands.tells.next_identity in

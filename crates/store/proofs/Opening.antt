@@ -1,4 +1,4 @@
--- A store that is opened where a state stands knows it, and where none is opened nothing stands.
+-- A store that is opened where a state is recovered knows it, and where none is opened nothing is recovered.
 use Rattle.std.proofs.Common.{◌≡◌, inl, inr, ℕ, ◌≤◌, List, take, refl, sym, ap, subst, ◌∙◌, arith}
 use Rattle.std.specs.Prelude.{Some, slice_get, Result, Ok, Err, IfErr, IsErr}
 use Rattle.std.proofs.lemmas.Bool.{false≢true}
@@ -32,7 +32,7 @@ use Rattle.store.specs.Opened.{IsOpenRefused}
 
 -- ---- what was read
 
--- all states that are told on a medium have one volume, that of its front
+-- all states that are described on a medium have one volume, that of its header
 pub one_volume : (M : Medium) (at here : ℕ) → 257 ≤ at → 257 ≤ here → (capacity volume other size : ℕ) (a b : Block) (S T : model.State) → Describes udf capacity volume (take at M) at a S
     → Describes udf other size (take here M) here b T → volume ≡ size
 one_volume M at here low high capacity volume other size a b S T x y =
@@ -74,7 +74,7 @@ module _ (capacity volume : ℕ) (M : Medium) (S : model.State) (stands : Recove
         ∙ last_table_one udf exact M (record { at = at; block = last.1.block; last = last_there M at last; table = shown.tells.table; moment = shown.said.moment; has = has })
         (record { at = stands.at; block = stands.block; last = stands.last; table = stands.tells.table; moment = S.moment; has = stands.tells.has })
 
-    -- the front that was read is the one that stands there
+    -- the volume header that was read is the one that is there
     pub volume_is : state.capacity ≡ volume
     volume_is = one_volume M at stands.at last.0 stands_entry.0 capacity state.capacity capacity volume shown.block stands.block shown.said S shown.tells stands.tells
 
@@ -106,7 +106,7 @@ pub shortage_opened : (capacity : ℕ) (M : Medium) (fault : StoreFault) → IsS
 shortage_opened capacity M fault (inl e) = subst (λ (f : StoreFault). IsOpenRefused capacity M f) (sym e) tt
 shortage_opened capacity M fault (inr e) = subst (λ (f : StoreFault). IsOpenRefused capacity M f) (sym e) tt
 
--- where a state stands, the drive failed or memory was short
+-- where a state is recovered, the drive failed or memory was short
 pub short_opened : (capacity volume : ℕ) (M : Medium) (S : model.State) (fault : StoreFault) → RecoversTo udf capacity volume M S → IsOpenRefused capacity M fault → IsShortage fault
 short_opened capacity volume M S Device stands refused = inl refl
 short_opened capacity volume M S Memory stands refused = inr refl

@@ -1,4 +1,4 @@
--- The states that stood before the one that a store knows.
+-- The states before the one that a store knows.
 use Rattle.std.proofs.Common.{◌≡◌, ℕ, suc, ◌+◌, ◌-◌, ◌<◌, ◌≤◌, List, take, Some, refl, sym, ap, subst, ◌∙◌, arith}
 use Rattle.std.specs.Prelude.{slice_get}
 use Rattle.drive.specs.Journal.{Event, held, next_of}
@@ -59,7 +59,7 @@ module _ (capacity volume : ℕ) (J : List Event) (T : model.State) (store : Sto
   pub past_of : (k steps : ℕ) (S : model.State) → k + steps ≡ T.commits → RecoveredBefore udf steps capacity volume (held J) S → RecoveredTo udf capacity volume (held J) k S
   past_of k steps S count stood = (last_in (held J) store.vat_icb_address (held J) ends_here (model_table table_here.0) (told (held J) store.vat_icb_address table_here.0 table_here.1), steps, count ∙ sym commits_here, stood)
 
-  -- what is told anywhere is told of this volume
+  -- what is described anywhere is described of this volume
   pub volume_told : (at : ℕ) (state : State) → 257 ≤ at → IsShown capacity (held J) at state → state.capacity ≡ volume
   volume_told at state low shown =
       one_volume (held J) at knows.stands.at low knows.stands.last.is.0 capacity state.capacity capacity volume shown.block knows.stands.block shown.said T shown.tells knows.stands.tells

@@ -1,4 +1,4 @@
--- What a query is told of the state that a store knows, and what the store knows afterwards.
+-- What a query is answered of the state that a store knows, and what the store knows afterwards.
 use Rattle.std.proofs.Common.{◌≡◌, ◌⊎◌, inl, inr, ℕ, Bool, false, List}
 use Rattle.std.specs.Prelude.{IfOk, IfErr, IsTrue, Option, Some, None, Result, Ok, Err}
 use Rattle.drive.specs.Journal.{Event, Once}

@@ -1,4 +1,4 @@
--- All commits of a chain, and the states that stood after each.
+-- All commits of a chain, and the past states after each.
 use Rattle.std.proofs.Common.{◌≡◌, ℕ, zero, suc, ◌+◌, ◌-◌, ◌<◌, ◌≤◌, inl, inr, List, [], ◌∷◌, length, Option, Some, None, IsNone, refl, sym, ap, subst, ◌∙◌, arith, slice_index_or}
 use Rattle.std.proofs.lemmas.Option.{none-some, same_Some}
 use Rattle.drive.specs.Journal.{Event, held}
@@ -80,7 +80,7 @@ module _ (M : Medium) where
       omega (arith, one, same, ap (λ (cs : List Commit). length cs) is)
 
   module _ (capacity volume : ℕ) (sized : (a : ℕ) (state : State) → 257 ≤ a → IsShown capacity M a state → state.capacity ≡ volume) where
-    -- ---- the states that were shown stood
+    -- ---- the states that were shown were recovered
 
     stood_in_chain : (at : ℕ) (t : Table) (earlier : List Commit) → HasTableAt M at t → IsChain M t.previous t.commits earlier → AreShown capacity M earlier → (i : ℕ) → i < length earlier
         → (S : model.State) × chains.StoodAt capacity volume M at (suc i) S
@@ -103,7 +103,7 @@ module _ (M : Medium) where
         go (suc j) s l = stood_in_chain at t earlier has chain (λ k d lt. s (suc k) d (omega (arith, lt))) j (omega (arith, l))
 
   module _ (capacity volume : ℕ) where
-    -- ---- none stood where none is told
+    -- ---- none was recovered where none is described
 
     not_in_chain : (at : ℕ) (t : Table) (earlier : List Commit) → HasTableAt M at t → IsChain M t.previous t.commits earlier → (i : ℕ) → i < length earlier → (S : model.State) (N : Medium) → EndsAt M at N
         → RecoveredBefore udf (suc i) capacity volume N S → ((d : Commit) → IsUntold capacity M (slice_index_or earlier i d).vat_icb_address) → ⊥
@@ -125,7 +125,7 @@ module _ (M : Medium) where
         go zero l s u = let told = stood_told capacity volume M at t S N has ends s in u (told_of at t) volume s.block S told.0 told.1
         go (suc j) l s u = not_in_chain at t earlier has chain j (omega (arith, l)) S N ends s u
 
-    -- ---- where the first state stood there is a history
+    -- ---- where the first state was recovered there is a history
 
     none_of : (link : Option ℕ) → IsNone link → link ≡ None
     none_of None h = refl
@@ -156,7 +156,7 @@ module _ (capacity volume : ℕ) (J : List Event) (T : model.State) (store : Sto
       let stood = stood_in (held J) capacity volume (volume_told capacity volume J T store knows) store.vat_icb_address all low is shown (T.commits - k) i in
       (stood.0, past_of capacity volume J T store knows k (T.commits - k) stood.0 (omega (arith, le)) (stood.1 (held J) (ends_here capacity volume J T store knows)))
 
-  -- where none is told of one of them, none stood after it
+  -- where none is described of one of them, none was recovered after it
   pub unshown : (all : List Commit) → IsHistory (held J) store.vat_icb_address all → HasUntold capacity (held J) all → AllRecovered capacity volume (held J) T.commits → ⊥
   unshown all is r stood =
       let few : r.0 ≤ T.commits = omega (arith, r.1, history_known all is) in
@@ -164,7 +164,7 @@ module _ (capacity volume : ℕ) (J : List Event) (T : model.State) (store : Sto
       let steps : past.1.1 ≡ r.0 = omega (arith, few, steps_past capacity volume J T store knows (T.commits - r.0) past.0 past.1) in
       not_in (held J) capacity volume store.vat_icb_address all is r.0 r.1 past.0 (held J) (ends_here capacity volume J T store knows) (subst (λ (n : ℕ). RecoveredBefore udf n capacity volume (held J) past.0) steps past.1.3) r.2
 
-  -- a state stood after each commit only where a list is all of them
+  -- a state was recovered after each commit only where a list is all of them
   pub history_stood : AllRecovered capacity volume (held J) T.commits → (all : List Commit) × IsHistory (held J) store.vat_icb_address all
   history_stood stood =
       let here = table_here capacity volume J T store knows in

@@ -5,7 +5,7 @@ use Rattle.drive.specs.Journal.{Event, next_of}
 use Rattle.store.specs.declared.store.Store.{Store}
 use Rattle.planning.specs.Last.{HasTableBelow}
 
--- the store's table stands on a drive with this journal and capacity
+-- the store's table is on a drive with this journal and capacity
 pub record IsStoreOn (journal : List Event) (capacity : ℕ) (store : Store) : Type 0 where
   pub keeps : HasTableBelow store.vat_icb_address store.vat
   pub on : store.vat_icb_address < next_of journal

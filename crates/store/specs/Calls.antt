@@ -1,4 +1,4 @@
--- What the calls of a store say on a drive that is honest, of the state that stands on its journal.
+-- What the calls of a store say on a drive that is honest, of the recovered state on its journal.
 use Rattle.std.specs.Prelude.{◌≡◌, ◌⊎◌, ℕ, ◌+◌, ◌<◌, ◌≤◌, false, List, [], ◌∷◌, ◌++◌, length, Result, Ok, Err}
 use Rattle.drive.specs.Journal.{AddsPrefix, Event, held, written, Once}
 use Rattle.drive.specs.Writes.{IsLeft, joined}
@@ -24,7 +24,7 @@ use Rattle.lookup.specs.Cache.{AreKept}
 use Rattle.lookup.specs.Asked.{is_directory, said_names}
 use Rattle.store.specs.Sessions.{reply_said}
 
--- The state stands on the journal, in which each address is written once, and the store keeps what the last table says,
+-- The journal recovers to the state, in which each address is written once, and the store keeps what the last table says,
 -- and directories that lie there.
 pub record IsOpenOn (capacity volume : ℕ) (journal : List Event) (S : State) (store : Store) : Type 0 where
   pub once : Once journal
@@ -76,14 +76,14 @@ RefusesRequest capacity volume before S request refusal behind store =
     ⊎ (((refusal ≡ fault.Memory) × IsLeftUnwritten capacity volume before S behind store)
     ⊎ ((refusal ≡ fault.Full) × IsLeftUnwritten capacity volume before S behind store × (volume < length before + need spelled S request)))
 
--- what became of a new request at the state that stands
+-- what became of a new request at the recovered state
 abbrev pub Applies : (capacity volume : ℕ) → List Event → State → Request → Result told.Reply StoreFault → List Event → Store → Type 0
 Applies capacity volume before S request (Ok reply) behind store = IsCommitDone capacity volume before S request reply behind store
 Applies capacity volume before S request (Err refusal) behind store = RefusesRequest capacity volume before S request refusal behind store
 
 -- The writes that a call made, and those that it would still have made had none failed. The journal goes on by a prefix of
 -- their blocks, and by all blocks of the writes that were made where none failed. Whatever a power loss leaves of the
--- writes that were made, the state before the call stands, or the one after the request.
+-- writes that were made, the state before the call is recovered, or the one after the request.
 pub record CommitSurvivesPowerLoss (capacity volume : ℕ) (before : List Event) (S : State) (request : Request) (writes : List (List (List ℕ))) (failed : ℕ) (behind : List Event) (later : List (List (List ℕ))) : Type 0 where
   pub added : List (List (List ℕ))
   pub others : List (List (List ℕ))
@@ -95,7 +95,7 @@ pub record CommitSurvivesPowerLoss (capacity volume : ℕ) (before : List Event)
 
 -- ---- queries
 
--- Each query is told what the tree shows, unless the drive fails or memory is short.
+-- Each query is answered what the tree shows, unless the drive fails or memory is short.
 abbrev pub GetRefuses : Answer → StoreFault → Type 0
 GetRefuses shown refusal = IsShortage refusal ⊎ (((refusal ≡ fault.NotFound) × (shown ≡ NotFound)) ⊎ ((refusal ≡ fault.IsDirectory) × (shown ≡ IsDirectory)))
 

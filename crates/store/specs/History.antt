@@ -1,4 +1,4 @@
--- The commits of a volume, as its chain of tables tells of them.
+-- The commits of a volume, as its chain of tables reports them.
 use Rattle.std.specs.Prelude.{◌≡◌, ⊤, ℕ, zero, suc, ◌+◌, ◌<◌, ◌≤◌, List, [], ◌∷◌, length, slice_index_or, All, Option, Some, None}
 use Rattle.limits.specs.declared.TheConstants.{PARTITION_START}
 use Rattle.vat.specs.Table.{Table, view}
@@ -10,7 +10,7 @@ use Rattle.recover.specs.declared.state.State.{State}
 use Rattle.recover.specs.Tables.{HasTableAt, IsBefore}
 use Rattle.store.specs.declared.history.Commit.{Commit}
 
--- what is told of the commit whose VAT ICB stands at an address
+-- what is reported of the commit whose VAT ICB is at an address
 abbrev pub told_of : ℕ → Table → Commit
 told_of at table = record { commit = table.commits; vat_icb_address = at; files = table.files; directories = table.directories }
 
@@ -21,7 +21,7 @@ IsChain medium link commits (c ∷ earlier) =
     (number : ℕ) × (link ≡ Some number) × (table : Table) × HasTableAt medium (number + PARTITION_START) table × (table.commits + 1 ≡ commits)
     × (c ≡ told_of (number + PARTITION_START) table) × IsChain medium table.previous table.commits earlier
 
--- all commits from the one whose VAT ICB stands at an address down to the format
+-- all commits from the one whose VAT ICB is at an address down to the format
 abbrev pub IsHistory : List (List ℕ) → ℕ → List Commit → Type 0
 IsHistory medium at commits = (table : Table) × HasTableAt medium at table × (earlier : List Commit) × (commits ≡ told_of at table ∷ earlier)
     × IsChain medium table.previous table.commits earlier
@@ -31,24 +31,24 @@ abbrev pub ChainLeads : List (List ℕ) → ℕ → ℕ → ℕ → Type 0
 ChainLeads medium from zero to = from ≡ to
 ChainLeads medium from (suc steps) to = (at : ℕ) × ChainLeads medium from steps at × IsBefore medium at (Some to)
 
--- the table whose entry stands at an address is that of so many commits, and the chain leads there
+-- the table whose entry is at an address is that of so many commits, and the chain leads there
 pub record IsTableOf (medium : List (List ℕ)) (from commits at : ℕ) (vat : Vat) : Type 0 where
   pub steps : ℕ
   pub leads : ChainLeads medium from steps at
   pub table : HasTableAt medium at (view vat)
   pub commits_are : vat.sessions.commits ≡ commits
 
--- the state after each of the commits is told by the blocks, on a drive of this capacity
+-- the state after each of the commits is described by the blocks, on a drive of this capacity
 abbrev pub AreShown : ℕ → List (List ℕ) → List Commit → Type 0
 AreShown capacity medium commits = All (λ (c : Commit). (state : State) × IsShown capacity medium c.vat_icb_address state) commits
 
--- each commit from the one whose VAT ICB stands at an address, and the state after it
+-- each commit from the one whose VAT ICB is at an address, and the state after it
 pub record IsChecked (capacity : ℕ) (medium : List (List ℕ)) (at : ℕ) : Type 0 where
   pub commits : List Commit
   pub history : IsHistory medium at commits
   pub shown : AreShown capacity medium commits
 
--- why the commits were not told: the drive failed, memory was short, or no list is all of them
+-- why the commits were not reported: the drive failed, memory was short, or no list is all of them
 abbrev pub IsHistoryRefused : List (List ℕ) → ℕ → StoreFault → Type 0
 IsHistoryRefused medium at Device = ⊤
 IsHistoryRefused medium at Memory = ⊤
@@ -72,11 +72,11 @@ IsWayRefused medium from commits Memory = ⊤
 IsWayRefused medium from commits (Damaged block cause) = (table : Table) → HasTableAt medium from table → commits ≤ table.commits → BreaksOff medium from commits
 IsWayRefused medium from commits _ = ⊥
 
--- at the address of one of the commits no state is told
+-- at the address of one of the commits no state is described
 abbrev pub HasUntold : ℕ → List (List ℕ) → List Commit → Type 0
 HasUntold capacity medium commits = (i : ℕ) × (i < length commits) × ((c : Commit) → IsUntold capacity medium (slice_index_or commits i c).vat_icb_address)
 
--- why not each state was shown: the drive failed, memory was short, or in no list that is all commits is each of them told
+-- why not each state was shown: the drive failed, memory was short, or in no list that is all commits is each of them described
 abbrev pub IsUnchecked : ℕ → List (List ℕ) → ℕ → StoreFault → Type 0
 IsUnchecked capacity medium at Device = ⊤
 IsUnchecked capacity medium at Memory = ⊤

@@ -8,7 +8,7 @@ use Rattle.recover.specs.declared.fault.StoreFault.TheVariants.{Device, Memory, 
 use Rattle.recover.specs.Tables.{HasVatIcb, HasNoneFrom}
 use Rattle.udf.specs.Udf.{udf}
 
--- nothing stands on the medium, on a drive of this capacity
+-- nothing is recovered on the medium, on a drive of this capacity
 abbrev pub RecoversToNothingHere : ℕ → List (List ℕ) → Type 0
 RecoversToNothingHere capacity medium = (volume : ℕ) (S : State) → RecoversTo udf capacity volume medium S → ⊥
 
@@ -16,7 +16,7 @@ RecoversToNothingHere capacity medium = (volume : ℕ) (S : State) → RecoversT
 abbrev pub HasSomeEntry : List (List ℕ) → Type 0
 HasSomeEntry medium = (at : ℕ) × (PARTITION_START ≤ at) × HasVatIcb medium at
 
--- the drive failed, memory was short, no VAT ICB is there, or one is and nothing stands
+-- the drive failed, memory was short, no VAT ICB is there, or one is and nothing is recovered
 abbrev pub IsOpenRefused : ℕ → List (List ℕ) → StoreFault → Type 0
 IsOpenRefused capacity medium Device = ⊤
 IsOpenRefused capacity medium Memory = ⊤

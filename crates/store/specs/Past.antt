@@ -1,4 +1,4 @@
--- The states that stood, as a store tells of them.
+-- The past states, as a store reports them.
 use Rattle.std.specs.Prelude.{◌≡◌, ⊤, ℕ, ◌<◌, ◌≤◌, Bool, IsTrue, List, [], length, take, Option}
 use Rattle.drive.specs.Journal.{Event, Once, held, next_of}
 use Rattle.model.specs.Graph.{MakesTree}
@@ -15,7 +15,7 @@ use Rattle.lookup.specs.declared.cache.DirectoryCache.{DirectoryCache}
 use Rattle.lookup.specs.Cache.{AreKept}
 use Rattle.lookup.specs.Shows.{HasNodesOf, graph_below}
 
--- the state after so many commits stood, and this table, whose entry stands at an address, leads to its nodes
+-- the state after so many commits was recovered, and this table, whose entry is at an address, leads to its nodes
 pub record IsPast (capacity volume : ℕ) (journal : List Event) (commits : ℕ) (S : State) (at : ℕ) (vat : Vat) : Type 0 where
   pub past : RecoveredTo udf capacity volume (held journal) commits S
   pub tree : IsTree S.tree
@@ -27,7 +27,7 @@ pub record IsPast (capacity volume : ℕ) (journal : List Event) (commits : ℕ)
   pub commits_are : vat.sessions.commits ≡ commits
 
 -- why the state after so many commits, of as many as there are now, is not shown: the drive failed, memory was short,
--- there are fewer, or none stood
+-- there are fewer, or none was recovered
 abbrev pub IsPastRefused : ℕ → ℕ → List (List ℕ) → ℕ → ℕ → StoreFault → Type 0
 IsPastRefused capacity volume medium now commits Device = ⊤
 IsPastRefused capacity volume medium now commits Memory = ⊤
@@ -35,11 +35,11 @@ IsPastRefused capacity volume medium now commits NoCommit = now < commits
 IsPastRefused capacity volume medium now commits (Damaged block cause) = (S : State) → RecoveredTo udf capacity volume medium commits S → ⊥
 IsPastRefused capacity volume medium now commits _ = ⊥
 
--- a state stood after each of so many commits
+-- a state was recovered after each of so many commits
 abbrev pub AllRecovered : ℕ → ℕ → List (List ℕ) → ℕ → Type 0
 AllRecovered capacity volume medium commits = (k : ℕ) → k ≤ commits → (S : State) × RecoveredTo udf capacity volume medium k S
 
--- why so many commits are not told: the drive failed, memory was short, or after one of them no state stood
+-- why so many commits are not reported: the drive failed, memory was short, or after one of them no state was recovered
 abbrev pub IsCheckRefused : ℕ → ℕ → List (List ℕ) → ℕ → StoreFault → Type 0
 IsCheckRefused capacity volume medium commits Device = ⊤
 IsCheckRefused capacity volume medium commits Memory = ⊤

@@ -8,7 +8,7 @@ use Rattle.model.specs.Session as model
 use Rattle.store.specs.declared.due.Due.{Due}
 use Rattle.store.specs.declared.due.Due.TheVariants as due
 
--- a reply as a client is told it
+-- a reply as a client gets it
 abbrev pub reply_said : told.Reply → Reply
 reply_said reply = record { code = code_number reply.code; commit = reply.commit }
 

@@ -34,7 +34,7 @@ impl Store {
     ) -> Result<Reply, StoreFault>
         requires agrees { IsStoreOn (D.journal drive.old) (D.capacity drive.old) self.old }
         requires next { IsNext request.now.client request.now.number self.old.vat.sessions.records.items }
-        // What becomes of the request on an honest drive, where a state stands that the store knows.
+        // What becomes of the request on an honest drive, where a state is recovered that the store knows.
         ensures applies { (volume : ℕ) (S : State) → IsTrue (D.honest drive.new) → IsOpenOn (D.capacity drive.old) volume (D.journal drive.old) S self.old → self.old.is_stopped ≡ false → Applies (D.capacity drive.old) volume (D.journal drive.old) S (model_request request.now) result (D.journal drive.new) self.new }
         // What its writes leave on the journal; and what a power loss leaves of them, where a disk keeps any choice of the blocks
         // of the last one that it was given.

@@ -29,7 +29,7 @@ use request::{FileData, Listing, NodeStatus, Path};
 use std::alloc::Global;
 use vat::{Sessions, Vat};
 
-/// A commit, as its table tells of it.
+/// A commit, as its table reports it.
 #[derive(Clone, Copy, Debug, PartialEq, Eq)]
 pub struct Commit {
     /// How many commits there were with it: 0 for the format.
@@ -204,9 +204,9 @@ impl Store {
         requires agrees { IsStoreOn (D.journal drive.old) (D.capacity drive.old) self.now }
         ensures stopped { IsTrue self.now.is_stopped → (result ≡ Err Stopped) × (drive.new ≡ drive.old) }
         ensures none { self.now.is_stopped ≡ false → self.now.vat.sessions.commits < commit → result ≡ Err NoCommit }
-        // The state that stood after so many commits.
+        // The state that was recovered after so many commits.
         ensures past { (volume : ℕ) (T : said.State) → IsTrue (D.honest drive.new) → IsOpenOn (D.capacity drive.old) volume (D.journal drive.old) T self.now → IfOk result (λ s. (S : said.State) × IsPast (D.capacity drive.old) volume (D.journal drive.old) commit S s.vat_icb_address s.vat) }
-        // Where it is refused none stood, or the drive failed or memory was short.
+        // Where it is refused none was recovered, or the drive failed or memory was short.
         ensures refused { (volume : ℕ) (T : said.State) → IsTrue (D.honest drive.new) → IsOpenOn (D.capacity drive.old) volume (D.journal drive.old) T self.now → self.now.is_stopped ≡ false → IfErr result (IsPastRefused (D.capacity drive.old) volume (held (D.journal drive.old)) T.commits commit) }
         ensures table { IfOk result (λ s. IsTrue (D.honest drive.new) → IsTableOf (held (D.journal drive.old)) self.now.vat_icb_address commit s.vat_icb_address s.vat) }
         ensures shown { IfOk result (λ s. IsTrue (D.honest drive.new) → (state : State) × IsShown (D.capacity drive.old) (held (D.journal drive.old)) s.vat_icb_address state × (state.vat ≡ s.vat)) }
@@ -252,14 +252,14 @@ impl Store {
         Ok((at, vat))
     }
 
-    /// How many commits there are, where the state after each of them stands.
+    /// How many commits there are, where the state after each of them is recovered.
     pub fn check<D: Drive>(&self, alloc: Global, drive: &mut D) -> Result<u32, StoreFault>
         requires agrees { IsStoreOn (D.journal drive.old) (D.capacity drive.old) self.now }
         ensures stopped { IsTrue self.now.is_stopped → (result ≡ Err Stopped) × (drive.new ≡ drive.old) }
         ensures count { IfOk result (λ n. n ≡ self.now.vat.sessions.commits) }
-        // A state stood after each.
+        // A state was recovered after each.
         ensures whole { (volume : ℕ) (T : said.State) → IsTrue (D.honest drive.new) → IsOpenOn (D.capacity drive.old) volume (D.journal drive.old) T self.now → IfOk result (λ n. (n ≡ T.commits) × AllRecovered (D.capacity drive.old) volume (held (D.journal drive.old)) n) }
-        // Where it is refused none stood after one of them, or the drive failed or memory was short.
+        // Where it is refused none was recovered after one of them, or the drive failed or memory was short.
         ensures refused { (volume : ℕ) (T : said.State) → IsTrue (D.honest drive.new) → IsOpenOn (D.capacity drive.old) volume (D.journal drive.old) T self.now → self.now.is_stopped ≡ false → IfErr result (IsCheckRefused (D.capacity drive.old) volume (held (D.journal drive.old)) T.commits) }
         ensures history { OnOk result (IsTrue (D.honest drive.new) → IsChecked (D.capacity drive.old) (held (D.journal drive.old)) self.now.vat_icb_address) }
         ensures reads { ReadsOnly D.Drive (devices result) drive.old drive.new }
@@ -276,13 +276,13 @@ impl Store {
 /// the commit before it below those; one of a small file has some ten blocks.
 const AHEAD: u32 = 64;
 
-/// The state after each commit stands, from the one whose VAT ICB stands at `at` back to the format. The chain is walked
+/// The state after each commit is recovered, from the one whose VAT ICB is at `at` back to the format. The chain is walked
 /// once: each table is that of a state, and what two states that follow one another have alike is read once.
 fn check_states<D: Drive>(alloc: Global, drive: &mut D, at: u32) -> Result<(), StoreFault>
     requires low { PARTITION_START ≤ at }
     requires within { at < next_of (D.journal drive.old) }
     ensures checked { OnOk result (IsTrue (D.honest drive.new) → IsChecked (D.capacity drive.old) (held (D.journal drive.old)) at) }
-    // Where it is refused no list is the history, or of one of its commits no state is told, or the drive failed or memory was short.
+    // Where it is refused no list is the history, or of one of its commits no state is described, or the drive failed or memory was short.
     ensures refused { IfErr result (λ fault. IsTrue (D.honest drive.new) → IsUnchecked (D.capacity drive.old) (held (D.journal drive.old)) at fault) }
     ensures reads { ReadsOnly D.Drive (devices result) drive.old drive.new }
 {

@@ -3,12 +3,12 @@
 //!
 //! Promised: opening, queries and history write nothing. A request that is committed is on the medium, with all that it leads
 //! to. Where a write failed a prefix of the plan's blocks was written, and the store is stopped; after any other refusal the
-//! medium is as it was. On a drive whose reads are honest the store knows the state that stands (UDF 2.01 2.2.10), and its
-//! answers are those of that state, or of the one that stood after an earlier commit. A store keeps the table, the sessions
+//! medium is as it was. On a drive whose reads are honest the store knows the recovered state (UDF 2.01 2.2.10), and its
+//! answers are those of that state, or of the one after an earlier commit. A store keeps the table, the sessions
 //! and a few directories, and no drive: each call is lent the one drive that nobody else writes.
 //!
 //! Left to others: the new volume that is opened first (`formatting`), what a request changes and where it is written
-//! (`planning`), the walk to a node (`directories`), and what a client is told.
+//! (`planning`), the walk to a node (`lookup`), and what a client is answered.
 #![tactic(auto)]
 
 mod commit;

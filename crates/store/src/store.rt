@@ -34,11 +34,11 @@ pub struct Store {
 impl Store {
     /// The volume on a drive, as its last table says. Nothing is written.
     pub fn open<D: Drive>(alloc: Global, drive: &mut D) -> Result<Store, StoreFault>
-        // It is opened where a state stands on an honest drive, and keeps that.
+        // It is opened where a state is recovered on an honest drive, and keeps that.
         ensures opens { (volume : ℕ) (S : said.State) → IsTrue (D.honest drive.new) → Once (D.journal drive.old) → RecoversTo udf (D.capacity drive.old) volume (held (D.journal drive.old)) S → Opens (D.capacity drive.old) volume (D.journal drive.old) S result }
         // Nothing else is opened on one.
         ensures recovers { IfOk result (λ store. IsTrue (D.honest drive.new) → Once (D.journal drive.old) → (S : said.State) × IsOpenOn (D.capacity drive.old) store.capacity (D.journal drive.old) S store) }
-        // Where it is not opened, no VAT ICB is on the medium, or one is and nothing stands there.
+        // Where it is not opened, no VAT ICB is on the medium, or one is and nothing is recovered there.
         ensures refused { IfErr result (λ fault. IsTrue (D.honest drive.new) → IsOpenRefused (D.capacity drive.old) (held (D.journal drive.old)) fault) }
         ensures agrees { IfOk result (IsStoreOn (D.journal drive.old) (D.capacity drive.old)) }
         ensures kept { IfOk result (λ store. AreKept (D.journal drive.new) store.directories) }

@@ -1,4 +1,4 @@
--- The planned blocks of a request on a journal, all of them or a front.
+-- The planned blocks of a request on a journal, all of them or a prefix.
 use Rattle.std.proofs.Common.{◌≡◌, ◌⊎◌, inl, inr, ℕ, suc, ◌+◌, ◌<◌, ◌≤◌, List, [], ◌∷◌, ◌++◌, length, refl, sym, ap, ◌∙◌, subst, arith, append_assoc, length-append}
 use Rattle.std.proofs.lemmas.List.{take_at}
 use Rattle.std.proofs.lemmas.Option.{slice_get_within}
@@ -73,7 +73,7 @@ commits_are_whole capacity volume before behind S r blocks mark once stands plan
 pub commits_are_part : CommitsArePart
 commits_are_part capacity volume before behind S r blocks mark once stands plan front = part capacity volume before behind S r blocks mark once stands plan front
 
--- ---- the table that stands after a whole commit
+-- ---- the table after a whole commit
 
 module _ (capacity volume : ℕ) (B : Medium) (S : State) (r : Request) (blocks : List Block) (mark : Block) (stands : RecoversTo udf capacity volume B S) (plan : IsPlanned udf capacity volume B S stands r blocks mark) where
   has : HasTable udf (B ++ blocks) (length B + length blocks) mark plan.table (after_one S r).moment

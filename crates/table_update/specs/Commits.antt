@@ -1,4 +1,4 @@
--- What becomes of a state where the planned blocks of a request are written, all of them or a front.
+-- What becomes of a state where the planned blocks of a request are written, all of them or a prefix.
 use Rattle.std.specs.Prelude.{◌≡◌, ◌⊎◌, ℕ, ◌+◌, ◌<◌, ◌≤◌, List, [], ◌∷◌, ◌++◌, length}
 use Rattle.drive.specs.Journal.{Event, held, Once, AddsPrefix, written}
 use Rattle.model.specs.Session.{State, Request, after, after_one}
@@ -32,7 +32,7 @@ CommitsArePart =
     (capacity volume : ℕ) (before behind : List Event) (S : State) (request : Request) (blocks : List Block) (mark : Block) → Once before → (stands : RecoversTo udf capacity volume (held before) S)
     → IsPlanned udf capacity volume (held before) S stands request blocks mark → AddsPrefix before (length before) (blocks ++ mark ∷ []) behind → IsPart capacity volume before S request behind
 
--- after a whole commit the table that stands is the plan's, and its entry the last block
+-- after a whole commit the table is the plan's, and its entry the last block
 abbrev pub TablesRecover : Type 0
 TablesRecover =
     (capacity volume : ℕ) (medium : Medium) (S : State) (request : Request) (blocks : List Block) (mark : Block) (stands : RecoversTo udf capacity volume medium S)

@@ -48,7 +48,7 @@ AreOf None directories nodes = AreDirectories directories nodes
 AreOf (Some bytes) directories [] = ⊥
 AreOf (Some bytes) directories (node ∷ nodes) = (node.stored.body ≡ Bytes bytes) × AreDirectories directories nodes
 
--- it is what the request may need at the state that stands
+-- it is what the request may need at the recovered state
 abbrev pub NeedIsComputed : Type 0
 NeedIsComputed =
     (capacity volume : ℕ) (medium : Medium) (S : State) (stands : RecoversTo udf capacity volume medium S) (request : Request) (nodes : List Writing) (unused : List ℕ) (written : List Written)

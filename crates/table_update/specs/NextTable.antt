@@ -58,7 +58,7 @@ RemovesNode (Replace path bytes) tree unused taken = taken ≡ None
 RemovesNode (Rename from to) tree unused taken = taken ≡ None
 RemovesNode (Remove path) tree unused taken = (node : Node) × (taken ≡ Some node) × (unused ≡ node.address ∷ []) × (node.kind ≡ name_kind (is_directory_at tree path))
 
--- What a request writes at the state that stands: the nodes, the addresses that are unused after it, where the nodes' entries are, and the node that is made and the one that goes.
+-- What a request writes at the recovered state: the nodes, the addresses that are unused after it, where the nodes' entries are, and the node that is made and the one that goes.
 pub record ChangesVolume (capacity volume : ℕ) (medium : Medium) (S : State) (stands : RecoversTo udf capacity volume medium S) (request : Request) (nodes : List Writing) (unused : List ℕ) (written : List Written) (made : Option NewNode) (taken : Option Node) : Type 0 where
   pub done : code_of request.operation S.tree ≡ 0
       → Plans (graph_of udf (take stands.at medium) stands.tells.table.entries) (free_address stands.tells.table.entries) request.operation request.moment S.next_identity nodes unused

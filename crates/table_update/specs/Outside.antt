@@ -1,4 +1,4 @@
--- Where the bytes of a file stand.
+-- Where the bytes of a file are.
 use Rattle.std.specs.Prelude.{ℕ, nat_lt, if◌then◌else◌, List, [], length}
 use Rattle.limits.specs.declared.TheConstants.{INSIDE_BYTES}
 

@@ -2,7 +2,7 @@
 //!
 //! Promised: each change is made exactly where it can be; the table that the changes make is the one that a request's plan
 //! asks for, in as many bytes; what is computed from sizes is what a request may need; the blocks of its nodes, the table's
-//! bytes and its entry make the plan; and where these are written, whole or a front, the request is committed or not.
+//! bytes and its entry make the plan; and where these are written, whole or a prefix, the request is committed or not.
 //!
 //! Left to others: where blocks lie, which nodes a request writes, and every write.
 #![tactic(auto)]

@@ -56,7 +56,7 @@ fn place_of(records: &[Record], client: u64) -> Option<usize>
     None
 }
 
-/// Puts a reply in front of those that are kept for its client. A new client's record goes last.
+/// Puts a reply before those that are kept for its client. A new client's record goes last.
 fn answer(
     records: &mut Vec<Record>,
     client: u64,

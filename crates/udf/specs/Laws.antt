@@ -13,9 +13,9 @@ use Rattle.durability.specs.Journal.{Advances, HoldsOnJournal}
 use Rattle.durability.specs.Runs.{Delivery, Answer, Runs, Holds}
 use Rattle.udf.specs.Udf.{udf, spelled}
 
--- ---- what stands
+-- ---- what is recovered
 
--- at most one state stands on a medium, whatever drive and volume it is read in
+-- a medium recovers to at most one state, whatever drive and volume it is read in
 abbrev pub OneStateIsRecovered : Type 0
 OneStateIsRecovered = (capacity volume other_capacity other_volume : ℕ) (medium : Medium) (S T : State) → RecoversTo udf capacity volume medium S → RecoversTo udf other_capacity other_volume medium T → S ≡ T
 
@@ -23,11 +23,11 @@ OneStateIsRecovered = (capacity volume other_capacity other_volume : ℕ) (mediu
 abbrev pub RecoveredIsSound : Type 0
 RecoveredIsSound = (capacity volume : ℕ) (medium : Medium) (S : State) → RecoversTo udf capacity volume medium S → IsSound S
 
--- at most one state stood after a number of commits
+-- at most one state was recovered after a number of commits
 abbrev pub OnePast : Type 0
 OnePast = (capacity volume other_capacity other_volume : ℕ) (medium : Medium) (commits : ℕ) (S T : State) → RecoveredTo udf capacity volume medium commits S → RecoveredTo udf other_capacity other_volume medium commits T → S ≡ T
 
--- and there is none above the count of the one that stands, which is itself the last
+-- and there is none above the count of the recovered one, which is itself the last
 abbrev pub PastIsWithin : Type 0
 PastIsWithin = (capacity volume : ℕ) (medium : Medium) (commits : ℕ) (S T : State) → RecoveredTo udf capacity volume medium commits S → RecoversTo udf capacity volume medium T → commits ≤ T.commits
 
@@ -36,7 +36,7 @@ RecoveredIsLast = (capacity volume : ℕ) (medium : Medium) (S : State) → Reco
 
 -- ---- blocks that imitate no VAT ICB
 
--- what stands on a medium stands on the longer one, and nothing else does
+-- what a medium recovers to the longer one does too, and nothing else
 abbrev pub RecoversAppended : Type 0
 RecoversAppended =
     (capacity volume : ℕ) (S : State) (medium blocks : Medium) → NoneImitates udf (length medium) blocks
@@ -61,7 +61,7 @@ PlannedShort =
     (capacity volume : ℕ) (medium : Medium) (S : State) (stands : RecoversTo udf capacity volume medium S) (request : Request) (blocks : List Block) (mark : Block)
     → IsPlanned udf capacity volume medium S stands request blocks mark → length (blocks ++ mark ∷ []) ≤ need spelled S request
 
--- Whichever front of them was written: what stood stands on the journal, or all of them are there and the state after the request does.
+-- Whichever prefix of them was written: the journal recovers to the old state, or all of them are there and it recovers to the state after the request.
 abbrev pub CommitAdvances : Type 0
 CommitAdvances =
     (capacity volume : ℕ) (before behind : List Event) (S : State) (request : Request) (blocks : List Block) (mark : Block) → Once before
@@ -72,7 +72,7 @@ CommitAdvances =
 
 -- ---- a format
 
--- before its last block nothing stands, and then the new volume
+-- before its last block nothing is recovered, and then the new volume
 abbrev pub NothingBefore : Type 0
 NothingBefore =
     (capacity volume : ℕ) (label : List ℕ) (moment : ℕ) (blocks : List Block) (mark : Block) → IsFormat udf capacity volume label moment blocks mark
@@ -85,7 +85,7 @@ FormatRecovers =
 
 -- ---- runs
 
--- a run leaves at each of its fronts the state after the first of its commits
+-- a run leaves at each of its prefixes the state after the first of its commits
 abbrev pub RunsHold : Type 0
 RunsHold =
     (drive volume : ℕ) (S : State) (before behind : Medium) (deliveries : List Delivery) (answers : List Answer) (committed : List Request) (S' : State)

@@ -36,7 +36,7 @@ first_table label = record {
 abbrev pub new_table_fields : ℕ → Fields
 new_table_fields moment = record { kind = Vat; moment = moment; links = 0; unique = 0; size = 204; place = Extent 3 }
 
--- the front, and the five blocks after it
+-- the volume header, and the five blocks after it
 pub record IsNewVolume (volume : ℕ) (label : List ℕ) (moment : ℕ) (front : List Block) (set names root table mark : Block) : Type 0 where
   pub front_is : IsFront label moment volume front
   pub set_is : IsFileSet (record { label = label; moment = moment }) set

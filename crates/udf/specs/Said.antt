@@ -71,7 +71,7 @@ model_table t = record {
   entries = t.entries;
 }
 
--- ---- what is read stands there by these formats
+-- ---- what is read is there by these formats
 
 abbrev pub EntriesAgree : Type 0
 EntriesAgree = (fields : IcbFields) (block : Block) (location : ℕ) → IsEntry fields location block ↔ udf.IsEntry (said_fields fields) block location

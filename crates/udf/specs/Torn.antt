@@ -35,14 +35,14 @@ ChoicesAreLeft =
 
 -- ---- a commit
 
--- What is left of a commit's writes, without the one of its last block, changes neither what stands nor what stood.
+-- What is left of a commit's writes, without the one of its last block, changes neither the recovered state nor an earlier one.
 abbrev pub TornPartIsAlike : Type 0
 TornPartIsAlike =
     (capacity volume : ℕ) (medium : Medium) (S : State) (stands : RecoversTo udf capacity volume medium S) (request : Request) (blocks : List Block) (mark : Block)
     → IsPlanned udf capacity volume medium S stands request blocks mark
     → (writes : List (List Block)) (left : List Block) → joined writes ≡ blocks → IsLeft writes left → AreAlike udf capacity volume medium (medium ++ left)
 
--- With all blocks but the last, and after them nothing or a block of zeros, the old state stands, and with the last the state after the request.
+-- With all blocks but the last, and after them nothing or a block of zeros, the old state is recovered, and with the last the state after the request.
 abbrev pub LastBlockDecides : Type 0
 LastBlockDecides =
     (capacity volume : ℕ) (medium : Medium) (S : State) (stands : RecoversTo udf capacity volume medium S) (request : Request) (blocks : List Block) (mark : Block)
@@ -51,7 +51,7 @@ LastBlockDecides =
     × Endures udf capacity volume medium S [] (medium ++ (blocks ++ zeros ∷ []))
     × Endures udf capacity volume medium S (request ∷ []) (medium ++ (blocks ++ mark ∷ []))
 
--- Whatever is left of a commit whose last block goes out alone: what stood stands, or all of it is there and the state after the request does. It is no more than the request may need.
+-- Whatever is left of a commit whose last block goes out alone: the old state is recovered, or all of it is there and the state after the request is. It is no more than the request may need.
 abbrev pub TornCommitMoves : Type 0
 TornCommitMoves =
     (capacity volume : ℕ) (medium : Medium) (S : State) (stands : RecoversTo udf capacity volume medium S) (request : Request) (blocks : List Block) (mark : Block)
@@ -75,7 +75,7 @@ TornCommitAdvances =
 
 -- ---- commits in turn
 
--- At any moment of commits in turn, of which some were answered: the state after these and after the first of the others stands, and no other.
+-- At any moment of commits in turn, of which some were answered: the state after these and after the first of the others is recovered, and no other.
 abbrev pub AnsweredEndure : Type 0
 AnsweredEndure =
     (capacity volume : ℕ) (answered others : List Request) (medium : Medium) (S : State) (before writes : List (List Block)) (left : List Block)
@@ -83,7 +83,7 @@ AnsweredEndure =
     → AreCommitted udf capacity volume (medium ++ joined before) (after S answered) others writes → IsLeft writes left
     → (j : ℕ) × (j ≤ length others) × Endures udf capacity volume medium S (answered ++ take j others) ((medium ++ joined before) ++ left)
 
--- Of commits in turn, each after whatever is left of those before it, the state after those that are whole stands alone.
+-- Of commits in turn, each after whatever is left of those before it, the state after those that are whole is recovered, and no other.
 abbrev pub CommitsEndure : Type 0
 CommitsEndure =
     (capacity volume : ℕ) (requests : List Request) (medium : Medium) (S : State) (done : List Request) (behind : Medium)
@@ -102,13 +102,13 @@ TornCommitRuns =
 
 -- ---- a format
 
--- What is left of a format's writes, without the one of its last block: nothing stands.
+-- What is left of a format's writes, without the one of its last block: nothing is recovered.
 abbrev pub TornFormatIsNothing : Type 0
 TornFormatIsNothing =
     (capacity volume : ℕ) (label : List ℕ) (moment : ℕ) (blocks : List Block) (mark : Block) → IsFormat udf capacity volume label moment blocks mark
     → (writes : List (List Block)) (left : List Block) → joined writes ≡ blocks → IsLeft writes left → RecoversToNothing udf left
 
--- Whatever is left of one whose last block goes out alone: nothing stands, or all of it is there and the new volume does.
+-- Whatever is left of one whose last block goes out alone: nothing is recovered, or all of it is there and the new volume is.
 abbrev pub TornFormatRecovers : Type 0
 TornFormatRecovers =
     (capacity volume : ℕ) (label : List ℕ) (moment : ℕ) (blocks : List Block) (mark : Block) → IsFormat udf capacity volume label moment blocks mark

@@ -1,4 +1,4 @@
--- What stands before the records.
+-- What is before the records.
 use Rattle.std.proofs.Common.{◌≡◌, ℕ, ◌+◌, ◌*◌, ◌<◌, ◌^◌, List, [], ◌∷◌, ◌++◌, length, take, drop, get_or, replicate, codes, refl, sym, ap, ◌∙◌, arith}
 use Rattle.std.specs.Int.{w16, w32, to_le_bytes}
 use Rattle.std.specs.List.{concat}
@@ -31,7 +31,7 @@ head_written version room number count clients previous entry files directories 
 
 -- ---- reading
 
--- what is read in front of the records
+-- what is read before the records
 pub record ReadsHead (size : ℕ) (label : List ℕ) (previous files directories version count next commits : ℕ) (rest bytes : List ℕ) : Type 0 where
   pub header : u16_at 0 bytes ≡ 152 + size
   pub implementation_use : u16_at 2 bytes ≡ size

@@ -27,7 +27,7 @@ field_told text field is e =
 pub one_label : (text other field : List ℕ) → IsLabelDstring text field → IsLabelDstring other field → text ≡ other
 one_label text other field a b = sym (text_from_Dstring text field (length field) a.field) ∙ text_from_Dstring other field (length field) b.field
 
--- what reading a label answered tells whether there is one
+-- what reading a label answered says whether there is one
 pub label_there : (o : Option (List ℕ)) (bytes field : List ℕ) (r : Bool) → field ≡ label_field bytes → r ≡ is_some o → IfSome o (λ label. IsLabelDstring label field)
     → ((text : List ℕ) → IsLabelDstring text field → o ≡ Some text) → IsTrue r ↔ HasLabel bytes
 label_there None bytes field r is e some only = (

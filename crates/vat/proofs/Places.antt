@@ -10,7 +10,7 @@ use Rattle.ecma.specs.Blocks.{block_count}
 use Rattle.icb.specs.VatIcb.{IsVatIcb}
 use Rattle.vat.specs.Imitation.{Imitates, data_block}
 
--- a number in the front
+-- a number in the prefix
 pub u32_at-append : (n : ℕ) (xs ys : List ℕ) → n + 4 ≤ length xs → u32_at n (xs ++ ys) ≡ u32_at n xs
 u32_at-append n xs ys room = omega (
   arith,
@@ -23,7 +23,7 @@ u32_at-append n xs ys room = omega (
 pub icb_located : (block : List ℕ) (number : ℕ) → IsVatIcb block number → u32_at 12 block ≡ number
 icb_located block number is = located 261 number _ block is.entry.laid.whole
 
--- a text whose location is another is no entry, whatever zeros stand after it
+-- a text whose location is another is no entry, whatever zeros are after it
 pub elsewhere : (text : List ℕ) (number : ℕ) → 16 ≤ length text → u32_at 12 text ≢ number → IsVatIcb (padded text) number → ⊥
 elsewhere text number long other is =
     other (sym (u32_at-append 12 text (replicate (2048 - length text) 0) long) ∙ icb_located (padded text) number is)

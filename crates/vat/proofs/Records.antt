@@ -62,7 +62,7 @@ length-record version kept h =
     let all = flat_map reply_bytes (filled (places version) kept.replies) in
     omega (arith, length-append all [], length-replies (filled (places version) kept.replies), length-filled (places version) kept.replies h.room, sized version)
 
--- the front of a record of four places is the record
+-- the beginning of a record of four places is the record
 front_of : (version : Version) (client latest : ℕ) (replies : List Reply) → 0 < length replies → length replies ≤ places version
     → take (record_size version) (concat (to_le_bytes w64 client ∷ to_le_bytes w64 latest ∷ flat_map reply_bytes (filled 4 replies) ∷ []))
     ≡ concat (to_le_bytes w64 client ∷ to_le_bytes w64 latest ∷ flat_map reply_bytes (filled (places version) replies) ∷ [])
@@ -77,7 +77,7 @@ front_of Two client latest replies some room =
 pub record_front : (version : Version) (kept : Record) → HasRoom version kept → take (record_size version) (record_bytes Two kept) ≡ record_bytes version kept
 record_front version kept h = front_of version kept.client kept.latest kept.replies h.some h.room
 
--- a text that was compared with the front of a record of four places
+-- a text that was compared with the beginning of a record of four places
 pub is_spelled : (version : Version) (kept : Record) (text written : List ℕ) (size : ℕ) (r : Bool) → HasRoom version kept → size ≡ record_size version → written ≡ record_bytes Two kept
     → r ≡ bytes_eq text (take size written) → IsTrue r ↔ (text ≡ record_bytes version kept)
 is_spelled version kept text written size r h size-is written-is compared =
@@ -88,7 +88,7 @@ is_spelled version kept text written size r h size-is written-is compared =
 
 -- ---- reading
 
--- the record that stands in the text, if one does
+-- the record that is in the text, if one is
 abbrev pub parsed : Version → List ℕ → Record
 parsed version text = record { client = u64_at 0 text; latest = u64_at 8 text; replies = replies_in (places_in version text) }
 
@@ -151,7 +151,7 @@ replies_again Two client latest limit (a ∷ b ∷ c ∷ d ∷ e ∷ replies) sm
 number_again : (n : ℕ) → n < 2 ^ 64 → u64_at 0 (to_le_bytes w64 n) ≡ n
 number_again n lt = omega arith
 
--- the client stands in front
+-- the client is first
 pub client_again : (version : Version) (kept : Record) → kept.client < 2 ^ 64 → u64_at 0 (record_bytes version kept) ≡ kept.client
 client_again version kept lt = number_again kept.client lt
 

@@ -42,7 +42,7 @@ assembled : (t : Table) (size previous version count : ℕ) (bytes : List ℕ) �
     → bytes ≡ table_bytes t
 assembled t size previous version count bytes size-is previous-is version-is count-is all = rw (← size-is, ← previous-is, ← version-is, ← count-is) all
 
--- what stands after the head
+-- what is after the head
 rest_is : (t : Table) (bytes : List ℕ) (size : ℕ) → IsBytes bytes → u16_at 0 bytes ≡ 196 + size → u16_at 0 bytes ≤ length bytes → (length bytes - u16_at 0 bytes) % 4 ≡ 0
     → flat_map (record_bytes t.version) t.records ≡ take size (drop 196 bytes) → t.entries ≡ map number_entry (numbers_at bytes)
     → drop 196 bytes ≡ flat_map (record_bytes t.version) t.records ++ flat_map entry_bytes t.entries
@@ -55,7 +55,7 @@ rest_is t bytes size fits header long fourth records entries =
     ∙ ap (flat_map entry_bytes) (sym entries) in
     sym (take-append-drop size (drop 196 bytes)) ∙ ap (λ (x : List ℕ). x ++ drop size (drop 196 bytes)) (sym records) ∙ ap (λ (x : List ℕ). flat_map (record_bytes t.version) t.records ++ x) back
 
--- the bytes of a record, and the client in front of them
+-- the bytes of a record, and the client before them
 pub text_is : (t : Table) (bytes rest : List ℕ) (i : ℕ) (d : Record) → version_at bytes ≡ t.version → AllByRecursion (λ r. length (record_bytes t.version r) ≡ record_size t.version) t.records
     → drop 196 bytes ≡ flat_map (record_bytes t.version) t.records ++ rest → i < length t.records → record_text bytes i ≡ record_bytes t.version (get_or t.records i d)
 text_is t bytes rest i d version sized behind lt =

@@ -45,7 +45,7 @@ counts n other = ap not (ne_eqb n unused other)
 pub counts_not : (n : ℕ) → n ≡ unused → not (n == unused) ≡ false
 counts_not n same = ap not (eq-eqb n unused same)
 
--- eight bytes after a place, and within a front
+-- eight bytes after a place, and within a prefix
 pub u64_at-drop : (k : ℕ) (xs : List ℕ) → u64_at 0 (drop k xs) ≡ u64_at k xs
 u64_at-drop k xs = omega (
   arith,

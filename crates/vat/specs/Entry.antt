@@ -2,7 +2,7 @@
 use Rattle.std.specs.Prelude.{ℕ, ◌+◌, ◌*◌, ◌^◌, ◌==◌, if◌then◌else◌, List, [], ◌∷◌, Option, Some, None}
 use Rattle.std.specs.Int.{w32, to_le_bytes}
 
--- the number that stands where there is none
+-- the number that is where there is none
 abbrev pub unused : ℕ
 unused = 0xFFFF_FFFF
 

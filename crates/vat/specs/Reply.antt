@@ -15,7 +15,7 @@ filled places replies = replies ++ replicate (places - length replies) nothing
 abbrev pub reply_bytes : Reply → List ℕ
 reply_bytes reply = concat (to_le_bytes w16 reply.code ∷ to_le_bytes w16 0 ∷ to_le_bytes w32 reply.commit ∷ [])
 
--- what a client may have been told up to a commit: each code is one of the eleven, and each reply's commit comes before those of the newer ones
+-- what a client may have been answered up to a commit: each code is one of the eleven, and each reply's commit comes before those of the newer ones
 abbrev pub AreReplies : ℕ → List Reply → Type 0
 AreReplies limit [] = ⊤
 AreReplies limit (reply ∷ older) = (reply.code ≤ 10) × (0 < reply.commit) × (reply.commit ≤ limit) × AreReplies (reply.commit - 1) older

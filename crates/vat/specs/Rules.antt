@@ -82,7 +82,7 @@ pub record HasRecords (bytes : List ℕ) : Type 0 where
   pub clients : count_at bytes ≤ CLIENTS
   pub each : (i : ℕ) → i < count_at bytes → SpellsRecord (version_at bytes) (commits_at bytes) (record_text bytes i)
 
--- what stands in the four places of replies, where the version has them
+-- what is in the four places of replies, where the version has them
 abbrev pub places_in : Version → List ℕ → List Reply
 places_in One text = reply_at 16 text ∷ nothing ∷ nothing ∷ nothing ∷ []
 places_in Two text = reply_at 16 text ∷ reply_at 24 text ∷ reply_at 32 text ∷ reply_at 40 text ∷ []

@@ -41,7 +41,7 @@ view vat = record {
 abbrev pub sessions_size : Version → ℕ → ℕ
 sessions_size version count = 44 + record_size version * count
 
--- what stands between the label and the records, piece by piece
+-- what is between the label and the records, piece by piece
 abbrev pub middle_parts : ℕ → ℕ → ℕ → ℕ → ℕ → ℕ → ℕ → List (List ℕ)
 middle_parts previous files directories version count next_unique commits =
     to_le_bytes w32 previous  -- 132 previous VAT ICB location
@@ -58,7 +58,7 @@ middle_parts previous files directories version count next_unique commits =
     ∷ to_le_bytes w32 commits  -- 192 commits
     ∷ []
 
--- what stands before the records
+-- what is before the records
 abbrev pub head_parts : ℕ → List ℕ → List (List ℕ) → List (List ℕ)
 head_parts size label middle =
     to_le_bytes w16 (152 + size)  -- 0 length of header

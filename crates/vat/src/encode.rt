@@ -81,7 +81,7 @@ fn number_of(entry: Option<u32>) -> u32
     entry.unwrap_or(UNUSED)
 }
 
-/// What stands before the records.
+/// What is before the records.
 fn head(vat: &Vat) -> [u8; TABLE_HEAD_BYTES]
     requires { length vat.now.sessions.records.items ≤ CLIENTS }
     ensures { result ≡ head_bytes (view vat.now) }

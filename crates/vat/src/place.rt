@@ -1,4 +1,4 @@
-//! Where data may stand: where none of its blocks looks like a VAT ICB.
+//! Where data may be: where none of its blocks looks like a VAT ICB.
 
 ghost use Rattle.limits.specs.declared.TheConstants.{BLOCK_BYTES, FILE_BYTES, PARTITION_BLOCKS};
 ghost use Rattle.std.specs.Prelude.{◌≡◌, ℕ, ◌+◌, ◌*◌, ◌<◌, ◌≤◌, ◌↔◌, length, take, drop, IsTrue};
@@ -25,7 +25,7 @@ pub fn is_vat_icb(block: &Block, number: u32) -> bool
 }
 
 /// The least block number from `from` on at which the data can begin, so that no block of it, the last one
-/// filled up with zeros, is the entry of a virtual allocation table for the number at which it would stand.
+/// filled up with zeros, is the entry of a virtual allocation table for the number at which it would be.
 pub fn clear_start(bytes: &[u8], from: u32) -> u32
     requires size { length bytes.now ≤ FILE_BYTES }
     requires place { from ≤ PARTITION_BLOCKS }

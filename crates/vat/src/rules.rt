@@ -111,7 +111,7 @@ pub(crate) fn record_text(bytes: &[u8], i: usize) -> &[u8]
     text
 }
 
-/// The reply that stands at a place of a record.
+/// The reply that is at a place of a record.
 fn reply_at(text: &[u8], at: usize) -> Reply
     requires { at + 8 ≤ length text.now }
     ensures { result ≡ rule.reply_at at text.now }
@@ -122,7 +122,7 @@ fn reply_at(text: &[u8], at: usize) -> Reply
     }
 }
 
-/// What stands in the places of replies, in those that there are.
+/// What is in the places of replies, in those that there are.
 fn places_at(version: Version, text: &[u8]) -> [Reply; 4]
     requires { length text.now ≡ versions.record_size version }
     ensures { result ≡ rule.places_in version text.now }
@@ -183,7 +183,7 @@ fn is_kept(version: Version, commits: u32, kept: &Record) -> bool
     are_replies(commits, replies)
 }
 
-/// Whether a client can have been told these replies up to a commit, the newest first.
+/// Whether a client can have been answered these replies up to a commit, the newest first.
 fn are_replies(commits: u32, replies: &[Reply]) -> bool
     ensures { IsTrue result ↔ AreReplies commits replies.now }
 {

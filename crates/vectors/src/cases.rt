@@ -125,7 +125,7 @@ impl Reader {
         Ok(())
     }
 
-    /// The words of an answer, with those for which names in braces stand.
+    /// The words of an answer, with those for which there are names in braces.
     fn answer(&self, text: &str) -> Result<String, Trouble> {
         let mut out = String::new(self.alloc);
         for word in text.split_whitespace() {

@@ -7,7 +7,7 @@ use std::fmt::Write;
 use volume::{VolumeFault, front_blocks, read_front};
 use words::show_bytes;
 
-/// What the front says.
+/// What the volume header says.
 pub fn front(alloc: Global, bytes: &[u8]) -> Result<String, Trouble> {
     let blocks = blocks_of(alloc, bytes)?;
     if blocks.len() != 257 {

@@ -8,7 +8,7 @@ use std::fmt::Write;
 use vat::{Record, Vat, Version, clear_start, decode_vat, encode_vat, is_vat_icb};
 use words::show_bytes;
 
-/// What the table says whose entry stands at a block number.
+/// What the table says whose entry is at a block number.
 pub fn table(alloc: Global, bytes: &[u8], icb: u32) -> Result<String, Trouble> {
     let vat = match decode_vat(alloc, bytes, icb) {
         Ok(vat) => vat,
@@ -85,7 +85,7 @@ fn tell_unused(count: usize, out: &mut String) -> Result<(), Trouble> {
     Ok(())
 }
 
-/// Whether a VAT ICB stands at a block number.
+/// Whether a VAT ICB is at a block number.
 pub fn is_entry(alloc: Global, bytes: &[u8], number: u32) -> Result<String, Trouble> {
     let answer = if is_vat_icb(&block_of(bytes), number) {
         "yes"

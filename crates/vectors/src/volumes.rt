@@ -1,4 +1,4 @@
-//! Whole media: the last table, the one before each, and the states that stand there.
+//! Whole media: the last table, the one before each, and the states that are there.
 
 ghost use Rattle.drive.specs.Journal.{held};
 ghost use Rattle.drive.specs.MemDrive.{journal_of};
@@ -41,7 +41,7 @@ pub fn last_table(alloc: Global, medium: &Medium) -> Result<String, Trouble> {
     address(alloc, found)
 }
 
-/// The address of the entry of the table before the one whose entry stands there.
+/// The address of the entry of the table before the one whose entry is there.
 pub fn table_before(alloc: Global, medium: &Medium, at: u32) -> Result<String, Trouble> {
     let mut drive = drive_of(alloc, medium)?;
     let found = step(alloc, &mut drive, at)?;
@@ -78,7 +78,7 @@ fn refusal(alloc: Global, fault: StoreFault) -> Result<String, Trouble> {
     }
 }
 
-/// What stands where a VAT ICB does.
+/// The state at a VAT ICB.
 pub fn state(alloc: Global, medium: &Medium, at: u32) -> Result<String, Trouble> {
     let mut drive = drive_of(alloc, medium)?;
     let state = match state_of(alloc, &mut drive, at)? {
@@ -109,11 +109,11 @@ fn state_of(
     Ok(state_at(alloc, drive, at))
 }
 
-/// What is told of a state: its commits, or why it is refused.
+/// What is reported of a state: its commits, or why it is refused.
 type Told = Result<u32, StoreFault>;
 
 /// The commits of up to three states, or why each is refused. Each is looked at alone, and in turn with what is known of those
-/// before, which must tell the same.
+/// before, which must say the same.
 pub fn states(alloc: Global, medium: &Medium, words: &[&str]) -> Result<String, Trouble> {
     let mut ats = [PARTITION_START; 3];
     let mut last = PARTITION_START;
@@ -141,7 +141,7 @@ pub fn states(alloc: Global, medium: &Medium, words: &[&str]) -> Result<String, 
     Ok(text)
 }
 
-/// What is told of three states, looked at in turn with what is known of those before.
+/// What is reported of three states, looked at in turn with what is known of those before.
 fn shared(alloc: Global, drive: &mut MemDrive, ats: [u32; 3]) -> Result<[Told; 3], Trouble> {
     let mut known = ReadCache::new(alloc);
     let first = shared_state(alloc, drive, &mut known, ats[0])?;
@@ -150,7 +150,7 @@ fn shared(alloc: Global, drive: &mut MemDrive, ats: [u32; 3]) -> Result<[Told; 3
     Ok([first, second, third])
 }
 
-/// What is told of each of them alone.
+/// What is reported of each of them alone.
 fn alone(alloc: Global, drive: &mut MemDrive, ats: [u32; 3]) -> Result<[Told; 3], Trouble> {
     let first = commits(&state_of(alloc, drive, ats[0])?);
     let second = commits(&state_of(alloc, drive, ats[1])?);

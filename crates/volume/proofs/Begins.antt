@@ -1,4 +1,4 @@
--- How the blocks of a front begin.
+-- How the blocks of a volume header begin.
 use Rattle.std.proofs.Common.{◌≡◌, ◌≢◌, ℕ, ◌%◌, ◌<◌, ◌==◌, Bool, true, false, List, get_or, ap, arith}
 use Rattle.std.specs.Prelude.{nat_lt, if◌then◌else◌}
 use Rattle.ecma.specs.Numbers.{u16_at}

@@ -1,4 +1,4 @@
--- What stands at an address of the front, and that only one block can stand there.
+-- What is at an address of the volume header, and that only one block can be there.
 use Rattle.std.proofs.Common.{◌≡◌, ℕ, ◌+◌, ◌%◌, ◌<◌, ◌≤◌, Bool, cond, ltb, List, [], ◌∷◌, ◌++◌, length, get_or, sym, ap, subst, ◌∙◌, inl, inr, arith}
 use Rattle.std.proofs.Math.ListN.{get_or-append}
 use Rattle.std.proofs.Math.Seq.{get_or-append_seam}
@@ -33,7 +33,7 @@ one_front_block label moment capacity n a b fa fb x y =
     let stamp : x.stamp ≡ y.stamp = one_spelling moment x.stamp y.stamp x.moment_is y.moment_is in
     one_content n (front_content label moment y.stamp capacity n) a b fa fb (subst (λ (s : List ℕ). HasContent n (front_content label moment s capacity n) a) stamp x.holds) y.holds
 
--- one more block after those of a front
+-- one more block after those of a volume header
 pub each_push : (P : ℕ → List ℕ → Type 0) (xs : List (List ℕ)) (b : List ℕ) (n : ℕ) → length xs ≡ n → ((k : ℕ) → k < n → P k (get_or xs k [])) → P n b
     → (k : ℕ) → k < n + 1 → P k (get_or (xs ++ b ∷ []) k [])
 each_push P xs b n len each last k low = elim (cases_lt k n) [

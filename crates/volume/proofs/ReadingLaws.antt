@@ -1,4 +1,4 @@
--- What a front tells at the places that are read, and that blocks tell one front.
+-- What a volume header has at the places that are read, and that blocks describe one volume header.
 use Rattle.std.proofs.Common.{◌≡◌, ℕ, ◌+◌, ◌-◌, ◌≤◌, List, [], ◌∷◌, ◌++◌, length, take, drop, get_or, replicate, Option, Some, None, IfNone, IfSome, refl, sym, ap, subst, ◌∙◌, inl, arith}
 use Rattle.std.specs.Int.{w16, w32, to_le_bytes}
 use Rattle.std.specs.List.{concat}
@@ -23,7 +23,7 @@ use Rattle.volume.specs.Reading.{DiffersAt, DiffersFirst, DescriptorsTell, prima
 use Rattle.volume.proofs.Digits.{length-label, length-set}
 use Rattle.volume.proofs.FrontLaws.{one_front_block}
 
--- the descriptor is the front of its block that is as long
+-- the descriptor is the beginning of its block that is as long
 sealed_front : (id loc size : ℕ) (body block : List ℕ) → IsDescriptor id loc body block → length body + 16 ≡ size → Sealed id loc (take size block)
 sealed_front id loc size body block d len =
     let whole : length d.descriptor ≡ size = omega (arith, len, ap length d.fields, length-drop 16 d.descriptor, d.sealed.long) in
@@ -61,7 +61,7 @@ primary_places volume set stamp rest block a b c body =
     let p376 : drop 376 block ≡ stamp ++ last = sym (drop-drop 176 200 block) ∙ ap (drop 176) p200 in
     (ap (take 32) p24 ∙ take_at volume later 32 a, ap (take 12) p376 ∙ take_at stamp last 12 c)
 
--- what block 32 tells
+-- what block 32 says
 pub record TellsPrimary (label : List ℕ) (moment : ℕ) (block : List ℕ) : Type 0 where
   pub tag : Sealed 1 32 (take 512 block)
   pub label_is : IsLabelDstring label (primary_label_field block)
@@ -85,7 +85,7 @@ primary_tells label moment capacity block is =
       moment_is = subst (λ (x : List ℕ). IsMoment moment x) (sym places.1) is.moment_is;
     }
 
--- what block 34 tells
+-- what block 34 says
 pub partition_tells : (label : List ℕ) (moment capacity : ℕ) (block : List ℕ) → capacity ≤ 450_000 → IsFrontBlock label moment capacity 34 block
     → Sealed 5 34 (take 512 block) × (u32_at 192 block ≡ capacity - 257)
 partition_tells label moment capacity block high is =
@@ -96,7 +96,7 @@ partition_tells label moment capacity block high is =
     let cell : (k : ℕ) → get_or block (16 + k) 0 ≡ get_or all k 0 = λ k. sym (get_or-drop 16 block k 0) ∙ ap (λ (x : List ℕ). get_or x k 0) body.1 in
     (sealed_front 5 34 512 fields block d refl, omega (arith, high, cell 176, cell 177, cell 178, cell 179))
 
--- the front that blocks are is what two of them tell
+-- the volume header that blocks are is what two of them say
 pub front_tells : (f : Front) (blocks : List (List ℕ)) → IsFront f.label f.moment f.capacity blocks → DescriptorsTell f (get_or blocks 32 []) (get_or blocks 34 [])
 front_tells f blocks is =
     let p = primary_tells f.label f.moment f.capacity (get_or blocks 32 []) (is.each 32 (omega arith)) in
@@ -114,7 +114,7 @@ same_front d e label moment capacity =
     let from : d ≡ made = rw (← label, ← moment, ← capacity) refl in
     from
 
--- two blocks tell one front
+-- two blocks describe one volume header
 pub one_told : (d e : Front) (primary partition : List ℕ) → DescriptorsTell d primary partition → DescriptorsTell e primary partition → d ≡ e
 one_told d e primary partition x y =
     let field = primary_label_field primary in
@@ -124,7 +124,7 @@ one_told d e primary partition x y =
 pub some_none : {A : Type 0} (x : A) → Some x ≡ None → ⊥
 some_none x e = absurd cc
 
--- what the comparison with the expected block tells
+-- what the comparison with the expected block reports
 pub compared_none : (P : List ℕ → Type 0) (o : Option ℕ) (block expected : List ℕ) → IfNone o (block ≡ expected) → P expected → IfNone o (P block)
 compared_none P None block expected same is = subst P (sym same) is
 compared_none P (Some at) block expected same is = tt

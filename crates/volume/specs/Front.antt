@@ -8,7 +8,7 @@ use Rattle.ecma.specs.Numbers.{u16_at}
 use Rattle.ecma.specs.Timestamp.{IsMoment}
 use Rattle.volume.specs.Descriptors.{digits, primary_fields, anchor_fields, use_fields, partition_fields, logical_fields, unallocated_fields, terminating_fields, integrity_fields}
 
--- what a block of the front holds: zeros, a structure of the recognition sequence (ECMA-167 2/9.1), or a descriptor
+-- what a block of the volume header holds: zeros, a structure of the recognition sequence (ECMA-167 2/9.1), or a descriptor
 pub data Content : Type 0 where
   Nothing : Content
   Recognition : (identifier : List ℕ) → Content
@@ -31,14 +31,14 @@ sequence_content label moment stamp capacity place =
     else (if place == 4 then Descriptor 7 unallocated_fields
     else (if place == 5 then Descriptor 8 terminating_fields else Nothing)))))
 
--- what stands after both copies of the sequence: the integrity sequence and the anchor
+-- what is after both copies of the sequence: the integrity sequence and the anchor
 abbrev pub later_content : List ℕ → ℕ → ℕ → Content
 later_content stamp capacity n =
     if n == 64 then Descriptor 9 (integrity_fields stamp capacity)
     else (if n == 65 then Descriptor 8 terminating_fields
     else (if n == 256 then Descriptor 2 anchor_fields else Nothing))
 
--- what stands at an address; the main sequence is at 32, the reserve sequence at 48
+-- what is at an address; the main sequence is at 32, the reserve sequence at 48
 abbrev pub front_content : List ℕ → ℕ → List ℕ → ℕ → ℕ → Content
 front_content label moment stamp capacity n =
     if nat_lt n 32 then recognition_content n
@@ -50,25 +50,25 @@ HasContent n Nothing block = block ≡ replicate BLOCK_BYTES 0
 HasContent n (Recognition identifier) block = block ≡ padded (0 ∷ (identifier ++ (1 ∷ [])))
 HasContent n (Descriptor identifier fields) block = IsDescriptor identifier n fields block
 
--- the block is the one at an address of the front of a volume with this label, moment and capacity
+-- the block is the one at an address of the header of a volume with this label, moment and capacity
 pub record IsFrontBlock (label : List ℕ) (moment capacity n : ℕ) (block : List ℕ) : Type 0 where
   pub label_is : IsLabel label
   pub stamp : List ℕ
   pub moment_is : IsMoment moment stamp
   pub holds : HasContent n (front_content label moment stamp capacity n) block
 
--- the blocks are the front
+-- the blocks are the volume header
 pub record IsFront (label : List ℕ) (moment capacity : ℕ) (blocks : List (List ℕ)) : Type 0 where
   pub low : LEAST_CAPACITY ≤ capacity
   pub high : capacity ≤ GREATEST_CAPACITY
   pub count : length blocks ≡ PARTITION_START
   pub each : (n : ℕ) → n < PARTITION_START → IsFrontBlock label moment capacity n (slice_index_or blocks n [])
 
--- no block of the front begins as a file entry does
+-- no block of the volume header begins as a file entry does
 abbrev pub FrontIsNoEntry : Type 0
 FrontIsNoEntry = (label : List ℕ) (moment capacity n : ℕ) (block : List ℕ) → IsFrontBlock label moment capacity n block → u16_at 0 block ≢ 261
 
--- one block can stand at each address of the front of a label, a moment and a capacity
+-- one block can be at each address of the volume header of a label, a moment and a capacity
 abbrev pub OneFront : Type 0
 OneFront =
     (label : List ℕ) (moment capacity n : ℕ) (a b : List ℕ) → ((i : ℕ) → slice_index a i < 256) → ((i : ℕ) → slice_index b i < 256)

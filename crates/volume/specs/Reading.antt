@@ -1,4 +1,4 @@
--- What blocks tell that should be a front, and where they first fail to be one.
+-- What blocks describe that should be a volume header, and where they first fail to be one.
 use Rattle.std.specs.Prelude.{◌≡◌, ◌≢◌, ℕ, ◌+◌, ◌-◌, ◌<◌, ◌≤◌, List, [], ◌∷◌, ◌⊎◌, take, drop, slice_index, slice_index_or}
 use Rattle.limits.specs.declared.TheConstants.{BLOCK_BYTES, LEAST_CAPACITY, PARTITION_START, PARTITION_BLOCKS}
 use Rattle.ecma.specs.FirstFault.{IsFirst, AllHold}
@@ -28,7 +28,7 @@ word_rules primary partition =
     ∷ (Field 34 192, (LEAST_CAPACITY - PARTITION_START ≤ u32_at 192 partition) × (u32_at 192 partition ≤ PARTITION_BLOCKS))
     ∷ []
 
--- what the two descriptors tell
+-- what the two descriptors say
 pub record DescriptorsTell (front : Front) (primary partition : List ℕ) : Type 0 where
   pub rules : AllHold (word_rules primary partition)
   pub label : IsLabelDstring front.label (primary_label_field primary)
@@ -41,14 +41,14 @@ pub record DiffersFirst (block expected : List ℕ) (at : ℕ) : Type 0 where
   pub same : (i : ℕ) → i < at → slice_index block i ≡ slice_index expected i
   pub other : slice_index block at ≢ slice_index expected at
 
--- the block is not the one of the front at its address, and this is the first byte that differs
+-- the block is not the one of the volume header at its address, and this is the first byte that differs
 pub record DiffersAt (front : Front) (n : ℕ) (block : List ℕ) (at : ℕ) : Type 0 where
   pub expected : List ℕ
   pub is : IsFrontBlock front.label front.moment front.capacity n expected
   pub bytes : (i : ℕ) → slice_index expected i < 256
   pub first : DiffersFirst block expected at
 
--- the two descriptors tell a front, and the fault is the first byte that is not that of its blocks
+-- the two descriptors describe a volume header, and the fault is the first byte that is not that of its blocks
 pub record FirstDifference (blocks : List (List ℕ)) (primary partition : List ℕ) (fault : VolumeFault) : Type 0 where
   pub front : Front
   pub tells : DescriptorsTell front primary partition
@@ -59,6 +59,6 @@ pub record FirstDifference (blocks : List (List ℕ)) (primary partition : List 
   pub below : (k : ℕ) → k < n → IsFrontBlock front.label front.moment front.capacity k (slice_index_or blocks k [])
   pub differs : DiffersAt front n (slice_index_or blocks n []) at
 
--- the fault that is told of blocks with these two descriptors
+-- the fault that is reported of blocks with these two descriptors
 abbrev pub IsFaultTold : List (List ℕ) → List ℕ → List ℕ → VolumeFault → Type 0
 IsFaultTold blocks primary partition fault = IsFirst (word_rules primary partition) fault ⊎ FirstDifference blocks primary partition fault

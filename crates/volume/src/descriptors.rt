@@ -94,7 +94,7 @@ pub(crate) fn primary(
     )
 }
 
-/// The anchor (ECMA-167 3/10.2): where both copies of the sequence stand.
+/// The anchor (ECMA-167 3/10.2): where both copies of the sequence are.
 pub(crate) fn anchor(n: u32) -> Block
     ensures { IsDescriptor 2 n spec.anchor_fields result }
 {
@@ -231,7 +231,7 @@ pub(crate) fn terminating(n: u32) -> Block
 }
 
 /// The logical volume integrity descriptor (ECMA-167 3/10.10, UDF 2.01 2.2.6), which stays open: the counts of a volume as
-/// it stands are those of its virtual allocation table.
+/// it is are those of its virtual allocation table.
 pub(crate) fn integrity(stamp: [u8; 12], capacity: u32, n: u32) -> Block
     requires { FORMAT_BLOCKS ≤ capacity }
     ensures { IsDescriptor 9 n (spec.integrity_fields stamp capacity) result }

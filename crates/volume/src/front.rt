@@ -23,7 +23,7 @@ pub struct Front {
     pub capacity: u32,
 }
 
-/// The block of the front at an address (ECMA-167 2/9.1 and 3/10, UDF 2.01 2.2).
+/// The block of the volume header at an address (ECMA-167 2/9.1 and 3/10, UDF 2.01 2.2).
 pub fn front_block(label: &Label, moment: Timestamp, capacity: u32, n: u32) -> Block
     requires low { LEAST_CAPACITY ≤ capacity }
     requires high { capacity ≤ GREATEST_CAPACITY }
@@ -42,7 +42,7 @@ pub fn front_block(label: &Label, moment: Timestamp, capacity: u32, n: u32) -> B
     }
 }
 
-/// All blocks of the front.
+/// All blocks of the volume header.
 pub fn front_blocks(
     alloc: Global,
     label: &Label,

@@ -12,11 +12,11 @@ use ecma::{Block, Timestamp, open_tag, u32_at, u64_at};
 use limits::{LEAST_PARTITION_BLOCKS, PARTITION_BLOCKS, PARTITION_START};
 use osta::Label;
 
-/// Why blocks are no front.
+/// Why blocks are no volume header.
 #[derive(Clone, Copy, Debug, PartialEq, Eq)]
 pub enum VolumeFault {
     /// A field of this block, which begins at this byte, can not be read; or this byte is the first one that is not that of
-    /// the front.
+    /// the volume header.
     Field { block: u32, at: u32 },
 }
 
@@ -76,7 +76,7 @@ pub fn front_words(primary: &Block, partition: &Block) -> Result<Front, VolumeFa
     })
 }
 
-/// The first byte of a block that is not that of the front at this address.
+/// The first byte of a block that is not that of the volume header at this address.
 pub fn first_difference(front: &Front, n: u32, block: &Block) -> Option<u32>
     requires low { LEAST_CAPACITY ≤ front.now.capacity }
     requires high { front.now.capacity ≤ GREATEST_CAPACITY }
@@ -105,7 +105,7 @@ fn first_other(block: &Block, expected: &Block) -> Option<u32>
     None
 }
 
-/// How many bytes in front are the same, of those that are looked at eight together.
+/// How many bytes at the beginning are the same, of those that are looked at eight together.
 fn same_front(block: &Block, expected: &Block) -> usize
     ensures within { result ≤ BLOCK_BYTES }
     ensures same { (i : ℕ) → i < result → slice_index block.now i ≡ slice_index expected.now i }

@@ -143,7 +143,7 @@ pub fn replaced(mut nodes: Vec<Entry>, path: &[String], bytes: Vec<u8>, moment: 
     nodes
 }
 
-/// Replaces the front `from` of each path that has it by `to`.
+/// Replaces the prefix `from` of each path that has it by `to`.
 fn paths_moved(
     alloc: Global,
     mut nodes: Vec<Entry>,

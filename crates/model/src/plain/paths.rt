@@ -53,7 +53,7 @@ pub fn last(path: &[String]) -> &[String]
     &path[path.len().saturating_sub(1)..]
 }
 
-/// The path with the front `from` replaced by `to`, where it has that front.
+/// The path with the prefix `from` replaced by `to`, where it has that prefix.
 pub fn moved(
     alloc: Global,
     path: &[String],

@@ -13,7 +13,7 @@ begins front second third last n most within size =
     ∙ take-append-le n front second (omega (arith, size))
     ∙ take_all n front (omega (arith, size))
 
--- the bytes between two numbers, as they stand in what begins at the first
+-- the bytes between two numbers, as they are in what begins at the first
 between : (xs : List ℕ) (from to : ℕ) → from ≤ to → take (to - from) (drop from xs) ≡ drop from (take to xs)
 between xs from to order =
     let whole : from + (to - from) ≡ to = omega (arith, order) in
